@@ -15,10 +15,10 @@ number_of (a ∷ b ∷ c ∷ d ∷ []) = Some (FourDigits (4096 * a + 256 * b + 
 number_of ds = None
 
 -- where the reading is: between two parts, in an identifier or in a number, with what was read of it
-pub data Place : Type 0 where
-  between : Place
-  in_identifier : List ℕ → Place
-  in_number : List ℕ → Place
+pub data ReadState : Type 0 where
+  between : ReadState
+  in_identifier : List ℕ → ReadState
+  in_number : List ℕ → ReadState
 
 -- the value of a hexadecimal digit in either case, 0 to 15; None for any other byte
 abbrev pub digit_value : ℕ → Option ℕ
@@ -46,7 +46,7 @@ with_found None ps = None
 with_found (Some p) ps = with_part p ps
 
 -- the byte b where a part begins or a comment does; `go` reads on
-abbrev pub fresh : ℕ → (Place → Option (List Part)) → Option (List Part)
+abbrev pub fresh : ℕ → (ReadState → Option (List Part)) → Option (List Part)
 fresh b go =
     if eqb b 59 then Some [] else
     if eqb b 32 then go between else
@@ -54,28 +54,28 @@ fresh b go =
     if eqb b 36 then go (in_number []) else with_found (sign_of b) (go between)
 
 -- the byte b in an identifier after the letters `w`, of which it has at most 31
-abbrev pub letter_on : List ℕ → ℕ → (Place → Option (List Part)) → Option (List Part)
+abbrev pub letter_on : List ℕ → ℕ → (ReadState → Option (List Part)) → Option (List Part)
 letter_on w b go = if nat_lt (length w) 31 then go (in_identifier (w ++ b ∷ [])) else None
 
 -- the byte b in a number after the digits `ds`, of which it has at most four: a digit, or the byte after the number
-abbrev pub digit_on : Option ℕ → List ℕ → ℕ → (Place → Option (List Part)) → Option (List Part)
+abbrev pub digit_on : Option ℕ → List ℕ → ℕ → (ReadState → Option (List Part)) → Option (List Part)
 digit_on None ds b go = with_found (number_of ds) (fresh b go)
 digit_on (Some d) ds b go = if nat_lt (length ds) 4 then go (in_number (ds ++ d ∷ [])) else None
 
 -- the byte b at a place of the reading; `go` reads on from the place after it
-abbrev pub step : Place → ℕ → (Place → Option (List Part)) → Option (List Part)
+abbrev pub step : ReadState → ℕ → (ReadState → Option (List Part)) → Option (List Part)
 step between b go = fresh b go
 step (in_identifier w) b go = if may_follow (fold_byte b) then letter_on w (fold_byte b) go else with_part (identifier w) (fresh b go)
 step (in_number ds) b go = digit_on (digit_value b) ds b go
 
 -- the part that ends with the line, if any; None if it is a number of neither two nor four digits
-abbrev pub finish : Place → Option (List Part)
+abbrev pub finish : ReadState → Option (List Part)
 finish between = Some []
 finish (in_identifier w) = Some (identifier w ∷ [])
 finish (in_number ds) = with_found (number_of ds) (Some [])
 
 -- the parts of what is left of a line from a place of the reading on, None if they are refused
-abbrev pub parts_from : Place → List ℕ → Option (List Part)
+abbrev pub parts_from : ReadState → List ℕ → Option (List Part)
 parts_from p [] = finish p
 parts_from p (b ∷ bs) = step p b (λ q. parts_from q bs)
 

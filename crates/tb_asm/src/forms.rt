@@ -2,7 +2,7 @@
 ghost use Rattle.std.specs.Prelude.{◌≡◌, ◌<◌, ◌≤◌, ◌∷◌, [], ◌++◌, length, Some, IsTrue, MatchOption, MatchResult};
 ghost use Rattle.tb_asm.specs.Layout.{entry_of};
 ghost use Rattle.tb_asm.specs.Names.{name_in};
-ghost use Rattle.tb_asm.specs.Text.{by_index, after_byte, after_place, after_hash, byte_in_brackets, after_left, after_identifier, operand_form, is_branch, byte_list, word_operand, item_of, one_item, behind_label, behind_first, is_colon_first, items_of, labelled, is_register};
+ghost use Rattle.tb_asm.specs.Text.{by_index, after_byte, after_address, after_hash, byte_in_brackets, after_left, after_identifier, operand_form, is_branch, byte_list, word_operand, item_of, one_item, behind_label, behind_first, is_colon_first, items_of, labelled, is_register};
 ghost use Rattle.tb_asm.specs.Reads.{Reads, Pushes, IsNoWord};
 
 use crate::errors::LineError;
@@ -137,7 +137,7 @@ fn read_form(branch: bool, parts: &[Part]) -> Result<(Mode, Operand), LineError>
         [] => Ok((Mode::Implied, Operand::Nothing)),
         [Part::Identifier(letters), rest @ ..] => read_identifier(branch, letters, rest),
         [Part::TwoDigits(byte), rest @ ..] => read_byte(*byte, rest),
-        [Part::FourDigits(word), rest @ ..] => read_place(branch, Operand::Word(*word), rest),
+        [Part::FourDigits(word), rest @ ..] => read_address(branch, Operand::Word(*word), rest),
         [Part::Hash, rest @ ..] => read_immediate(rest),
         [Part::Left, rest @ ..] => read_indirect(rest),
         _ => Err(LineError::Bad),
@@ -153,7 +153,7 @@ fn read_identifier(
     ensures { Reads (λ f. f) (after_identifier branch letters.now.items parts.now) result }
 {
     if !is_register(letters.as_slice(), b'A') {
-        return read_place(branch, Operand::Label(read_name(letters)?), parts);
+        return read_address(branch, Operand::Label(read_name(letters)?), parts);
     }
     match parts {
         [] => Ok((Mode::Accumulator, Operand::Nothing)),
@@ -180,8 +180,8 @@ fn read_byte(byte: u8, parts: &[Part]) -> Result<(Mode, Operand), LineError>
 }
 
 // An operand that begins with four digits or a name.
-fn read_place(branch: bool, place: Operand, parts: &[Part]) -> Result<(Mode, Operand), LineError>
-    ensures { Reads (λ f. f) (after_place branch place parts.now) result }
+fn read_address(branch: bool, place: Operand, parts: &[Part]) -> Result<(Mode, Operand), LineError>
+    ensures { Reads (λ f. f) (after_address branch place parts.now) result }
 {
     match parts {
         [] if branch => Ok((Mode::Relative, place)),

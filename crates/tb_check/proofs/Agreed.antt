@@ -10,7 +10,7 @@ use Rattle.tb_parser.specs.declared.errors.SourceError.{SourceError}
 use Rattle.tb_compile_errors.specs.declared.refusals.CompileError.TheVariants.{Source, Lower, TooLarge, NoMemory}
 use Rattle.tb_compile_errors.specs.declared.refusals.CompileError.{CompileError}
 use Rattle.tb_codegen.specs.Answers.{ProgramAnswer}
-use Rattle.tb_codegen.specs.Compiled.{most}
+use Rattle.tb_codegen.specs.Compiled.{most_cost}
 use Rattle.tb_codegen.specs.declared.compiled.Compiled.{Compiled}
 use Rattle.tb_check.specs.Agreement.{Accepts, AgreesWith, Compiles, RefusesFirst, RefusesProgram, first_of}
 use Rattle.tb_check.specs.BadLines.{FirstIs}
@@ -35,10 +35,10 @@ none_first (n ∷ ns) h = absurd (true≢false (ap is_some h))
 no_deep : (p : Program) → too_deep p ≡ None → deep_lines p ≡ []
 no_deep p h = none_first (deep_lines p) (first_deep p ∙ h)
 
-within : (n : ℕ) → n ≤ most → excess n ≡ None
+within : (n : ℕ) → n ≤ most_cost → excess n ≡ None
 within n h = grind arith
 
-beyond : (n : ℕ) → most < n → excess n ≡ Some n
+beyond : (n : ℕ) → most_cost < n → excess n ≡ Some n
 beyond n h = grind arith
 
 none_is_some : (n : ℕ) → None ≡ Some n → ⊥
@@ -50,7 +50,7 @@ refused seed p f (Err (Source e)) has bad h = h
 refused seed p f (Err (Lower deep.NoMemory)) has bad h = h
 refused seed p f (Err (Lower (deep.TooDeep n))) has bad h = ap first_of has.deep ∙ first_deep p ∙ h
 refused seed p f (Err (TooLarge n)) has bad h =
-    (has.deep ∙ no_deep p h.0, has.large ∙ beyond (cost p) (subst (λ k. most < k) (sym h.1) h.2) ∙ ap Some h.1)
+    (has.deep ∙ no_deep p h.0, has.large ∙ beyond (cost p) (subst (λ k. most_cost < k) (sym h.1) h.2) ∙ ap Some h.1)
 refused seed p f (Err NoMemory) has bad h = tt
 
 accepted : (seed : ℕ) (p : Program) (answer : Result Compiled CompileError) → IsGood p → ProgramAnswer seed p answer → Accepts answer
@@ -58,7 +58,7 @@ accepted seed p (Ok c) good h = tt
 accepted seed p (Err (Source e)) good h = h
 accepted seed p (Err (Lower deep.NoMemory)) good h = h
 accepted seed p (Err (Lower (deep.TooDeep n))) good h = none_is_some n (sym (ap first_of good.shallow) ∙ first_deep p ∙ h)
-accepted seed p (Err (TooLarge n)) good h = none_is_some (cost p) (sym good.small ∙ beyond (cost p) (subst (λ k. most < k) (sym h.1) h.2))
+accepted seed p (Err (TooLarge n)) good h = none_is_some (cost p) (sym good.small ∙ beyond (cost p) (subst (λ k. most_cost < k) (sym h.1) h.2))
 accepted seed p (Err NoMemory) good h = tt
 
 first : (seed : ℕ) (source : List ℕ) (found : List SourceError) (answer : Result Compiled CompileError) → FirstIs source found → found ≢ []

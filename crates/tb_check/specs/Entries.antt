@@ -1,5 +1,6 @@
 -- The lines of a file that have a number, and those of them that are too deep.
-use Rattle.std.specs.Prelude.{◌≡◌, ◌⊎◌, ℕ, ◌+◌, nat_lt, Bool, false, not, ◌&&◌, ◌||◌, ◌==◌, if◌then◌else◌, List, [], ◌∷◌, ◌++◌, Option, Some, None, option_map, Ok, Err}
+use Rattle.std.specs.Prelude.{◌≡◌, ◌⊎◌, ℕ, ◌+◌, nat_lt, Bool, false, not, ◌&&◌, ◌||◌, ◌==◌, if◌then◌else◌, List, []}
+use Rattle.std.specs.Prelude.{◌∷◌, ◌++◌, Option, Some, None, option_map, Ok, Err}
 use Rattle.tb_syntax.specs.Source.{Statement}
 use Rattle.tb_syntax.specs.PlainData.{statement_of}
 use Rattle.tb_syntax.specs.declared.statements.Statement.{Statement as RustStatement}

@@ -7,7 +7,7 @@ use Rattle.tb_lower.specs.Need.{statement_need}
 use Rattle.tb_parser.specs.Files.{at_end}
 use Rattle.tb_parser.specs.Lines.{lines_of_file}
 use Rattle.tb_codegen.specs.Answers.{LinesMake}
-use Rattle.tb_codegen.specs.Compiled.{most}
+use Rattle.tb_codegen.specs.Compiled.{most_cost}
 use Rattle.tb_check.specs.BadLines.{BadLinesAre, FirstIs}
 use Rattle.tb_check.specs.declared.judging.ProgramFaults.{ProgramFaults}
 use Rattle.tb_check.specs.declared.judging.Verdict.{Verdict}
@@ -20,7 +20,7 @@ deep_lines (line ∷ lines) = if nat_le (statement_need line.content) 16 then de
 
 -- a cost that is too much
 abbrev pub excess : ℕ → Option ℕ
-excess n = if nat_le n most then None else Some n
+excess n = if nat_le n most_cost then None else Some n
 
 -- what is wrong with a program: all of it
 pub record HasFaults (program : Program) (f : ProgramFaults) : Type 0 where

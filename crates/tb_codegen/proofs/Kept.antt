@@ -8,7 +8,7 @@ use Rattle.tb_lower.specs.Lowered as lowered
 use Rattle.tb_lower.specs.Slots.{SlotCode}
 use Rattle.tb_parser.specs.Files.{LinesAre, Outcome, edited, end, bad, good}
 use Rattle.tb_prg.specs.Prg.{header}
-use Rattle.tb_runtime16.specs.Places.{PROLOGUE_AT}
+use Rattle.tb_runtime16.specs.Addresses.{PROLOGUE_AT}
 use Rattle.tb_syntax.specs.Source.{Program, numbers}
 use Rattle.tb_selection.specs.Laws.{AreClosed}
 use Rattle.tb_selection.proofs.Closed.{all_closed}
@@ -33,7 +33,7 @@ file_keeps {seed} {p} {code} small some same follows s l ends is =
     let some_numbers : 1 ≤ length (numbers code) = (let a = ap length n in let b = count_numbers p in omega (arith, a, b, some)) in
     subst (λ f. Keeps BASIC_START (drop 2 f) p seed) (sym (is ∙ ap (λ b. header ++ b) l.bytes_are))
     (image_keeps seed p code small follows s.rising s.lists (subst ArePolled (sym same) (all_polled p)) (subst AreClosed (sym same) (all_closed p))
-        some_numbers s.lines l.items l.settled ends (drop 2 header) refl)
+    some_numbers s.lines l.items l.settled ends (drop 2 header) refl)
 
 same_made : (a b : Program) → ◌≡◌ {A = Outcome} (Ok a) (Ok b) → a ≡ b
 same_made a b e = cc

@@ -10,14 +10,14 @@ use Rattle.tb_lower.specs.Follows.{Follows}
 use Rattle.tb_lower.specs.Lowered as lowered
 use Rattle.tb_lower.specs.Slots.{SlotCode}
 use Rattle.tb_prg.specs.Prg.{header}
-use Rattle.tb_runtime16.specs.Places.{PROLOGUE_AT}
+use Rattle.tb_runtime16.specs.Addresses.{PROLOGUE_AT}
 use Rattle.tb_syntax.specs.Source.{Program, numbers}
 use Rattle.tb_templates.specs.declared.labels.Target.TheVariants.{Line}
 use Rattle.tb_selection.specs.Laws.{AreClosed}
 use Rattle.tb_selection.proofs.Closed.{all_closed}
 use Rattle.tb_settling.specs.Settled.{IsLaid}
 use Rattle.tb_templates.specs.Program.{program_code}
-use Rattle.tb_simulation.specs.Layout.{place_of}
+use Rattle.tb_simulation.specs.Layout.{label_address}
 use Rattle.tb_simulation.specs.LineStarts.{MarksLines}
 use Rattle.tb_correctness.specs.Laid.{ArePolled}
 use Rattle.tb_correctness.proofs.Compiled.{image_marks}
@@ -28,13 +28,13 @@ use Rattle.tb_codegen.proofs.Sized.{IsListed, same_numbers}
 use Rattle.tb_codegen.proofs.SmallPrograms.{count_numbers}
 
 -- where a compiled program's lines begin
-start_labelled : (labels : List (Name × ℕ)) (ns : List ℕ) (n : ℕ) → has_line ns n ≡ true → place_of labels (Line n) ≡ unwrap_or (start_in (starts_in labels ns) n) 0
+start_labelled : (labels : List (Name × ℕ)) (ns : List ℕ) (n : ℕ) → has_line ns n ≡ true → label_address labels (Line n) ≡ unwrap_or (start_in (starts_in labels ns) n) 0
 start_labelled labels [] n e = cc
 start_labelled labels (m ∷ ns) n e = go (nat_eq m n) refl (start_labelled labels ns n) e
   where
-    go : (t : Bool) → nat_eq m n ≡ t → (has_line ns n ≡ true → place_of labels (Line n) ≡ unwrap_or (start_in (starts_in labels ns) n) 0)
-        → (t || has_line ns n) ≡ true → place_of labels (Line n) ≡ unwrap_or (if t then Some (place_of labels (Line m)) else start_in (starts_in labels ns) n) 0
-    go true q later e = ap (λ k. place_of labels (Line k)) (sym (eqb-true m n q))
+    go : (t : Bool) → nat_eq m n ≡ t → (has_line ns n ≡ true → label_address labels (Line n) ≡ unwrap_or (start_in (starts_in labels ns) n) 0)
+        → (t || has_line ns n) ≡ true → label_address labels (Line n) ≡ unwrap_or (if t then Some (label_address labels (Line m)) else start_in (starts_in labels ns) n) 0
+    go true q later e = ap (λ k. label_address labels (Line k)) (sym (eqb-true m n q))
     go false q later e = later e
 
 pub file_marks : {seed : ℕ} {p : Program} {code : SlotCode} {file image : List ℕ} {from : ℕ} {labels : List (Name × ℕ)} {starts : List (ℕ × ℕ)}
@@ -47,7 +47,7 @@ file_marks {seed} {p} {code} {starts = starts} small some same follows s l ends 
     let some_numbers : 1 ≤ length (numbers code) = (let a = ap length n in let b = count_numbers p in omega (arith, a, b, some)) in
     subst (λ f. MarksLines BASIC_START (drop 2 f) p seed (λ n. unwrap_or (start_in starts n) 0)) (sym (is ∙ ap (λ b. header ++ b) l.bytes_are))
     (image_marks seed p code small follows s.rising s.lists (subst ArePolled (sym same) (all_polled p)) (subst AreClosed (sym same) (all_closed p))
-        some_numbers s.lines l.items l.settled ends (drop 2 header) refl (λ n. unwrap_or (start_in starts n) 0)
+    some_numbers s.lines l.items l.settled ends (drop 2 header) refl (λ n. unwrap_or (start_in starts n) 0)
     (λ k has. (let has_own : has_line (numbers code) k ≡ true = ap (λ ns. has_line ns k) n ∙ has in
     sym (start_of_line own (numbers code) seed k has_own) ∙ start_labelled own (numbers code) k has_own ∙ ap (λ ss. unwrap_or (start_in ss k) 0)
-        (sym (told ∙ ap (λ ls. starts_in ls (numbers code)) l.labels_are)))))
+    (sym (told ∙ ap (λ ls. starts_in ls (numbers code)) l.labels_are)))))

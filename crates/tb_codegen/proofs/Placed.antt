@@ -14,7 +14,7 @@ use Rattle.tb_templates.specs.Layout.{LabelsAt}
 use Rattle.tb_templates.specs.Program.{lines_code}
 use Rattle.tb_templates.proofs.Settled.{labels_behind}
 use Rattle.tb_codegen.proofs.Stretches.{asking_on, stretch, stretch_at, stretch_some, stretched}
-use Rattle.tb_codegen.specs.Compiled.{starts_in, stands_at, AreKnown, PlacesRise}
+use Rattle.tb_codegen.specs.Compiled.{starts_in, stands_at, AreKnown, AddressesRise}
 
 pub lines_known : (labels : List (Name × ℕ)) (ns : List ℕ) (seed a : ℕ) (asking : List ℕ) (lines : SlotCode) (fs : List Form)
     → AreFormsOf (lines_code ns seed asking lines) fs → LabelsAt labels a (items_from a fs) → AreKnown labels (numbers lines)
@@ -25,12 +25,12 @@ lines_known labels ns seed a asking (line ∷ lines) fs h l =
     let ls = labels_behind labels a fs s.front s.back s.are l in
     (ap is_some (stretch_at labels ns seed a asking line s.front s.of_front ls.0), lines_known labels ns seed (a + forms_size s.front) on lines s.back s.of_back ls.1)
 
-pub starts_low : (low low' : ℕ) (starts : List (ℕ × ℕ)) → low ≤ low' → PlacesRise low' starts → PlacesRise low starts
+pub starts_low : (low low' : ℕ) (starts : List (ℕ × ℕ)) → low ≤ low' → AddressesRise low' starts → AddressesRise low starts
 starts_low low low' [] l h = tt
 starts_low low low' (s ∷ starts) l h = (omega (arith, l, h.0), h.1)
 
 pub lines_begin_in_order : (labels : List (Name × ℕ)) (ns : List ℕ) (seed a : ℕ) (asking : List ℕ) (p : Program) (fs : List Form)
-    → AreFormsOf (lines_code ns seed asking (lowered.program_code p)) fs → LabelsAt labels a (items_from a fs) → PlacesRise a (starts_in labels (numbers p))
+    → AreFormsOf (lines_code ns seed asking (lowered.program_code p)) fs → LabelsAt labels a (items_from a fs) → AddressesRise a (starts_in labels (numbers p))
 lines_begin_in_order labels ns seed a asking [] fs h l = tt
 lines_begin_in_order labels ns seed a asking (line ∷ lines) fs h l =
     let own : Numbered (List Instr) = record { number = line.number; content = lowered.list_code line.content } in
@@ -39,9 +39,11 @@ lines_begin_in_order labels ns seed a asking (line ∷ lines) fs h l =
     let ls = labels_behind labels a fs s.front s.back s.are l in
     let there : stands_at labels (label_of (Line line.number)) ≡ a = ap (λ o. unwrap_or o 0) (stretch_at labels ns seed a asking own s.front s.of_front ls.0) in
     let long = stretch_some ns seed line.number asking (lowered.statement_code line.content) s.front s.of_front in
-    let b = a + forms_size s.front in
-    (omega (arith, there), starts_low (stands_at labels (label_of (Line line.number)) + 1) b (starts_in labels (numbers lines))
-        (omega (arith, there, long)) (lines_begin_in_order labels ns seed b on lines s.back s.of_back ls.1))
+    let b = a + forms_size s.front in (
+      omega (arith, there),
+      starts_low (stands_at labels (label_of (Line line.number)) + 1) b (starts_in labels (numbers lines))
+          (omega (arith, there, long)) (lines_begin_in_order labels ns seed b on lines s.back s.of_back ls.1),
+    )
 
 pub start_numbers : (labels : List (Name × ℕ)) (ns : List ℕ) → map (λ s. s.0) (starts_in labels ns) ≡ ns
 start_numbers labels [] = refl

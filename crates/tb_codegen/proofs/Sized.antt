@@ -16,7 +16,7 @@ use Rattle.tb_lower.specs.Slots.{Instr, Put, Load, Store, Negate, Compute, Rando
 use Rattle.tb_lower.specs.Slots.{Jump, Call, JumpTo, CallTo, Return, End, SlotCode}
 use Rattle.tb_parser.specs.Files.{AreStated, RisesFrom}
 use Rattle.tb_prg.specs.Prg.{header}
-use Rattle.tb_runtime16.specs.Places.{PROLOGUE_AT, LINES_AT}
+use Rattle.tb_runtime16.specs.Addresses.{PROLOGUE_AT, LINES_AT}
 use Rattle.tb_settling.specs.Settled.{IsLaid, Suits, most as most_bytes}
 use Rattle.tb_settling.proofs.Forms.{forms_most, items_size, size_append}
 use Rattle.tb_templates.specs.declared.labels.Target.TheVariants.{Past, Table}
@@ -34,7 +34,7 @@ use Rattle.tb_templates.proofs.Reached.{program_known}
 use Rattle.tb_codegen.specs.Roomy.{EndsFrom, SuitsAnywhere}
 use Rattle.tb_words.specs.Words.{word_of}
 use Rattle.tb_codegen.specs.declared.compiled.Compiled.{Compiled}
-use Rattle.tb_codegen.specs.Compiled.{prg_of, starts_of, table_of, warnings_of, IsCompiled, starts_in, stands_at, AreKnown, PlacesRise, most}
+use Rattle.tb_codegen.specs.Compiled.{prg_of, starts_of, table_of, warnings_of, IsCompiled, starts_in, stands_at, AreKnown, AddressesRise, most_cost}
 use Rattle.tb_codegen.specs.Texts.{LinesHoldTexts, offset_of}
 use Rattle.tb_templates.proofs.Settled.{Sections, last_broken, sections}
 use Rattle.tb_codegen.proofs.Placed.{lines_known, lines_begin_in_order, start_numbers}
@@ -151,7 +151,8 @@ pub record IsSettling (seed : ℕ) (code : SlotCode) : Type 0 where
   pub ends : PROLOGUE_AT + most_bytes (program_code seed code) ≤ 0xA000
   pub suits : Suits PROLOGUE_AT (program_code seed code)
 
-settling_code : (seed : ℕ) (p : Program) → AreSmall p → RisesFrom 0 (numbers p) → IsCodeInRange 256 (lowered.program_code p) → cost p ≤ most → IsSettling seed (lowered.program_code p)
+settling_code : (seed : ℕ) (p : Program) → AreSmall p → RisesFrom 0 (numbers p) → IsCodeInRange 256 (lowered.program_code p) → cost p ≤ most_cost
+    → IsSettling seed (lowered.program_code p)
 settling_code seed p small rises ranges cheap =
     let code = lowered.program_code p in
     let a = program_fits p (small_spaced p small) in
@@ -164,7 +165,7 @@ settling_code seed p small rises ranges cheap =
     }
 
 pub settling : (seed : ℕ) (p : Program) {code : SlotCode} {n : ℕ} → code ≡ lowered.program_code p → AreStated p → RisesFrom 0 (numbers p)
-    → ((limit : ℕ) → HasShortTexts limit p → IsCodeInRange limit code) → n ≤ most → n ≡ cost p → IsSettling seed code
+    → ((limit : ℕ) → HasShortTexts limit p → IsCodeInRange limit code) → n ≤ most_cost → n ≡ cost p → IsSettling seed code
 settling seed p same stated rises ranges cheap costs =
     let small = are_small p stated in
     subst (IsSettling seed) (sym same) (settling_code seed p small rises (subst (IsCodeInRange 256) same (ranges 256 (small_short p small))) (omega (arith, cheap, costs)))
@@ -246,7 +247,7 @@ made {seed} {p} {code} c same s shallow l ends file starts table warned =
       ends = ends;
       starts = all;
       lines = ap (map (λ s. s.0)) all ∙ start_numbers own (numbers p);
-      rising = subst (PlacesRise LINES_AT) (sym all) (lines_begin_in_order own (numbers (lowered.program_code p)) seed LINES_AT [] p g.lines g.of_lines g.line_labels);
+      rising = subst (AddressesRise LINES_AT) (sym all) (lines_begin_in_order own (numbers (lowered.program_code p)) seed LINES_AT [] p g.lines g.of_lines g.line_labels);
       table = ap (λ ls. address_in ls (label_of Table)) (sym l.labels_are) ∙ table;
       warned = warned;
     }

@@ -25,7 +25,7 @@ pub stretched : (ns : List ℕ) (seed : ℕ) (asking : List ℕ) (line : Numbere
     → AreFormsOf (lines_code ns seed asking (line ∷ lines)) fs → AreFormsOf (stretch ns seed asking line ++ lines_code ns seed (asking_on asking line) lines) fs
 stretched ns seed asking line lines fs h =
     subst (λ es. AreFormsOf es fs) (sym (append_assoc (line_code ns seed line) (done_behind (ends_away line.content) (asking ++ line.number ∷ []))
-        (lines_code ns seed (asking_on asking line) lines))) h
+    (lines_code ns seed (asking_on asking line) lines))) h
 
 pub stretch_at : (labels : List (Name × ℕ)) (ns : List ℕ) (seed a : ℕ) (asking : List ℕ) (line : Numbered (List Instr)) (fs : List Form)
     → AreFormsOf (stretch ns seed asking line) fs → LabelsAt labels a (items_from a fs) → address_in labels (label_of (Line line.number)) ≡ Some a

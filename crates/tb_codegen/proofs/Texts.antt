@@ -7,7 +7,7 @@ use Rattle.tb_words.specs.declared.Rel.{Rel}
 use Rattle.tb_syntax.specs.declared.expressions.Operator.{Operator}
 use Rattle.tb_syntax.specs.declared.expressions.Operator.TheVariants.{Subtract}
 use Rattle.tb_templates.specs.Labels.{label_of}
-use Rattle.tb_runtime16.specs.Places.{PROLOGUE_AT}
+use Rattle.tb_runtime16.specs.Addresses.{PROLOGUE_AT}
 use Rattle.tb_asm.specs.declared.names.Name.{Name}
 use Rattle.tb_asm.specs.Layout.{Entry, bytes, size, bytes_from}
 use Rattle.tb_asm.specs.Settle as settle
@@ -22,7 +22,7 @@ use Rattle.tb_syntax.specs.Texts.{statement_texts}
 use Rattle.tb_lower.proofs.Weighed.{same_texts}
 use Rattle.tb_templates.specs.declared.labels.Inner.TheVariants as inner
 use Rattle.tb_templates.specs.declared.labels.Target.TheVariants as target
-use Rattle.tb_runtime16.specs.Places.{POINTER}
+use Rattle.tb_runtime16.specs.Addresses.{POINTER}
 use Rattle.tb_templates.specs.Templates.{address, text_call, jump, here}
 use Rattle.tb_templates.specs.GroupTemplates.{group_template}
 use Rattle.tb_templates.specs.Breaks.{polled, done_behind, ends_away}
@@ -107,7 +107,7 @@ quiet_behind : (labels : List (Name × ℕ)) (a : ℕ) (xs ys : List Entry) (tex
 quiet_behind labels a xs ys texts h front back =
     let code = bytes_from labels a xs in let more = bytes_from labels (a + size xs) ys in
     let same : front ++ (code ++ (more ++ back)) ≡ front ++ (bytes_from labels a (xs ++ ys) ++ back) =
-        sym (ap (λ b. front ++ (b ++ back)) (bytes_append labels a xs ys) ∙ ap (λ b. front ++ b) (append_assoc code more back)) in
+    sym (ap (λ b. front ++ (b ++ back)) (bytes_append labels a xs ys) ∙ ap (λ b. front ++ b) (append_assoc code more back)) in
     raise (front ++ (bytes_from labels a (xs ++ ys) ++ back)) (length front + size xs) (length front + size (xs ++ ys)) (length front) texts (let e = size_append xs ys in omega (arith, e))
     (subst (λ image. TextsStand image (length front + size xs) (length front) texts) same (h front (more ++ back)))
 
@@ -127,7 +127,7 @@ quiet_forms labels a xs ys fs texts h rest =
 loud_forms : (labels : List (Name × ℕ)) (a : ℕ) (xs : List Entry) (t : List ℕ) (l : Entry) (ys : List Entry) (fs : List Form) (texts : List (List ℕ))
     → list_all is_straight ((xs ++ bytes t ∷ []) ++ l ∷ []) ≡ true
     → AreFormsOf (((xs ++ bytes t ∷ []) ++ l ∷ []) ++ ys) fs → ((b : ℕ) (gs : List Form) → AreFormsOf ys gs → Holds labels b (items_from b gs) texts)
-        → Holds labels a (items_from a fs) (t ∷ texts)
+    → Holds labels a (items_from a fs) (t ∷ texts)
 loud_forms labels a xs t l ys fs texts straight h rest =
     let own = (xs ++ bytes t ∷ []) ++ l ∷ [] in
     let s = split own ys fs h in
@@ -136,9 +136,9 @@ loud_forms labels a xs t l ys fs texts straight h rest =
     let b = a + forms_size s.front in
     let back = items_from b s.back in
     let whole : items_from a fs ≡ (xs ++ bytes t ∷ []) ++ (l ∷ back) = ap (items_from a) s.are ∙ items_append a s.front s.back
-        ∙ ap (λ es. es ++ back) front ∙ append_assoc (xs ++ bytes t ∷ []) (l ∷ []) back in
+    ∙ ap (λ es. es ++ back) front ∙ append_assoc (xs ++ bytes t ∷ []) (l ∷ []) back in
     let there : b ≡ a + size (xs ++ bytes t ∷ []) + size (l ∷ []) = (let e = items_size a s.front in let f = ap size front in
-        let g = size_append (xs ++ bytes t ∷ []) (l ∷ []) in omega (arith, e, f, g)) in
+    let g = size_append (xs ++ bytes t ∷ []) (l ∷ []) in omega (arith, e, f, g)) in
     subst (λ es. Holds labels a es (t ∷ texts)) (sym whole)
     (loud labels a xs (l ∷ back) t texts
     (quiet labels (a + size (xs ++ bytes t ∷ [])) (l ∷ []) back texts (subst (λ c. Holds labels c back texts) there (rest b s.back s.of_back))))
@@ -205,7 +205,7 @@ remains_texts x d to is = multiple_texts (slot_of to + 1) x d (Compute Subtract 
 stepped_texts : (op : Operator) (a b : Operand) (by : Operator) (w x : ℕ) (is : List Instr) → instr_texts (expand (Stepped op a b by w x) ++ is) ≡ instr_texts is
 stepped_texts op a b by w x is =
     ap instr_texts (append_assoc (fetch 0 a) (fetch 1 b ++ Compute op 0 ∷ Put 1 w ∷ Compute by 0 ∷ Store x ∷ []) is)
-        ∙ fetch_texts 0 a ((fetch 1 b ++ Compute op 0 ∷ Put 1 w ∷ Compute by 0 ∷ Store x ∷ []) ++ is)
+    ∙ fetch_texts 0 a ((fetch 1 b ++ Compute op 0 ∷ Put 1 w ∷ Compute by 0 ∷ Store x ∷ []) ++ is)
     ∙ ap instr_texts (append_assoc (fetch 1 b) (Compute op 0 ∷ Put 1 w ∷ Compute by 0 ∷ Store x ∷ []) is) ∙ fetch_texts 1 b (Compute op 0 ∷ Put 1 w ∷ Compute by 0 ∷ Store x ∷ is)
 
 test_texts : (rel : Rel) (a : Tested) (b : Operand) (js is : List Instr) → instr_texts (js ++ is) ≡ instr_texts is
@@ -272,7 +272,7 @@ module _ (labels : List (Name × ℕ)) (ns : List ℕ) (seed n : ℕ) where
   line_texts a c fs h =
       subst (Holds labels a (items_from a fs)) (ap instr_texts (brackets (lowered.statement_code c)) ∙ same_texts c)
       (quiet_forms labels a (here (target.Line n) ∷ polled n) (rest_code ns seed n 1 (select (lowered.statement_code c))) fs
-          (instr_texts (expand_all (select (lowered.statement_code c)))) h (rest_texts 1 (select (lowered.statement_code c))))
+      (instr_texts (expand_all (select (lowered.statement_code c)))) h (rest_texts 1 (select (lowered.statement_code c))))
 
 -- ---- lines
 module _ (labels : List (Name × ℕ)) (ns : List ℕ) (seed past : ℕ) where
@@ -291,7 +291,7 @@ module _ (labels : List (Name × ℕ)) (ns : List ℕ) (seed past : ℕ) where
       let s = split (line_code ns seed (own_line line)) (done_behind (ends_away (own_line line).content) (asking ++ line.number ∷ [])) fs h in
       subst (λ es. Holds labels a es (statement_texts line.content)) (sym (joined_items a fs s.front s.back s.are))
       (quiet_behind labels a (items_from a s.front) (items_from (a + forms_size s.front) s.back) (statement_texts line.content)
-          (line_texts labels ns seed line.number a line.content s.front s.of_front))
+      (line_texts labels ns seed line.number a line.content s.front s.of_front))
 
   -- where these lines begin, or what is behind them
   ends_there : (a : ℕ) (asking : List ℕ) (p : Program) (fs : List Form) → AreFormsOf (lines_code ns seed asking (lowered.program_code p)) fs

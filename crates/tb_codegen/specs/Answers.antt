@@ -11,20 +11,20 @@ use Rattle.tb_parser.specs.Readings.{Refusal}
 use Rattle.tb_codegen.specs.declared.compiled.Compiled.{Compiled}
 use Rattle.tb_compile_errors.specs.declared.refusals.CompileError.{CompileError}
 use Rattle.tb_compile_errors.specs.declared.refusals.CompileError.TheVariants.{Source, Lower, TooLarge, NoMemory}
-use Rattle.tb_codegen.specs.Compiled.{IsCompiled, most, prg_of, starts_of, table_of, warnings_of}
+use Rattle.tb_codegen.specs.Compiled.{IsCompiled, most_cost, prg_of, starts_of, table_of, warnings_of}
 use Rattle.tb_words.specs.Words.{word_of}
 use Rattle.tb_codegen.specs.Roomy.{EndsFrom}
 use Rattle.tb_lower.specs.Lowered as lowered
-use Rattle.tb_runtime16.specs.Places.{PROLOGUE_AT}
+use Rattle.tb_runtime16.specs.Addresses.{PROLOGUE_AT}
 use Rattle.tb_templates.specs.Program.{program_code}
 
 -- the answer for a program: its expressions are looked at before its cost
 abbrev pub ProgramAnswer : ℕ → Program → Result Compiled CompileError → Type 0
-ProgramAnswer seed program (Ok c) = (cost program ≤ most) × IsCompiled seed program c
+ProgramAnswer seed program (Ok c) = (cost program ≤ most_cost) × IsCompiled seed program c
 ProgramAnswer seed program (Err (Source e)) = ⊥
 ProgramAnswer seed program (Err (Lower deep.NoMemory)) = ⊥
 ProgramAnswer seed program (Err (Lower (deep.TooDeep n))) = too_deep program ≡ Some n
-ProgramAnswer seed program (Err (TooLarge n)) = (too_deep program ≡ None) × (cost program ≡ n) × (most < n)
+ProgramAnswer seed program (Err (TooLarge n)) = (too_deep program ≡ None) × (cost program ≡ n) × (most_cost < n)
 ProgramAnswer seed program (Err NoMemory) = Unit {0}
 
 -- the answer of `compile_to_fit` for a program: it is refused by where its settled code and line table end, past $9FFF;

@@ -11,10 +11,11 @@ use Rattle.tb_lower.specs.Lowered as lowered
 use Rattle.tb_meaning.specs.Missing.{missing_targets}
 use Rattle.tb_lower.specs.Need.{too_deep}
 use Rattle.tb_meaning.specs.declared.missing.Warning.{Warning}
-use Rattle.tb_runtime16.specs.Places.{PROLOGUE_AT, LINES_AT}
+use Rattle.tb_runtime16.specs.Addresses.{PROLOGUE_AT, LINES_AT}
 use Rattle.tb_templates.specs.declared.labels.Target.TheVariants.{Line, Past, Table}
 use Rattle.tb_templates.specs.Labels.{label_of}
 use Rattle.tb_templates.specs.Program.{program_code}
+use Rattle.tb_codegen.specs.declared.compiler.TheConstants.{MOST_COST}
 use Rattle.tb_codegen.specs.Texts.{LinesHoldTexts}
 use Rattle.tb_codegen.specs.declared.compiled.LineStart.{LineStart}
 use Rattle.tb_codegen.specs.declared.compiled.Compiled.{Compiled}
@@ -66,9 +67,9 @@ line_in (s ∷ next ∷ starts) table a = if lies s.1 next.1 a then Some s.0 els
 
 -- ── where code lies ──
 -- addresses that rise strictly, from one on, of lines or of what else has one
-abbrev pub PlacesRise : {A : Type 0} → ℕ → List (A × ℕ) → Type 0
-PlacesRise low [] = Unit {0}
-PlacesRise low (p ∷ ps) = (low ≤ p.1) × PlacesRise (p.1 + 1) ps
+abbrev pub AddressesRise : {A : Type 0} → ℕ → List (A × ℕ) → Type 0
+AddressesRise low [] = Unit {0}
+AddressesRise low (p ∷ ps) = (low ≤ p.1) × AddressesRise (p.1 + 1) ps
 
 -- where a label stands; 0 where none has its name
 abbrev pub stands_at : List (Name × ℕ) → Name → ℕ
@@ -85,8 +86,8 @@ AreKnown labels [] = Unit {0}
 AreKnown labels (n ∷ ns) = (is_some (address_in labels (label_of (Line n))) ≡ true) × AreKnown labels ns
 
 -- the most that a program may cost
-abbrev pub most : ℕ
-most = 37888
+abbrev pub most_cost : ℕ
+most_cost = MOST_COST
 
 -- Compiled, a program is a PRG file with its settled items from the block's address on; code and table end by $9FFF. A
 -- line begins where its label stands among them, and so does the line table.
@@ -99,6 +100,6 @@ pub record IsCompiled (seed : ℕ) (program : Program) (c : Compiled) : Type 0 w
   pub ends : PROLOGUE_AT + size items ≤ 0xA000
   pub starts : starts_of c ≡ starts_in (labels_from PROLOGUE_AT items) (numbers program)
   pub lines : map (λ s. s.0) (starts_of c) ≡ numbers program
-  pub rising : PlacesRise LINES_AT (starts_of c)
+  pub rising : AddressesRise LINES_AT (starts_of c)
   pub table : address_in (labels_from PROLOGUE_AT items) (label_of Table) ≡ Some (table_of c)
   pub warned : map (λ w. (w.line, word_of w.target)) (warnings_of c) ≡ missing_targets program

@@ -3,7 +3,7 @@ use Rattle.std.specs.Prelude.{◌≡◌, ℕ, ◌+◌, ◌-◌, ◌≤◌, List,
 use Rattle.tb_syntax.specs.Source.{Program}
 use Rattle.tb_syntax.specs.Texts.{statement_texts}
 use Rattle.tb_prg.specs.Prg.{header}
-use Rattle.tb_runtime16.specs.Places.{PROLOGUE_AT}
+use Rattle.tb_runtime16.specs.Addresses.{PROLOGUE_AT}
 
 -- Texts stand byte for byte in a file, one behind the other, from an offset on and up to another.
 pub data TextsStand (file : List ℕ) (to : ℕ) : ℕ → List (List ℕ) → Type 0 where

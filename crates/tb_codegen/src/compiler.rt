@@ -9,7 +9,7 @@ ghost use Rattle.tb_lower.specs.Lowered as lowered;
 ghost use Rattle.tb_lower.specs.Need.{too_deep};
 ghost use Rattle.tb_lower.specs.PlainData.{code_of};
 ghost use Rattle.tb_parser.specs.Files.{AreStated, Outcome, RisesFrom};
-ghost use Rattle.tb_runtime16.specs.Places.{PROLOGUE_AT};
+ghost use Rattle.tb_runtime16.specs.Addresses.{PROLOGUE_AT};
 ghost use Rattle.tb_settling.specs.Settled.{IsLaid, Suits};
 ghost use Rattle.tb_templates.specs.Labels.{label_of};
 ghost use Rattle.tb_templates.specs.Program.{AreCodable, RisingFrom, program_code};
@@ -19,7 +19,7 @@ ghost use Rattle.tb_codegen.specs.Roomy.{EndsFrom, SuitsAnywhere};
 ghost use Rattle.tb_simulation.specs.Kept.{Keeps};
 ghost use Rattle.tb_simulation.specs.LineStarts.{MarksLines};
 ghost use Rattle.tb_codegen.specs.declared.compiled.Compiled.{Compiled};
-ghost use Rattle.tb_codegen.specs.Compiled.{loaded_of, start_of, AreKnown, pair_of, starts_in, most};
+ghost use Rattle.tb_codegen.specs.Compiled.{loaded_of, start_of, AreKnown, pair_of, starts_in};
 
 use crate::compiled::{Compiled, LineStart};
 use crate::costs::cost;
@@ -36,7 +36,7 @@ use tb_syntax::Program;
 use tb_templates::{Target, label, program_items};
 
 /// The most that a program may cost.
-const MOST: u32 = 37_888;
+pub const MOST_COST: u32 = 37_888;
 
 /// The bytes from the block's address on up to `$9FFF`.
 const ROOM: usize = 0xA000 - BLOCK_AT as usize;
@@ -73,14 +73,14 @@ fn compile_program(alloc: Global, program: &Program, seed: u16) -> Result<Compil
 {
     let code = lower(alloc, program)?;
     let cost = cost(program);
-    if cost > MOST {
+    if cost > MOST_COST {
         return Err(CompileError::TooLarge(cost));
     }
     let image = laid(alloc, &code, seed)?;
     Ok(Compiled {
         prg: write(alloc, &image)?,
         starts: line_starts(alloc, &image, code.lines())?,
-        table: place_of(&image, Target::Table),
+        table: label_address(&image, Target::Table),
         warnings: warnings(alloc, program)?,
     })
 }
@@ -122,7 +122,7 @@ fn fit_program(alloc: Global, program: &Program, seed: u16) -> Result<Compiled, 
     Ok(Compiled {
         prg: write(alloc, &image)?,
         starts: line_starts(alloc, &image, code.lines())?,
-        table: place_of(&image, Target::Table),
+        table: label_address(&image, Target::Table),
         warnings: warnings(alloc, program)?,
     })
 }
@@ -181,7 +181,7 @@ fn laid(alloc: Global, code: &SlotCode, seed: u16) -> Result<Image, CompileError
 }
 
 // Where a label of the image stands.
-fn place_of(image: &Image, target: Target) -> u16
+fn label_address(image: &Image, target: Target) -> u16
     requires { is_some (address_in image.now.labels.entries (label_of target)) ≡ true }
     ensures { address_in image.now.labels.entries (label_of target) ≡ Some result }
 {
@@ -203,7 +203,7 @@ fn line_starts(
     let mut starts = Vec::new(alloc);
     for line in lines {
         let number = line.number;
-        let at = place_of(image, Target::Line(number));
+        let at = label_address(image, Target::Line(number));
         starts.push(LineStart { number, at })?;
     }
     Ok(starts)

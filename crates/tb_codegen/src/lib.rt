@@ -6,6 +6,6 @@ mod compiler;
 mod costs;
 
 pub use compiled::{Compiled, LineStart};
-pub use compiler::{Options, compile, compile_to_fit};
+pub use compiler::{MOST_COST, Options, compile, compile_to_fit};
 pub use costs::{cost, line_cost};
 pub use tb_compile_errors::CompileError;

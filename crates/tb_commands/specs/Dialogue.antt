@@ -13,7 +13,7 @@ use Rattle.tb_meaning.specs.declared.evaluation.EvalError.TheVariants as eval
 use Rattle.tb_kernal.specs.declared.events.Event.{Event}
 use Rattle.tb_kernal.specs.Machine.{Content, state_of, status, SameKeyboard}
 use Rattle.tb_cpu.specs.Operands.{word_in}
-use Rattle.tb_runtime16.specs.Places.{NOTES}
+use Rattle.tb_runtime16.specs.Addresses.{NOTES}
 use Rattle.tb_codegen.specs.Compiled.{starts_of, table_of, line_in, start_in}
 use Rattle.tb_stepper.specs.Holding.{Holds, machines}
 use Rattle.tb_stepper.specs.History.{Stepped, ReachesLine}

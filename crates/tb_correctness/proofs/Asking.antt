@@ -12,7 +12,7 @@ use Rattle.tb_reaching.specs.View.{Comes, Fits, View}
 use Rattle.tb_runtime16.specs.Input.{Taken, prompt}
 use Rattle.tb_opcodes.specs.Bytes.{AreBytes}
 use Rattle.tb_runtime16.specs.Routines.{Here, Moves, Waiting, WordAt, is_state, line_end}
-use Rattle.tb_runtime16.specs.Places.{COLUMN, HOME_S, INPUT_AT, LINE, OPEN, POLL_AT, RESULT}
+use Rattle.tb_runtime16.specs.Addresses.{COLUMN, HOME_S, INPUT_AT, LINE, OPEN, POLL_AT, RESULT}
 use Rattle.tb_runtime16.proofs.StatePlaces.{not_asked}
 use Rattle.tb_templates.specs.Templates.{var_at}
 use Rattle.tb_simulation.proofs.Mirrors.{HoldsState}
@@ -61,8 +61,14 @@ module _ (around : Surroundings) (fits : Fits around.f 16) (limit : ℕ) (rs : S
     asks q t b next =
         let lies = h.lies.2 in
         lines fits h h.lies.0 h.lies.1 q t (1 + b) (λ u e.
-        chained f u _ q [] t 1 b (calls f 16 fits at own m s.text w.answers refl INPUT_AT refl lies.0 lies.1 u (record { pc = e.pc; stack = e.stack;
-            binary = e.binary; mem = e.mem; text = e.text ∙ h.text; answers = e.answers })) next)
+        chained f u _ q [] t 1 b (calls f 16 fits at own m s.text w.answers refl INPUT_AT refl lies.0 lies.1 u (record {
+          pc = e.pc;
+          stack = e.stack;
+          binary = e.binary;
+          mem = e.mem;
+          text = e.text ∙ h.text;
+          answers = e.answers;
+        })) next)
 
     is_open : m OPEN ≡ bit o
     is_open = c.state.opened ∙ ap bit opened
@@ -100,9 +106,9 @@ module _ (around : Surroundings) (fits : Fits around.f 16) (limit : ℕ) (rs : S
         (live_same (live is) r u.mem m' h.few_behind (λ a lo hi. away a (λ e. omega (arith, e, lo, fit)) (λ e. omega (arith, e, lo, fit))) k.read)
         (homed_kept u.mem m' (home_kept (IntoHome (IntoVariable x)) fit u.mem m' away) k.homed)
         refl h.answers (record { short = omega (arith, shorter.0, h.short.short); text_bytes = shorter.1; answer_bytes = h.short.answer_bytes }) y
-            (moved _ (w.regs.pc + 25) own _ left w.answers y e (omega arith)))
+        (moved _ (w.regs.pc + 25) own _ left w.answers y e (omega arith)))
         (copies f 16 fits (at + 3) own u.mem left w.answers refl RESULT (var_at x) lies.2.0 (refl, refl) (word_in_data (var_at x) (omega arith)
-            (omega (arith, fit))) (λ e. omega (arith, e, fit)) lies.2.1 u
+        (omega (arith, fit))) (λ e. omega (arith, e, fit)) lies.2.1 u
         (back_here _ _ left w.answers _ u g (behind_call at lies.0)))))))
 
     pub input_fails : turn Nothing s.text ≡ Bad → Comes f w (IsHome f) (prompt o ++ fault_text 6 n) (9 + limit)
@@ -124,7 +130,7 @@ module _ (around : Surroundings) (fits : Fits around.f 16) (limit : ℕ) (rs : S
     kept_polled = kept_lined h
 
     answered_state : (left : List ℕ) (m : ℕ → ℕ) → HoldsState ly s m → HoldsState ly (record s { answers = left }) m
-    answered_state left m hs = record { vars = hs.vars; column = hs.column; opened = hs.opened; seeded = hs.seeded; count = hs.count; notes = hs.notes; few = hs.few; all_vars = hs.all_vars }
+    answered_state left m hs = record { vars = hs.vars; column = hs.column; opened = hs.opened; seeded = hs.seeded; count = hs.count; returns = hs.returns; few = hs.few; all_vars = hs.all_vars }
 
     pub poll_law : (left : List ℕ) → drop 1 s.answers ≡ left → AreBytes left → nat_eq (first_or_zero s.answers) 3 ≡ false
         → Comes f w (Matches around (line code n is (record s { answers = left }) r)) [] (5 + limit)
@@ -137,8 +143,8 @@ module _ (around : Surroundings) (fits : Fits around.f 16) (limit : ℕ) (rs : S
         (λ v g.
         let k = kept_scratch around (live is) s r polled v.mem h.few_behind (λ a z. ap (λ k. k a) g.memory) kept_polled in
         stood around code n h.small is (record s { answers = left }) r (w.regs.pc + 13) v.mem w.text (drop 1 w.answers) h.rest
-            (answered_state left v.mem k.state) k.read k.homed h.text (ap (drop 1) h.answers ∙ q)
-            (record { short = h.short.short; text_bytes = h.short.text_bytes; answer_bytes = small }) v
+        (answered_state left v.mem k.state) k.read k.homed h.text (ap (drop 1) h.answers ∙ q)
+        (record { short = h.short.short; text_bytes = h.short.text_bytes; answer_bytes = small }) v
         (back_here _ (w.regs.pc + 13) w.text (drop 1 w.answers) _ v g (behind_call at lies.0 ∙ (let e : at + 3 ≡ w.regs.pc + 13 = omega arith in e))))
         (rs.poll _ _ polled w.text w.answers n (subst AreBytes (sym h.answers) h.short.answer_bytes) (ap (λ l. nat_eq (first_or_zero l) 3) h.answers ∙ other) (numbered h) kept_polled.homed u e))))
 
@@ -149,4 +155,4 @@ module _ (around : Surroundings) (fits : Fits around.f 16) (limit : ℕ) (rs : S
         (lines fits h h.lies.0 h.lies.1 _ (fault_text 0 n) (1 + limit) (λ u e.
         chained f u _ _ [] (fault_text 0 n) 1 limit (calls f 16 fits at own polled w.text w.answers refl POLL_AT refl lies.0 lies.1 u e)
         (rs.poll_breaks _ _ polled w.text w.answers n (subst AreBytes (sym h.answers) h.short.answer_bytes)
-            (ap (λ l. nat_eq (first_or_zero l) 3) h.answers ∙ three) (numbered h) kept_polled.homed)))
+        (ap (λ l. nat_eq (first_or_zero l) 3) h.answers ∙ three) (numbered h) kept_polled.homed)))

@@ -125,10 +125,22 @@ module _ (f : Setup) (room : ℕ) (fits : Fits f room) (bs : List ℕ) (m : ℕ 
   steps at which wanted there d to below leads st w h e =
       same_view at w _ h
       (placed_last f room fits (ins (branch_on which wanted) d) (view w.regs.a w.regs.x w.regs.y w.regs.flags.n w.regs.flags.v w.regs.flags.i
-          w.regs.flags.z w.regs.flags.c at bs m text answers) _ _ small st
+      w.regs.flags.z w.regs.flags.c at bs m text answers) _ _ small st
       (acts at which wanted d w.regs.a w.regs.x w.regs.y w.regs.flags.n w.regs.flags.v w.regs.flags.i w.regs.flags.z w.regs.flags.c)
-      (record { here = record { pc = ap (λ t. if is_taken wanted t then added at d else (at + 2) % 65536) e ∙ by (is_taken wanted there);
-          stack = refl; binary = refl; mem = refl; text = refl; answers = refl }; number = refl; index = refl; negative = refl; carry = refl }))
+      (record {
+        here = record {
+          pc = ap (λ t. if is_taken wanted t then added at d else (at + 2) % 65536) e ∙ by (is_taken wanted there);
+          stack = refl;
+          binary = refl;
+          mem = refl;
+          text = refl;
+          answers = refl;
+        };
+        number = refl;
+        index = refl;
+        negative = refl;
+        carry = refl;
+      }))
     where
       by : (t : Bool) → (if t then added at d else (at + 2) % 65536) ≡ cond t to (at + 2)
       by true = leads
@@ -164,6 +176,11 @@ module _ (f : Setup) (room : ℕ) (fits : Fits f room) (bs : List ℕ) (m : ℕ 
       by : (t : Bool) → is_taken wanted there ≡ t → Comes f w (Led w (cond t to (at + 5))) [] 2
       by true taken =
           chained f w _ _ [] [] 1 1 (first true taken) (λ u g.
-          looser f u _ _ [] 1 1 (omega arith) (λ v k. record { here = k.here; number = k.number ∙ g.number; index = k.index ∙ g.index;
-              negative = k.negative ∙ g.negative; carry = k.carry ∙ g.carry }) (jumps_on (at + 2) to jump_stands u g.here))
+          looser f u _ _ [] 1 1 (omega arith) (λ v k. record {
+            here = k.here;
+            number = k.number ∙ g.number;
+            index = k.index ∙ g.index;
+            negative = k.negative ∙ g.negative;
+            carry = k.carry ∙ g.carry;
+          }) (jumps_on (at + 2) to jump_stands u g.here))
       by false taken = looser f w _ _ [] 1 2 (omega arith) (λ u g. g) (first false taken)

@@ -67,7 +67,7 @@ module _ {around : Surroundings} {n : ℕ} {a b : Operand} {d : Destination} {is
       let bytes = added_word _ _ _ _ x y p.low_byte p.high_byte q.low_byte q.high_byte p.small q.small in
       writes h code (word (x + y)) _ _ (size (summed left right to)) refl bytes.0 bytes.1 (omega arith) rest
       (sums f 16 fits w.regs.pc (lo ∷ hi ∷ []) w.mem w.text w.answers refl left right to lies.0
-          (operand_grounded k a d (omega (arith, c.slot)) c.left) (operand_grounded (k + 1) b d c.slot c.right) (dest_in_data d c.dest) lies.1 w (here h))
+      (operand_grounded k a d (omega (arith, c.slot)) c.left) (operand_grounded (k + 1) b d c.slot c.right) (dest_in_data d c.dest) lies.1 w (here h))
 
 module _ {around : Surroundings} {n : ℕ} {a b : Operand} {d : Destination} {is : List Instr} {s : State} {r : Slots} {w : View}
     (h : Ready around n (Calculate op.Subtract a b d) (spread op.Subtract a b d is) is s r w) (fits : Fits around.f 16) (code : SlotCode) where
@@ -83,4 +83,4 @@ module _ {around : Surroundings} {n : ℕ} {a b : Operand} {d : Destination} {is
       let bytes = subtracted_word _ _ _ _ x y p.low_byte p.high_byte q.low_byte q.high_byte p.small q.small in
       writes h code (word (x + (65536 - y))) _ _ (size (taken left right to)) refl bytes.0 bytes.1 (omega arith) rest
       (differs f 16 fits w.regs.pc (lo ∷ hi ∷ []) w.mem w.text w.answers refl left right to lies.0
-          (operand_grounded k a d (omega (arith, c.slot)) c.left) (operand_grounded (k + 1) b d c.slot c.right) (dest_in_data d c.dest) lies.1 w (here h))
+      (operand_grounded k a d (omega (arith, c.slot)) c.left) (operand_grounded (k + 1) b d c.slot c.right) (dest_in_data d c.dest) lies.1 w (here h))

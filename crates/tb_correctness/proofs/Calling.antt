@@ -10,12 +10,12 @@ use Rattle.tb_lower.specs.Slots.{Instr, CallTo, Return, Slots, SlotCode, Whole}
 use Rattle.tb_reaching.proofs.Comes.{chained, looser}
 use Rattle.tb_reaching.specs.Start.{IsHome}
 use Rattle.tb_reaching.specs.View.{Comes, Fits, View}
-use Rattle.tb_runtime16.specs.Routines.{Here, Moves, Noted, WordAt}
-use Rattle.tb_runtime16.specs.Places.{HOME_S, LEFT, LINE, NOTES, POP_AT, PUSH_AT, RESULT}
+use Rattle.tb_runtime16.specs.Routines.{Here, Moves, AreReturns, WordAt}
+use Rattle.tb_runtime16.specs.Addresses.{HOME_S, LEFT, LINE, NOTES, POP_AT, PUSH_AT, RESULT}
 use Rattle.tb_runtime16.proofs.StatePlaces.{not_popped, not_pushed}
-use Rattle.tb_simulation.specs.Layout.{next_at, place_at}
+use Rattle.tb_simulation.specs.Layout.{next_at, place_address}
 use Rattle.tb_simulation.proofs.Frames.{state_popped, state_pushed, word_away, word_put}
-use Rattle.tb_simulation.proofs.Mirrors.{Flagged, notes_of}
+use Rattle.tb_simulation.proofs.Mirrors.{Flagged, return_addresses}
 use Rattle.tb_simulation.proofs.Pieces.{calls, jumps, jumps_through, points, put_word, sets}
 use Rattle.tb_simulation.proofs.Resolved.{Lies, highest_code}
 use Rattle.tb_simulation.proofs.Returning.{back_here, apart, behind_call, homed_kept}
@@ -23,12 +23,12 @@ use Rattle.tb_selection.specs.Groups.{Single}
 use Rattle.tb_selection.specs.Liveness.{live}
 use Rattle.tb_correctness.proofs.Branches.{branch_behind, branches}
 use Rattle.tb_correctness.proofs.GroupCode.{BranchReaches, CallReaches, GroupsLaid, Way, Zero, call_code, called_code, counted_at, going_code, low_code}
-use Rattle.tb_correctness.proofs.GroupCode.{noted_at, noting_code, popping_at, popping_code, pushing_at, pushing_code, raising_code, some_at, taking_code}
+use Rattle.tb_correctness.proofs.GroupCode.{held_at, noting_code, popping_at, popping_code, pushing_at, pushing_code, raising_code, some_at, taking_code}
 use Rattle.tb_correctness.proofs.GroupCode.{way_size}
 use Rattle.tb_correctness.proofs.Faults.{faults_at}
 use Rattle.tb_correctness.proofs.GroupInvariants.{Kept, arrived, kept_lined, kept_put, lined, numbered}
 use Rattle.tb_correctness.proofs.Matching.{Matches}
-use Rattle.tb_correctness.proofs.Noting.{Added, Indexed, added, asks, carried, counted, dropped, index_small, raises, some, some_small, stores_note, taken, takes_note, with_note}
+use Rattle.tb_correctness.proofs.Noting.{Added, Indexed, added, asks, carried, counted, dropped, index_small, raises, some, some_small, stores_return, taken, takes_return, with_return}
 use Rattle.tb_correctness.proofs.Ready.{Ready, here}
 use Rattle.tb_correctness.proofs.Surroundings.{Serves, Surroundings}
 
@@ -43,14 +43,14 @@ module _ (around : Surroundings) (fits : Fits around.f 16) (limit : ℕ) (rs : S
   start = w.regs.pc
 
   -- the notes, and the high byte of their count
-  abbrev notes : List ℕ
-  notes = notes_of ly s.returns
+  abbrev returns : List ℕ
+  returns = return_addresses ly s.returns
 
   abbrev page : ℕ
   page = w.mem (NOTES + 1)
 
-  same_length : length notes ≡ length s.returns
-  same_length = length-map s.returns (place_at ly)
+  same_length : length returns ≡ length s.returns
+  same_length = length-map s.returns (place_address ly)
 
   -- ---- GOSUB
   module _ (t : ℕ) (h : Ready around n (Single (CallTo t)) (CallTo t ∷ is) is s r w) where
@@ -68,11 +68,11 @@ module _ (around : Surroundings) (fits : Fits around.f 16) (limit : ℕ) (rs : S
       abbrev second : Way
       second = h.second
 
-      abbrev note : ℕ
-      note = next_at ly n
+      abbrev return_address : ℕ
+      return_address = next_at ly n
 
-      note_small : note < 65536
-      note_small = laid.places (next_after ly.numbers n)
+      return_small : return_address < 65536
+      return_small = laid.places (next_after ly.numbers n)
 
       -- where it notes, asks for a carry, goes on, and calls the routine
       abbrev storing : ℕ
@@ -82,7 +82,7 @@ module _ (around : Surroundings) (fits : Fits around.f 16) (limit : ℕ) (rs : S
       asking = counted_at first start
 
       abbrev going : ℕ
-      going = noted_at first second start
+      going = held_at first second start
 
       abbrev pushing : ℕ
       pushing = pushing_at first second start
@@ -110,48 +110,49 @@ module _ (around : Surroundings) (fits : Fits around.f 16) (limit : ℕ) (rs : S
       Ends u = Matches around (record { state = called; rest = Whole; slots = r }) u
 
       -- a memory with the note, from where it goes on
-      goes : (at : ℕ) (m : ℕ → ℕ) → length s.returns < deepest → WordAt m NOTES (suc (length s.returns)) → Noted m (note ∷ notes)
+      goes : (at : ℕ) (m : ℕ → ℕ) → length s.returns < deepest → WordAt m NOTES (suc (length s.returns)) → AreReturns m (return_address ∷ returns)
           → ((a : ℕ) → 0xC000 ≤ a → a ≤ 0xC061 → a ≢ NOTES → a ≢ NOTES + 1 → m a ≡ w.mem a) → (u : View) → Here (ly.start t) own m w.text w.answers u → Ends u
-      goes at m few count noted others =
+      goes at m few count held others =
           arrived around called r (ly.start t) m w.text w.answers refl
-          (state_pushed ly s w.mem m h.state (At t) (next_after ly.numbers n) few count noted others) h.read.all_words
+          (state_pushed ly s w.mem m h.state (At t) (next_after ly.numbers n) few count held others) h.read.all_words
           (homed_kept w.mem m (others HOME_S (omega arith) (omega arith) (λ e. omega (arith, e)) (λ e. omega (arith, e))) h.homed)
           h.text h.answers h.short
 
       module _ (near : page ≡ 0) where
-        counts : WordAt w.mem NOTES (length notes)
+        counts : WordAt w.mem NOTES (length returns)
         counts = subst (WordAt w.mem NOTES) (sym same_length) h.state.count
 
         few : w.mem NOTES < 256
-        few = index_small w.mem note notes note_small counts h.state.notes near
+        few = index_small w.mem return_address returns return_small counts h.state.returns near
 
         abbrev stored : ℕ → ℕ
-        stored = counted f 16 fits own w.mem w.text w.answers refl storing (note % 256) (note / 256) few
+        stored = counted f 16 fits own w.mem w.text w.answers refl storing (return_address % 256) (return_address / 256) few
 
         abbrev low : ℕ
-        low = (with_note f 16 fits own w.mem w.text w.answers refl storing (note % 256) (note / 256) few NOTES + 1) % 256
+        low = (with_return f 16 fits own w.mem w.text w.answers refl storing (return_address % 256) (return_address / 256) few NOTES + 1) % 256
 
-        added_goes : (m : ℕ → ℕ) → Added w.mem note notes m → length s.returns < deepest → Moves f (Here going own m w.text w.answers) Ends [] 1
+        added_goes : (m : ℕ → ℕ) → Added w.mem return_address returns m → length s.returns < deepest → Moves f (Here going own m w.text w.answers) Ends [] 1
         added_goes m a free u e =
             looser f u _ _ [] 1 1 (omega arith)
-            (goes going m free (subst (λ k. WordAt m NOTES (suc k)) same_length a.count) a.noted (λ x lo hi p q. a.others x (omega (arith, hi)) p q))
+            (goes going m free (subst (λ k. WordAt m NOTES (suc k)) same_length a.count) a.held (λ x lo hi p q. a.others x (omega (arith, hi)) p q))
             (jumps f 16 fits going own m w.text w.answers refl (ly.start t) onward.1 u e)
 
         by_carry : (z : Bool) → eqb low 0 ≡ z → length s.returns < deepest → Moves f (Flagged asking own stored w.text w.answers (eqb low 0)) Ends [] 4
         by_carry false e free u k =
             looser f u _ _ [] (2 + 1) 4 (omega arith) (λ v x. x)
             (chained f u _ _ [] [] 2 1 (branches f 16 fits own stored w.text w.answers refl asking second Zero false false going raising.0 reach.1 noting.2.1 u k.here (k.zero ∙ e))
-            (λ v g. added_goes stored (added w.mem note notes note_small counts h.state.notes near e) free v g.here))
+            (λ v g. added_goes stored (added w.mem return_address returns return_small counts h.state.returns near e) free v g.here))
         by_carry true e free u k =
             chained f u _ _ [] [] 2 2 (branches f 16 fits own stored w.text w.answers refl asking second Zero false true going raising.0 reach.1 noting.2.1 u k.here (k.zero ∙ e)) (λ v g.
             chained f v _ _ [] [] 1 1 (raises f 16 fits own stored w.text w.answers refl (asking + way_size second) raising.1.0 raising.1.1 v g.here)
-            (added_goes _ (carried w.mem note notes note_small counts h.state.notes near e) free))
+            (added_goes _ (carried w.mem return_address returns return_small counts h.state.returns near e) free))
 
         in_line : length s.returns < deepest → Comes f w Ends [] 13
         in_line free =
             chained f w _ _ [] [] 3 10 (asks f 16 fits own w.mem w.text w.answers refl start (NOTES + 1) pushing first false true
-                (noting_code ly n start first second t) refl (eq-eqb page 0 near) reach.0 lies w (here h)) (λ u g.
-            chained f u _ _ [] [] 6 4 (stores_note f 16 fits own w.mem w.text w.answers refl storing (note % 256) (note / 256) few noting.0 noting.1 u g.here) (by_carry (eqb low 0) refl free))
+            (noting_code ly n start first second t) refl (eq-eqb page 0 near) reach.0 lies w (here h)) (λ u g.
+            chained f u _ _ [] [] 6 4 (stores_return f 16 fits own w.mem w.text w.answers refl storing (return_address % 256)
+            (return_address / 256) few noting.0 noting.1 u g.here) (by_carry (eqb low 0) refl free))
 
       -- ---- by the routine
       abbrev at : ℕ
@@ -162,10 +163,10 @@ module _ (around : Surroundings) (fits : Fits around.f 16) (limit : ℕ) (rs : S
       one = lined h
 
       abbrev two : ℕ → ℕ
-      two = put_word one LEFT (note % 256) (note / 256)
+      two = put_word one LEFT (return_address % 256) (return_address / 256)
 
       kept_two : Kept around (live (CallTo t ∷ is)) s r two
-      kept_two = kept_put around (live (CallTo t ∷ is)) s r one LEFT (note % 256) (note / 256) h.some_read refl refl (kept_lined h)
+      kept_two = kept_put around (live (CallTo t ∷ is)) s r one LEFT (return_address % 256) (return_address / 256) h.some_read refl refl (kept_lined h)
 
       number : WordAt two LINE n
       number = word_away one LEFT _ _ LINE n (λ e. omega (arith, e)) (λ e. omega (arith, e)) (λ e. omega (arith, e)) (numbered h)
@@ -177,9 +178,9 @@ module _ (around : Surroundings) (fits : Fits around.f 16) (limit : ℕ) (rs : S
           → Moves f (Here PUSH_AT ((at + 8 + 2) % 256 ∷ (at + 8 + 2) / 256 ∷ own) two w.text w.answers) q l b → Comes f w q l (3 + (4 + (4 + (1 + b))))
       up_to_push far q l b next =
           chained f w _ q [] l 3 (4 + (4 + (1 + b))) (asks f 16 fits own w.mem w.text w.answers refl start (NOTES + 1) pushing first false false
-              (noting_code ly n start first second t) refl (ne_eqb page 0 far) reach.0 lies w (here h)) (λ u g.
+          (noting_code ly n start first second t) refl (ne_eqb page 0 far) reach.0 lies w (here h)) (λ u g.
           chained f u _ q [] l 4 (4 + (1 + b)) (sets f 16 fits pushing own w.mem w.text w.answers refl n LINE routine.0 (refl, refl) routine.1 u g.here) (λ v e.
-          chained f v _ q [] l 4 (1 + b) (points f 16 fits at own one w.text w.answers refl note LEFT routine.2.0 (refl, refl) routine.2.1 v e) (λ v e.
+          chained f v _ q [] l 4 (1 + b) (points f 16 fits at own one w.text w.answers refl return_address LEFT routine.2.0 (refl, refl) routine.2.1 v e) (λ v e.
           chained f v _ q [] l 1 b (calls f 16 fits (at + 8) own two w.text w.answers refl PUSH_AT refl routine.2.2.0 routine.2.2.1 v e) next)))
 
       pushes : page ≢ 0 → length s.returns < deepest → Comes f w Ends [] (13 + limit)
@@ -187,13 +188,13 @@ module _ (around : Surroundings) (fits : Fits around.f 16) (limit : ℕ) (rs : S
           let c = kept_two in
           looser f w _ _ [] (3 + (4 + (4 + (1 + (limit + 1))))) (13 + limit) (omega arith) (λ u x. x)
           (up_to_push far _ [] (limit + 1) (λ v e.
-          chained f v _ _ [] [] limit 1 (rs.push _ _ two w.text w.answers note notes (word_put one LEFT _ _ _ refl refl note_small)
-              (subst (λ k. WordAt two NOTES k) (sym same_length) c.state.count) c.state.notes (omega (arith, free, same_length)) v e) (λ x g.
+          chained f v _ _ [] [] limit 1 (rs.push _ _ two w.text w.answers return_address returns (word_put one LEFT _ _ _ refl refl return_small)
+          (subst (λ k. WordAt two NOTES k) (sym same_length) c.state.count) c.state.returns (omega (arith, free, same_length)) v e) (λ x g.
           looser f x _ _ [] 1 1 (omega arith)
           (arrived around called r (ly.start t) x.mem w.text w.answers refl
           (state_pushed ly s two x.mem c.state (At t) (next_after ly.numbers n) free
-              (subst (λ k. WordAt x.mem NOTES (suc k)) same_length g.memory.notes.count) g.memory.notes.noted
-              (λ p from to z y. g.memory.others p (not_pushed p from to z y))) h.read.all_words
+          (subst (λ k. WordAt x.mem NOTES (suc k)) same_length g.memory.returns.count) g.memory.returns.held
+          (λ p from to z y. g.memory.others p (not_pushed p from to z y))) h.read.all_words
           (homed_kept two x.mem (g.memory.others HOME_S refl) c.homed)
           h.text h.answers h.short)
           (jumps f 16 fits (at + 8 + 3) own x.mem w.text w.answers refl (ly.start t) routine.2.2.2.1 x
@@ -209,8 +210,8 @@ module _ (around : Surroundings) (fits : Fits around.f 16) (limit : ℕ) (rs : S
           let c = kept_two in
           let all : length s.returns ≡ deepest = omega (arith, ltb-false _ _ full, c.state.few) in
           looser f w _ _ (fault_text 4 n) (3 + (4 + (4 + (1 + limit)))) (12 + limit) (omega arith) (λ u x. x)
-          (up_to_push (λ z. omega (arith, z, all, h.state.count.high)) _ (fault_text 4 n) limit (rs.push_fails _ _ two w.text w.answers notes n
-              (subst (λ k. WordAt two NOTES k) (sym same_length) c.state.count) c.state.notes (omega (arith, all, same_length)) number c.homed))
+          (up_to_push (λ z. omega (arith, z, all, h.state.count.high)) _ (fault_text 4 n) limit (rs.push_fails _ _ two w.text w.answers returns n
+          (subst (λ k. WordAt two NOTES k) (sym same_length) c.state.count) c.state.returns (omega (arith, all, same_length)) number c.homed))
 
   -- ---- RETURN
   module _ (h : Ready around n (Single Return) (Return ∷ is) is s r w) where
@@ -249,7 +250,7 @@ module _ (around : Surroundings) (fits : Fits around.f 16) (limit : ℕ) (rs : S
     low_alone : page ≡ 0 → (q : View → Type 0) (l : List ℕ) (b : ℕ) → Moves f (Indexed f 16 fits own w.mem w.text w.answers refl low_at page) q l b → Comes f w q l (3 + b)
     low_alone near q l b next =
         chained f w _ q [] l 3 b (asks f 16 fits own w.mem w.text w.answers refl start (NOTES + 1) popping one_way false true
-            (low_code n start one_way other_way) refl (eq-eqb page 0 near) h.reach.0 h.lies w (here h)) next
+        (low_code n start one_way other_way) refl (eq-eqb page 0 near) h.reach.0 h.lies w (here h)) next
 
     -- up to the routine
     up_to_pop : (page ≢ 0) ⊎ (w.mem NOTES ≡ 0) → (q : View → Type 0) (l : List ℕ) (b : ℕ)
@@ -265,7 +266,7 @@ module _ (around : Surroundings) (fits : Fits around.f 16) (limit : ℕ) (rs : S
         by_page far =
             looser f w _ _ l (3 + (4 + (1 + b))) (6 + (4 + (1 + b))) (omega arith) (λ u x. x)
             (chained f w _ q [] l 3 (4 + (1 + b)) (asks f 16 fits own w.mem w.text w.answers refl start (NOTES + 1) popping one_way false false
-                (low_code n start one_way other_way) refl (ne_eqb page 0 far) h.reach.0 h.lies w (here h)) (λ u g.
+            (low_code n start one_way other_way) refl (ne_eqb page 0 far) h.reach.0 h.lies w (here h)) (λ u g.
             calls_pop u g.here))
 
         by_none : w.mem NOTES ≡ 0 → page ≡ 0 → Comes f w q l (6 + (4 + (1 + b)))
@@ -273,7 +274,7 @@ module _ (around : Surroundings) (fits : Fits around.f 16) (limit : ℕ) (rs : S
             looser f w _ _ l (3 + (3 + (4 + (1 + b)))) (6 + (4 + (1 + b))) (omega arith) (λ u x. x)
             (low_alone near q l (3 + (4 + (1 + b))) (λ u g.
             chained f u _ q [] l 3 (4 + (1 + b)) (asks f 16 fits own w.mem w.text w.answers refl low_at NOTES popping other_way true true
-                (taking_code n) refl (eq-eqb (w.mem NOTES) 0 none) h.reach.1 low_lies u g.here) (λ v k.
+            (taking_code n) refl (eq-eqb (w.mem NOTES) 0 none) h.reach.1 low_lies u g.here) (λ v k.
             calls_pop v k.here)))
 
     module _ (p : Place) (ps : List Place) (q : s.returns ≡ p ∷ ps) where
@@ -283,45 +284,45 @@ module _ (around : Surroundings) (fits : Fits around.f 16) (limit : ℕ) (rs : S
       abbrev Returns : View → Type 0
       Returns u = Matches around (record { state = back; rest = Whole; slots = r }) u
 
-      left_length : length (notes_of ly ps) ≡ length ps
-      left_length = length-map ps (place_at ly)
+      left_length : length (return_addresses ly ps) ≡ length ps
+      left_length = length-map ps (place_address ly)
 
       pops : (page ≢ 0) ⊎ (w.mem NOTES ≡ 0) → Comes f w Returns [] (12 + limit)
       pops why =
           let few : suc (length ps) ≤ deepest = subst (λ l. length l ≤ deepest) q c.state.few in
-          let noted : Noted m (notes_of ly (p ∷ ps)) = subst (λ l. Noted m (notes_of ly l)) q c.state.notes in
+          let held : AreReturns m (return_addresses ly (p ∷ ps)) = subst (λ l. AreReturns m (return_addresses ly l)) q c.state.returns in
           let count : WordAt m NOTES (suc (length ps)) = subst (λ l. WordAt m NOTES (length l)) q c.state.count in
           looser f w _ _ [] (6 + (4 + (1 + (limit + 1)))) (12 + limit) (omega arith) (λ u x. x)
           (up_to_pop why _ [] (limit + 1) (λ u e.
-          chained f u _ _ [] [] limit 1 (rs.pop _ _ m w.text w.answers (place_at ly p) (notes_of ly ps) (subst (λ k. WordAt m NOTES (suc k))
-              (sym left_length) count) noted (omega (arith, few, left_length)) u e) (λ u g.
+          chained f u _ _ [] [] limit 1 (rs.pop _ _ m w.text w.answers (place_address ly p) (return_addresses ly ps) (subst (λ k. WordAt m NOTES (suc k))
+          (sym left_length) count) held (omega (arith, few, left_length)) u e) (λ u g.
           looser f u _ _ [] 1 1 (omega arith)
-          (arrived around back r (place_at ly p) u.mem w.text w.answers refl
-          (state_popped ly s m u.mem c.state p ps q (subst (λ k. WordAt u.mem NOTES k) left_length g.memory.notes.count) (λ p z y x. g.memory.gives.others p (not_popped p z y x))) h.read.all_words
+          (arrived around back r (place_address ly p) u.mem w.text w.answers refl
+          (state_popped ly s m u.mem c.state p ps q (subst (λ k. WordAt u.mem NOTES k) left_length g.memory.returns.count) (λ p z y x. g.memory.gives.others p (not_popped p z y x))) h.read.all_words
           (homed_kept m u.mem (g.memory.gives.others HOME_S refl) c.homed)
           h.text h.answers h.short)
-          (jumps_through f 16 fits (popping + 10 + 3) own u.mem w.text w.answers refl (place_at ly p) g.memory.gives.result routine_lies.2.2.1 u
-              (back_here _ _ w.text w.answers _ u g (behind_call (popping + 10) routine_lies.2.0))))))
+          (jumps_through f 16 fits (popping + 10 + 3) own u.mem w.text w.answers refl (place_address ly p) g.memory.gives.result routine_lies.2.2.1 u
+          (back_here _ _ w.text w.answers _ u g (behind_call (popping + 10) routine_lies.2.0))))))
 
       takes : page ≡ 0 → Comes f w Returns [] 13
       takes near =
-          let noted : Noted w.mem (notes_of ly (p ∷ ps)) = subst (λ l. Noted w.mem (notes_of ly l)) q h.state.notes in
+          let held : AreReturns w.mem (return_addresses ly (p ∷ ps)) = subst (λ l. AreReturns w.mem (return_addresses ly l)) q h.state.returns in
           let count : WordAt w.mem NOTES (suc (length ps)) = subst (λ l. WordAt w.mem NOTES (length l)) q h.state.count in
-          let counts : WordAt w.mem NOTES (suc (length (notes_of ly ps))) = subst (λ k. WordAt w.mem NOTES (suc k)) (sym left_length) count in
-          let there = some w.mem (place_at ly p) (notes_of ly ps) counts noted near in
-          let small = some_small w.mem (place_at ly p) (notes_of ly ps) counts noted near in
-          let d = dropped w.mem (place_at ly p) (notes_of ly ps) counts noted near in
+          let counts : WordAt w.mem NOTES (suc (length (return_addresses ly ps))) = subst (λ k. WordAt w.mem NOTES (suc k)) (sym left_length) count in
+          let there = some w.mem (place_address ly p) (return_addresses ly ps) counts held near in
+          let small = some_small w.mem (place_address ly p) (return_addresses ly ps) counts held near in
+          let d = dropped w.mem (place_address ly p) (return_addresses ly ps) counts held near in
           low_alone near _ [] 10 (λ u g.
           chained f u _ _ [] [] 3 7 (asks f 16 fits own w.mem w.text w.answers refl low_at NOTES popping other_way true false (taking_code n) refl
-              (ne_eqb (w.mem NOTES) 0 (λ z. omega (arith, z, there))) h.reach.1 low_lies u g.here) (λ u g.
-          chained f u _ _ [] [] 6 1 (takes_note f 16 fits own w.mem w.text w.answers refl taking (w.mem NOTES) small taking_lies.0 taking_lies.1 u g) (λ u e.
+          (ne_eqb (w.mem NOTES) 0 (λ z. omega (arith, z, there))) h.reach.1 low_lies u g.here) (λ u g.
+          chained f u _ _ [] [] 6 1 (takes_return f 16 fits own w.mem w.text w.answers refl taking (w.mem NOTES) small taking_lies.0 taking_lies.1 u g) (λ u e.
           looser f u _ _ [] 1 1 (omega arith)
-          (arrived around back r (place_at ly p) _ w.text w.answers refl
+          (arrived around back r (place_address ly p) _ w.text w.answers refl
           (state_popped ly s w.mem _ h.state p ps q (subst (λ k. WordAt (taken f 16 fits own w.mem w.text w.answers refl taking (w.mem NOTES) small)
-              NOTES k) left_length d.count) (λ a o n' n''. d.others a n' (apart a RESULT o refl) (apart a (RESULT + 1) o refl))) h.read.all_words
+          NOTES k) left_length d.count) (λ a o n' n''. d.others a n' (apart a RESULT o refl) (apart a (RESULT + 1) o refl))) h.read.all_words
           (homed_kept w.mem _ (d.others HOME_S (λ e. omega (arith, e)) (λ e. omega (arith, e)) (λ e. omega (arith, e))) h.homed)
           h.text h.answers h.short)
-          (jumps_through f 16 fits (taking + 16) own _ w.text w.answers refl (place_at ly p) d.result taking_lies.2.1 u e))))
+          (jumps_through f 16 fits (taking + 16) own _ w.text w.answers refl (place_address ly p) d.result taking_lies.2.1 u e))))
 
       pub return_law : Comes f w Returns [] (13 + limit)
       return_law =

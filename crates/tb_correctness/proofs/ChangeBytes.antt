@@ -15,7 +15,7 @@ use Rattle.tb_reaching.proofs.Instr.{Instr, ins}
 use Rattle.tb_syntax.specs.declared.expressions.Operator.{Operator}
 use Rattle.tb_templates.specs.declared.labels.Target.{Target}
 use Rattle.tb_templates.specs.declared.sources.Source.{Source}
-use Rattle.tb_templates.specs.declared.sources.Source.TheVariants.{FixedWord, AtPlace}
+use Rattle.tb_templates.specs.declared.sources.Source.TheVariants.{FixedWord, AtAddress}
 use Rattle.tb_templates.specs.Labels.{label_of}
 use Rattle.tb_templates.specs.Templates as product
 use Rattle.tb_templates.specs.Scaled as scaled
@@ -23,7 +23,7 @@ use Rattle.tb_templates.specs.InPlace as in_place
 use Rattle.tb_templates.specs.InPlace.{change_of}
 use Rattle.tb_templates.proofs.Divided.{asked_rest_plain}
 use Rattle.tb_templates.proofs.Plain.{plain_straight}
-use Rattle.tb_runtime16.specs.Places.{RESULT}
+use Rattle.tb_runtime16.specs.Addresses.{RESULT}
 use Rattle.tb_templates.specs.declared.in_place.Change.{Change}
 use Rattle.tb_templates.specs.declared.in_place.Change.TheVariants.{Increment, Decrement, Raise, Lower, Halve, Double}
 use Rattle.tb_templates.specs.GroupTemplates as items
@@ -133,24 +133,24 @@ module _ (labels : List (Name × ℕ)) where
     change_emitted : (c : Change) → IsByte c → AreFormsOf (in_place.changed c p skip) fs → Rest labels at fs → ChangeEmitted c p at fs
     change_emitted Increment few h r =
         let e = over_emitted (product.at Inc p ∷ []) (product.at Inc (p + 1) ∷ []) [] (ins 0xEE p ∷ []) (ins 0xEE (p + 1) ∷ []) [] Zero false
-            (label_of skip) refl refl refl (inc_bytes p) (inc_bytes (p + 1)) none_bytes at fs h r in
+        (label_of skip) refl refl refl (inc_bytes p) (inc_bytes (p + 1)) none_bytes at fs h r in
         record { first = e.first; emits = e.emits; reach = e.reach }
     change_emitted Decrement few h r =
         let e = over_emitted (product.at Lda p ∷ []) (product.at Dec (p + 1) ∷ []) (product.at Dec p ∷ []) (ins 0xAD p ∷ []) (ins 0xCE (p + 1) ∷ [])
-            (ins 0xCE p ∷ []) Zero false (label_of skip) refl refl refl lda_bytes (dec_bytes (p + 1)) (dec_bytes p) at fs h r in
+        (ins 0xCE p ∷ []) Zero false (label_of skip) refl refl refl lda_bytes (dec_bytes (p + 1)) (dec_bytes p) at fs h r in
         record { first = e.first; emits = e.emits; reach = e.reach }
     change_emitted (Raise c) few h r =
         let e = over_emitted (product.alone Clc ∷ product.at Lda p ∷ product.const Adc c ∷ product.at Sta p ∷ []) (product.at Inc (p + 1) ∷ []) []
-            (coded.low_raised c p) (ins 0xEE (p + 1) ∷ []) [] Carry false (label_of skip) refl refl refl (raised_bytes c few) (inc_bytes (p + 1)) none_bytes at fs h r in
+        (coded.low_raised c p) (ins 0xEE (p + 1) ∷ []) [] Carry false (label_of skip) refl refl refl (raised_bytes c few) (inc_bytes (p + 1)) none_bytes at fs h r in
         record { first = e.first; emits = e.emits; reach = e.reach }
     change_emitted (Lower c) few h r =
         let e = over_emitted (product.alone Sec ∷ product.at Lda p ∷ product.const Sbc c ∷ product.at Sta p ∷ []) (product.at Dec (p + 1) ∷ []) []
-            (coded.low_lowered c p) (ins 0xCE (p + 1) ∷ []) [] Carry true (label_of skip) refl refl refl (lowered_bytes c few) (dec_bytes (p + 1)) none_bytes at fs h r in
+        (coded.low_lowered c p) (ins 0xCE (p + 1) ∷ []) [] Carry true (label_of skip) refl refl refl (lowered_bytes c few) (dec_bytes (p + 1)) none_bytes at fs h r in
         record { first = e.first; emits = e.emits; reach = e.reach }
     change_emitted Halve few h r =
         let e = over_emitted (product.at Lda (p + 1) ∷ scaled.on_a Asl ∷ []) (in_place.one_more p ++ (scaled.on_a Asl ∷ []))
-            (product.at Ror (p + 1) ∷ product.at Ror p ∷ []) (coded.sign_asked p) (coded.raised_by_sign p) (coded.turned_right p) Carry false
-            (label_of skip) refl refl refl sign_bytes by_sign_bytes right_bytes at fs h r in
+        (product.at Ror (p + 1) ∷ product.at Ror p ∷ []) (coded.sign_asked p) (coded.raised_by_sign p) (coded.turned_right p) Carry false
+        (label_of skip) refl refl refl sign_bytes by_sign_bytes right_bytes at fs h r in
         record { first = e.first; emits = e.emits; reach = e.reach }
     change_emitted Double few h r =
         let is : fs ≡ map kept (in_place.doubled_in_place p) = straight_forms (in_place.doubled_in_place p) fs refl h in
@@ -164,7 +164,7 @@ module _ (labels : List (Name × ℕ)) where
   pub computed_emitted : (n at : ℕ) (skip : Target) (op : Operator) (a b : Source) (to : ℕ) (o : Option Change) → IsChange op a b to o → n < 65536
       → IsWord a → IsWord b → (fs : List Form)
       → AreFormsOf (items.changed_or o n skip op a b to) fs → Rest labels at fs → (first : Way)
-          × Emits labels at fs (coded.changed_or o first n at op a b to) × coded.ChangedReaches o first at to
+      × Emits labels at fs (coded.changed_or o first n at op a b to) × coded.ChangedReaches o first at to
   computed_emitted n at skip op a b to _ (of_left w c e e' k) small u v fs h r = let m = change_emitted to at skip fs c k.few h r in (m.first, m.emits, m.reach)
   computed_emitted n at skip op a b to _ (of_right w c e e' k) small u v fs h r = let m = change_emitted to at skip fs c k.few h r in (m.first, m.emits, m.reach)
   computed_emitted n at skip op a b to _ elsewhere small u v fs h r =
@@ -182,12 +182,12 @@ module _ (labels : List (Name × ℕ)) where
       → IsWord b → IsWord c → (fs : List Form)
       → AreFormsOf (items.stepped n skip behind op a b by c to) fs → Rest labels at fs → StepEmitted n at op a b by c to fs
   stepped_emitted n at skip behind op a b by c to small u v w fs h r =
-      let s = split (items.computed n skip op a b to) (items.computed n behind by (AtPlace to) c to) fs h in
+      let s = split (items.computed n skip op a b to) (items.computed n behind by (AtAddress to) c to) fs h in
       let parts = subst (Rest labels at) s.are r in
       let e = computed_emitted n at skip op a b to (change_of op a b to) (change_is op a b to) small u v s.front s.of_front (rest_before labels at s.front s.back parts) in
       let next = coded.going_at e.0 n at op a b to in
       let back = rest_behind labels at next s.front s.back (ap (λ k. at + k) (emitted_size labels e.1)) parts in
-      let g = computed_emitted n next behind by (AtPlace to) c to (change_of by (AtPlace to) c to) (change_is by (AtPlace to) c to) small tt w s.back s.of_back back in
+      let g = computed_emitted n next behind by (AtAddress to) c to (change_of by (AtAddress to) c to) (change_is by (AtAddress to) c to) small tt w s.back s.of_back back in
       record {
         first = e.0;
         second = g.0;
@@ -210,10 +210,10 @@ module _ (labels : List (Name × ℕ)) where
       let asks : Emits labels at s.front (coded.rest_asked n a b) = subst (λ fs. Emits labels at fs (coded.rest_asked n a b)) (sym front) (asked_emits labels n at a b small u v) in
       let next = coded.rest_at n at a b in
       let back = rest_behind labels at next s.front s.back (ap (λ k. at + k) (emitted_size labels asks)) parts in
-      let e = over_emitted (items.high_of Lda a ∷ []) (items.taken (FixedWord 0) (AtPlace RESULT) RESULT) (product.copied RESULT to)
-          (coded.sign_looked_at a) coded.rest_turned (copied RESULT to) Negative false (label_of skip) (ap (λ b. b && true) (high_straight Lda a))
-          refl (copied_straight RESULT to) (high_made labels a u) (taken_bytes labels (FixedWord 0) (AtPlace RESULT) RESULT (omega arith) tt)
-          (copied_made labels RESULT to) next s.back s.of_back back in
+      let e = over_emitted (items.high_of Lda a ∷ []) (items.taken (FixedWord 0) (AtAddress RESULT) RESULT) (product.copied RESULT to)
+      (coded.sign_looked_at a) coded.rest_turned (copied RESULT to) Negative false (label_of skip) (ap (λ b. b && true) (high_straight Lda a))
+      refl (copied_straight RESULT to) (high_made labels a u) (taken_bytes labels (FixedWord 0) (AtAddress RESULT) RESULT (omega arith) tt)
+      (copied_made labels RESULT to) next s.back s.of_back back in
       record {
         first = e.first;
         emits = subst (λ fs. Emits labels at fs (coded.remains_code e.first n at a b to)) (sym s.are) (emits_append labels asks e.emits);

@@ -7,7 +7,7 @@ use Rattle.tb_syntax.specs.declared.expressions.Operator.{Operator}
 use Rattle.tb_syntax.specs.declared.expressions.Operator.TheVariants.{Add, Subtract, Multiply, Divide}
 use Rattle.tb_meaning.specs.Values.{apply}
 use Rattle.tb_templates.specs.declared.sources.Source.{Source}
-use Rattle.tb_templates.specs.declared.sources.Source.TheVariants.{FixedWord, AtPlace}
+use Rattle.tb_templates.specs.declared.sources.Source.TheVariants.{FixedWord, AtAddress}
 use Rattle.tb_templates.specs.declared.in_place.Change.{Change}
 use Rattle.tb_templates.specs.declared.in_place.Change.TheVariants.{Increment, Decrement, Raise, Lower, Halve, Double}
 use Rattle.tb_templates.specs.InPlace.{raising, lowering, with_right, with_left, change_of}
@@ -76,22 +76,22 @@ left_is Divide v = tt
 
 -- a change of the word at a place with a constant
 pub data IsChange (op : Operator) (a b : Source) (to : ℕ) : Option Change → Type 0 where
-  of_left : (w : ℕ) (c : Change) → a ≡ AtPlace to → b ≡ FixedWord w → Computes c w (λ x. apply op x w) → IsChange op a b to (Some c)
-  of_right : (v : ℕ) (c : Change) → a ≡ FixedWord v → b ≡ AtPlace to → Computes c v (λ x. apply op v x) → IsChange op a b to (Some c)
+  of_left : (w : ℕ) (c : Change) → a ≡ AtAddress to → b ≡ FixedWord w → Computes c w (λ x. apply op x w) → IsChange op a b to (Some c)
+  of_right : (v : ℕ) (c : Change) → a ≡ FixedWord v → b ≡ AtAddress to → Computes c v (λ x. apply op v x) → IsChange op a b to (Some c)
   elsewhere : IsChange op a b to None
 
 pub change_is : (op : Operator) (a b : Source) (to : ℕ) → IsChange op a b to (change_of op a b to)
-change_is op (AtPlace p) (FixedWord w) to = by (nat_eq p to) refl (with_right op w) (right_is op w)
+change_is op (AtAddress p) (FixedWord w) to = by (nat_eq p to) refl (with_right op w) (right_is op w)
   where
-    by : (t : Bool) → nat_eq p to ≡ t → (o : Option Change) → IfAny o w (λ x. apply op x w) → IsChange op (AtPlace p) (FixedWord w) to (if t then o else None)
-    by true e (Some c) h = of_left w c (ap AtPlace (eqb-true p to e)) refl h
+    by : (t : Bool) → nat_eq p to ≡ t → (o : Option Change) → IfAny o w (λ x. apply op x w) → IsChange op (AtAddress p) (FixedWord w) to (if t then o else None)
+    by true e (Some c) h = of_left w c (ap AtAddress (eqb-true p to e)) refl h
     by true e None h = elsewhere
     by false e o h = elsewhere
-change_is op (FixedWord v) (AtPlace q) to = by (nat_eq q to) refl (with_left op v) (left_is op v)
+change_is op (FixedWord v) (AtAddress q) to = by (nat_eq q to) refl (with_left op v) (left_is op v)
   where
-    by : (t : Bool) → nat_eq q to ≡ t → (o : Option Change) → IfAny o v (λ x. apply op v x) → IsChange op (FixedWord v) (AtPlace q) to (if t then o else None)
-    by true e (Some c) h = of_right v c refl (ap AtPlace (eqb-true q to e)) h
+    by : (t : Bool) → nat_eq q to ≡ t → (o : Option Change) → IfAny o v (λ x. apply op v x) → IsChange op (FixedWord v) (AtAddress q) to (if t then o else None)
+    by true e (Some c) h = of_right v c refl (ap AtAddress (eqb-true q to e)) h
     by true e None h = elsewhere
     by false e o h = elsewhere
 change_is op (FixedWord v) (FixedWord w) to = elsewhere
-change_is op (AtPlace p) (AtPlace q) to = elsewhere
+change_is op (AtAddress p) (AtAddress q) to = elsewhere

@@ -10,7 +10,7 @@ use Rattle.tb_reaching.proofs.Parts.{holds_bytes, part_back}
 use Rattle.tb_syntax.specs.Source.{Program, numbers}
 use Rattle.tb_lower.specs.Follows.{Follows, longest}
 use Rattle.tb_lower.specs.Slots.{SlotCode}
-use Rattle.tb_runtime16.specs.Places.{PROLOGUE_AT}
+use Rattle.tb_runtime16.specs.Addresses.{PROLOGUE_AT}
 use Rattle.tb_templates.specs.Program.{program_code, AreCodable, RisingFrom}
 use Rattle.tb_runtime16.specs.Routines.{limit_by}
 use Rattle.tb_simulation.specs.Kept.{Starts, Keeps}
@@ -64,8 +64,8 @@ module _ (seed : ℕ) (program : Program) (code : SlotCode) (seed_small : seed <
   kept s h =
       let l = laid s h in
       whole.keeps BASIC_START bytes from to (layout_of labels (numbers code) seed) program code follows closed l.first
-          (groups_laid labels seed part code l polled) limit_by (λ k. omega arith) 192 (routines BASIC_START bytes from to labels seed code l)
-          (prologue BASIC_START bytes from to labels seed code l)
+      (groups_laid labels seed part code l polled) limit_by (λ k. omega arith) 192 (routines BASIC_START bytes from to labels seed code l)
+      (prologue BASIC_START bytes from to labels seed code l)
 
   pub image_keeps : Keeps BASIC_START bytes program seed
   image_keeps = record {
@@ -78,8 +78,8 @@ module _ (seed : ℕ) (program : Program) (code : SlotCode) (seed_small : seed <
   marked s h =
       let l = laid s h in
       whole.marks BASIC_START bytes from to (layout_of labels (numbers code) seed) program code follows closed l.first
-          (groups_laid labels seed part code l polled) limit_by (λ k. omega arith) 192 (routines BASIC_START bytes from to labels seed code l)
-          (prologue BASIC_START bytes from to labels seed code l)
+      (groups_laid labels seed part code l polled) limit_by (λ k. omega arith) 192 (routines BASIC_START bytes from to labels seed code l)
+      (prologue BASIC_START bytes from to labels seed code l)
 
   pub image_marks : (start : ℕ → ℕ) → Agree (layout_of labels (numbers code) seed).start start (numbers program) → MarksLines BASIC_START bytes program seed start
   image_marks start agree = told_so (layout_of labels (numbers code) seed).start start BASIC_START bytes program seed agree

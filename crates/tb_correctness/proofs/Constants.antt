@@ -9,12 +9,12 @@ use Rattle.tb_meaning.specs.Control.{State}
 use Rattle.tb_lower.specs.Slots.{Instr, Slots, SlotCode}
 use Rattle.tb_reaching.proofs.Comes.{looser}
 use Rattle.tb_reaching.specs.View.{Fits, View}
-use Rattle.tb_runtime16.specs.Places.{LEFT}
+use Rattle.tb_runtime16.specs.Addresses.{LEFT}
 use Rattle.tb_simulation.proofs.Resolved.{Lies, pieces_size}
 use Rattle.tb_selection.specs.Groups.{Operand, Destination, Calculate}
 use Rattle.tb_selection.specs.Select.{select}
 use Rattle.tb_templates.specs.declared.sources.Source.{Source}
-use Rattle.tb_templates.specs.declared.sources.Source.TheVariants.{AtPlace, FixedWord}
+use Rattle.tb_templates.specs.declared.sources.Source.TheVariants.{AtAddress, FixedWord}
 use Rattle.tb_templates.specs.GroupTemplates.{may_be_zero}
 use Rattle.tb_templates.specs.Scaled.{bits_size, is_factor}
 use Rattle.tb_templates.proofs.Factors.{IsScaling, by_right, by_left, by_routine, IsShifting, by_shifts, by_call}
@@ -38,7 +38,7 @@ constant_is m v y a e h = (let k = subst (λ a. SourceHolds m a y) e h in let l 
 -- a constant that is not 0 is known
 pub never_zero : (m : ℕ → ℕ) (y : ℕ) (b : Source) → SourceHolds m b y → may_be_zero b ≡ false → y ≢ 0
 never_zero m y (FixedWord v) k e = λ zero. let same = constant_is m v y (FixedWord v) refl k in absurd (true≢false (sym (eq-eqb v 0 (same.0 ∙ zero)) ∙ e))
-never_zero m y (AtPlace p) k e = absurd (true≢false e)
+never_zero m y (AtAddress p) k e = absurd (true≢false e)
 
 module _ {around : Surroundings} (fits : Fits around.f 16) (limit : ℕ) (rs : Serves around limit) (wide : 200 ≤ limit) (code : SlotCode) {n : ℕ}
     {a b : Operand} {d : Destination} {is : List Instr} {s : State} {r : Slots} {w : View} (h : Ready around n (Calculate op.Divide a b d)
@@ -77,5 +77,5 @@ module _ {around : Surroundings} (fits : Fits around.f 16) (limit : ℕ) (rs : S
       let two = above_one v good in
       looser f w _ _ _ 141 (13 + limit) (omega (arith, wide)) (λ u z. z)
       (times_law fits code h v (omega (arith, two)) (omega (arith, same)) right y (right_apart h LEFT (omega arith)) (operand_beyond (k + 1) b)
-          (right_holds h w.mem (kept h)) lies rest (ap word (mul_comm x y) ∙ ap (λ z. word (y * z)) (sym same.0)))
+      (right_holds h w.mem (kept h)) lies rest (ap word (mul_comm x y) ∙ ap (λ z. word (y * z)) (sym same.0)))
   product_law _ by_routine lies rest = multiply_law fits limit rs code h lies rest

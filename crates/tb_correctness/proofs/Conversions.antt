@@ -10,7 +10,7 @@ use Rattle.tb_reaching.specs.View.{Comes, Fits, View}
 use Rattle.tb_runtime16.specs.Laws.{Drawn}
 use Rattle.tb_runtime16.specs.Routines.{is_state}
 use Rattle.tb_templates.specs.GroupTemplates.{may_have_none}
-use Rattle.tb_runtime16.specs.Places.{HOME_S, LEFT, RANDOM_AT, RESULT, SEED, SEEDED}
+use Rattle.tb_runtime16.specs.Addresses.{HOME_S, LEFT, RANDOM_AT, RESULT, SEED, SEEDED}
 use Rattle.tb_runtime16.proofs.StatePlaces.{not_argument, not_scratch, not_seed}
 use Rattle.tb_simulation.proofs.Frames.{low_is_state, state_drawn}
 use Rattle.tb_simulation.proofs.Joins.{sent_in}
@@ -70,11 +70,11 @@ module _ (around : Surroundings) (fits : Fits around.f 16) (code : SlotCode) (n 
       subst (λ x. Comes f w (Target around x) (sent_in x) 7) (sym (negate_goes code n a d is s r h.read.all_words fit.slot))
       (looser f w _ _ [] 7 7 (omega arith)
       (word_lands around code n h.small (live (spread_convert Negated a d is)) d is s r (with_fetched s r k a) (negated x) _ _
-          (w.regs.pc + size text) w.mem w.text w.answers (difference.0 ∙ ap (λ y. word y % 256) same) (difference.1 ∙ ap (λ y. word y / 256) same)
-          (omega arith) fit.dest (convert_lasting Negated a d is s r h.free) (subst (λ p. GroupsLie ly f.code n p (select is)) behind h.rest)
-          (kept_first h) h.text h.answers h.short)
+      (w.regs.pc + size text) w.mem w.text w.answers (difference.0 ∙ ap (λ y. word y % 256) same) (difference.1 ∙ ap (λ y. word y / 256) same)
+      (omega arith) fit.dest (convert_lasting Negated a d is s r h.free) (subst (λ p. GroupsLie ly f.code n p (select is)) behind h.rest)
+      (kept_first h) h.text h.answers h.short)
       (differs f 16 fits w.regs.pc (lo ∷ hi ∷ []) w.mem w.text w.answers refl (FixedWord 0) src (destination_at d) h.lies.0 tt
-          (operand_grounded k a d fit.slot fit.word) (dest_in_data d fit.dest) h.lies.1 w (here h)))
+      (operand_grounded k a d fit.slot fit.word) (dest_in_data d fit.dest) h.lies.1 w (here h)))
 
   -- ---- RND
   module _ (limit : ℕ) (rs : Serves around limit) (seed_small : ly.seed < 65536) (h : Begins IsDrawn) where
@@ -112,7 +112,7 @@ module _ (around : Surroundings) (fits : Fits around.f 16) (code : SlotCode) (n 
     drawn_kept : (bound : ℕ) (m' m'' : ℕ → ℕ) → Kept around (live js) s r m' → Drawn m' bound s.seed m'' → Kept around (live js) drawn r m''
     drawn_kept bound m' m'' q g =
         let others : (p : ℕ) → is_state p ≡ true → p ≢ SEEDED → p ≢ SEED → p ≢ SEED + 1 → m'' p ≡ m' p = λ p o x y z. g.others p (not_argument p o)
-            (not_scratch p o) (not_seed p x y z) in
+        (not_scratch p o) (not_seed p x y z) in
         record {
           state = state_drawn ly s m' m'' q.state (seed_after s.seed) g.seeded g.seed_at others;
           read = live_same (live js) r m' m'' h.some_read (λ a lo hi. others a (low_is_state a (omega (arith, lo)) hi) (λ e. omega (arith, e, lo))

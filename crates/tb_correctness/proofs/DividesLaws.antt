@@ -15,7 +15,7 @@ use Rattle.tb_lower.specs.Slots.{Instr, Whole, Compute, Hold, JumpTo, LeaveUnles
 use Rattle.tb_meaning.specs.Steps.{Step, Stops, Faulted}
 use Rattle.tb_reaching.proofs.Comes.{chained, looser}
 use Rattle.tb_reaching.specs.View.{Comes, Fits, View}
-use Rattle.tb_runtime16.specs.Places.{LEFT, RIGHT}
+use Rattle.tb_runtime16.specs.Addresses.{LEFT, RIGHT}
 use Rattle.tb_simulation.specs.Layout.{next_at}
 use Rattle.tb_simulation.proofs.Joins.{sent_in}
 use Rattle.tb_simulation.proofs.Resolved.{Code, Lies, Piece, faulting, pieces_size}
@@ -150,14 +150,14 @@ module _ (code : SlotCode) (n : ℕ) (how : Divisibility) (v : ℕ) (d : Operand
   divides_next js back some =
       begins js back (steps code (test_before (compared how) (left_word side) (right_word v side) js) (line code n (spread_test (compared how) (left_word side) (right_word v side) back) s last))
       (multiple_next code n 0 v d s start start_length (omega arith) (test_before (compared how) (left_word side) (right_word v side) js)
-          (spread_test (compared how) (left_word side) (right_word v side) back) (λ e. some (sym (divisor_begun s r v side d) ∙ e)))
+      (spread_test (compared how) (left_word side) (right_word v side) back) (λ e. some (sym (divisor_begun s r v side d) ∙ e)))
 
   -- by 0 it faults
   divides_fails : (js back : List Instr) → divisor ≡ 0 → Next (Stops Faulted (fault_text 2 n)) js back
   divides_fails js back zero =
       begins js back (Stops Faulted (fault_text 2 n))
       (multiple_fails code n 0 v d s start start_length (omega arith) (test_before (compared how) (left_word side) (right_word v side) js)
-          (spread_test (compared how) (left_word side) (right_word v side) back) (divisor_begun s r v side d ∙ zero))
+      (spread_test (compared how) (left_word side) (right_word v side) back) (divisor_begun s r v side d ∙ zero))
 
   -- whether the product is the dividend
   abbrev asked : Bool
@@ -271,8 +271,8 @@ module _ (around : Surroundings) (fits : Fits around.f 16) (code : SlotCode) (sa
       subst Ends (sym (divides_fails code n how v d side s r h.read.all_words ks back zero))
       (looser f w _ _ (fault_text 2 n) (13 + limit) (34 + (limit + limit)) (omega arith) (λ u z. z)
       (divided_fails fits limit rs h left right x y (operand_apart 0 (Variable v) 0 (omega arith) (omega arith) left_fits)
-          (operand_apart 0 (Variable v) LEFT (omega arith) (omega arith) left_fits) (operand_apart 1 d RIGHT (omega arith) (omega arith) right_fits)
-          left_holds right_holds how' h.first next lies zero))
+      (operand_apart 0 (Variable v) LEFT (omega arith) (omega arith) left_fits) (operand_apart 1 d RIGHT (omega arith) (omega arith) right_fits)
+      left_holds right_holds how' h.first next lies zero))
 
   -- the words of its test
   abbrev first_word : Tested
@@ -315,7 +315,7 @@ module _ (around : Surroundings) (fits : Fits around.f 16) (code : SlotCode) (sa
   stays lies reach rest = ⊎_elim
       (λ zero. faults how (next_at ly n) lies zero [] is)
       (λ some. subst Ends (sym (divides_next code n how v d side s r h.read.all_words [] is some
-          ∙ test_goes code n rel first_word second_word is s last_slots (last_length code n how v d side s r h.read.all_words) free question (held_is some)))
+      ∙ test_goes code n rel first_word second_word is s last_slots (last_length code n how v d side s r h.read.all_words) free question (held_is some)))
       (by question (leads how (next_at ly n) lies reach some)))
       (cases_eq y 0)
     where
@@ -323,7 +323,7 @@ module _ (around : Surroundings) (fits : Fits around.f 16) (code : SlotCode) (sa
       by true c =
           looser f w _ _ [] (17 + limit) (34 + (limit + limit)) (omega arith)
           (λ u a. stood around code n h.small is s end_slots (w.regs.pc + pieces_size here_code) u.mem w.text w.answers rest a.kept.state
-              (end_read u.mem) a.kept.homed h.text h.answers h.short u a.here) c
+          (end_read u.mem) a.kept.homed h.text h.answers h.short u a.here) c
       by false c = looser f w _ _ [] (17 + limit) (34 + (limit + limit)) (omega arith) leaves c
 
   -- ---- that goes to a line
@@ -349,7 +349,7 @@ module _ (around : Surroundings) (fits : Fits around.f 16) (code : SlotCode) (sa
     goes some found e =
         divides_next code n how v d side s r h.read.all_words ks back some
         ∙ go_goes code n rel first_word second_word t is s last_slots (last_length code n how v d side s r h.read.all_words) free question found
-            (held_is some) (ap (λ ns. has_line ns t) same_numbers ∙ e)
+        (held_is some) (ap (λ ns. has_line ns t) same_numbers ∙ e)
 
     by_line : (found : Bool) → has_line ly.numbers t ≡ found → Ends (steps code (dividing how v d side ks) (line code n (dividing how v d side back) s r))
     by_line true e = ⊎_elim
@@ -373,7 +373,7 @@ module _ (around : Surroundings) (fits : Fits around.f 16) (code : SlotCode) (sa
         by true c =
             looser f w _ _ [] (17 + limit) (34 + (limit + limit)) (omega arith)
             (λ u a. arrived around (record s { place = control.At t }) end_slots (ly.start t) u.mem w.text w.answers refl
-                (state_placed ly (control.At t) s u.mem a.kept.state) (none_read u.mem).all_words a.kept.homed h.text h.answers h.short u a.here) c
+            (state_placed ly (control.At t) s u.mem a.kept.state) (none_read u.mem).all_words a.kept.homed h.text h.answers h.short u a.here) c
         by false c = looser f w _ _ [] (17 + limit) (34 + (limit + limit)) (omega arith) leaves c
     by_line false e = ⊎_elim
         (λ zero. faults how (next_at ly n) parts.0 zero ks back)
@@ -387,7 +387,7 @@ module _ (around : Surroundings) (fits : Fits around.f 16) (code : SlotCode) (sa
         by true c =
             looser f w _ _ (fault_text 1 n) (17 + limit + (4 + limit)) (34 + (limit + limit)) (omega arith) (λ u g. g)
             (chained f w _ _ [] (fault_text 1 n) (17 + limit) (4 + limit) c (λ u a. faults_at around fits limit rs n 1 h.small (omega arith)
-                (w.regs.pc + pieces_size here_code) u.mem w.text w.answers parts.1 a.kept.homed u a.here))
+            (w.regs.pc + pieces_size here_code) u.mem w.text w.answers parts.1 a.kept.homed u a.here))
         by false c = looser f w _ _ [] (17 + limit) (34 + (limit + limit)) (omega arith) leaves c
 
   by_to : (o : Option ℕ) → to ≡ o → Ends (steps code (expand (Divides how v d side o)) (line code n (spread_divides how v d side o is) s r))

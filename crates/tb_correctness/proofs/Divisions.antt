@@ -9,7 +9,7 @@ use Rattle.tb_meaning.specs.Values.{apply}
 use Rattle.tb_reaching.proofs.Comes.{looser}
 use Rattle.tb_reaching.specs.View.{Comes, Fits, View}
 use Rattle.tb_runtime16.specs.Routines.{WordAt}
-use Rattle.tb_runtime16.specs.Places.{DIVIDE_AT, LEFT, RIGHT}
+use Rattle.tb_runtime16.specs.Addresses.{DIVIDE_AT, LEFT, RIGHT}
 use Rattle.tb_runtime16.proofs.StatePlaces.{not_argument}
 use Rattle.tb_simulation.proofs.Joins.{sent_in}
 use Rattle.tb_simulation.proofs.Resolved.{Lies, pieces_size, Piece}
@@ -31,9 +31,9 @@ use Rattle.tb_correctness.proofs.Calculated.{Leads, calculation, fit, leads_on, 
 module _ {around : Surroundings} (fits : Fits around.f 16) (limit : ℕ) (rs : Serves around limit) (code : SlotCode) {n : ℕ} {a b : Operand}
     {d : Destination} {is : List Instr} {s : State} {r : Slots} {w : View} (h : Ready around n (Calculate op.Divide a b d) (spread op.Divide a b d is) is s r w)
     (there : Lies around.f.code w.regs.pc (lined_code (may_be_zero (source_of (slot_of d + 1) b)) n (routine DIVIDE_AT LEFT (source_of (slot_of d) a)
-        (source_of (slot_of d + 1) b) (destination_at d))))
+    (source_of (slot_of d + 1) b) (destination_at d))))
     (rest : GroupsLie around.ly around.f.code n (w.regs.pc + pieces_size (lined_code (may_be_zero (source_of (slot_of d + 1) b)) n
-        (routine DIVIDE_AT LEFT (source_of (slot_of d) a) (source_of (slot_of d + 1) b) (destination_at d)))) (select is)) where
+    (routine DIVIDE_AT LEFT (source_of (slot_of d) a) (source_of (slot_of d + 1) b) (destination_at d)))) (select is)) where
   open around use {ly, f}
   open calculation a b d s r use {k, x, y, left, right, to}
 
@@ -79,4 +79,4 @@ module _ {around : Surroundings} (fits : Fits around.f 16) (limit : ℕ) (rs : S
       (lines_by fits h risky code_of there _ (fault_text 2 n) (9 + limit)
       (asks fits h DIVIDE_AT LEFT at left right d m c lies x y (left_apart h) (right_apart h RIGHT (omega arith)) (left_holds h m c) (right_holds h)
       _ (fault_text 2 n) limit (λ m' g. rs.divide_by_zero _ _ m' w.text w.answers x n g.left (subst (WordAt m' RIGHT) zero g.right)
-          (g.line (number_set h risky (λ e. never (k + 1) b e zero))) g.kept.homed))))
+      (g.line (number_set h risky (λ e. never (k + 1) b e zero))) g.kept.homed))))

@@ -5,7 +5,7 @@ use Rattle.tb_lower.specs.Slots.{Rest, Whole, Left, Slots, SlotCode, SlotState}
 use Rattle.tb_meaning.specs.Steps.{Step, Goes, Stops, Ended, Faulted, Waits, and_then, after_sending}
 use Rattle.tb_reaching.specs.View.{View}
 use Rattle.tb_syntax.specs.Source.{numbers}
-use Rattle.tb_simulation.specs.Layout.{place_at}
+use Rattle.tb_simulation.specs.Layout.{place_address}
 use Rattle.tb_simulation.proofs.Joins.{LawAt, sent_in, law_looser}
 use Rattle.tb_simulation.proofs.Mirrors.{Leads}
 use Rattle.tb_selection.specs.GroupSteps.{fallen}
@@ -33,12 +33,12 @@ module _ (around : Surroundings) where
     next_begins n s r w h =
         let k = h.state in
         record {
-          pc = h.pc.0 ∙ ap (λ ns. place_at ly (next_after ns n)) (sym same_numbers);
+          pc = h.pc.0 ∙ ap (λ ns. place_address ly (next_after ns n)) (sym same_numbers);
           stack = h.stack;
           binary = h.binary;
           text = h.text;
           answers = h.answers;
-          state = record { vars = k.vars; column = k.column; opened = k.opened; seeded = k.seeded; count = k.count; notes = k.notes; few = k.few; all_vars = k.all_vars };
+          state = record { vars = k.vars; column = k.column; opened = k.opened; seeded = k.seeded; count = k.count; returns = k.returns; few = k.few; all_vars = k.all_vars };
           read = h.read;
           homed = h.homed;
           short = h.short;

@@ -16,8 +16,11 @@ module _ (around : Surroundings) (fits : Fits around.f 16) (limit : ℕ) (rs : S
       → Entered f lo hi m → Moves f (Here at (lo ∷ hi ∷ []) m text answers) (IsHome f) (fault_text k n) (4 + limit)
   faults_at n k small few at m text answers lies homed =
       whatever f 16 fits at (lo ∷ hi ∷ []) m text answers (IsHome f) (fault_text k n) (4 + limit) (λ a x y n' v i z c.
-      along f 16 fits (faulting n k) at (view a x y n' v i z c at (lo ∷ hi ∷ []) m text answers) _ (IsHome f) (fault_text k n) limit lies.1 (refl,
-          refl, (refl, refl, (refl, refl, (refl, refl, tt)))) refl
+      along f 16 fits (faulting n k) at (view a x y n' v i z c at (lo ∷ hi ∷ []) m text answers) _ (IsHome f) (fault_text k n) limit lies.1 (
+        refl,
+        refl,
+        (refl, refl, (refl, refl, (refl, refl, tt))),
+      ) refl
       (rs.fault_line k few m text answers n small homed _ (record {
         with_a = record { here = record { pc = refl; stack = refl; binary = refl; mem = refl; text = refl; answers = refl }; number = refl };
         low = refl;

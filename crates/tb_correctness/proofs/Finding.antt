@@ -9,11 +9,11 @@ use Rattle.tb_reaching.proofs.Comes.{chained, looser}
 use Rattle.tb_reaching.specs.Start.{IsHome}
 use Rattle.tb_reaching.specs.View.{Comes, Fits, View}
 use Rattle.tb_runtime16.specs.Routines.{Here, Moves, WordAt}
-use Rattle.tb_runtime16.specs.Places.{COUNT, HOME_S, LEFT, LINE, NOTES, PUSH_AT, RESULT, SEARCH_AT, TABLE, WANTED}
+use Rattle.tb_runtime16.specs.Addresses.{COUNT, HOME_S, LEFT, LINE, NOTES, PUSH_AT, RESULT, SEARCH_AT, TABLE, WANTED}
 use Rattle.tb_runtime16.proofs.StatePlaces.{not_pushed, not_searched}
-use Rattle.tb_simulation.specs.Layout.{next_at, place_at}
+use Rattle.tb_simulation.specs.Layout.{next_at, place_address}
 use Rattle.tb_simulation.proofs.Frames.{state_pushed, word_away, word_kept, word_put}
-use Rattle.tb_simulation.proofs.Mirrors.{notes_of}
+use Rattle.tb_simulation.proofs.Mirrors.{return_addresses}
 use Rattle.tb_simulation.proofs.Pieces.{calls, jumps, jumps_through, points, put_word, sets}
 use Rattle.tb_simulation.proofs.Resolved.{Code, Lies, Piece, call, jump_through, pointed, size}
 use Rattle.tb_simulation.proofs.Returning.{back_here, behind_call, homed_kept}
@@ -103,7 +103,7 @@ module _ (around : Surroundings) (fits : Fits around.f 16) (limit : ℕ) (rs : S
         let bs = back_low ∷ back_high ∷ own in
         lines fits h lies.0 lies.1 q t (4 + (1 + (4 + (4 + (1 + k))))) (λ u e.
         chained f u _ q [] t 4 (1 + (4 + (4 + (1 + k)))) (brings f 16 fits at own one w.text w.answers refl src WANTED lies.2.0
-            (operand_before 0 a WANTED (omega arith) (omega arith) fit) (refl, refl) lies.2.1 u e) (λ u e.
+        (operand_before 0 a WANTED (omega arith) (omega arith) fit) (refl, refl) lies.2.1 u e) (λ u e.
         chained f u _ q [] t 1 (4 + (4 + (1 + k))) (calls f 16 fits call_at own two w.text w.answers refl ly.find refl lies.2.2.0 lies.2.2.1 u e) (λ u e.
         chained f u _ q [] t 4 (4 + (1 + k)) (points f 16 fits ly.find bs two w.text w.answers refl ly.table TABLE laid.find.0 (refl, refl) laid.find.1 u e) (λ u e.
         chained f u _ q [] t 4 (1 + k) (sets f 16 fits (ly.find + 8) bs three w.text w.answers refl (length ly.numbers) COUNT laid.find.2.0 (refl, refl) laid.find.2.1 u e) (λ u e.
@@ -160,7 +160,7 @@ module _ (around : Surroundings) (fits : Fits around.f 16) (limit : ℕ) (rs : S
           (finds AsLine a (Code jump_through ∷ []) h h.lies found _ [] 1 (λ u c l result e.
           looser f u _ _ [] 1 1 (omega arith)
           (arrived around (record s { place = At place }) slots (ly.start place) u.mem w.text w.answers refl
-              (state_placed ly (At place) s u.mem c.state) (all_slots h.read.all_words) c.homed h.text h.answers h.short)
+          (state_placed ly (At place) s u.mem c.state) (all_slots h.read.all_words) c.homed h.text h.answers h.short)
           (jumps_through f 16 fits found_at own u.mem w.text w.answers refl (ly.start place) result h.lies.2.2.2.1 u e)))
 
       pub jump_fails : has_line ly.numbers place ≡ false → Comes f w (IsHome f) (fault_text 1 n) (19 + limit)
@@ -193,34 +193,37 @@ module _ (around : Surroundings) (fits : Fits around.f 16) (limit : ℕ) (rs : S
           (kept_put around calls_for s r u.mem LEFT _ _ h.some_read refl refl c))))
 
       pub call_found : has_line ly.numbers place ≡ true → nat_lt (length s.returns) deepest ≡ true
-          → Comes f w (Matches around (record { state = record s { place = At place; returns = next_after ly.numbers n ∷ s.returns }; rest = Whole;
-          slots = slots })) [] (34 + (limit + limit))
+          → Comes f w (Matches around (record {
+            state = record s { place = At place; returns = next_after ly.numbers n ∷ s.returns };
+            rest = Whole;
+            slots = slots;
+          })) [] (34 + (limit + limit))
       call_found found free =
           let few : length s.returns < deepest = omega (arith, ltb-true _ _ free) in
-          let same : length (notes_of ly s.returns) ≡ length s.returns = length-map s.returns (place_at ly) in
+          let same : length (return_addresses ly s.returns) ≡ length s.returns = length-map s.returns (place_address ly) in
           looser f w _ _ [] (4 + (4 + (1 + (4 + (4 + (1 + (limit + (4 + (1 + (limit + 1)))))))))) (34 + (limit + limit)) (omega arith) (λ u x. x)
           (calls_push found _ [] (limit + 1) (λ u result l c v e.
-          chained f v _ _ [] [] limit 1 (rs.push _ _ (returning u) w.text w.answers (next_at ly n) (notes_of ly s.returns)
-              (word_put u.mem LEFT _ _ _ refl refl (laid.places (next_after ly.numbers n))) (subst (λ k. WordAt (returning u) NOTES k)
-              (sym same) c.state.count) c.state.notes (omega (arith, few, same)) v e) (λ x g.
+          chained f v _ _ [] [] limit 1 (rs.push _ _ (returning u) w.text w.answers (next_at ly n) (return_addresses ly s.returns)
+          (word_put u.mem LEFT _ _ _ refl refl (laid.places (next_after ly.numbers n))) (subst (λ k. WordAt (returning u) NOTES k)
+          (sym same) c.state.count) c.state.returns (omega (arith, few, same)) v e) (λ x g.
           looser f x _ _ [] 1 1 (omega arith)
           (arrived around (record s { place = At place; returns = next_after ly.numbers n ∷ s.returns }) slots (ly.start place) x.mem w.text w.answers refl
           (state_pushed ly s (returning u) x.mem c.state (At place) (next_after ly.numbers n) few
-              (subst (λ k. WordAt x.mem NOTES (suc k)) same g.memory.notes.count) g.memory.notes.noted
-              (λ p from to z y. g.memory.others p (not_pushed p from to z y))) (all_slots h.read.all_words)
+          (subst (λ k. WordAt x.mem NOTES (suc k)) same g.memory.returns.count) g.memory.returns.held
+          (λ p from to z y. g.memory.others p (not_pushed p from to z y))) (all_slots h.read.all_words)
           (homed_kept (returning u) x.mem (g.memory.others HOME_S refl) c.homed)
           h.text h.answers h.short)
           (jumps_through f 16 fits (found_at + 8 + 3) own x.mem w.text w.answers refl (ly.start place) (word_kept (returning u) x.mem RESULT _
-              (g.memory.others RESULT refl) (g.memory.others (RESULT + 1) refl) result) h.lies.2.2.2.2.2.1 x
+          (g.memory.others RESULT refl) (g.memory.others (RESULT + 1) refl) result) h.lies.2.2.2.2.2.1 x
           (back_here _ _ w.text w.answers _ x g (behind_call (found_at + 8) h.lies.2.2.2.2.0))))))
 
       pub call_full : has_line ly.numbers place ≡ true → nat_lt (length s.returns) deepest ≡ false → Comes f w (IsHome f) (fault_text 4 n) (34 + (limit + limit))
       call_full found full =
           let t = fault_text 4 n in
           looser f w _ _ t (4 + (4 + (1 + (4 + (4 + (1 + (limit + (4 + (1 + limit))))))))) (34 + (limit + limit)) (omega arith) (λ u x. x)
-          (calls_push found _ t limit (λ u result l c. rs.push_fails _ _ (returning u) w.text w.answers (notes_of ly s.returns) n
-              (subst (λ k. WordAt (returning u) NOTES k) (sym (length-map s.returns (place_at ly))) c.state.count) c.state.notes
-              (omega (arith, ltb-false _ _ full, c.state.few, length-map s.returns (place_at ly))) l c.homed))
+          (calls_push found _ t limit (λ u result l c. rs.push_fails _ _ (returning u) w.text w.answers (return_addresses ly s.returns) n
+          (subst (λ k. WordAt (returning u) NOTES k) (sym (length-map s.returns (place_address ly))) c.state.count) c.state.returns
+          (omega (arith, ltb-false _ _ full, c.state.few, length-map s.returns (place_address ly))) l c.homed))
 
       pub call_fails : has_line ly.numbers place ≡ false → Comes f w (IsHome f) (fault_text 1 n) (19 + limit)
       call_fails lost = looser f w _ _ (fault_text 1 n) (4 + (4 + (1 + (4 + (4 + (1 + limit)))))) (19 + limit) (omega arith) (λ u x. x) (lost_line AsSubroutine a behind h h.lies lost)

@@ -2,7 +2,7 @@
 use Rattle.std.proofs.Common.{◌≡◌, ℕ, ◌≤◌, arith}
 use Rattle.tb_meaning.specs.Control.{Place, State}
 use Rattle.tb_lower.specs.Slots.{Slots}
-use Rattle.tb_runtime16.specs.Places.{HELD}
+use Rattle.tb_runtime16.specs.Addresses.{HELD}
 use Rattle.tb_templates.specs.Templates.{slot_at}
 use Rattle.tb_simulation.specs.Layout.{Layout}
 use Rattle.tb_simulation.proofs.Frames.{word_kept}
@@ -12,7 +12,7 @@ use Rattle.tb_correctness.proofs.Matching.{HoldsLive}
 
 -- another place
 pub state_placed : (ly : Layout) (p : Place) (s : State) (m : ℕ → ℕ) → HoldsState ly s m → HoldsState ly (record s { place = p }) m
-state_placed ly p s m h = record { vars = h.vars; column = h.column; opened = h.opened; seeded = h.seeded; count = h.count; notes = h.notes; few = h.few; all_vars = h.all_vars }
+state_placed ly p s m h = record { vars = h.vars; column = h.column; opened = h.opened; seeded = h.seeded; count = h.count; returns = h.returns; few = h.few; all_vars = h.all_vars }
 
 -- ---- what is live
 -- slots and the held word stand

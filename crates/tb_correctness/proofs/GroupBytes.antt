@@ -19,7 +19,7 @@ use Rattle.tb_words.specs.declared.Rel.TheVariants as rel
 use Rattle.tb_meaning.specs.Control.{has_line}
 use Rattle.tb_lower.specs.Ranges.{AreInRange, IsInRange}
 use Rattle.tb_lower.specs.Slots as slots
-use Rattle.tb_runtime16.specs.Places.{LINE, LEFT, RESULT, WANTED, RANDOM_AT, NUMBER_AT, PUSH_AT}
+use Rattle.tb_runtime16.specs.Addresses.{LINE, LEFT, RESULT, WANTED, RANDOM_AT, NUMBER_AT, PUSH_AT}
 use Rattle.tb_selection.specs.Select.{alone}
 use Rattle.tb_selection.specs.Groups.{Operand, Variable, Tested, Conversion, Negated, Drawn, Usage, AsNumber, AsLine, AsSubroutine, Divisibility, Divisible}
 use Rattle.tb_selection.specs.Groups.{Indivisible, Group, Calculate, Stepped, Convert, Move, Use, Test, TestGo, Divides, Remains, Single, contrary, denied}
@@ -125,7 +125,7 @@ module _ (labels : List (Name × ℕ)) (ns : List ℕ) (seed n : ℕ) (seed_smal
     -- an instruction alone without branches
     plain_emitted : (at : ℕ) (c : slots.Instr) (fs : List Form) (t : Bool) → t ≡ false → Emits labels at fs (coded.plain_code ly n at c)
         → (first second : Way) × Emits labels at fs (if t then coded.branching_code ly n at first second c else coded.plain_code ly n at c)
-            × coded.OnlyIf t (coded.BranchingReaches ly first second at c)
+        × coded.OnlyIf t (coded.BranchingReaches ly first second at c)
     plain_emitted at c fs true e h = absurd (true≢false e)
     plain_emitted at c fs false e h = (Short, Short, h, tt)
 
@@ -166,7 +166,7 @@ module _ (labels : List (Name × ℕ)) (ns : List ℕ) (seed n : ℕ) (seed_smal
     go_emitted : (i at : ℕ) (r : Rel) (x : Tested) (b : Operand) (to : ℕ) (has : Bool) → has_line ns to ≡ has → (fs : List Form)
         → AreFormsOf (items.gone n r (tested_source x) (source_of 0 b) (target.Inside inside.Skip n i) (next_line ns n) has to) fs → Rest labels at fs
         → (first second : Way) × Emits labels at fs (coded.go_code ly n at first second r (tested_source x) (source_of 0 b) has to)
-            × coded.GoReaches ly n at first second r (tested_source x) (source_of 0 b) has to
+        × coded.GoReaches ly n at first second r (tested_source x) (source_of 0 b) has to
     go_emitted i at r x b to true has fs h rest =
         let e = tested_emitted (ly.start to) (target.Line to) (target.Inside inside.Skip n i) (lines_there to has) (starts_top to) (denied r) at x b fs h rest in
         (e.first, e.second, e.emits, e.reach)
@@ -175,9 +175,13 @@ module _ (labels : List (Name × ℕ)) (ns : List ℕ) (seed n : ℕ) (seed_smal
         let s = split test (product.faulted n 1) fs h in
         let parts = subst (Rest labels at) s.are rest in
         let e = tested_emitted (next_at ly n) (next_line ns n) (target.Inside inside.Skip n i) there top r at x b s.front s.of_front (rest_before labels at s.front s.back parts) in
-        let behind : s.back ≡ map kept (product.faulted n 1) = straight_forms (product.faulted n 1) s.back refl s.of_back in
-        (e.first, e.second, subst (λ k. Emits labels at k (coded.go_code ly n at e.first e.second r (tested_source x) (source_of 0 b) false to))
-            (sym (s.are ∙ ap (λ k. s.front ++ k) behind)) (emits_append labels e.emits fault_emits), e.reach)
+        let behind : s.back ≡ map kept (product.faulted n 1) = straight_forms (product.faulted n 1) s.back refl s.of_back in (
+          e.first,
+          e.second,
+          subst (λ k. Emits labels at k (coded.go_code ly n at e.first e.second r (tested_source x) (source_of 0 b) false to))
+              (sym (s.are ∙ ap (λ k. s.front ++ k) behind)) (emits_append labels e.emits fault_emits),
+          e.reach,
+        )
 
     -- a test by a divisor whose branch goes to any label
     module _ (to : ℕ) (goal : Target) (goal_there : address_in labels (label_of goal) ≡ Some to) (goal_top : to ≤ highest_code) (x y : Source) (x_word : IsWord x) (y_word : IsWord y) where
@@ -205,7 +209,7 @@ module _ (labels : List (Name × ℕ)) (ns : List ℕ) (seed n : ℕ) (seed_smal
           c1.is ∙ ap (λ t. map kept left_items ++ t) (b1.is ∙ ap (λ t. formed b1.way (leaving wanted) l ∷ t) (no_more b1.rest b1.of)) in
           let e = left_emits at in
           let r1 = rest_behind labels at (coded.divided_at n at x y) (map kept left_items) (formed b1.way (leaving wanted) l ∷ [])
-              (ap (λ k. at + k) (emitted_size labels e)) (subst (Rest labels at) is r) in
+          (ap (λ k. at + k) (emitted_size labels e)) (subst (Rest labels at) is r) in
           subst (Leaving wanted at) (sym is)
           (record {
             first = b1.way;
@@ -229,9 +233,12 @@ module _ (labels : List (Name × ℕ)) (ns : List ℕ) (seed n : ℕ) (seed_smal
         let s = split test (product.faulted n 1) fs h in
         let parts = subst (Rest labels at) s.are rest in
         let e = divided_emitted (next_at ly n) (next_line ns n) there top x y xw yw how at s.front s.of_front (rest_before labels at s.front s.back parts) in
-        let behind : s.back ≡ map kept (product.faulted n 1) = straight_forms (product.faulted n 1) s.back refl s.of_back in
-        (e.first, subst (λ k. Emits labels at k (coded.divided_go ly n at e.first how x y false to)) (sym (s.are ∙ ap (λ k. s.front ++ k) behind))
-            (emits_append labels e.emits fault_emits), e.reach)
+        let behind : s.back ≡ map kept (product.faulted n 1) = straight_forms (product.faulted n 1) s.back refl s.of_back in (
+          e.first,
+          subst (λ k. Emits labels at k (coded.divided_go ly n at e.first how x y false to)) (sym (s.are ∙ ap (λ k. s.front ++ k) behind))
+              (emits_append labels e.emits fault_emits),
+          e.reach,
+        )
 
     divides_emitted : (at : ℕ) (how : Divisibility) (x y : Source) → IsWord x → IsWord y → (to : Option ℕ) (fs : List Form)
         → AreFormsOf (items.divides ns n how x y to) fs → Rest labels at fs
@@ -251,7 +258,7 @@ module _ (labels : List (Name × ℕ)) (ns : List ℕ) (seed n : ℕ) (seed_smal
     used_straight : (how : Usage) (x : Source) → list_all is_straight (items.used n (next_line ns n) how x) ≡ true
     used_straight AsNumber x = all_straight (items.brought x LEFT) (product.call NUMBER_AT ∷ []) (brought_straight x LEFT) refl
     used_straight AsLine x = all_straight (items.brought x WANTED) (product.find ∷ product.jump_through) (brought_straight x WANTED) refl
-    used_straight AsSubroutine x = all_straight (items.brought x WANTED) (product.find ∷ (product.note (next_line ns n) ++ product.jump_through)) (brought_straight x WANTED) refl
+    used_straight AsSubroutine x = all_straight (items.brought x WANTED) (product.find ∷ (product.return_address (next_line ns n) ++ product.jump_through)) (brought_straight x WANTED) refl
 
     used_emits : {at : ℕ} (how : Usage) (x : Source) → IsWord x → Emits labels at (map kept (items.used n (next_line ns n) how x)) (coded.use_code ly n how x)
     unfolding opcodes.encoded
@@ -261,7 +268,7 @@ module _ (labels : List (Name × ℕ)) (ns : List ℕ) (seed n : ℕ) (seed_smal
     used_emits AsSubroutine x w =
         searched_emits x w
         (block labels (product.address (next_line ns n) LEFT) (resolved.pointed (next_at ly n) LEFT) (address_bytes labels ns seed 0 (next_line ns n)
-            (next_at ly n) LEFT (next_same labels ns seed n) next_small (omega arith))
+        (next_at ly n) LEFT (next_same labels ns seed n) next_small (omega arith))
         (block labels (product.call PUSH_AT ∷ []) (resolved.call PUSH_AT) refl (block labels product.jump_through resolved.jump_through refl (ends labels))))
 
     converted_straight : (what : Conversion) (x : Source) (to : ℕ) → list_all is_straight (items.converted n seed what x to) ≡ true
@@ -272,7 +279,7 @@ module _ (labels : List (Name × ℕ)) (ns : List ℕ) (seed n : ℕ) (seed_smal
     converted_emits at Negated x to w = block labels (items.taken (FixedWord 0) x to) (coded.taken (FixedWord 0) x to) ((taken_bytes labels (FixedWord 0) x to (omega arith) w).same _) (ends labels)
     converted_emits at Drawn x to w =
         lined_emits labels at (items.may_have_none x) n n_small (items.handed RANDOM_AT RESULT x (FixedWord seed) to)
-            (coded.routine RANDOM_AT RESULT x (FixedWord seed) to) (λ b. handed_emits labels {at = b} RANDOM_AT RESULT x (FixedWord seed) to w seed_small)
+        (coded.routine RANDOM_AT RESULT x (FixedWord seed) to) (λ b. handed_emits labels {at = b} RANDOM_AT RESULT x (FixedWord seed) to w seed_small)
 
     -- the forms of each group without branches of a single instruction emit it
     pub group_emitted : (i at : ℕ) (g : Group) (fs : List Form) → coded.is_branching g ≡ false → IsAlone g → AreInRange 256 (expand g)
@@ -284,8 +291,13 @@ module _ (labels : List (Name × ℕ)) (ns : List ℕ) (seed n : ℕ) (seed_smal
     group_emitted i at (Move a home) fs plain q range h r =
         let x = source_of 0 a in let to = home_at home in
         straight_emitted at (Move a home) (items.brought x to) fs (brought_straight x to) h r
-        (λ s. record { first = Short; second = Short; emits = block labels (items.brought x to) (coded.brought x to)
-            ((brought_bytes labels x to (source_word 0 a)).same at) (ends labels); reach = tt })
+        (λ s. record {
+          first = Short;
+          second = Short;
+          emits = block labels (items.brought x to) (coded.brought x to)
+              ((brought_bytes labels x to (source_word 0 a)).same at) (ends labels);
+          reach = tt;
+        })
     group_emitted i at (Convert what a d) fs plain q range h r =
         let x = source_of (slot_of d) a in let to = destination_at d in
         straight_emitted at (Convert what a d) (items.converted n seed what x to) fs (converted_straight what x to) h r

@@ -12,9 +12,10 @@ use Rattle.tb_syntax.specs.declared.expressions.Operator.TheVariants.{Add, Subtr
 use Rattle.tb_meaning.specs.Control.{Place, content_at, has_line, highest}
 use Rattle.tb_lower.specs.Ranges.{AreInRange}
 use Rattle.tb_lower.specs.Slots as slots
-use Rattle.tb_runtime16.specs.Places.{LEFT, RIGHT, RESULT, WANTED, LINE, NOTES, NOTE_LOW, NOTE_HIGH, MULTIPLY_AT, DIVIDE_AT, RANDOM_AT, NUMBER_AT, PUSH_AT, POP_AT}
+use Rattle.tb_kernal.specs.declared.rom.TheConstants.{GETIN}
+use Rattle.tb_runtime16.specs.Addresses.{LEFT, RIGHT, RESULT, WANTED, LINE, NOTES, RETURN_LOW, RETURN_HIGH, MULTIPLY_AT, DIVIDE_AT, RANDOM_AT, NUMBER_AT, PUSH_AT, POP_AT}
 use Rattle.tb_templates.specs.declared.sources.Source.{Source}
-use Rattle.tb_templates.specs.declared.sources.Source.TheVariants.{FixedWord, AtPlace}
+use Rattle.tb_templates.specs.declared.sources.Source.TheVariants.{FixedWord, AtAddress}
 use Rattle.tb_templates.specs.GroupTemplates.{may_fault, may_be_zero, may_have_none}
 use Rattle.tb_templates.specs.declared.orders.Side.{Side}
 use Rattle.tb_templates.specs.declared.orders.Side.TheVariants.{Below, NotBelow}
@@ -29,7 +30,7 @@ use Rattle.tb_templates.specs.InPlace.{change_of}
 use Rattle.tb_templates.specs.Masks.{mask}
 use Rattle.tb_templates.specs.Templates.{var_at}
 use Rattle.tb_templates.specs.Sources.{source_of, tested_source, home_at, destination_at}
-use Rattle.tb_simulation.specs.Layout.{Layout, next_at, place_at}
+use Rattle.tb_simulation.specs.Layout.{Layout, next_at, place_address}
 use Rattle.tb_simulation.proofs.Resolved.{Piece, Code, Lies, pieces_size, size, sta_at, copied, constant, pointed, call, faulting, jump, jump_through, template, highest_code, find_code, past_code}
 use Rattle.tb_selection.specs.Groups.{Conversion, Negated, Drawn, Usage, AsNumber, AsLine, AsSubroutine, Constant, Variable, Divisibility, Divisible}
 use Rattle.tb_selection.specs.Groups.{Indivisible, Group, Calculate, Stepped, Convert, Move, Use, Test, TestGo, Divides, Remains, Single, contrary, denied}
@@ -40,11 +41,11 @@ use Rattle.tb_correctness.proofs.Sources.{Byte, Fixed, At, lda, adc, sbc, cmp}
 -- its bytes
 abbrev pub low : Source → Byte
 low (FixedWord w) = Fixed (w % 256)
-low (AtPlace p) = At p
+low (AtAddress p) = At p
 
 abbrev pub high : Source → Byte
 high (FixedWord w) = Fixed (w / 256)
-high (AtPlace p) = At (p + 1)
+high (AtAddress p) = At (p + 1)
 
 -- ---- pieces
 abbrev pub brought : Source → ℕ → List Instr
@@ -418,7 +419,7 @@ abbrev pub sign_looked_at : Source → List Instr
 sign_looked_at a = lda (high a) ∷ []
 
 abbrev pub rest_turned : List Instr
-rest_turned = taken (FixedWord 0) (AtPlace RESULT) RESULT
+rest_turned = taken (FixedWord 0) (AtAddress RESULT) RESULT
 
 abbrev pub signed_rest : Way → (at : ℕ) → Source → ℕ → List Piece
 signed_rest first at a to = over_code first at (sign_looked_at a) Negative false rest_turned (copied RESULT to)
@@ -438,11 +439,11 @@ abbrev pub going_at : Way → (n at : ℕ) → Operator → Source → Source �
 going_at first n at op a b to = at + pieces_size (computed_code first n at op a b to)
 
 abbrev pub stepped_code : (first second : Way) (n at : ℕ) → Operator → Source → Source → Operator → Source → ℕ → List Piece
-stepped_code first second n at op a b by c to = computed_code first n at op a b to ++ computed_code second n (going_at first n at op a b to) by (AtPlace to) c to
+stepped_code first second n at op a b by c to = computed_code first n at op a b to ++ computed_code second n (going_at first n at op a b to) by (AtAddress to) c to
 
 abbrev pub StepReaches : (first second : Way) (n at : ℕ) → Operator → Source → Source → Operator → Source → ℕ → Type 0
 StepReaches first second n at op a b by c to =
-    ChangedReaches (change_of op a b to) first at to × ChangedReaches (change_of by (AtPlace to) c to) second (going_at first n at op a b to) to
+    ChangedReaches (change_of op a b to) first at to × ChangedReaches (change_of by (AtAddress to) c to) second (going_at first n at op a b to) to
 
 -- ---- GOSUB and RETURN in line
 -- a byte goes to X, and to a flag whether it is 0
@@ -450,22 +451,22 @@ abbrev pub asked : ℕ → List Instr
 asked place = ins 0xAE place ∷ []
 
 -- a note's two bytes go behind the others, and the low byte of their count goes up
-abbrev pub note_stored : (low high : ℕ) → List Instr
-note_stored low high = ins 0xAE NOTES ∷ ins 0xA9 low ∷ ins 0x9D NOTE_LOW ∷ ins 0xA9 high ∷ ins 0x9D NOTE_HIGH ∷ ins 0xEE NOTES ∷ []
+abbrev pub return_stored : (low high : ℕ) → List Instr
+return_stored low high = ins 0xAE NOTES ∷ ins 0xA9 low ∷ ins 0x9D RETURN_LOW ∷ ins 0xA9 high ∷ ins 0x9D RETURN_HIGH ∷ ins 0xEE NOTES ∷ []
 
 -- X is the low byte of the count of notes: it goes down, and the newest note's two bytes go to the result
-abbrev pub note_taken : List Instr
-note_taken = ins 0xCA 0 ∷ ins 0x8E NOTES ∷ ins 0xBD NOTE_LOW ∷ ins 0x8D RESULT ∷ ins 0xBD NOTE_HIGH ∷ ins 0x8D (RESULT + 1) ∷ []
+abbrev pub return_taken : List Instr
+return_taken = ins 0xCA 0 ∷ ins 0x8E NOTES ∷ ins 0xBD RETURN_LOW ∷ ins 0x8D RESULT ∷ ins 0xBD RETURN_HIGH ∷ ins 0x8D (RESULT + 1) ∷ []
 
 -- where the second branch of a call is, where the next line is noted, and where the routine does it
 abbrev pub counted_at : Way → ℕ → ℕ
 counted_at first at = at + 3 + way_size first + 16
 
-abbrev pub noted_at : (first second : Way) → ℕ → ℕ
-noted_at first second at = counted_at first at + way_size second + 3
+abbrev pub held_at : (first second : Way) → ℕ → ℕ
+held_at first second at = counted_at first at + way_size second + 3
 
 abbrev pub pushing_at : (first second : Way) → ℕ → ℕ
-pushing_at first second at = noted_at first second at + 3
+pushing_at first second at = held_at first second at + 3
 
 -- the next line is noted by the routine
 abbrev pub pushing_code : Layout → ℕ → ℕ → List Piece
@@ -482,8 +483,8 @@ raising_code ly n to = Code (ins 0xEE (NOTES + 1) ∷ []) ∷ going_code ly n to
 -- the next line is noted in line
 abbrev pub noting_code : Layout → (n at : ℕ) (first second : Way) → ℕ → List Piece
 noting_code ly n at first second to =
-    Code (note_stored (next_at ly n % 256) (next_at ly n / 256))
-    ∷ Code (branch_code second (branch_on Zero false) (counted_at first at) (noted_at first second at))
+    Code (return_stored (next_at ly n % 256) (next_at ly n / 256))
+    ∷ Code (branch_code second (branch_on Zero false) (counted_at first at) (held_at first second at))
     ∷ raising_code ly n to
 
 -- a call of a line
@@ -497,7 +498,7 @@ call_code ly n at first second true to = called_code ly n at first second to
 call_code ly n at first second false to = Code (faulting n 1) ∷ []
 
 abbrev pub CallReaches : (first second : Way) → ℕ → Bool → Type 0
-CallReaches first second at true = BranchReaches first (at + 3) (pushing_at first second at) × BranchReaches second (counted_at first at) (noted_at first second at)
+CallReaches first second at true = BranchReaches first (at + 3) (pushing_at first second at) × BranchReaches second (counted_at first at) (held_at first second at)
 CallReaches first second at false = Unit {0}
 
 -- where a return asks for the low byte, and where the routine takes the note
@@ -513,7 +514,7 @@ popping_code n = Code (constant n LINE) ∷ Code (call POP_AT) ∷ Code jump_thr
 
 -- the newest note is taken in line
 abbrev pub taking_code : ℕ → List Piece
-taking_code n = Code note_taken ∷ Code jump_through ∷ popping_code n
+taking_code n = Code return_taken ∷ Code jump_through ∷ popping_code n
 
 -- a return, behind the question for the count's high byte
 abbrev pub low_code : (n at : ℕ) (first second : Way) → List Piece
@@ -572,7 +573,7 @@ group_code ly n at first second (Move a home) = Code (brought (source_of 0 a) (h
 group_code ly n at first second (Use how a) = use_code ly n how (source_of 0 a)
 group_code ly n at first second (Test rel a b) = test_code rel first second at (tested_source a) (source_of 0 b) (next_at ly n)
 group_code ly n at first second (TestGo rel a b to) = go_code ly n at first second rel (tested_source a) (source_of 0 b) (has_line ly.numbers to) to
-group_code ly n at first second (Remains x d to) = remains_code first n at (AtPlace (var_at x)) (source_of (slot_of to + 2) d) (destination_at to)
+group_code ly n at first second (Remains x d to) = remains_code first n at (AtAddress (var_at x)) (source_of (slot_of to + 2) d) (destination_at to)
 group_code ly n at first second (Divides how x d side to) = divides_code ly n at first how (source_of 0 (Variable x)) (source_of 1 d) to
 group_code ly n at first second (Single i) = alone_code ly n at first second i
 
@@ -580,7 +581,7 @@ group_code ly n at first second (Single i) = alone_code ly n at first second i
 abbrev pub BranchesReach : Layout → (n at : ℕ) (first second : Way) → Group → Type 0
 BranchesReach ly n at first second (Calculate op a b d) = ChangedReaches (change_of op (source_of (slot_of d) a) (source_of (slot_of d + 1) b) (destination_at d)) first at (destination_at d)
 BranchesReach ly n at first second (Stepped op a b by w x) = StepReaches first second n at op (source_of 0 a) (source_of 1 b) by (source_of 1 (Constant w)) (var_at x)
-BranchesReach ly n at first second (Remains x d to) = RestReaches first n at (AtPlace (var_at x)) (source_of (slot_of to + 2) d)
+BranchesReach ly n at first second (Remains x d to) = RestReaches first n at (AtAddress (var_at x)) (source_of (slot_of to + 2) d)
 BranchesReach ly n at first second (Test rel a b) = TestReaches rel first second at (tested_source a) (source_of 0 b) (next_at ly n)
 BranchesReach ly n at first second (TestGo rel a b to) = GoReaches ly n at first second rel (tested_source a) (source_of 0 b) (has_line ly.numbers to) to
 BranchesReach ly n at first second (Divides how x d side to) = DividesReach ly n at first (source_of 0 (Variable x)) (source_of 1 d) to
@@ -596,7 +597,7 @@ abbrev pub GroupsLie : Layout → Part → (n at : ℕ) → List Group → Type 
 GroupsLie ly code n at [] = at ≡ next_at ly n
 GroupsLie ly code n at (g ∷ gs) =
     (first second : Way) × AreInRange 256 (expand_all (g ∷ gs)) × Lies code at (group_code ly n at first second g)
-        × Behind g (GroupsLie ly code n (at + pieces_size (group_code ly n at first second g)) gs) × BranchesReach ly n at first second g × (0x0800 ≤ at)
+    × Behind g (GroupsLie ly code n (at + pieces_size (group_code ly n at first second g)) gs) × BranchesReach ly n at first second g × (0x0800 ≤ at)
 
 -- ---- lines
 -- behind the call of GETIN, at an address: the STOP key leads elsewhere
@@ -610,8 +611,8 @@ broken_code n = Code (faulting n 0) ∷ []
 -- a line whose list begins with a poll; its first instruction is among all the program's bytes only
 abbrev pub LineStands : Layout → (code whole : Part) (n at : ℕ) → List slots.Instr → Type 0
 LineStands ly code whole n at is =
-    (way : Way) × (stop : ℕ) × (at + 3 ≤ highest_code) × Stands whole at (call 0xFFE4) × Lies code (at + 3) (poll_code (at + 3) way stop)
-        × BranchReaches way (at + 5) stop × Lies code stop (broken_code n) × GroupsLie ly code n (at + 5 + way_size way) (select is)
+    (way : Way) × (stop : ℕ) × (at + 3 ≤ highest_code) × Stands whole at (call GETIN) × Lies code (at + 3) (poll_code (at + 3) way stop)
+    × BranchReaches way (at + 5) stop × Lies code stop (broken_code n) × GroupsLie ly code n (at + 5 + way_size way) (select is)
 
 -- a list that begins with a poll, the rest of which stands behind it
 pub record PolledLine (ly : Layout) (code whole : Part) (n : ℕ) (js : List slots.Instr) : Type 0 where
@@ -625,7 +626,7 @@ pub record GroupsLaid (ly : Layout) (code whole : Part) (program : slots.SlotCod
   pub numbered : numbers program ≡ ly.numbers
   pub lines : (n : ℕ) (js : List slots.Instr) → content_at program n ≡ Some js → PolledLine ly code whole n js
   pub absent : (n : ℕ) → content_at program n ≡ None → ly.start n ≡ ly.past
-  pub places : (p : Place) → place_at ly p < 65536
+  pub places : (p : Place) → place_address ly p < 65536
   pub past : Lies code ly.past (past_code ly)
   pub find : Lies code ly.find (find_code ly)
   pub top : highest ly.numbers < 65536

@@ -10,8 +10,8 @@ use Rattle.tb_reaching.specs.View.{Comes, Fits, View}
 use Rattle.tb_runtime16.specs.Laws.{Sent}
 use Rattle.tb_opcodes.specs.Bytes.{AreBytes}
 use Rattle.tb_runtime16.specs.Routines.{Entered, Here, Moves, WordAt, is_state, is_scratch}
-use Rattle.tb_runtime16.specs.Places.{COLUMN, HOME_S, LINE}
-use Rattle.tb_simulation.specs.Layout.{place_at}
+use Rattle.tb_runtime16.specs.Addresses.{COLUMN, HOME_S, LINE}
+use Rattle.tb_simulation.specs.Layout.{place_address}
 use Rattle.tb_simulation.proofs.Frames.{low_is_state, put_away, state_told, word_put}
 use Rattle.tb_simulation.proofs.Mirrors.{HoldsState, Typable}
 use Rattle.tb_simulation.proofs.Pieces.{put_word, sets}
@@ -76,7 +76,7 @@ module _ (around : Surroundings) where
       }
 
   -- where it has left the line
-  pub arrived : (s : State) (r : Slots) (at : ℕ) (m : ℕ → ℕ) (t answers : List ℕ) → at ≡ place_at ly s.place → HoldsState ly s m → length r.words ≡ 16
+  pub arrived : (s : State) (r : Slots) (at : ℕ) (m : ℕ → ℕ) (t answers : List ℕ) → at ≡ place_address ly s.place → HoldsState ly s m → length r.words ≡ 16
       → Entered f lo hi m → t ≡ s.text → answers ≡ s.answers → Typable keys s.text s.answers → (w : View) → Here at (lo ∷ hi ∷ []) m t answers w
       → Matches around (record { state = s; rest = Whole; slots = r }) w
   arrived s r at m t answers there hs all en text got short w e = record {
@@ -108,8 +108,12 @@ module _ (around : Surroundings) where
         (read_landed u d is r q m m' v fit last c.read there away)
         (homed_kept m m' (home_kept d fit m m' away) c.homed)
         (text ∙ sym same) (got ∙ sym left)
-        (record { short = subst (λ t. length t ≤ keys) (sym same) short.short; text_bytes = subst AreBytes (sym same) short.text_bytes; answer_bytes =
-            subst AreBytes (sym left) short.answer_bytes })
+        (record {
+          short = subst (λ t. length t ≤ keys) (sym same) short.short;
+          text_bytes = subst AreBytes (sym same) short.text_bytes;
+          answer_bytes =
+              subst AreBytes (sym left) short.answer_bytes;
+        })
         w e
 
 -- from the beginning of a group

@@ -74,7 +74,7 @@ module _ (around : Surroundings) (fits : Fits around.f 16) (limit : ℕ) (code :
       → Comes f w (Target around (steps code (expand g) (line code n js s r))) (sent_in (steps code (expand g) (line code n js s r))) k
   at_first g k law n gs js s r w e h =
       subst (λ l. Ready around n g l (expand_all gs) s r w → Comes f w (Target around (steps code (expand g) (line code n l s r)))
-          (sent_in (steps code (expand g) (line code n l s r))) k) (sym (parted g gs js e)) (law (expand_all gs) n s r w) (ready around code n g gs js s r w e h)
+      (sent_in (steps code (expand g) (line code n l s r))) k) (sym (parted g gs js e)) (law (expand_all gs) n s r w) (ready around code n g gs js s r w e h)
 
   by_steps : (g : Group) (k : ℕ) → k ≤ 34 + (limit + limit) → ((is : List Instr) → StepsLaw g (expand g ++ is) is k) → GroupLaw g
   by_steps g k le law n gs js s r w e h =
@@ -93,7 +93,7 @@ module _ (around : Surroundings) (fits : Fits around.f 16) (limit : ℕ) (code :
   -- a calculation: where it is a change in place that, and else as its operator does it
   computes : (op : Operator) (a b : Operand) (d : Destination) (k : ℕ) → 16 ≤ k
       → ((is : List Instr) (n : ℕ) (s : State) (r : Slots) (w : View) (h : Ready around n (Calculate op a b d) (spread op a b d is) is s r w)
-          → Lies f.code w.regs.pc (calc_code n op (source_of (slot_of d) a) (source_of (slot_of d + 1) b) (destination_at d))
+      → Lies f.code w.regs.pc (calc_code n op (source_of (slot_of d) a) (source_of (slot_of d + 1) b) (destination_at d))
       → GroupsLie ly f.code n (w.regs.pc + pieces_size (calc_code n op (source_of (slot_of d) a) (source_of (slot_of d + 1) b) (destination_at d))) (select is) → Leads h code k)
       → (is : List Instr) → StepsLaw (Calculate op a b d) (expand (Calculate op a b d) ++ is) is k
   computes op a b d k le other = calculate_steps op a b d k (λ is n s r w h.
@@ -147,8 +147,8 @@ module _ (around : Surroundings) (fits : Fits around.f 16) (limit : ℕ) (code :
       first_leads z e =
           subst (λ z. Comes f w (Target around z) (sent_in z) (17 + limit)) e
           (subst (λ l. Ready around n (first_of o a b x) l (behind_first by v x is) s r w
-              → Comes f w (Target around (steps code (expand (first_of o a b x)) (line code n l s r)))
-              (sent_in (steps code (expand (first_of o a b x)) (line code n l s r))) (17 + limit)) (spread_is o a b (home x) (behind_first by v x is))
+          → Comes f w (Target around (steps code (expand (first_of o a b x)) (line code n l s r)))
+          (sent_in (steps code (expand (first_of o a b x)) (line code n l s r))) (17 + limit)) (spread_is o a b (home x) (behind_first by v x is))
           (calculates o a b (home x) (behind_first by v x is) n s r w) (first_ready around n o a b by v x is s r w h))
 
       by_none : apply o (fetched s r 0 a) (fetched s r 1 b) ≡ None → Steps (steps code (expand (Stepped o a b by v x)) whole)
@@ -193,10 +193,10 @@ module _ (around : Surroundings) (fits : Fits around.f 16) (limit : ℕ) (code :
             subst Steps (sym (stepped_goes code n o a b by v x is s r h.read.all_words p e k g))
             (looser f w _ _ [] (17 + limit + (17 + limit)) (34 + (limit + limit)) (omega arith)
             (λ u z. matches_again around code n x p k is s _ (stepped_slots code n o a b by v x is s r h.read.all_words p k) u
-                (none_read around n o a b by v x is s r w h) refl_held (stepped_length code n o a b by v x is s r h.read.all_words p k) z)
+            (none_read around n o a b by v x is s r w h) refl_held (stepped_length code n o a b by v x is s r h.read.all_words p k) z)
             (chained f w _ _ [] [] (17 + limit) (17 + limit) stands (λ u m.
             second_leads u m (Goes (line code n is (meaning.stored x k stored) (calculated stored slots (Variable x) (Constant v) (home x) k)) [])
-                (calculate_goes code n by (Variable x) (Constant v) (home x) is stored slots all_slots (omega arith) k (on (Some k) g)))))
+            (calculate_goes code n by (Variable x) (Constant v) (home x) is stored slots all_slots (omega arith) k (on (Some k) g)))))
           where
             refl_held : (calculated stored slots (Variable x) (Constant v) (home x) k).held ≡ (stepped_slots code n o a b by v x is s r h.read.all_words p k).held
             refl_held = refl

@@ -68,7 +68,7 @@ module _ (ly : Layout) (whole : Part) (sc : SlotCode) (laid : GroupsLaid ly (inn
       let mine = subst (λ p. Stands within p (branch_code there.0 (branch_on Zero true) p there.1)) branch there.4.2.1 in
       let other = subst (λ p. Stands within p (branch_code k.stands.0 (branch_on Zero true) p k.stands.1)) branch k.stands.4.2.1 in
       let stop : there.1 ≡ k.stands.1 = same_stop within at there.1 k.stands.1 there.0 k.stands.0 (let b = there.4.2.0 in
-          let z = branch_size there.0 Zero true (ly.start m + 3 + 2) there.1 in let w = some_bytes there.0 in omega (arith, b, z, w)) mine other there.5 k.stands.5 in
+      let z = branch_size there.0 Zero true (ly.start m + 3 + 2) there.1 in let w = some_bytes there.0 in omega (arith, b, z, w)) mine other there.5 k.stands.5 in
       same_number within k.stands.1 n m l.small k.small (subst (λ p. Lies within p (broken_code n)) stop there.6) k.stands.6
 
   pub lines_apart : AreApart ly sc

@@ -20,7 +20,7 @@ module _ (code : SlotCode) where
     none_goes n here none =
         let stops : first_group code whole ≡ Stops Faulted (fault_text 7 (highest (numbers code))) =
         ap (λ p. first code (select (ahead code Whole p)) whole) here ∙ ap (λ o. first code (select (or_empty o)) whole) none
-            ∙ ap (λ p. instr_at code Whole p s r) here ∙ ap (λ o. instr_found (numbers code) n o s r) none in
+        ∙ ap (λ p. instr_at code Whole p s r) here ∙ ap (λ o. instr_found (numbers code) n o s r) none in
         let no : Stops Faulted (fault_text 7 (highest (numbers code))) ≡ Goes d t = sym (ap (λ x. and_then x (λ c. fallen code c.rest c)) stops) ∙ e in
         cc
 

@@ -8,10 +8,10 @@ use Rattle.tb_syntax.specs.Source.{Program, numbers}
 use Rattle.tb_meaning.specs.Control.{first_place}
 use Rattle.tb_lower.specs.Follows.{Follows}
 use Rattle.tb_lower.specs.Slots.{SlotCode, SlotState, Whole}
-use Rattle.tb_runtime16.specs.Places.{LINES_AT}
+use Rattle.tb_runtime16.specs.Addresses.{LINES_AT}
 use Rattle.tb_simulation.specs.Kept.{Starts, Keeps}
 use Rattle.tb_simulation.specs.LineStarts.{MarksLines}
-use Rattle.tb_simulation.specs.Layout.{Layout, inner, place_at}
+use Rattle.tb_simulation.specs.Layout.{Layout, inner, place_address}
 use Rattle.tb_runtime16.specs.Ends.{Begun}
 use Rattle.tb_simulation.proofs.Headline.{setup, room_so, OpeningLaw, StepLaws, headline}
 use Rattle.tb_simulation.proofs.LineStarts.{Known}
@@ -30,7 +30,7 @@ use Rattle.tb_meaning.specs.Meaning.{start}
 use Rattle.tb_correctness.proofs.Surroundings.{Serves, Surroundings}
 
 module _ (place : ℕ) (bytes : List ℕ) (from : 0x0800 ≤ place) (to : place + length bytes ≤ 0xa000) (ly : Layout) (program : Program) (sc : SlotCode)
-    (follows : Follows program sc) (closed : AreClosed sc) (first_at : place_at ly (first_place (numbers sc)) ≡ LINES_AT)
+    (follows : Follows program sc) (closed : AreClosed sc) (first_at : place_address ly (first_place (numbers sc)) ≡ LINES_AT)
     (laid : GroupsLaid ly (inner ly (part_at place bytes)) (part_at place bytes) sc) where
   -- what stands round the code, at each start
   abbrev pub around : machine.State → Surroundings
@@ -48,8 +48,13 @@ module _ (place : ℕ) (bytes : List ℕ) (from : 0x0800 ≤ place) (to : place 
   Related s = Between (around s)
 
   pub known : (s : machine.State) (c : SlotState) (w : View) → Related s c w → c.rest ≡ Whole → Known ly c.state w
-  known s c w m e = record { pc = subst (λ q. StandsAt ly (setup place bytes from to ly s).code w.regs.pc q c.state.place) e m.0.pc;
-      vars = m.0.state.vars; count = m.0.state.count; noted = m.0.state.notes; few = m.0.state.few }
+  known s c w m e = record {
+    pc = subst (λ q. StandsAt ly (setup place bytes from to ly s).code w.regs.pc q c.state.place) e m.0.pc;
+    vars = m.0.state.vars;
+    count = m.0.state.count;
+    held = m.0.state.returns;
+    few = m.0.state.few;
+  }
 
   module _ (limit : ℕ → ℕ) (wide : (k : ℕ) → 200 ≤ limit k) (n : ℕ) (routines : RoutineLaws limit) (prologue : PrologueLaw n) where
     pub opening : OpeningLaw place bytes from to ly Related sc n

@@ -92,8 +92,10 @@ none_is k x h lt le =
 
 -- a power of two is some and few
 pub power_size : (k : ℕ) → k < 6 → (1 ≤ 2 ^ (k + 1)) × (2 ^ (k + 1) < 65)
-power_size k h = below_six (λ k. (1 ≤ 2 ^ (k + 1)) × (2 ^ (k + 1) < 65)) (omega arith, omega arith) (omega arith, omega arith) (omega arith,
-    omega arith) (omega arith, omega arith) (omega arith, omega arith) (omega arith, omega arith) k h
+power_size k h = below_six (λ k. (1 ≤ 2 ^ (k + 1)) × (2 ^ (k + 1) < 65)) (omega arith, omega arith) (omega arith, omega arith) (
+  omega arith,
+  omega arith,
+) (omega arith, omega arith) (omega arith, omega arith) (omega arith, omega arith) k h
 
 -- a quotient with a divisor that is not negative
 quotient_by : (x d : ℕ) → d < 32768 → (t : Bool) → is_negative x ≡ t → quotient x d ≡ with_sign t ((if t then 65536 - x else x) / d)

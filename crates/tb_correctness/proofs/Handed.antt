@@ -5,7 +5,7 @@ use Rattle.tb_lower.specs.Slots.{Instr, Slots, SlotCode, with_word}
 use Rattle.tb_reaching.proofs.Comes.{chained, looser}
 use Rattle.tb_reaching.specs.View.{Fits, View, back_at}
 use Rattle.tb_runtime16.specs.Routines.{Here, Moves, WordAt}
-use Rattle.tb_runtime16.specs.Places.{LEFT, LINE, RESULT, RIGHT}
+use Rattle.tb_runtime16.specs.Addresses.{LEFT, LINE, RESULT, RIGHT}
 use Rattle.tb_simulation.proofs.Frames.{word_away, word_put}
 use Rattle.tb_simulation.proofs.Mirrors.{Typable}
 use Rattle.tb_simulation.proofs.Pieces.{InData, calls, put_word}
@@ -143,7 +143,13 @@ module _ {around : Surroundings} (fits : Fits around.f 16) {n : ℕ} {g : Group}
         chained f u _ _ [] [] limit 4 (does _ _ m' k u e) (λ u c'.
         looser f u _ _ [] 4 4 (omega arith)
         (word_lands around code n h.small (live js) d is s' r q v _ _ end_at u.mem w.text w.answers c'.result.low c'.result.high c'.result.small fit
-            last (subst (λ p. GroupsLie ly f.code n p (select is)) behind_is rest) c'.kept text answers short)
+        last (subst (λ p. GroupsLie ly f.code n p (select is)) behind_is rest) c'.kept text answers short)
         (copies f 16 fits (place + 3) own u.mem w.text w.answers refl from (destination_at d) lies.2.2.2.0 g.0 (dest_in_data d fit) (g.1 d fit) lies.2.2.2.1 u
-        (record { pc = c'.here.pc ∙ comes_back entry at a b taken m c lies x y ga gb ha hb; stack = c'.here.stack; binary = c'.here.binary;
-            mem = refl; text = c'.here.text; answers = c'.here.answers })))) u e)
+        (record {
+          pc = c'.here.pc ∙ comes_back entry at a b taken m c lies x y ga gb ha hb;
+          stack = c'.here.stack;
+          binary = c'.here.binary;
+          mem = refl;
+          text = c'.here.text;
+          answers = c'.here.answers;
+        })))) u e)

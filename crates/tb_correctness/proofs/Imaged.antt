@@ -14,7 +14,7 @@ use Rattle.tb_syntax.specs.Source.{Numbered, numbers}
 use Rattle.tb_meaning.specs.Control.{has_line, content_at, first_place}
 use Rattle.tb_lower.specs.Slots.{Instr, Poll, SlotCode}
 use Rattle.tb_lower.specs.Ranges.{AreInRange}
-use Rattle.tb_runtime16.specs.Places.{PROLOGUE_AT, LINES_AT}
+use Rattle.tb_runtime16.specs.Addresses.{PROLOGUE_AT, LINES_AT}
 use Rattle.tb_runtime16.specs.Block.{block_bytes}
 use Rattle.tb_settling.specs.Settled.{AreFormsOf, IsSettled}
 use Rattle.tb_settling.proofs.Forms.{forms_size, is_straight, items_size, near_split, split}
@@ -26,7 +26,7 @@ use Rattle.tb_templates.proofs.Ordered.{lines_in_turn}
 use Rattle.tb_templates.proofs.Reached.{either}
 use Rattle.tb_templates.proofs.Settled.{Sections, broken_straight, joined_items, last_broken, line_at, sections, some_bytes, straight_items, total_size}
 use Rattle.tb_templates.proofs.Taken.{block_size}
-use Rattle.tb_simulation.specs.Layout.{Lies, place_of, layout_of, place_at}
+use Rattle.tb_simulation.specs.Layout.{Lies, label_address, layout_of, place_address}
 use Rattle.tb_runtime16.specs.Search.{IsBelowAll, AreRising}
 use Rattle.tb_correctness.specs.Laid.{ArePolled, Laid}
 use Rattle.tb_correctness.proofs.Laying.{front, back}
@@ -67,7 +67,7 @@ small_number low (l ∷ ls) h n is e = go (nat_eq l.number n) refl (small_number
 
 module _ (part : Part) (labels : List (Name × ℕ)) (ns : List ℕ) (seed : ℕ) where
   abbrev at : ℕ → ℕ
-  at n = place_of labels (target.Line n)
+  at n = label_address labels (target.Line n)
 
   abbrev whole : ℕ → List Instr → List Entry
   whole n is = line_code ns seed (record { number = n; content = is })
@@ -170,7 +170,7 @@ module _ (part : Part) (labels : List (Name × ℕ)) (ns : List ℕ) (seed : ℕ
 
   -- where the first of these lines begins, or what is behind them
   first_there : (lines : SlotCode) (a : ℕ) (asking : List ℕ) (fs : List Form) → ArePolled lines → Lined a asking lines fs
-      → place_of labels target.Past ≡ a + forms_size fs → place_of labels (first_of lines) ≡ a
+      → label_address labels target.Past ≡ a + forms_size fs → label_address labels (first_of lines) ≡ a
   first_there [] a asking [] polls h past = past ∙ (let e : a + 0 ≡ a = omega arith in e)
   first_there [] a asking (f ∷ fs) polls h past = absurd h.of
   first_there (l ∷ ls) a asking fs polls h past = (parted a asking l ls fs polls h).here
@@ -184,7 +184,7 @@ module _ (part : Part) (labels : List (Name × ℕ)) (ns : List ℕ) (seed : ℕ
     some : 1 ≤ size (items_from (at n) forms)
     lies : Lies part labels (at n) (items_from (at n) forms)
     near : some_branch_far labels (at n) (items_from (at n) forms) ≡ false
-    next : ends_away is ≡ false → at n + size (items_from (at n) forms) ≡ place_of labels (next_line ns n)
+    next : ends_away is ≡ false → at n + size (items_from (at n) forms) ≡ label_address labels (next_line ns n)
     ends : at n + size (items_from (at n) forms) ≤ to
     clear : (m : ℕ) → has_line ms m ≡ true → (at m ≤ at n) ⊎ (at n + size (items_from (at n) forms) ≤ at m)
 
@@ -195,7 +195,7 @@ module _ (part : Part) (labels : List (Name × ℕ)) (ns : List ℕ) (seed : ℕ
 
   -- the first line of these, as the line of its number
   first_found : (a : ℕ) (asking : List ℕ) (l : Numbered (List Instr)) (ls : SlotCode) (fs : List Form) (p : Parted a asking l ls fs)
-      → place_of labels (next_line ns l.number) ≡ then_at a asking l ls fs p → Found (numbers (l ∷ ls)) a (a + forms_size fs) l.number l.content
+      → label_address labels (next_line ns l.number) ≡ then_at a asking l ls fs p → Found (numbers (l ∷ ls)) a (a + forms_size fs) l.number l.content
   first_found a asking l ls fs p next =
       let there : a ≡ at l.number = sym p.here in
       let mine : Lies part labels (at l.number) (items_from (at l.number) p.own) = subst (λ b. Lies part labels b (items_from b p.own)) there p.lies in
@@ -242,16 +242,16 @@ module _ (part : Part) (labels : List (Name × ℕ)) (ns : List ℕ) (seed : ℕ
           by false q e = f.clear m e
 
   found : (lines : SlotCode) (a : ℕ) (asking : List ℕ) (fs : List Form) → ArePolled lines → AreInTurn ns lines → Lined a asking lines fs
-      → place_of labels target.Past ≡ a + forms_size fs → (n : ℕ) (is : List Instr) → content_at lines n ≡ Some is → Found (numbers lines) a (a + forms_size fs) n is
+      → label_address labels target.Past ≡ a + forms_size fs → (n : ℕ) (is : List Instr) → content_at lines n ≡ Some is → Found (numbers lines) a (a + forms_size fs) n is
   found [] a asking fs polls turns h past n is e = cc
   found (l ∷ ls) a asking fs polls turns h past n is e =
       let p = parted a asking l ls fs polls h in
       let b = then_at a asking l ls fs p in
-      let later : place_of labels target.Past ≡ b + forms_size p.rest = (let s = p.total in omega (arith, past, s)) in
-      go p (ap (place_of labels) (sym turns.0) ∙ first_there ls b (asking_behind asking l) p.rest p.polled p.behind later)
-          (found ls b (asking_behind asking l) p.rest p.polled turns.1 p.behind later n is) (nat_eq l.number n) refl e
+      let later : label_address labels target.Past ≡ b + forms_size p.rest = (let s = p.total in omega (arith, past, s)) in
+      go p (ap (label_address labels) (sym turns.0) ∙ first_there ls b (asking_behind asking l) p.rest p.polled p.behind later)
+      (found ls b (asking_behind asking l) p.rest p.polled turns.1 p.behind later n is) (nat_eq l.number n) refl e
     where
-      go : (p : Parted a asking l ls fs) → place_of labels (next_line ns l.number) ≡ then_at a asking l ls fs p
+      go : (p : Parted a asking l ls fs) → label_address labels (next_line ns l.number) ≡ then_at a asking l ls fs p
           → (content_at ls n ≡ Some is → Found (numbers ls) (then_at a asking l ls fs p) (then_at a asking l ls fs p + forms_size p.rest) n is)
           → (t : Bool) → nat_eq l.number n ≡ t → (if t then Some l.content else content_at ls n) ≡ Some is → Found (numbers (l ∷ ls)) a (a + forms_size fs) n is
       go p next rest true q e = same_line (numbers (l ∷ ls)) l n is (eqb-true l.number n q) (same_some l.content is e) a (a + forms_size fs) (first_found a asking l ls fs p next)
@@ -260,8 +260,8 @@ module _ (part : Part) (labels : List (Name × ℕ)) (ns : List ℕ) (seed : ℕ
   -- ---- what is done for the STOP key
   -- it lies at its label, and no line of the program begins inside it
   record Broken (n : ℕ) : Type 0 where
-    lies : Lies part labels (place_of labels (target.Break n)) (broken n)
-    clear : (m : ℕ) → has_line ns m ≡ true → (at m < place_of labels (target.Break n)) ⊎ (place_of labels (target.Break n) + size (broken n) ≤ at m)
+    lies : Lies part labels (label_address labels (target.Break n)) (broken n)
+    clear : (m : ℕ) → has_line ns m ≡ true → (at m < label_address labels (target.Break n)) ⊎ (label_address labels (target.Break n) + size (broken n) ≤ at m)
 
   abbrev AllBroken : List ℕ → Type 0
   AllBroken ms = (n : ℕ) → has_line ms n ≡ true → Broken n
@@ -271,13 +271,13 @@ module _ (part : Part) (labels : List (Name × ℕ)) (ns : List ℕ) (seed : ℕ
   broken_in b to [] h le clear n e = absurd (true≢false (sym e))
   broken_in b to (k ∷ ms) h le clear n e =
       let first = front part labels b (broken k) (all_broken ms) h in
-      let there : place_of labels (target.Break k) ≡ b = ap (λ o. unwrap_or o 0) first.labelled.0 in
+      let there : label_address labels (target.Break k) ≡ b = ap (λ o. unwrap_or o 0) first.labelled.0 in
       let own : Broken k = record {
         lies = subst (λ a. Lies part labels a (broken k)) (sym there) first;
         clear = λ m q. ⊎_elim (λ l. inl (omega (arith, l, there))) (λ l. inr (omega (arith, l, le, there))) (clear m q);
       } in
       by (nat_eq k n) refl e own (broken_in (b + size (broken k)) to ms (back part labels b (broken k) (all_broken ms) h) (omega (arith, le))
-          (λ m q. ⊎_elim (λ l. inl (omega (arith, l))) (λ l. inr l) (clear m q)) n)
+      (λ m q. ⊎_elim (λ l. inl (omega (arith, l))) (λ l. inr l) (clear m q)) n)
     where
       by : (t : Bool) → nat_eq k n ≡ t → (t || has_line ms n) ≡ true → Broken k → (has_line ms n ≡ true → Broken n) → Broken n
       by true q e own later = subst Broken (eqb-true k n q) own
@@ -309,8 +309,8 @@ module _ (part : Part) (labels : List (Name × ℕ)) (ns : List ℕ) (seed : ℕ
           by false q e = inr e
 
 -- ---- the whole program
-first_at : (labels : List (Name × ℕ)) (seed : ℕ) (code : SlotCode) → 1 ≤ length (numbers code) → place_of labels (first_of code) ≡ LINES_AT
-    → place_at (layout_of labels (numbers code) seed) (first_place (numbers code)) ≡ LINES_AT
+first_at : (labels : List (Name × ℕ)) (seed : ℕ) (code : SlotCode) → 1 ≤ length (numbers code) → label_address labels (first_of code) ≡ LINES_AT
+    → place_address (layout_of labels (numbers code) seed) (first_place (numbers code)) ≡ LINES_AT
 first_at labels seed [] some h = absurd (let no : ⊥ = omega (arith, some) in no)
 first_at labels seed (l ∷ ls) some h = sym (start_of_line labels (numbers (l ∷ ls)) seed l.number (ap (λ b. b || has_line (numbers ls) l.number) (eq-eqb l.number l.number refl))) ∙ h
 
@@ -334,7 +334,7 @@ image_laid seed code seed_small rises codable polls some few items settled ends 
     let head = front part labels PROLOGUE_AT block_code (lines ++ tail) cut in
     let s = subst (λ a. Lies part labels a (lines ++ tail)) start (back part labels PROLOGUE_AT block_code (lines ++ tail) cut) in
     let lines_near = (near_split labels LINES_AT lines tail (subst (λ a. some_branch_far labels a (lines ++ tail) ≡ false) start
-        (near_split labels PROLOGUE_AT block_code (lines ++ tail) (subst (λ es. some_branch_far labels PROLOGUE_AT es ≡ false) parts near)).1)).0 in
+    (near_split labels PROLOGUE_AT block_code (lines ++ tail) (subst (λ es. some_branch_far labels PROLOGUE_AT es ≡ false) parts near)).1)).0 in
     let own : Lined part labels ns seed LINES_AT [] code g.lines = record { of = g.of_lines; lies = front part labels LINES_AT lines tail s; near = lines_near } in
     let behind : LINES_AT + size lines ≡ here = omega (arith, long) in
     let t = subst (λ a. Lies part labels a tail) behind (back part labels LINES_AT lines tail s) in
@@ -345,14 +345,17 @@ image_laid seed code seed_small rises codable polls some few items settled ends 
     let p = front part labels here past (last ++ (search ++ table)) t in
     let r = front part labels b last (search ++ table) w in
     let f = front part labels (b + size last) search table u in
-    let at_past : here ≡ place_of labels target.Past = sym (ap (λ o. unwrap_or o 0) p.labelled.0) in
-    let at_find : b + size last ≡ place_of labels target.Find = sym (ap (λ o. unwrap_or o 0) f.labelled.0) in
-    let at_table : b + size last + size search ≡ place_of labels target.Table = sym (ap (λ o. unwrap_or o 0) v.labelled.0) in
+    let at_past : here ≡ label_address labels target.Past = sym (ap (λ o. unwrap_or o 0) p.labelled.0) in
+    let at_find : b + size last ≡ label_address labels target.Find = sym (ap (λ o. unwrap_or o 0) f.labelled.0) in
+    let at_table : b + size last + size search ≡ label_address labels target.Table = sym (ap (λ o. unwrap_or o 0) v.labelled.0) in
     let turns = lines_in_turn code rises in
-    let before : (to : ℕ) → here ≤ to → (m : ℕ) → has_line ns m ≡ true → place_of labels (target.Line m) < to = λ to l m e. omega (arith, l,
-        (within part labels ns seed code LINES_AT [] g.lines polls own m e).1) in
+    let before : (to : ℕ) → here ≤ to → (m : ℕ) → has_line ns m ≡ true → label_address labels (target.Line m) < to = λ to l m e. omega (
+      arith,
+      l,
+      (within part labels ns seed code LINES_AT [] g.lines polls own m e).1,
+    ) in
     let all_done = lines_broken part labels ns seed code LINES_AT [] g.lines polls own (λ m e. inr e) (broken_in part labels ns seed b (b + size last)
-        (still_asking [] code) r (omega arith) (λ m e. inl (before b (omega arith) m e))) in
+    (still_asking [] code) r (omega arith) (λ m e. inl (before b (omega arith) m e))) in
     record {
       block = bytes_front part PROLOGUE_AT block_bytes (replicate (LINES_AT - PROLOGUE_AT - length block_bytes) 0 ++ []) head.bytes;
       lines = λ n is e.
@@ -372,11 +375,11 @@ image_laid seed code seed_small rises codable polls some few items settled ends 
       breaks = λ n e. (all_done n e).lies;
       breaks_clear = λ n e. (all_done n e).clear;
       past = subst (λ a. Lies part labels a past) at_past p;
-      past_clear = λ m e. inl (before (place_of labels target.Past) (omega (arith, at_past)) m e);
+      past_clear = λ m e. inl (before (label_address labels target.Past) (omega (arith, at_past)) m e);
       find = subst (λ a. Lies part labels a search) at_find f;
-      find_clear = λ m e. inl (before (place_of labels target.Find) (omega (arith, at_find)) m e);
+      find_clear = λ m e. inl (before (label_address labels target.Find) (omega (arith, at_find)) m e);
       table = subst (λ a. Lies part labels a table) at_table v;
-      table_clear = λ m e. inl (before (place_of labels target.Table) (omega (arith, at_table)) m e);
+      table_clear = λ m e. inl (before (label_address labels target.Table) (omega (arith, at_table)) m e);
       first = first_at labels seed code some (first_there part labels ns seed code LINES_AT [] g.lines polls own (sym at_past));
       some = some;
       rising = are_rising 0 ns rises;

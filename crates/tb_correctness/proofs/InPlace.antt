@@ -24,7 +24,7 @@ use Rattle.tb_simulation.proofs.Pieces.{InData, changes_last, loads_last, moves_
 use Rattle.tb_simulation.proofs.Resolved.{Code, Lies, highest_code, pieces_size, size}
 use Rattle.tb_selection.specs.Groups.{Operand, Destination, Calculate}
 use Rattle.tb_selection.specs.Select.{select}
-use Rattle.tb_templates.specs.declared.sources.Source.TheVariants.{AtPlace}
+use Rattle.tb_templates.specs.declared.sources.Source.TheVariants.{AtAddress}
 use Rattle.tb_templates.specs.declared.in_place.Change.{Change}
 use Rattle.tb_templates.specs.declared.in_place.Change.TheVariants.{Increment, Decrement, Raise, Lower, Halve, Double}
 use Rattle.tb_correctness.proofs.Branches.{Led, asked_in, branch_behind, branch_size, branches, is_taken}
@@ -88,57 +88,111 @@ module _ (f : Setup) (room : ℕ) (fits : Fits f room) (at : ℕ) (bs : List ℕ
       (Flagged (at + 3) bs (with_byte m p ((m p + 1) % 256)) text answers (eqb ((m p + 1) % 256) 0)) [] 1
   counts_up p d r st = whatever f room fits at bs m text answers _ [] 1 (λ a x y n v i z c.
       changes_last f room fits 0xEE p ((m p + 1) % 256) Inc (view a x y n v i z c at bs m text answers) _ _ refl refl refl small st d refl
-          (record { here = record { pc = let e : (at + 3) % 65536 ≡ at + 3 = omega arith in e; stack = refl; binary = refl; mem = refl; text = refl;
-          answers = refl }; zero = refl }))
+      (record {
+        here = record {
+          pc = let e : (at + 3) % 65536 ≡ at + 3 = omega arith in e;
+          stack = refl;
+          binary = refl;
+          mem = refl;
+          text = refl;
+          answers = refl;
+        };
+        zero = refl;
+      }))
 
   counts_down : (p : ℕ) → is_data p ≡ true → at + 3 ≤ highest_code → Bytes f.code at (instr_bytes (ins 0xCE p)) → Moves f (Here at bs m text answers)
       (Here (at + 3) bs (with_byte m p ((m p + 255) % 256)) text answers) [] 1
   counts_down p d r st = whatever f room fits at bs m text answers _ [] 1 (λ a x y n v i z c.
       changes_last f room fits 0xCE p ((m p + 255) % 256) Dec (view a x y n v i z c at bs m text answers) _ _ refl refl refl small st d refl
-          (record { pc = let e : (at + 3) % 65536 ≡ at + 3 = omega arith in e; stack = refl; binary = refl; mem = refl; text = refl; answers = refl }))
+      (record { pc = let e : (at + 3) % 65536 ≡ at + 3 = omega arith in e; stack = refl; binary = refl; mem = refl; text = refl; answers = refl }))
 
   -- whether it is 0
   looks : (p : ℕ) → is_data p ≡ true → at + 3 ≤ highest_code → Bytes f.code at (instr_bytes (ins 0xAD p)) → Moves f (Here at bs m text answers)
       (Flagged (at + 3) bs m text answers (eqb (m p) 0)) [] 1
   looks p d r st = whatever f room fits at bs m text answers _ [] 1 (λ a x y n v i z c.
       loads_last f room fits 0xAD p Lda (view a x y n v i z c at bs m text answers) _ _ refl refl refl small st d refl
-          (record { here = record { pc = let e : (at + 3) % 65536 ≡ at + 3 = omega arith in e; stack = refl; binary = refl; mem = refl; text = refl;
-          answers = refl }; zero = refl }))
+      (record {
+        here = record {
+          pc = let e : (at + 3) % 65536 ≡ at + 3 = omega arith in e;
+          stack = refl;
+          binary = refl;
+          mem = refl;
+          text = refl;
+          answers = refl;
+        };
+        zero = refl;
+      }))
 
   -- shifts
   shifts_left : (p : ℕ) → is_data p ≡ true → at + 3 ≤ highest_code → Bytes f.code at (instr_bytes (ins 0x0E p)) → Moves f (Here at bs m text answers)
       (Carrying (at + 3) bs (with_byte m p (2 * m p % 256)) text answers (has_bit (m p) 128)) [] 1
   shifts_left p d r st = whatever f room fits at bs m text answers _ [] 1 (λ a x y n v i z c.
       changes_last f room fits 0x0E p (2 * m p % 256) Asl (view a x y n v i z c at bs m text answers) _ _ refl refl refl small st d refl
-          (record { here = record { pc = let e : (at + 3) % 65536 ≡ at + 3 = omega arith in e; stack = refl; binary = refl; mem = refl; text = refl;
-          answers = refl }; carry = refl }))
+      (record {
+        here = record {
+          pc = let e : (at + 3) % 65536 ≡ at + 3 = omega arith in e;
+          stack = refl;
+          binary = refl;
+          mem = refl;
+          text = refl;
+          answers = refl;
+        };
+        carry = refl;
+      }))
 
   turns_left : (p : ℕ) (c : Bool) → is_data p ≡ true → at + 3 ≤ highest_code → Bytes f.code at (instr_bytes (ins 0x2E p))
       → Moves f (Carrying at bs m text answers c) (Here (at + 3) bs (with_byte m p (2 * m p % 256 + bit c)) text answers) [] 1
   turns_left p c d r st = whatever_with f room fits at bs m text answers c _ [] 1 (λ a x y n v i z.
       changes_last f room fits 0x2E p (2 * m p % 256 + bit c) Rol (view a x y n v i z c at bs m text answers) _ _ refl refl refl small st d refl
-          (record { pc = let e : (at + 3) % 65536 ≡ at + 3 = omega arith in e; stack = refl; binary = refl; mem = refl; text = refl; answers = refl }))
+      (record { pc = let e : (at + 3) % 65536 ≡ at + 3 = omega arith in e; stack = refl; binary = refl; mem = refl; text = refl; answers = refl }))
 
   turns_right : (p : ℕ) (c : Bool) → is_data p ≡ true → at + 3 ≤ highest_code → Bytes f.code at (instr_bytes (ins 0x6E p))
       → Moves f (Carrying at bs m text answers c) (Carrying (at + 3) bs (with_byte m p (m p / 2 + 128 * bit c)) text answers (has_bit (m p) 1)) [] 1
   turns_right p c d r st = whatever_with f room fits at bs m text answers c _ [] 1 (λ a x y n v i z.
       changes_last f room fits 0x6E p (m p / 2 + 128 * bit c) Ror (view a x y n v i z c at bs m text answers) _ _ refl refl refl small st d refl
-          (record { here = record { pc = let e : (at + 3) % 65536 ≡ at + 3 = omega arith in e; stack = refl; binary = refl; mem = refl; text = refl;
-          answers = refl }; carry = refl }))
+      (record {
+        here = record {
+          pc = let e : (at + 3) % 65536 ≡ at + 3 = omega arith in e;
+          stack = refl;
+          binary = refl;
+          mem = refl;
+          text = refl;
+          answers = refl;
+        };
+        carry = refl;
+      }))
 
   -- A goes to a place and stays, and its sign goes to C
   keeps_a : (p a : ℕ) (c : Bool) → is_data p ≡ true → at + 3 ≤ highest_code → Bytes f.code at (instr_bytes (ins 0x8D p))
       → Moves f (Known at a c bs m text answers) (WithA (at + 3) a bs (with_byte m p a) text answers) [] 1
   keeps_a p a c d r st = whatever_known f room fits at a c bs m text answers _ [] 1 (λ x y n v i z.
       stores_last f room fits p (view a x y n v i z c at bs m text answers) _ small st d
-          (record { here = record { pc = let e : (at + 3) % 65536 ≡ at + 3 = omega arith in e; stack = refl; binary = refl; mem = refl; text = refl;
-          answers = refl }; number = refl }))
+      (record {
+        here = record {
+          pc = let e : (at + 3) % 65536 ≡ at + 3 = omega arith in e;
+          stack = refl;
+          binary = refl;
+          mem = refl;
+          text = refl;
+          answers = refl;
+        };
+        number = refl;
+      }))
 
   signs_a : (a : ℕ) → at + 1 ≤ highest_code → Bytes f.code at (instr_bytes (ins 0x0A 0)) → Moves f (WithA at a bs m text answers) (Carrying (at + 1) bs m text answers (has_bit a 128)) [] 1
   signs_a a r st = whatever_a f room fits at a bs m text answers _ [] 1 (λ x y n v i z c.
       placed_last f room fits (ins 0x0A 0) (view a x y n v i z c at bs m text answers) _ _ small st refl
-          (record { here = record { pc = let e : (at + 1) % 65536 ≡ at + 1 = omega arith in e; stack = refl; binary = refl; mem = refl; text = refl;
-          answers = refl }; carry = refl }))
+      (record {
+        here = record {
+          pc = let e : (at + 1) % 65536 ≡ at + 1 = omega arith in e;
+          stack = refl;
+          binary = refl;
+          mem = refl;
+          text = refl;
+          answers = refl;
+        };
+        carry = refl;
+      }))
 
 module _ (f : Setup) (room : ℕ) (fits : Fits f room) (bs text answers : List ℕ) (small : leb (length bs) room ≡ true) where
   -- ---- code with a branch over a part of it
@@ -167,7 +221,7 @@ module _ (f : Setup) (room : ℕ) (fits : Fits f room) (bs text answers : List �
   here_at p q m w e h = subst (λ a. Here a bs m text answers w) e h
 
   -- ---- the changes of a word x that stands at a place p
-  module _ (first : Way) (at p : ℕ) (d : InData p) (m : ℕ → ℕ) (x : ℕ) (hs : SourceHolds m (AtPlace p) x) where
+  module _ (first : Way) (at p : ℕ) (d : InData p) (m : ℕ → ℕ) (x : ℕ) (hs : SourceHolds m (AtAddress p) x) where
     -- the word v stands there, and the rest as it was
     abbrev Stored : (to v : ℕ) → View → Type 0
     Stored to v = Here to bs (put_word m p (v % 256) (v / 256)) text answers
@@ -209,12 +263,12 @@ module _ (f : Setup) (room : ℕ) (fits : Fits f room) (bs text answers : List �
             chained f u _ _ [] [] 2 13 (o.leads m1 true u (here_at (at + 3) (at + size (ins 0xEE p ∷ [])) m1 u (omega arith) g.here) (g.zero ∙ e)) (λ v k.
             looser f v _ _ [] 1 13 (omega arith)
             (λ y j. stored end (word (x + 1)) _ _ y (let q = o.end_is in omega (arith, q)) (both_put m p l ((m1 (p + 1) + 1) % 256) (word (x + 1))
-                (omega (arith, lo)) (let q = other l in let z = eqb-true l 0 e in omega (arith, q, z, lo, hi, hs.small))) j.here)
+            (omega (arith, lo)) (let q = other l in let z = eqb-true l 0 e in omega (arith, q, z, lo, hi, hs.small))) j.here)
             (counts_up f room fits (at + size (ins 0xEE p ∷ []) + way_size first) bs m1 text answers small (p + 1) d.1 (let q = o.ends in omega (arith, q)) o.stands.0 v k.here))
         by o false e u g =
             looser f u _ _ [] 2 15 (omega arith)
             (λ v k. stored end (word (x + 1)) _ _ v (let q = o.end_is in omega (arith, q)) (low_put m p l (word (x + 1)) (omega (arith, lo))
-                (let z = some_is l e in omega (arith, z, lo, hi, hs.small))) k.here)
+            (let z = some_is l e in omega (arith, z, lo, hi, hs.small))) k.here)
             (o.leads m1 false u (here_at (at + 3) (at + size (ins 0xEE p ∷ [])) m1 u (omega arith) g.here) (g.zero ∙ e))
 
     decrements : Lies f.code at (change_code first at Decrement p) → ChangeReaches first at Decrement p
@@ -255,7 +309,7 @@ module _ (f : Setup) (room : ℕ) (fits : Fits f room) (bs text answers : List �
             chained f y _ _ [] [] 1 12 (counts_down f room fits (fork + way_size first) bs m text answers small (p + 1) d.1 (let q = o.ends in omega (arith, q)) o.stands.0 y k.here) (λ y k.
             looser f y _ _ [] 1 12 (omega arith)
             (λ y j. stored end v _ _ y (let q = o.end_is in omega (arith, q)) (swapped m (p + 1) p h1 l apart
-                ∙ both_put m p l h1 v (omega (arith, same, lo, hs.small)) (omega (arith, z, lo, hi, hs.small))) j)
+            ∙ both_put m p l h1 v (omega (arith, same, lo, hs.small)) (omega (arith, z, lo, hi, hs.small))) j)
             (counts_down f room fits back bs m1 text answers small p d.0 (let q = o.ends in omega (arith, q)) o.behind_stands.0 y (here_at (fork + way_size first + 3) back m1 y (omega arith) k))))
         by o false e u g =
             let z = some_is (m p) e in
@@ -302,7 +356,7 @@ module _ (f : Setup) (room : ℕ) (fits : Fits f room) (bs text answers : List �
             chained f u _ _ [] [] 2 10 (o.leads m1 true u (here_at _ fork m1 u (omega arith) g.here) (g.carry ∙ e)) (λ y k.
             looser f y _ _ [] 1 10 (omega arith)
             (λ y j. stored end v _ _ y (let q = o.end_is in omega (arith, q)) (both_put m p l ((m1 (p + 1) + 1) % 256) v (omega (arith, lo))
-                (let q = other l in omega (arith, q, z, few, lo, hi, hs.small))) j.here)
+            (let q = other l in omega (arith, q, z, few, lo, hi, hs.small))) j.here)
             (counts_up f room fits (fork + way_size first) bs m1 text answers small (p + 1) d.1 (let q = o.ends in omega (arith, q)) o.stands.0 y k.here))
         by o false e u g =
             let z = ltb-false 255 sum e in
@@ -345,7 +399,7 @@ module _ (f : Setup) (room : ℕ) (fits : Fits f room) (bs text answers : List �
             chained f u _ _ [] [] 2 10 (o.leads m1 false u (here_at _ fork m1 u (omega arith) g.here) (g.carry ∙ e)) (λ y k.
             looser f y _ _ [] 1 10 (omega arith)
             (λ y j. stored end v _ _ y (let q = o.end_is in omega (arith, q)) (both_put m p l ((m1 (p + 1) + 255) % 256) v
-                (omega (arith, few, lo, hs.small)) (let q = other l in omega (arith, q, z, few, lo, hi, hs.small))) j)
+            (omega (arith, few, lo, hs.small)) (let q = other l in omega (arith, q, z, few, lo, hi, hs.small))) j)
             (counts_down f room fits (fork + way_size first) bs m1 text answers small (p + 1) d.1 (let q = o.ends in omega (arith, q)) o.stands.0 y k.here))
         by o true e u g =
             let z = leb-true (c + 0) (m p) e in
@@ -359,7 +413,7 @@ module _ (f : Setup) (room : ℕ) (fits : Fits f room) (bs text answers : List �
         moves_then f _ _ _ [] [] 1 15 (shifts_left f room fits at bs m text answers small p d.0 (omega (arith, lies.0)) lies.1.0)
         (moves_looser f _ _ _ [] 1 15 (omega arith)
         (λ y j. stored (at + pieces_size (change_code first at Double p)) (word (2 * x)) _ _ y (omega arith)
-            (both_put m p l (2 * m1 (p + 1) % 256 + bit (has_bit (m p) 128)) (word (2 * x)) (ap (λ b. 2 * b % 256) lo ∙ double_low x) high) j)
+        (both_put m p l (2 * m1 (p + 1) % 256 + bit (has_bit (m p) 128)) (word (2 * x)) (ap (λ b. 2 * b % 256) lo ∙ double_low x) high) j)
         (turns_left f room fits (at + 3) bs m1 text answers small (p + 1) (has_bit (m p) 128) d.1 (omega (arith, lies.0)) s1.0))
       where
         l : ℕ
@@ -387,8 +441,14 @@ module _ (f : Setup) (room : ℕ) (fits : Fits f room) (bs text answers : List �
         let a_is : a ≡ halve y % 256 = (λ i. (same ∙ l) i / 2 + 128 * bit (has_bit (h i) 1)) ∙ low_half y s in
         moves_then f _ _ _ [] [] 1 1 (turns_right f room fits at bs k text answers small (p + 1) c d.1 (omega (arith, r)) st.0)
         (moves_looser f _ _ _ [] 1 1 (omega arith)
-        (λ u g. record { pc = g.here.pc ∙ (let q : at + 3 + 3 ≡ to = omega (arith, e) in q); stack = g.here.stack; binary = g.here.binary;
-            mem = g.here.mem ∙ swapped k (p + 1) p b a apart ∙ (λ i. put_word k p (a_is i) (b_is i)); text = g.here.text; answers = g.here.answers })
+        (λ u g. record {
+          pc = g.here.pc ∙ (let q : at + 3 + 3 ≡ to = omega (arith, e) in q);
+          stack = g.here.stack;
+          binary = g.here.binary;
+          mem = g.here.mem ∙ swapped k (p + 1) p b a apart ∙ (λ i. put_word k p (a_is i) (b_is i));
+          text = g.here.text;
+          answers = g.here.answers;
+        })
         (turns_right f room fits (at + 3) bs k1 text answers small p t d.0 (omega (arith, r)) s1.0))
 
     halves : Lies f.code at (change_code first at Halve p) → ChangeReaches first at Halve p
@@ -484,7 +544,7 @@ module _ (f : Setup) (room : ℕ) (fits : Fits f room) (bs text answers : List �
             looser f y _ _ [] 2 12 (omega arith)
             (λ y j. stored end (quotient x 2) end _ y refl (ap (λ v. put_word m p (v % 256) (v / 256)) v_is) j)
             (shifts_right back end x m false (let q = o.ends in omega (arith, q)) (let q = o.end_is in omega (arith, q)) o.behind_stands lo hi
-                hs.small (sym e ∙ sign) y (record { here = k.here; carry = k.carry ∙ g.carry ∙ e })))
+            hs.small (sym e ∙ sign) y (record { here = k.here; carry = k.carry ∙ g.carry ∙ e })))
         by o true e u g =
             let v_is : halve (word (x + 1)) ≡ quotient x 2 = half_is true (sym by_sign ∙ e) in
             chained f u _ _ [] [] 2 12 (o.leads m true u (here_at _ fork m u (omega arith) g.here) (g.carry ∙ e)) (λ y k.
@@ -492,7 +552,7 @@ module _ (f : Setup) (room : ℕ) (fits : Fits f room) (bs text answers : List �
             looser f y _ _ [] 2 5 (omega arith)
             (λ y j. stored end (quotient x 2) end _ y refl (put_over m p l h _ _ ∙ ap (λ v. put_word m p (v % 256) (v / 256)) v_is) j)
             (shifts_right back end (word (x + 1)) m2 (has_bit h 128) (let q = o.ends in omega (arith, q)) (let q = o.end_is in
-                omega (arith, q)) o.behind_stands m2_low m2_high (omega arith) y_sign y k)))
+            omega (arith, q)) o.behind_stands m2_low m2_high (omega arith) y_sign y k)))
 
     -- ---- each change
     pub changes : (c : Change) → IsByte c → Lies f.code at (change_code first at c p) → ChangeReaches first at c p
@@ -518,9 +578,9 @@ module _ {around : Surroundings} (fits : Fits around.f 16) (code : SlotCode) {n 
   open calculation a b d s r use {x, y, left, right, to}
 
   -- the word z at the place is changed
-  change_law : (c : Change) (first : Way) (z : ℕ) → IsByte c → SourceHolds w.mem (AtPlace to) z → apply op x y ≡ Some (changed c z)
+  change_law : (c : Change) (first : Way) (z : ℕ) → IsByte c → SourceHolds w.mem (AtAddress to) z → apply op x y ≡ Some (changed c z)
       → Lies f.code w.regs.pc (change_code first w.regs.pc c to) → GroupsLie ly f.code n (w.regs.pc + pieces_size (change_code first w.regs.pc c to))
-          (select is) → ChangeReaches first w.regs.pc c to → Leads h code 16
+      (select is) → ChangeReaches first w.regs.pc c to → Leads h code 16
   change_law c first z few hs e lies rest reach =
       let v = changed c z in
       leads_on h code v 16 e
@@ -533,7 +593,7 @@ module _ {around : Surroundings} (fits : Fits around.f 16) (code : SlotCode) {n 
       → Lies f.code w.regs.pc (changed_or o first n w.regs.pc op left right to)
       → GroupsLie ly f.code n (w.regs.pc + pieces_size (changed_or o first n w.regs.pc op left right to)) (select is)
       → ChangedReaches o first w.regs.pc to → (Lies f.code w.regs.pc (calc_code n op left right to)
-          → GroupsLie ly f.code n (w.regs.pc + pieces_size (calc_code n op left right to)) (select is) → Leads h code j) → Leads h code j
+      → GroupsLie ly f.code n (w.regs.pc + pieces_size (calc_code n op left right to)) (select is) → Leads h code j) → Leads h code j
   computed_law j le first _ (of_left v c e e' m) lies rest reach other =
       let q = constant_is w.mem v _ right e' (right_holds h w.mem (kept h)) in
       looser f w _ _ _ 16 j le (λ u z. z)

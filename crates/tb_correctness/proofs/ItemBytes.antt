@@ -22,11 +22,11 @@ use Rattle.tb_syntax.specs.declared.expressions.Operator.{Operator}
 use Rattle.tb_syntax.specs.declared.expressions.Operator.TheVariants as op
 use Rattle.tb_meaning.specs.Control.{has_line}
 use Rattle.tb_lower.specs.Slots as slots
-use Rattle.tb_runtime16.specs.Places.{LINE, LEFT, RIGHT, RESULT, MULTIPLY_AT, DIVIDE_AT}
+use Rattle.tb_runtime16.specs.Addresses.{LINE, LEFT, RIGHT, RESULT, MULTIPLY_AT, DIVIDE_AT}
 use Rattle.tb_selection.specs.Groups.{Operand, Constant, Variable, InSlot, Tested, HeldBefore, HeldNow}
 use Rattle.tb_templates.specs.Layout.{LabelsAt}
 use Rattle.tb_templates.specs.declared.sources.Source.{Source}
-use Rattle.tb_templates.specs.declared.sources.Source.TheVariants.{FixedWord, AtPlace}
+use Rattle.tb_templates.specs.declared.sources.Source.TheVariants.{FixedWord, AtAddress}
 use Rattle.tb_templates.specs.Sources.{source_of, tested_source}
 use Rattle.tb_templates.specs.Templates as product
 use Rattle.tb_templates.specs.GroupTemplates as items
@@ -73,7 +73,7 @@ cut_branch n l ys (f ∷ fs) h = let b = branch_formed n l f h.0 in record { way
 -- a constant is a word
 abbrev pub IsWord : Source → Type 0
 IsWord (FixedWord w) = w < 65536
-IsWord (AtPlace p) = Unit {0}
+IsWord (AtAddress p) = Unit {0}
 
 pub source_word : (k : ℕ) (o : Operand) → IsWord (source_of k o)
 source_word k (Constant w) = omega arith
@@ -87,11 +87,11 @@ tested_word (HeldNow a) = source_word 0 a
 -- ---- items without a branch
 pub low_straight : (m : Mnemonic) (s : Source) → is_straight (items.low_of m s) ≡ true
 low_straight m (FixedWord w) = refl
-low_straight m (AtPlace p) = refl
+low_straight m (AtAddress p) = refl
 
 pub high_straight : (m : Mnemonic) (s : Source) → is_straight (items.high_of m s) ≡ true
 high_straight m (FixedWord w) = refl
-high_straight m (AtPlace p) = refl
+high_straight m (AtAddress p) = refl
 
 place_straight : (m : Mnemonic) (p : ℕ) → is_straight (product.on m p) ≡ true
 place_straight m p = by (nat_lt p 256)
@@ -210,42 +210,42 @@ module _ (labels : List (Name × ℕ)) where
   lda_low : (s : Source) → Encodes (items.low_of Lda s) (lda (low s))
   unfolding opcodes.encoded
   lda_low (FixedWord w) = record { same = λ a. ap (λ b. 0xa9 ∷ b ∷ []) (low_byte w) }
-  lda_low (AtPlace p) = record { same = λ a. refl }
+  lda_low (AtAddress p) = record { same = λ a. refl }
 
   adc_low : (s : Source) → Encodes (items.low_of Adc s) (adc (low s))
   unfolding opcodes.encoded
   adc_low (FixedWord w) = record { same = λ a. ap (λ b. 0x69 ∷ b ∷ []) (low_byte w) }
-  adc_low (AtPlace p) = record { same = λ a. refl }
+  adc_low (AtAddress p) = record { same = λ a. refl }
 
   sbc_low : (s : Source) → Encodes (items.low_of Sbc s) (sbc (low s))
   unfolding opcodes.encoded
   sbc_low (FixedWord w) = record { same = λ a. ap (λ b. 0xe9 ∷ b ∷ []) (low_byte w) }
-  sbc_low (AtPlace p) = record { same = λ a. refl }
+  sbc_low (AtAddress p) = record { same = λ a. refl }
 
   cmp_low : (s : Source) → Encodes (items.low_of Cmp s) (cmp (low s))
   unfolding opcodes.encoded
   cmp_low (FixedWord w) = record { same = λ a. ap (λ b. 0xc9 ∷ b ∷ []) (low_byte w) }
-  cmp_low (AtPlace p) = record { same = λ a. refl }
+  cmp_low (AtAddress p) = record { same = λ a. refl }
 
   lda_high : (s : Source) → IsWord s → Encodes (items.high_of Lda s) (lda (high s))
   unfolding opcodes.encoded
   lda_high (FixedWord w) h = record { same = λ a. ap (λ b. 0xa9 ∷ b ∷ []) (high_byte w h) }
-  lda_high (AtPlace p) h = record { same = λ a. refl }
+  lda_high (AtAddress p) h = record { same = λ a. refl }
 
   adc_high : (s : Source) → IsWord s → Encodes (items.high_of Adc s) (adc (high s))
   unfolding opcodes.encoded
   adc_high (FixedWord w) h = record { same = λ a. ap (λ b. 0x69 ∷ b ∷ []) (high_byte w h) }
-  adc_high (AtPlace p) h = record { same = λ a. refl }
+  adc_high (AtAddress p) h = record { same = λ a. refl }
 
   sbc_high : (s : Source) → IsWord s → Encodes (items.high_of Sbc s) (sbc (high s))
   unfolding opcodes.encoded
   sbc_high (FixedWord w) h = record { same = λ a. ap (λ b. 0xe9 ∷ b ∷ []) (high_byte w h) }
-  sbc_high (AtPlace p) h = record { same = λ a. refl }
+  sbc_high (AtAddress p) h = record { same = λ a. refl }
 
   cmp_high : (s : Source) → IsWord s → Encodes (items.high_of Cmp s) (cmp (high s))
   unfolding opcodes.encoded
   cmp_high (FixedWord w) h = record { same = λ a. ap (λ b. 0xc9 ∷ b ∷ []) (high_byte w h) }
-  cmp_high (AtPlace p) h = record { same = λ a. refl }
+  cmp_high (AtAddress p) h = record { same = λ a. refl }
 
   none : AllEncode [] []
   none = record { same = λ a. refl }
@@ -290,7 +290,7 @@ module _ (labels : List (Name × ℕ)) where
   rounded_bytes zero s few = lda_low s ▹ record { same = λ a. refl } ▹ none
   rounded_bytes (suc k) s few =
       record { same = λ a. refl } ▹ record { same = λ a. refl } ▹ record { same = λ a. ap (λ b. 0x29 ∷ b ∷ []) (masked (suc k) few) }
-          ▹ record { same = λ a. ap (λ b. 0x49 ∷ b ∷ []) (masked (suc k) few) } ▹ adc_low s ▹ none
+      ▹ record { same = λ a. ap (λ b. 0x49 ∷ b ∷ []) (masked (suc k) few) } ▹ adc_low s ▹ none
 
   signed_bytes : (s : Source) → IsWord s → AllEncode (items.high_of Lda s ∷ product.const Cmp 128 ∷ []) (coded.signed s)
   unfolding opcodes.encoded
@@ -316,12 +316,12 @@ module _ (labels : List (Name × ℕ)) where
   shifted_bytes k s to few h =
       let tail = made_append (scaled.halvings (suc k)) (scaled.high_first to) (coded.halvings (suc k)) (coded.high_first to) (halvings_bytes (suc k)) (high_first_bytes to) in
       let front = made_append (scaled.rounded k s) (scaled.at_zero Sta LEFT ∷ items.high_of Lda s ∷ product.const Adc 0 ∷ []) (coded.rounded k s)
-          (coded.carried s) (rounded_bytes k s few) (carried_bytes s h) in
+      (coded.carried s) (rounded_bytes k s few) (carried_bytes s h) in
       let raised = made_append (items.high_of Lda s ∷ product.const Cmp 128 ∷ [])
-          (scaled.rounded k s ++ (scaled.at_zero Sta LEFT ∷ items.high_of Lda s ∷ product.const Adc 0 ∷ [])) (coded.signed s)
-          (coded.rounded k s ++ coded.carried s) (signed_bytes s h) front in
+      (scaled.rounded k s ++ (scaled.at_zero Sta LEFT ∷ items.high_of Lda s ∷ product.const Adc 0 ∷ [])) (coded.signed s)
+      (coded.rounded k s ++ coded.carried s) (signed_bytes s h) front in
       let all = made_append (scaled.raised k s) (scaled.halvings (suc k) ++ scaled.high_first to)
-          (coded.signed s ++ (coded.rounded k s ++ coded.carried s)) (coded.halvings (suc k) ++ coded.high_first to) raised tail in
+      (coded.signed s ++ (coded.rounded k s ++ coded.carried s)) (coded.halvings (suc k) ++ coded.high_first to) raised tail in
       subst (AllEncode (scaled.shifted k s to)) (ap (λ is. coded.signed s ++ is) (append_assoc (coded.rounded k s) (coded.carried s) (coded.halvings (suc k) ++ coded.high_first to))) all
 
   doubled_bytes : AllEncode scaled.doubled coded.doubled
@@ -361,7 +361,7 @@ module _ (labels : List (Name × ℕ)) where
   times_bytes factor s to h =
       let tail = made_append (scaled.by_bits 15 factor s) (scaled.low_first to) (coded.by_bits 15 factor s) (coded.low_first to) (bits_bytes 15 factor s h) (low_first_bytes to) in
       made_append (items.high_of Lda s ∷ scaled.at_zero Sta LEFT ∷ items.low_of Lda s ∷ []) (scaled.by_bits 15 factor s ++ scaled.low_first to)
-          (coded.begun s) (coded.by_bits 15 factor s ++ coded.low_first to) (begun_bytes s h) tail
+      (coded.begun s) (coded.by_bits 15 factor s ++ coded.low_first to) (begun_bytes s h) tail
 
   -- ---- tests by bytes
   pub weighed_low : (s t : Source) → AllEncode (items.low_of Lda s ∷ items.low_of Cmp t ∷ []) (weighed (low s) (low t))

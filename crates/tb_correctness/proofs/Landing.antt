@@ -4,12 +4,12 @@ use Rattle.std.specs.Prelude.{slice_index, slice_set}
 use Rattle.std.proofs.lemmas.Bool.{cases_eq}
 use Rattle.tb_meaning.specs.Control.{State}
 use Rattle.tb_lower.specs.Slots.{Instr, Slots, with_word}
-use Rattle.tb_runtime16.specs.Places.{COLUMN, HELD, HOME_S, LINE, NOTES, OPEN, SEED, SEEDED}
+use Rattle.tb_runtime16.specs.Addresses.{COLUMN, HELD, HOME_S, LINE, NOTES, OPEN, SEED, SEEDED}
 use Rattle.tb_templates.specs.Templates.{slot_at, var_at}
 use Rattle.tb_runtime16.specs.Routines.{SeedAt, WordAt, is_state}
 use Rattle.tb_simulation.proofs.Mirrors.{HoldsState}
 use Rattle.tb_simulation.specs.Layout.{Layout}
-use Rattle.tb_simulation.proofs.Frames.{Same, SameSingles, notes_kept, low_is_state, note_is_state, put_away, seed_over, word_kept}
+use Rattle.tb_simulation.proofs.Frames.{Same, SameSingles, returns_kept, low_is_state, return_is_state, put_away, seed_over, word_kept}
 use Rattle.tb_simulation.proofs.Pieces.{put_word}
 use Rattle.tb_selection.specs.declared.liveness.Live.{Live}
 use Rattle.tb_selection.specs.Groups.{IntoVariable, IntoHeld, Destination, IntoSlot, IntoHome, slot_of}
@@ -33,7 +33,7 @@ module _ (ly : Layout) (s : State) (m m' : ℕ → ℕ) (h : HoldsState ly s m) 
     seeded = seed_kept m m' e h.seeded;
     count = word_kept m m' NOTES _ (e NOTES (omega arith) (omega arith) (λ q. omega (arith, q)) (λ q. omega (arith, q)))
         (e (NOTES + 1) (omega arith) (omega arith) (λ q. omega (arith, q)) (λ q. omega (arith, q))) h.count;
-    notes = notes_kept ly m m' s.returns h.few e' h.notes;
+    returns = returns_kept ly m m' s.returns h.few e' h.returns;
     few = h.few;
     all_vars = lv;
   }
@@ -45,7 +45,7 @@ module _ (ly : Layout) (s : State) (m m' : ℕ → ℕ) (h : HoldsState ly s m) 
   -- scratch was written
   pub state_scratch : ((a : ℕ) → is_state a ≡ true → m' a ≡ m a) → HoldsState ly s m'
   state_scratch e = state_same (λ a lo hi. e a (low_is_state a lo (omega (arith, hi))))
-      (λ a lo hi n n'. e a (low_is_state a (omega (arith, lo)) (omega (arith, hi)))) (λ a lo hi. e a (note_is_state a lo hi))
+      (λ a lo hi n n'. e a (low_is_state a (omega (arith, lo)) (omega (arith, hi)))) (λ a lo hi. e a (return_is_state a lo hi))
 
 -- ---- a result written
 abbrev pub DestFits : Destination → Type 0
@@ -66,17 +66,17 @@ pub state_landed : (ly : Layout) (s : State) (m m' : ℕ → ℕ) (d : Destinati
     → WordAt m' (destination_at d) v → Elsewhere m m' (destination_at d) → HoldsState ly (landed d v s) m'
 state_landed ly s m m' (IntoSlot k) v fit h w e =
     state_same ly s m m' h (λ a lo hi. e a (λ q. omega (arith, q, hi)) (λ q. omega (arith, q, hi))) (λ a lo hi n n'. e a (λ q. omega (arith, q, hi))
-        (λ q. omega (arith, q, hi))) (λ a lo hi. e a (λ q. omega (arith, q, lo, fit)) (λ q. omega (arith, q, lo, fit)))
+    (λ q. omega (arith, q, hi))) (λ a lo hi. e a (λ q. omega (arith, q, lo, fit)) (λ q. omega (arith, q, lo, fit)))
 state_landed ly s m m' (IntoHome IntoHeld) v fit h w e =
     state_same ly s m m' h (λ a lo hi. e a (λ q. omega (arith, q, hi)) (λ q. omega (arith, q, hi))) (λ a lo hi n n'. e a (λ q. omega (arith, q, hi))
-        (λ q. omega (arith, q, hi))) (λ a lo hi. e a (λ q. omega (arith, q, lo)) (λ q. omega (arith, q, lo)))
+    (λ q. omega (arith, q, hi))) (λ a lo hi. e a (λ q. omega (arith, q, lo)) (λ q. omega (arith, q, lo)))
 state_landed ly s m m' (IntoHome (IntoVariable x)) v fit h w e =
     state_with ly s m m' h (slice_set s.vars x v) (length-set s.vars x v ∙ h.all_vars)
     (λ j lt. ⊎_elim
     (λ q. subst (λ j. WordAt m' (var_at j) (slice_index (slice_set s.vars x v) j)) (sym q) (subst (λ y. WordAt m' (var_at x) y)
-        (sym (get_or-set_same s.vars x v 0 (omega (arith, fit, h.all_vars)))) w))
+    (sym (get_or-set_same s.vars x v 0 (omega (arith, fit, h.all_vars)))) w))
     (λ n. subst (λ y. WordAt m' (var_at j) y) (sym (get_or-set_other s.vars x j v 0 n))
-        (word_kept m m' (var_at j) _ (e _ (λ q. n (omega (arith, q))) (λ q. omega (arith, q))) (e _ (λ q. omega (arith, q)) (λ q. n (omega (arith, q)))) (h.vars j lt)))
+    (word_kept m m' (var_at j) _ (e _ (λ q. n (omega (arith, q))) (λ q. omega (arith, q))) (e _ (λ q. omega (arith, q)) (λ q. n (omega (arith, q)))) (h.vars j lt)))
     (cases_eq j x))
     (e COLUMN (λ q. omega (arith, q, fit)) (λ q. omega (arith, q, fit)))
     (λ a lo hi n n'. e a (λ q. omega (arith, q, lo, fit)) (λ q. omega (arith, q, lo, fit)))
@@ -87,10 +87,10 @@ pub read_landed : (u : Live) (d : Destination) (is : List Instr) (r q : Slots) (
 read_landed u (IntoSlot k) is r q m m' v fit l h w e = record {
   words = λ j lt. ⊎_elim
       (λ p. subst (λ j. WordAt m' (slot_at j) (slice_index (slice_set q.words k v) j)) (sym p) (subst (λ y. WordAt m' (slot_at k) y)
-          (sym (get_or-set_same q.words k v 0 (omega (arith, fit, h.all_words, l.all)))) w))
+      (sym (get_or-set_same q.words k v 0 (omega (arith, fit, h.all_words, l.all)))) w))
       (λ n. let o = l.others j lt n in
       subst (λ y. WordAt m' (slot_at j) y) (sym (get_or-set_other q.words k j v 0 n ∙ o.1))
-          (word_kept m m' (slot_at j) _ (e _ (λ q. n (omega (arith, q))) (λ q. omega (arith, q))) (e _ (λ q. omega (arith, q)) (λ q. n (omega (arith, q)))) (h.words j o.0)))
+      (word_kept m m' (slot_at j) _ (e _ (λ q. n (omega (arith, q))) (λ q. omega (arith, q))) (e _ (λ q. omega (arith, q)) (λ q. n (omega (arith, q)))) (h.words j o.0)))
       (cases_eq j k);
   held = λ p. subst (λ y. WordAt m' HELD y) (sym l.same_held)
       (word_kept m m' HELD _ (e HELD (λ q. omega (arith, q, fit)) (λ q. omega (arith, q, fit))) (e (HELD + 1) (λ q. omega (arith, q, fit))
@@ -114,7 +114,7 @@ read_landed u (IntoHome IntoHeld) is r q m m' v fit l h w e = record {
 pub state_lined : (ly : Layout) (s : State) (m : ℕ → ℕ) (l h : ℕ) → HoldsState ly s m → HoldsState ly s (put_word m LINE l h)
 state_lined ly s m l h hs =
     state_same ly s m (put_word m LINE l h) hs (λ a lo hi. put_away m LINE l h a (λ q. omega (arith, q, hi)) (λ q. omega (arith, q, hi)))
-        (λ a lo hi n n'. put_away m LINE l h a n n') (λ a lo hi. put_away m LINE l h a (λ q. omega (arith, q, lo)) (λ q. omega (arith, q, lo)))
+    (λ a lo hi n n'. put_away m LINE l h a n n') (λ a lo hi. put_away m LINE l h a (λ q. omega (arith, q, lo)) (λ q. omega (arith, q, lo)))
 
 pub read_lined : (u : Live) (r : Slots) (m : ℕ → ℕ) (l h : ℕ) → HoldsLive u r m → HoldsLive u r (put_word m LINE l h)
 read_lined u r m l h hr = record {

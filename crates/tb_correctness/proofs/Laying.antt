@@ -14,7 +14,7 @@ use Rattle.tb_reaching.proofs.Parts.{bytes_front}
 use Rattle.tb_syntax.specs.Source.{numbers}
 use Rattle.tb_meaning.specs.Control.{Place, At, Past, has_line, highest, content_at}
 use Rattle.tb_lower.specs.Slots as slots
-use Rattle.tb_runtime16.specs.Places.{COUNT, LINES_AT, PROLOGUE_AT, SEARCH_AT, TABLE}
+use Rattle.tb_runtime16.specs.Addresses.{COUNT, LINES_AT, PROLOGUE_AT, SEARCH_AT, TABLE}
 use Rattle.tb_runtime16.specs.Block.{block_bytes}
 use Rattle.tb_settling.proofs.Forms.{size_append}
 use Rattle.tb_templates.specs.declared.labels.Target.TheVariants as target
@@ -22,7 +22,7 @@ use Rattle.tb_templates.specs.Templates as product
 use Rattle.tb_templates.specs.Breaks.{broken}
 use Rattle.tb_templates.specs.Program as program
 use Rattle.tb_templates.proofs.Reached.{labels_split}
-use Rattle.tb_simulation.specs.Layout.{Layout, Lies, place_of, layout_of, place_at, is_start, inner}
+use Rattle.tb_simulation.specs.Layout.{Layout, Lies, label_address, layout_of, place_address, is_start, inner}
 use Rattle.tb_simulation.proofs.Resolved as resolved
 use Rattle.tb_simulation.proofs.Resolved.{Piece, pieces_size}
 use Rattle.tb_simulation.proofs.Emitted.{pieces_bytes, pieces_length, behind, lies}
@@ -70,7 +70,7 @@ module _ (labels : List (Name × ℕ)) (all : List ℕ) (seed : ℕ) where
 
   -- an address that is no line's label is no start
   pub no_start : (ns : List ℕ) → ((n : ℕ) → has_line ns n ≡ true → has_line all n ≡ true) → (a : ℕ)
-      → ((n : ℕ) → has_line all n ≡ true → a ≡ place_of labels (target.Line n) → ⊥) → is_start ly.start ns a ≡ false
+      → ((n : ℕ) → has_line all n ≡ true → a ≡ label_address labels (target.Line n) → ⊥) → is_start ly.start ns a ≡ false
   no_start [] among a none = refl
   no_start (n ∷ ns) among a none =
       let here : has_line all n ≡ true = among n (ap (λ b. b || has_line ns n) (eq-eqb n n refl)) in
@@ -116,20 +116,20 @@ module _ (labels : List (Name × ℕ)) (seed : ℕ) (code : Part) (sc : slots.Sl
   line_of n e = let c = has_content sc n e in (c.0, laid.lines n c.0 c.1)
 
   -- ---- places below 65,536
-  line_small : (n : ℕ) → has_line ns n ≡ true → place_of labels (target.Line n) < 0xa000
+  line_small : (n : ℕ) → has_line ns n ≡ true → label_address labels (target.Line n) < 0xa000
   line_small n e = let l = line_of n e in omega (arith, l.1.lies.below, l.1.some)
 
-  past_small : place_of labels target.Past < 0xa000
+  past_small : label_address labels target.Past < 0xa000
   past_small = omega (arith, laid.past.below)
 
   pub start_small : (n : ℕ) → laid_layout.start n < 0xa000
   start_small n = go (has_line ns n) refl
     where
-      go : (t : Bool) → has_line ns n ≡ t → (if t then place_of labels (target.Line n) else place_of labels target.Past) < 0xa000
+      go : (t : Bool) → has_line ns n ≡ t → (if t then label_address labels (target.Line n) else label_address labels target.Past) < 0xa000
       go true e = line_small n e
       go false e = past_small
 
-  pub place_small : (p : Place) → place_at laid_layout p < 65536
+  pub place_small : (p : Place) → place_address laid_layout p < 65536
   place_small (At n) = omega (arith, start_small n)
   place_small Past = omega (arith, past_small)
 
@@ -139,8 +139,8 @@ module _ (labels : List (Name × ℕ)) (seed : ℕ) (code : Part) (sc : slots.Sl
   top_small (l ∷ k ∷ ls) h = top_small (k ∷ ls) (λ n e. h n (ap (λ b. nat_eq l.number n || b) e ∙ or-true (nat_eq l.number n)))
 
   -- ---- where no line begins
-  pub none_between : (from to : ℕ) → ((n : ℕ) → has_line ns n ≡ true → (place_of labels (target.Line n) < from) ⊎
-      (to ≤ place_of labels (target.Line n))) → (a : ℕ) → from ≤ a → a < to → is_start laid_layout.start laid_layout.numbers a ≡ false
+  pub none_between : (from to : ℕ) → ((n : ℕ) → has_line ns n ≡ true → (label_address labels (target.Line n) < from) ⊎
+      (to ≤ label_address labels (target.Line n))) → (a : ℕ) → from ≤ a → a < to → is_start laid_layout.start laid_layout.numbers a ≡ false
   none_between from to clear a lo hi = no_start labels ns seed ns (λ n h. h) a (λ n e q. ⊎_elim (λ l. (let no : ⊥ = omega (arith, l, q, lo) in no))
       (λ l. (let no : ⊥ = omega (arith, l, q, hi) in no)) (clear n e))
 
@@ -160,32 +160,32 @@ module _ (labels : List (Name × ℕ)) (seed : ℕ) (code : Part) (sc : slots.Sl
       (same, lies within within_small at ps (omega (arith, h.below, same)) (subst (Bytes within at) e h.bytes))
 
   -- fault 7 and the search
-  pub past_lies : resolved.Lies within (place_of labels target.Past) (resolved.past_code laid_layout)
+  pub past_lies : resolved.Lies within (label_address labels target.Past) (resolved.past_code laid_layout)
   unfolding opcodes.encoded
   past_lies =
-      let at = place_of labels target.Past in
+      let at = label_address labels target.Past in
       (pieces at (program.past_code ns) (resolved.past_code laid_layout) (inside at (program.past_code ns) laid.past laid.past_clear)
       (faulted_bytes labels ns seed at (highest ns) 7 (top_small sc (λ n e. (line_of n e).1.small)) (omega arith))).1
 
   -- what is done for the STOP key in a line
-  pub broken_lies : (n : ℕ) → n < 65536 → has_line ns n ≡ true → resolved.Lies within (place_of labels (target.Break n)) (broken_code n)
+  pub broken_lies : (n : ℕ) → n < 65536 → has_line ns n ≡ true → resolved.Lies within (label_address labels (target.Break n)) (broken_code n)
   unfolding opcodes.encoded
   broken_lies n small has =
-      let at = place_of labels (target.Break n) in
+      let at = label_address labels (target.Break n) in
       (pieces at (broken n) (broken_code n) (inside at (broken n) (laid.breaks n has) (laid.breaks_clear n has)) (faulted_bytes labels ns seed at n 0 small (omega arith))).1
 
-  pub table_small : place_of labels target.Table < 65536
+  pub table_small : label_address labels target.Table < 65536
   table_small = omega (arith, laid.table.below)
 
-  pub find_lies : resolved.Lies within (place_of labels target.Find) (resolved.find_code laid_layout)
+  pub find_lies : resolved.Lies within (label_address labels target.Find) (resolved.find_code laid_layout)
   unfolding opcodes.encoded
   find_lies =
-      let at = place_of labels target.Find in
+      let at = label_address labels target.Find in
       (pieces at (program.find_code ns) (resolved.find_code laid_layout) (inside at (program.find_code ns) laid.find laid.find_clear)
       (joined labels ns seed at 8 (product.here target.Find ∷ product.address target.Table TABLE) (product.constant (length ns) COUNT
-          ++ (product.at Jmp SEARCH_AT ∷ [])) _ _ refl (address_bytes labels ns seed at target.Table (place_of labels target.Table) TABLE refl table_small (omega arith))
+      ++ (product.at Jmp SEARCH_AT ∷ [])) _ _ refl (address_bytes labels ns seed at target.Table (label_address labels target.Table) TABLE refl table_small (omega arith))
       (joined labels ns seed (at + 8) 10 (product.constant (length ns) COUNT) (product.at Jmp SEARCH_AT ∷ []) _ _ refl
-          (constant_bytes labels ns seed (at + 8) (length ns) COUNT laid.count_small) refl))).1
+      (constant_bytes labels ns seed (at + 8) (length ns) COUNT laid.count_small) refl))).1
 
   -- the block and the line table lie among the inner bytes, for the routines
   pub block_short : leb (length block_bytes) 1011 ≡ true
@@ -197,5 +197,5 @@ module _ (labels : List (Name × ℕ)) (seed : ℕ) (code : Part) (sc : slots.Sl
       inner_bytes laid_layout code PROLOGUE_AT block_bytes (omega (arith, short))
       (λ a lo hi. none_between PROLOGUE_AT LINES_AT (λ n e. inr (line_of n e).1.after_block) a lo (omega (arith, hi, short))) laid.block
 
-  pub table_lies : Lies within labels (place_of labels target.Table) (program.table_code ns)
-  table_lies = inside (place_of labels target.Table) (program.table_code ns) laid.table laid.table_clear
+  pub table_lies : Lies within labels (label_address labels target.Table) (program.table_code ns)
+  table_lies = inside (label_address labels target.Table) (program.table_code ns) laid.table laid.table_clear

@@ -25,7 +25,7 @@ module _ (around : Surroundings) (fits : Fits around.f 16) where
   end_law n is s r w h =
       whatever f 16 fits w.regs.pc (lo ∷ hi ∷ []) w.mem w.text w.answers (IsHome f) [] 1 (λ a x y n v i z c.
       placed_last f 16 fits (ins 0x60 0) (view a x y n v i z c w.regs.pc (lo ∷ hi ∷ []) w.mem w.text w.answers) _ _ refl h.lies.1.0 refl
-          (record { pc = sym h.homed.homed.home; stack = refl; binary = refl })) w (here h)
+      (record { pc = sym h.homed.homed.home; stack = refl; binary = refl })) w (here h)
 
   module _ (limit : ℕ) (rs : Serves around limit) (code : SlotCode) (laid : GroupsLaid ly f.code f.whole code) (n : ℕ) (is : List Instr) (s : State) (r : Slots) (w : View) (t : ℕ) where
     abbrev own : List ℕ

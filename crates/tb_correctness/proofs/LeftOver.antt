@@ -11,7 +11,7 @@ use Rattle.tb_reaching.proofs.Instr.{Stands, ins, instr_bytes}
 use Rattle.tb_reaching.proofs.Placed.{placed_last}
 use Rattle.tb_reaching.specs.Start.{IsHome}
 use Rattle.tb_reaching.specs.View.{Bytes, Comes, Fits, Setup, View, is_data, view}
-use Rattle.tb_runtime16.specs.Places.{DIVIDE_AT, LEFT, RESULT, RIGHT}
+use Rattle.tb_runtime16.specs.Addresses.{DIVIDE_AT, LEFT, RESULT, RIGHT}
 use Rattle.tb_runtime16.specs.Routines.{Here, Moves, WithA, WordAt}
 use Rattle.tb_runtime16.proofs.StatePlaces.{not_argument}
 use Rattle.tb_simulation.proofs.Mirrors.{Flagged}
@@ -44,15 +44,33 @@ module _ (f : Setup) (room : ℕ) (fits : Fits f room) (at : ℕ) (bs : List ℕ
       (Flagged (at + 2) bs m text answers (eqb (bit_and a b) 0)) [] 1
   masks b a r st = whatever_a f room fits at a bs m text answers _ [] 1 (λ x y n v i z c.
       placed_last f room fits (ins 0x29 b) (view a x y n v i z c at bs m text answers) _ _ small st refl
-          (record { here = record { pc = let e : (at + 2) % 65536 ≡ at + 2 = omega arith in e; stack = refl; binary = refl; mem = refl; text = refl;
-          answers = refl }; zero = refl }))
+      (record {
+        here = record {
+          pc = let e : (at + 2) % 65536 ≡ at + 2 = omega arith in e;
+          stack = refl;
+          binary = refl;
+          mem = refl;
+          text = refl;
+          answers = refl;
+        };
+        zero = refl;
+      }))
 
   joins : (p a : ℕ) → is_data p ≡ true → at + 3 ≤ highest_code → Bytes f.code at (instr_bytes (ins 0x0D p)) → Moves f (WithA at a bs m text answers)
       (Flagged (at + 3) bs m text answers (eqb (bit_or a (m p)) 0)) [] 1
   joins p a d r st = whatever_a f room fits at a bs m text answers _ [] 1 (λ x y n v i z c.
       loads_last f room fits 0x0D p Ora (view a x y n v i z c at bs m text answers) _ _ refl refl refl small st d refl
-          (record { here = record { pc = let e : (at + 3) % 65536 ≡ at + 3 = omega arith in e; stack = refl; binary = refl; mem = refl; text = refl;
-          answers = refl }; zero = refl }))
+      (record {
+        here = record {
+          pc = let e : (at + 3) % 65536 ≡ at + 3 = omega arith in e;
+          stack = refl;
+          binary = refl;
+          mem = refl;
+          text = refl;
+          answers = refl;
+        };
+        zero = refl;
+      }))
 
 -- ---- Z
 module _ (f : Setup) (room : ℕ) (fits : Fits f room) (at : ℕ) (bs : List ℕ) (m : ℕ → ℕ) (text answers : List ℕ) (small : leb (length bs) room ≡ true) where
@@ -63,8 +81,17 @@ module _ (f : Setup) (room : ℕ) (fits : Fits f room) (at : ℕ) (bs : List ℕ
       let s1 = behind f.code at (lda (low a)) (ins 0x29 bits ∷ []) (omega (arith, r)) st in
       moves_then f _ _ _ [] [] 1 1 (loads_byte f room fits at bs m text answers small (low a) d (omega (arith, r)) st.0)
       (moves_looser f _ _ _ [] 1 1 (omega arith)
-      (λ w h. record { here = record { pc = h.here.pc ∙ (let q : p1 + 2 ≡ at + size (lowest_bits bits a) = omega arith in q); stack = h.here.stack;
-          binary = h.here.binary; mem = h.here.mem; text = h.here.text; answers = h.here.answers }; zero = h.zero })
+      (λ w h. record {
+        here = record {
+          pc = h.here.pc ∙ (let q : p1 + 2 ≡ at + size (lowest_bits bits a) = omega arith in q);
+          stack = h.here.stack;
+          binary = h.here.binary;
+          mem = h.here.mem;
+          text = h.here.text;
+          answers = h.here.answers;
+        };
+        zero = h.zero;
+      })
       (masks f room fits p1 bs m text answers small bits (value m (low a)) (omega (arith, r)) s1.0))
 
   tells_rest : (v : ℕ) → at + size told ≤ highest_code → WordAt m RESULT v → Stands f.code at told → Moves f (Here at bs m text answers)
@@ -73,8 +100,17 @@ module _ (f : Setup) (room : ℕ) (fits : Fits f room) (at : ℕ) (bs : List ℕ
       let s1 = behind f.code at (ins 0xAD RESULT) (ins 0x0D (RESULT + 1) ∷ []) (omega (arith, r)) st in
       moves_then f _ _ _ [] [] 1 1 (loads_byte f room fits at bs m text answers small (At RESULT) refl (omega (arith, r)) st.0)
       (moves_looser f _ _ _ [] 1 1 (omega arith)
-      (λ w h. record { here = record { pc = h.here.pc ∙ (let q : at + 3 + 3 ≡ at + size told = omega arith in q); stack = h.here.stack;
-          binary = h.here.binary; mem = h.here.mem; text = h.here.text; answers = h.here.answers }; zero = h.zero ∙ (λ i. eqb (bit_or (is.low i) (is.high i)) 0) ∙ either_byte v })
+      (λ w h. record {
+        here = record {
+          pc = h.here.pc ∙ (let q : at + 3 + 3 ≡ at + size told = omega arith in q);
+          stack = h.here.stack;
+          binary = h.here.binary;
+          mem = h.here.mem;
+          text = h.here.text;
+          answers = h.here.answers;
+        };
+        zero = h.zero ∙ (λ i. eqb (bit_or (is.low i) (is.high i)) 0) ∙ either_byte v;
+      })
       (joins f room fits (at + 3) bs m text answers small (RESULT + 1) (m RESULT) refl (omega (arith, r)) s1.0))
 
 pub pieces_append : (ps qs : List Piece) → pieces_size (ps ++ qs) ≡ pieces_size ps + pieces_size qs
@@ -143,7 +179,7 @@ module _ {around : Surroundings} (fits : Fits around.f 16) (limit : ℕ) (rs : S
       let there = back_here _ _ w.text w.answers _ v q (comes_back fits h DIVIDE_AT at a b tail m c l x y ga gb (ha m c) hb) in
       looser f v _ _ [] 2 2 (omega arith)
       (flagged_told _ _ v.mem _ _ (let e = end_by h risky (remainder a b) in omega (arith, e)) refl
-          (kept_scratch around (live js) s r m' v.mem h.some_read (λ p o. q.memory.others p (not_argument p o)) k.kept))
+      (kept_scratch around (live js) s r m' v.mem h.some_read (λ p o. q.memory.others p (not_argument p o)) k.kept))
       (tells_rest f 16 fits _ own v.mem w.text w.answers refl (magnitude x % magnitude y) l.2.2.2.0 q.memory.rest l.2.2.2.1 v there)))))
 
   -- Z is whether nothing is left over
@@ -154,7 +190,7 @@ module _ {around : Surroundings} (fits : Fits around.f 16) (limit : ℕ) (rs : S
       let x_held = ha w.mem first in
       looser f w _ _ [] 2 (15 + limit) (omega arith)
       (flagged_told _ _ w.mem _ _ (omega arith) (ap (λ l. eqb (bit_and l (2 ^ (k + 1) - 1)) 0) x_held.low_byte ∙ lowest_bits_are k few x x_held.small
-          ∙ ap (λ y. nat_eq (magnitude x % magnitude y) 0) is_power) first)
+      ∙ ap (λ y. nat_eq (magnitude x % magnitude y) 0) is_power) first)
       (tells_bits f 16 fits w.regs.pc own w.mem w.text w.answers refl (2 ^ (k + 1) - 1) a lies.0 (low_read a 0 grounded) lies.1 w begins)
   left_told _ by_division lies some = by_routine lies some
 
@@ -172,8 +208,14 @@ module _ {around : Surroundings} (fits : Fits around.f 16) (limit : ℕ) (rs : S
       (chained f w _ _ [] [] (15 + limit) 2 (left_told (mask b) (masking_is b) parts.0 some) (λ u t.
       looser f u _ _ [] 2 2 (omega arith)
       (λ v k. record {
-        here = record { pc = k.here.pc ∙ last_leads (leaves_on how) divided next _ ∙ ap (λ p. cond (turned (leaves_on how) divided) p next) behind;
-            stack = k.here.stack; binary = k.here.binary; mem = refl; text = k.here.text; answers = k.here.answers };
+        here = record {
+          pc = k.here.pc ∙ last_leads (leaves_on how) divided next _ ∙ ap (λ p. cond (turned (leaves_on how) divided) p next) behind;
+          stack = k.here.stack;
+          binary = k.here.binary;
+          mem = refl;
+          text = k.here.text;
+          answers = k.here.answers;
+        };
         kept = subst (Kept around (live js) s r) (sym k.here.mem) t.kept;
       })
       (branches f 16 fits own u.mem w.text w.answers refl at way Zero (leaves_on how) divided next (branch_behind f at way Zero (leaves_on how) next [] parts.1).0 reach parts.1.1 u t.here t.zero)))
@@ -187,10 +229,10 @@ module _ {around : Surroundings} (fits : Fits around.f 16) (limit : ℕ) (rs : S
       (lines_by fits h risky (remainder a b) lies _ (fault_text 2 n) (9 + limit)
       (asks_by fits h DIVIDE_AT at a b tail m c (asked_lies lies) x y ga gb (ha m c) hb _ (fault_text 2 n) limit
       (λ m' k. rs.divide_by_zero _ _ m' w.text w.answers x n k.left (subst (WordAt m' RIGHT) zero k.right)
-          (k.line (number_set h risky (λ e. never_zero w.mem y b (hb w.mem first) e zero))) k.kept.homed)))
+      (k.line (number_set h risky (λ e. never_zero w.mem y b (hb w.mem first) e zero))) k.kept.homed)))
 
   pub divided_fails : (how : Divisibility) (way : Way) (next : ℕ) → Lies f.code w.regs.pc (divided_code n w.regs.pc way how a b next) → y ≡ 0
       → Comes f w (IsHome f) (fault_text 2 n) (13 + limit)
   divided_fails how way next lies zero =
       left_fails (mask b) (masking_is b) (lies_parts f.code w.regs.pc (left_over n (mask b) a b)
-          (Code (branch_code way (branch_on Zero (leaves_on how)) (divided_at n w.regs.pc a b) next) ∷ []) lies).0 zero
+      (Code (branch_code way (branch_on Zero (leaves_on how)) (divided_at n w.regs.pc a b) next) ∷ []) lies).0 zero

@@ -63,9 +63,18 @@ module _ (f : Setup) (room : ℕ) (fits : Fits f room) (at : ℕ) (bs : List ℕ
       (moves_then f _ _ _ [] [] 1 2 (λ u g. loads_with f room fits p2 bs m text answers small (high a) c (high_read a 0 ga) (omega (arith, r)) s2'.0 u (record { here = g.here; carry = g.carry }))
       (moves_then f _ _ _ [] [] 1 1 (turns f room fits p3 bs m text answers small 128 (value m (high a)) c (omega (arith, r)) s3.0)
       (moves_looser f _ _ _ [] 1 1 (omega arith)
-      (λ u k. record { here = record { pc = k.here.pc ∙ (let q : p3 + 2 + 2 ≡ end = omega arith in q); stack = k.here.stack; binary = k.here.binary;
-          mem = k.here.mem; text = k.here.text; answers = k.here.answers }; carry = k.carry
-          ∙ lifted_less (value m (low a)) (value m (high a)) x w ha.low_byte ha.high_byte ha.small word })
+      (λ u k. record {
+        here = record {
+          pc = k.here.pc ∙ (let q : p3 + 2 + 2 ≡ end = omega arith in q);
+          stack = k.here.stack;
+          binary = k.here.binary;
+          mem = k.here.mem;
+          text = k.here.text;
+          answers = k.here.answers;
+        };
+        carry = k.carry
+            ∙ lifted_less (value m (low a)) (value m (high a)) x w ha.low_byte ha.high_byte ha.small word;
+      })
       (takes_byte f room fits (p3 + 2) bs m text answers small (Fixed least) (bit_xor (value m (high a)) 128) c tt (omega (arith, r)) s4.0))))
 
   module _ (below : Bool) (first : Way) (next : ℕ) (lies : Lies f.code at (against_code below first at a w next)) (reach : AgainstReaches first at a w next) where
@@ -77,5 +86,5 @@ module _ (f : Setup) (room : ℕ) (fits : Fits f room) (at : ℕ) (bs : List ℕ
     tests_against v h =
         chained f v _ _ [] [] 5 2 (compares lies.0 lies.1 v h) (λ u g.
         looser f u _ _ [] 2 2 (omega arith) (λ z k. subst (λ e. Here (cond (turned below less) e next) bs m text answers z) end_is
-            (subst (λ p. Here p bs m text answers z) (leads_on below less next (end + way_size first)) k.here))
+        (subst (λ p. Here p bs m text answers z) (leads_on below less next (end + way_size first)) k.here))
         (branches f room fits bs m text answers small end first Carry (not below) (not less) next (branch_behind f end first Carry (not below) next [] lies.2).0 reach lies.2.1 u g.here g.carry))

@@ -15,7 +15,7 @@ use Rattle.tb_syntax.specs.Source.{numbers}
 use Rattle.tb_meaning.specs.Control.{Place, At, Past, next_after, has_line, content_at}
 use Rattle.tb_lower.specs.Slots as slots
 use Rattle.tb_lower.specs.Ranges.{AreInRange}
-use Rattle.tb_runtime16.specs.Places.{GETIN}
+use Rattle.tb_kernal.specs.declared.rom.TheConstants.{GETIN}
 use Rattle.tb_selection.specs.Groups.{Group, expand, expand_all}
 use Rattle.tb_selection.specs.Select.{select}
 use Rattle.tb_selection.proofs.Bracketed.{brackets}
@@ -30,7 +30,7 @@ use Rattle.tb_templates.specs.GroupTemplates.{group_template}
 use Rattle.tb_templates.specs.Breaks.{leaves, some_leaves}
 use Rattle.tb_templates.specs.Program.{rest_code}
 use Rattle.tb_templates.proofs.Settled.{line_at, straight_items}
-use Rattle.tb_simulation.specs.Layout.{Layout, place_of, place_at, layout_of, next_at, inner}
+use Rattle.tb_simulation.specs.Layout.{Layout, label_address, place_address, layout_of, next_at, inner}
 use Rattle.tb_simulation.proofs.Numbers.{next_has, next_same, start_of_line}
 use Rattle.tb_simulation.proofs.Resolved.{call, pieces_size, highest_code}
 use Rattle.tb_simulation.proofs.Emitted.{behind, lies}
@@ -72,23 +72,23 @@ module _ (labels : List (Name × ℕ)) (seed : ℕ) (code : Part) (sc : slots.Sl
       (bytes_front part a x y both, subst (λ n. Bytes part (a + n) y) long (behind part a x y (omega (arith, long, sum, below)) both))
 
   -- a label that stands is where its place is
-  stands : (t : Target) (a : ℕ) → address_in labels (label_of t) ≡ Some a → address_in labels (label_of t) ≡ Some (place_of labels t)
+  stands : (t : Target) (a : ℕ) → address_in labels (label_of t) ≡ Some a → address_in labels (label_of t) ≡ Some (label_address labels t)
   stands t a e = e ∙ ap Some (sym (ap (λ o. unwrap_or o 0) e))
 
-  line_stands : (n : ℕ) → has_line ns n ≡ true → address_in labels (label_of (target.Line n)) ≡ Some (place_of labels (target.Line n))
+  line_stands : (n : ℕ) → has_line ns n ≡ true → address_in labels (label_of (target.Line n)) ≡ Some (label_address labels (target.Line n))
   line_stands n e = let l = line_of labels seed code sc laid n e in line_at labels ns seed _ (record { number = n; content = l.0 }) l.1.forms l.1.of l.1.lies.labelled
 
   next_stands : (n : ℕ) → address_in labels (label_of (next_line ns n)) ≡ Some (next_at ly n)
   next_stands n = by (next_after ns n) refl ∙ ap Some (next_same labels ns seed n)
     where
-      by : (p : Place) → next_after ns n ≡ p → address_in labels (label_of (next_line ns n)) ≡ Some (place_of labels (next_line ns n))
-      by (At m) e = subst (λ p. address_in labels (label_of (target_of p)) ≡ Some (place_of labels (target_of p))) (sym e) (line_stands m (next_has ns n m e))
-      by Past e = subst (λ p. address_in labels (label_of (target_of p)) ≡ Some (place_of labels (target_of p))) (sym e) (stands target.Past _ laid.past.labelled.0)
+      by : (p : Place) → next_after ns n ≡ p → address_in labels (label_of (next_line ns n)) ≡ Some (label_address labels (next_line ns n))
+      by (At m) e = subst (λ p. address_in labels (label_of (target_of p)) ≡ Some (label_address labels (target_of p))) (sym e) (line_stands m (next_has ns n m e))
+      by Past e = subst (λ p. address_in labels (label_of (target_of p)) ≡ Some (label_address labels (target_of p))) (sym e) (stands target.Past _ laid.past.labelled.0)
 
   next_below : (n : ℕ) → next_at ly n ≤ highest_code
   next_below n = by (next_after ns n)
     where
-      by : (p : Place) → place_at ly p ≤ highest_code
+      by : (p : Place) → place_address ly p ≤ highest_code
       by (At m) = omega (arith, start_small labels seed code sc laid m)
       by Past = omega (arith, laid.past.below)
 
@@ -114,8 +114,12 @@ module _ (labels : List (Name × ℕ)) (seed : ℕ) (code : Part) (sc : slots.Sl
         let rs = subst (Rest labels at) s.are r in
         let below = rs.below in
         let range = range_split (expand g) (expand_all gs) ranged in
-        let m = each_emitted labels ns seed n laid.seed_small small (record { there = next_stands n; top = next_below n; lines_there = starts_there;
-            starts_top = starts_below }) i at g s.front alone.0 range.0 s.of_front (rest_before labels at s.front s.back rs) in
+        let m = each_emitted labels ns seed n laid.seed_small small (record {
+          there = next_stands n;
+          top = next_below n;
+          lines_there = starts_there;
+          starts_top = starts_below;
+        }) i at g s.front alone.0 range.0 s.of_front (rest_before labels at s.front s.back rs) in
         let ps = group_code ly n at m.first m.second g in
         let long : forms_size s.front ≡ pieces_size ps = emitted_size labels m.emits in
         let bs = part_bytes within at s.front s.back below (subst (λ k. Bytes within at (bytes_from labels at (items_from at k))) s.are b) in
@@ -129,7 +133,7 @@ module _ (labels : List (Name × ℕ)) (seed : ℕ) (code : Part) (sc : slots.Sl
           behind_by (leaves g) (λ stays. rest_lies (i + 1) (at + pieces_size ps) gs s.back (omega (arith, low)) range.1 alone.1 s.of_back
               (rest_behind labels at (at + pieces_size ps) s.front s.back there rs)
               (subst (λ a. Bytes within a (bytes_from labels a (items_from a s.back))) there bs.1) (λ none. let q =
-                  e (ap (λ t. t || some_leaves gs) stays ∙ none) in omega (arith, q, size_is, sum, long))),
+              e (ap (λ t. t || some_leaves gs) stays ∙ none) in omega (arith, q, size_is, sum, long))),
           m.reach,
           low,
         )
@@ -145,10 +149,11 @@ module _ (labels : List (Name × ℕ)) (seed : ℕ) (code : Part) (sc : slots.Sl
     abbrev answered : List Entry
     answered = product.const Cmp 3 ∷ product.branch Beq (target.Break n) ∷ []
 
-    line_lies : (rest : List slots.Instr) → has_line ns n ≡ true → LineLies labels code ns seed n (slots.Poll ∷ rest) → LineStands ly within code n (place_of labels (target.Line n)) rest
+    line_lies : (rest : List slots.Instr) → has_line ns n ≡ true → LineLies labels code ns seed n (slots.Poll ∷ rest)
+        → LineStands ly within code n (label_address labels (target.Line n)) rest
     unfolding opcodes.encoded
     line_lies rest has l =
-        let at = place_of labels (target.Line n) in
+        let at = label_address labels (target.Line n) in
         let gs = select rest in
         let s = split asks (answered ++ rest_code ns seed n 1 gs) l.forms l.of in
         let t = split answered (rest_code ns seed n 1 gs) s.back s.of_back in
@@ -157,24 +162,24 @@ module _ (labels : List (Name × ℕ)) (seed : ℕ) (code : Part) (sc : slots.Sl
         let three : forms_size s.front ≡ 3 = (let a = items_size at s.front in let b = ap size head in omega (arith, a, b)) in
         let long : size (items_from at l.forms) ≡ forms_size l.forms = items_size at l.forms in
         let total : forms_size l.forms ≡ forms_size s.front + (forms_size t.front + forms_size t.back) = ap forms_size whole
-            ∙ forms_append s.front (t.front ++ t.back) ∙ ap (λ k. forms_size s.front + k) (forms_append t.front t.back) in
+        ∙ forms_append s.front (t.front ++ t.back) ∙ ap (λ k. forms_size s.front + k) (forms_append t.front t.back) in
         let below : at + forms_size l.forms ≤ highest_code = (let b = l.lies.below in omega (arith, b, long)) in
         let all : Rest labels at (s.front ++ (t.front ++ t.back)) = subst (Rest labels at) whole (record { labels_at = l.lies.labelled; near = l.near; below = below }) in
         let there : at + forms_size s.front ≡ at + 3 = omega (arith, three) in
         let behind_call : Rest labels (at + 3) (t.front ++ t.back) = rest_behind labels at (at + 3) s.front (t.front ++ t.back) there all in
         let bytes = part_bytes code at s.front (t.front ++ t.back) (let b = all.below in b) (subst (λ k. Bytes code at (bytes_from labels at (items_from at k))) whole l.lies.bytes) in
-        let call_bytes : Bytes code at (flat (call 0xFFE4)) = subst (λ es. Bytes code at (bytes_from labels at es)) head bytes.0 in
+        let call_bytes : Bytes code at (flat (call GETIN)) = subst (λ es. Bytes code at (bytes_from labels at es)) head bytes.0 in
         let later : Bytes code (at + 3) (bytes_from labels (at + 3) (items_from (at + 3) (t.front ++ t.back))) =
-            subst (λ a. Bytes code a (bytes_from labels a (items_from a (t.front ++ t.back)))) there bytes.1 in
+        subst (λ a. Bytes code a (bytes_from labels a (items_from a (t.front ++ t.back)))) there bytes.1 in
         let inner_later : Bytes within (at + 3) (bytes_from labels (at + 3) (items_from (at + 3) (t.front ++ t.back))) =
         inner_bytes ly code (at + 3) (bytes_from labels (at + 3) (items_from (at + 3) (t.front ++ t.back))) (later_end at s.front t.front t.back three total below)
         (λ a lo hi. none_between labels seed code sc laid (at + 3) (at + size (items_from at l.forms)) (λ m e. ⊎_elim (λ q. inl (omega (arith, q)))
-            (λ q. inr q) (l.clear m e)) a lo (later_inside at s.front t.front t.back l.forms three total long a hi)) later in
+        (λ q. inr q) (l.clear m e)) a lo (later_inside at s.front t.front t.back l.forms three total long a hi)) later in
         let poll_rest = rest_before labels (at + 3) t.front t.back behind_call in
         let broken = laid.breaks n has in
-        let to = place_of labels (target.Break n) in
+        let to = label_address labels (target.Break n) in
         let p = poll_emitted labels ns seed n laid.seed_small small (at + 3) to stop t.front (stands (target.Break n) _ broken.labelled.0)
-            (let b = broken.below in omega (arith, b)) t.of_front poll_rest in
+        (let b = broken.below in omega (arith, b)) t.of_front poll_rest in
         let ps = poll_code (at + 3) p.way to in
         let poll_long : forms_size t.front ≡ pieces_size ps = emitted_size labels p.emits in
         let behind_below = behind_call.below in
@@ -184,7 +189,7 @@ module _ (labels : List (Name × ℕ)) (seed : ℕ) (code : Part) (sc : slots.Sl
           p.way,
           to,
           omega (arith, below, total, three),
-          stands_there code at (call 0xFFE4) (omega (arith, below, total, three)) call_bytes,
+          stands_there code at (call GETIN) (omega (arith, below, total, three)) call_bytes,
           lies within (within_small labels seed code sc laid) (at + 3) ps (omega (arith, behind_below, sum, poll_long)) (subst (Bytes within (at + 3)) p.emits.bytes parts.0),
           subst (λ a. BranchReaches p.way a to) (let q : at + 3 + 2 ≡ at + 5 = omega arith in q) p.reach,
           broken_lies labels seed code sc laid n small has,
@@ -206,7 +211,7 @@ module _ (labels : List (Name × ℕ)) (seed : ℕ) (code : Part) (sc : slots.Sl
 
         line_end : (at : ℕ) (fs f g h : List Form) (way : Way) → forms_size f ≡ 3 → forms_size fs ≡ forms_size f + (forms_size g + forms_size h)
             → size (items_from at fs) ≡ forms_size fs → at + 3 + forms_size g ≡ at + 5 + way_size way → at + size (items_from at fs)
-            ≡ place_of labels (next_line ns n) → at + 5 + way_size way + forms_size h ≡ place_of labels (next_line ns n)
+            ≡ label_address labels (next_line ns n) → at + 5 + way_size way + forms_size h ≡ label_address labels (next_line ns n)
         line_end at fs f g h way three total long there next = (let q : at + 5 + way_size way + forms_size h ≡ at + size (items_from at fs) = omega (arith, three, total, long, there) in q) ∙ next
 
   -- the whole program
@@ -238,7 +243,7 @@ module _ (labels : List (Name × ℕ)) (seed : ℕ) (code : Part) (sc : slots.Sl
               (line_lies n (laid.lines n is e).small p.0 (content_has labels seed code sc laid sc n is e) l);
           small = (laid.lines n is e).small;
         };
-    absent = λ n e. ap (λ t. if t then place_of labels (target.Line n) else place_of labels target.Past) (content_none labels seed code sc laid sc n e);
+    absent = λ n e. ap (λ t. if t then label_address labels (target.Line n) else label_address labels target.Past) (content_none labels seed code sc laid sc n e);
     places = place_small labels seed code sc laid;
     past = past_lies labels seed code sc laid;
     find = find_lies labels seed code sc laid;

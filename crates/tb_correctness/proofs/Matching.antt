@@ -4,10 +4,10 @@ use Rattle.tb_reaching.specs.View.{View, Part}
 use Rattle.tb_meaning.specs.Steps.{Step}
 use Rattle.tb_meaning.specs.Control.{Place}
 use Rattle.tb_lower.specs.Slots.{Rest, Whole, Left, Slots, SlotState}
-use Rattle.tb_runtime16.specs.Places.{HELD}
+use Rattle.tb_runtime16.specs.Addresses.{HELD}
 use Rattle.tb_templates.specs.Templates.{slot_at}
 use Rattle.tb_runtime16.specs.Routines.{WordAt, Entered}
-use Rattle.tb_simulation.specs.Layout.{Layout, place_at}
+use Rattle.tb_simulation.specs.Layout.{Layout, place_address}
 use Rattle.tb_simulation.proofs.Mirrors.{HoldsState, Typable, Leads}
 use Rattle.tb_selection.specs.declared.liveness.Live.{Live}
 use Rattle.tb_selection.specs.Liveness.{live, nothing_live}
@@ -29,7 +29,7 @@ reads_at (Left n is) = live is
 -- the groups of the rest of a line, whose number is a word, stand at PC, or PC is where the place begins
 abbrev pub StandsAt : Layout → Part → ℕ → Rest → Place → Type 0
 StandsAt ly code pc (Left n is) place = GroupsLie ly code n pc (select is) × (n < 65536)
-StandsAt ly code pc Whole place = pc ≡ place_at ly place
+StandsAt ly code pc Whole place = pc ≡ place_address ly place
 
 pub record Matches (around : Surroundings) (c : SlotState) (w : View) : Type 0 where
   pub pc : StandsAt around.ly around.f.code w.regs.pc c.rest c.state.place

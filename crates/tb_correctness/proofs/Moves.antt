@@ -10,7 +10,7 @@ use Rattle.tb_reaching.proofs.Comes.{looser}
 use Rattle.tb_reaching.specs.View.{Comes, Fits, View}
 use Rattle.tb_opcodes.specs.Bytes.{AreBytes}
 use Rattle.tb_runtime16.specs.Routines.{WordAt}
-use Rattle.tb_runtime16.specs.Places.{HELD}
+use Rattle.tb_runtime16.specs.Addresses.{HELD}
 use Rattle.tb_templates.specs.Templates.{slot_at}
 use Rattle.tb_simulation.proofs.Frames.{put_away, word_kept, word_put}
 use Rattle.tb_simulation.proofs.Joins.{sent_in}
@@ -89,7 +89,7 @@ held_kept a IntoHeld is s r m m' fit h w e q = w
 held_kept a (IntoVariable x) is s r m m' fit h w e q =
     subst (λ v. WordAt m' HELD v) (sym (fetched_held s r 0 a))
     (word_kept m m' HELD r.held (e HELD (λ q. omega (arith, q, fit)) (λ q. omega (arith, q, fit))) (e (HELD + 1) (λ q. omega (arith, q, fit))
-        (λ q. omega (arith, q, fit))) (h.held (fetch_held 0 a (Store x ∷ is) ∙ q)))
+    (λ q. omega (arith, q, fit))) (h.held (fetch_held 0 a (Store x ∷ is) ∙ q)))
 
 module _ (around : Surroundings) (fits : Fits around.f 16) (code : SlotCode) (n : ℕ) (a : Operand) (home : Home) (is : List Instr) (s : State)
     (r : Slots) (w : View) (h : Ready around n (Move a home) (spread_move a home is) is s r w) where
@@ -135,7 +135,10 @@ module _ (around : Surroundings) (fits : Fits around.f 16) (code : SlotCode) (n 
       (state_landed ly s w.mem after (IntoHome home) v fit.1 h.state there away) read_on
       (homed_kept w.mem after (home_kept (IntoHome home) fit.1 w.mem after away) h.homed)
       (h.text ∙ sym texts) (h.answers ∙ sym answers)
-      (record { short = subst (λ t. length t ≤ keys) (sym texts) h.short.short; text_bytes = subst AreBytes (sym texts) h.short.text_bytes;
-          answer_bytes = subst AreBytes (sym answers) h.short.answer_bytes }))
+      (record {
+        short = subst (λ t. length t ≤ keys) (sym texts) h.short.short;
+        text_bytes = subst AreBytes (sym texts) h.short.text_bytes;
+        answer_bytes = subst AreBytes (sym answers) h.short.answer_bytes;
+      }))
       (brings f 16 fits w.regs.pc (lo ∷ hi ∷ []) w.mem w.text w.answers refl (source_of 0 a) (home_at home) h.lies.0
-          (operand_grounded 0 a (IntoHome home) (omega arith) fit.0) (dest_in_data (IntoHome home) fit.1) h.lies.1 w (here h)))
+      (operand_grounded 0 a (IntoHome home) (omega arith) fit.0) (dest_in_data (IntoHome home) fit.1) h.lies.1 w (here h)))

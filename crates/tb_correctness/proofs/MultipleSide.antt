@@ -95,7 +95,7 @@ module _ (code : SlotCode) (n j v : ℕ) (d : Operand) (s : State) (r : Slots) (
       (λ i. apply op.Multiply (quotient_stands i) (divisor_stands i)) in
       quotient_next (fetch (j + 1) d ++ Compute op.Multiply j ∷ js) (fetch (j + 1) d ++ Compute op.Multiply j ∷ back)
       ∙ acts code n (Compute op.Divide j) (fetch (j + 1) d ++ Compute op.Multiply j ∷ js) (fetch (j + 1) d ++ Compute op.Multiply j ∷ back) s s both
-          divided (ap (λ o. into n j (given o s.seed) s both) divides)
+      divided (ap (λ o. into n j (given o s.seed) s both) divides)
       ∙ fetches code n (j + 1) d (Compute op.Multiply j ∷ js) (Compute op.Multiply j ∷ back) s divided
       ∙ acts code n (Compute op.Multiply j) js back s s again multiplied (ap (λ o. into n j (given o s.seed) s again) multiplies)
 
@@ -106,4 +106,4 @@ module _ (code : SlotCode) (n j v : ℕ) (d : Operand) (s : State) (r : Slots) (
       (λ i. apply op.Divide (left_is i) (right_is i)) ∙ ap (λ t. if t then None else Some (quotient dividend divisor)) (eq-eqb divisor 0 zero) in
       quotient_next (fetch (j + 1) d ++ Compute op.Multiply j ∷ js) (fetch (j + 1) d ++ Compute op.Multiply j ∷ back)
       ∙ stops code n (Compute op.Divide j) (fetch (j + 1) d ++ Compute op.Multiply j ∷ js) (fetch (j + 1) d ++ Compute op.Multiply j ∷ back) s both
-          (fault_text 2 n) (ap (λ o. into n j (given o s.seed) s both) divides)
+      (fault_text 2 n) (ap (λ o. into n j (given o s.seed) s both) divides)

@@ -14,14 +14,14 @@ use Rattle.tb_reaching.proofs.Comes.{chained, looser}
 use Rattle.tb_reaching.proofs.Instr.{Stands}
 use Rattle.tb_reaching.proofs.Memory.{put_other, put_same}
 use Rattle.tb_reaching.specs.View.{Comes, Fits, Setup, View}
-use Rattle.tb_runtime16.specs.Places.{LEFT}
+use Rattle.tb_runtime16.specs.Addresses.{LEFT}
 use Rattle.tb_runtime16.specs.Routines.{Here, Moves, WithA}
 use Rattle.tb_simulation.proofs.Resolved.{Code, Lies, highest_code, pieces_size, size}
 use Rattle.tb_selection.specs.Groups.{Operand, Destination, Calculate}
 use Rattle.tb_selection.specs.Liveness.{live}
 use Rattle.tb_selection.specs.Select.{select}
 use Rattle.tb_templates.specs.declared.sources.Source.{Source}
-use Rattle.tb_templates.specs.declared.sources.Source.TheVariants.{FixedWord, AtPlace}
+use Rattle.tb_templates.specs.declared.sources.Source.TheVariants.{FixedWord, AtAddress}
 use Rattle.tb_templates.specs.Sources.{destination_at}
 use Rattle.tb_correctness.proofs.GroupCode.{GroupsLie, begun, by_bit, by_bits, doubled, high, increased, low, low_first, times}
 use Rattle.tb_correctness.proofs.Halves.{by_even, by_odd, double_high, double_low, sum_high, sum_low}
@@ -50,11 +50,11 @@ module _ (f : Setup) (room : ℕ) (fits : Fits f room) (bs : List ℕ) (m : ℕ 
     -- the word is still there
     low_still : (m' : ℕ → ℕ) → ((p : ℕ) → p ≢ LEFT → m' p ≡ m p) → (b : Source) → Away b → value m' (low b) ≡ value m (low b)
     low_still m' e (FixedWord w) d = refl
-    low_still m' e (AtPlace p) d = e p (λ q. omega (arith, q, d))
+    low_still m' e (AtAddress p) d = e p (λ q. omega (arith, q, d))
 
     high_still : (m' : ℕ → ℕ) → ((p : ℕ) → p ≢ LEFT → m' p ≡ m p) → (b : Source) → Away b → value m' (high b) ≡ value m (high b)
     high_still m' e (FixedWord w) d = refl
-    high_still m' e (AtPlace p) d = e (p + 1) (λ q. omega (arith, q, d))
+    high_still m' e (AtAddress p) d = e (p + 1) (λ q. omega (arith, q, d))
 
     doubles_on : (at v : ℕ) → at + size doubled ≤ highest_code → Stands f.code at doubled → Moves f (LowInA at v) (LowInA (at + size doubled) (word (2 * v))) [] 2
     doubles_on at v r st w e =
@@ -129,14 +129,14 @@ module _ (f : Setup) (room : ℕ) (fits : Fits f room) (bs : List ℕ) (m : ℕ 
 
         cases : (t : Bool) → nat_lt factor 2 ≡ t
             → (1 ≤ factor / 2 → at + size (by_bits k (factor / 2) a) ≤ highest_code → Stands f.code at (by_bits k (factor / 2) a)
-                → (q : View → Type 0) (n : ℕ) → Moves f (LowInA (at + size (by_bits k (factor / 2) a)) (word (x * (factor / 2)))) q [] n → Moves f (LowInA at x) q [] (9 * k + n))
+            → (q : View → Type 0) (n : ℕ) → Moves f (LowInA (at + size (by_bits k (factor / 2) a)) (word (x * (factor / 2)))) q [] n → Moves f (LowInA at x) q [] (9 * k + n))
             → at + size (if t then [] else by_bits k (factor / 2) a ++ by_bit odd a) ≤ highest_code
-                → Stands f.code at (if t then [] else by_bits k (factor / 2) a ++ by_bit odd a)
-                → Moves f (LowInA (at + size (if t then [] else by_bits k (factor / 2) a ++ by_bit odd a)) (word (x * factor))) q [] n → Comes f w q [] (9 * suc k + n)
+            → Stands f.code at (if t then [] else by_bits k (factor / 2) a ++ by_bit odd a)
+            → Moves f (LowInA (at + size (if t then [] else by_bits k (factor / 2) a ++ by_bit odd a)) (word (x * factor))) q [] n → Comes f w q [] (9 * suc k + n)
         cases true t again r st next =
             looser f w q q [] n (9 * suc k + n) (omega arith) (λ u z. z)
             (next w (subst (λ p. LowInA p (word (x * factor)) w) (let s : at ≡ at + 0 = omega arith in s)
-                (subst (λ v. LowInA at v w) (one_times factor (omega (arith, one, ltb-true factor 2 t))) e)))
+            (subst (λ v. LowInA at v w) (one_times factor (omega (arith, one, ltb-true factor 2 t))) e)))
         cases false t again r st next =
             let s = size_append (by_bits k (factor / 2) a) (by_bit odd a) in
             let p = at + size (by_bits k (factor / 2) a) in
@@ -199,7 +199,7 @@ module _ {around : Surroundings} (fits : Fits around.f 16) (code : SlotCode) {n 
     {r : Slots} {w : View} (h : Ready around n (Calculate op.Multiply a b d) (spread op.Multiply a b d is) is s r w)
     (factor : ℕ) (some : 1 ≤ factor) (few : factor < 65536) (c : Source) (z : ℕ) (gc : Grounded c LEFT) (away : Away c) (hc : SourceHolds w.mem c z)
     (lies : Lies around.f.code w.regs.pc (Code (times factor c (destination_at d)) ∷ [])) (rest : GroupsLie around.ly around.f.code n
-        (w.regs.pc + pieces_size (Code (times factor c (destination_at d)) ∷ [])) (select is)) where
+    (w.regs.pc + pieces_size (Code (times factor c (destination_at d)) ∷ [])) (select is)) where
   open around use {ly, f, lo, hi}
   open calculation a b d s r use {x, y, to}
 
@@ -223,9 +223,9 @@ module _ {around : Surroundings} (fits : Fits around.f 16) (code : SlotCode) {n 
   lands u g =
       looser f u _ _ [] 3 3 (omega arith)
       (result_lands h code product u.regs.a (u.mem LEFT) (at + 8) u.mem g.low g.high g.is_word behind
-          (kept_scratch around (live (spread op.Multiply a b d is)) s r w.mem u.mem h.some_read (λ p o. g.others p (apart p LEFT o refl)) (kept h)))
+      (kept_scratch around (live (spread op.Multiply a b d is)) s r w.mem u.mem h.some_read (λ p o. g.others p (apart p LEFT o refl)) (kept h)))
       (ends_low f 16 fits at own u.mem w.text w.answers refl u.regs.a to (let e = end_here in omega (arith, e, lies.0)) (dest_beyond d (fit h).dest)
-          (last_stands f 16 fits own w.mem w.text w.answers refl c z gc away hc w.regs.pc factor some few to lies.0 lies.1) u (record { here = g.here; number = refl }))
+      (last_stands f 16 fits own w.mem w.text w.answers refl c z gc away hc w.regs.pc factor some few to lies.0 lies.1) u (record { here = g.here; number = refl }))
 
   pub times_law : product ≡ word (z * factor) → Leads h code 141
   times_law same =

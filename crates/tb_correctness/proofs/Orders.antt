@@ -15,7 +15,7 @@ use Rattle.tb_simulation.proofs.Pieces.{loads_last, moves_then, moves_looser, wh
 use Rattle.tb_simulation.proofs.Resolved.{Code, Lies, Piece, highest_code, pieces_size, size}
 use Rattle.tb_correctness.proofs.Sources.{Byte, Fixed, At, value, IsRead, lda, sbc, cmp, len, Known, behind, loads_with, whatever_known}
 use Rattle.tb_templates.specs.declared.sources.Source.{Source}
-use Rattle.tb_templates.specs.declared.sources.Source.TheVariants.{FixedWord, AtPlace}
+use Rattle.tb_templates.specs.declared.sources.Source.TheVariants.{FixedWord, AtAddress}
 use Rattle.tb_templates.specs.declared.orders.Side.{Side}
 use Rattle.tb_templates.specs.declared.orders.Side.TheVariants.{Below, NotBelow}
 use Rattle.tb_templates.specs.declared.orders.Order.{Order}
@@ -53,19 +53,50 @@ module _ (f : Setup) (room : ℕ) (fits : Fits f room) (at : ℕ) (bs : List ℕ
       → Moves f (Known at a c bs m text answers) (Signed (at + len (sbc b)) (less a b c) (has_bit (less a b c) 128) (outside a b c) bs m text answers) [] 1
   takes_signed (Fixed b) a c d r st = whatever_known f room fits at a c bs m text answers _ [] 1 (λ x y n v i z.
       placed_last f room fits (ins 0xE9 b) (view a x y n v i z c at bs m text answers) _ _ small st refl
-          (record { here = record { pc = let e : (at + 2) % 65536 ≡ at + 2 = omega arith in e; stack = refl; binary = refl; mem = refl; text = refl;
-          answers = refl }; number = refl; negative = refl; overflow = refl }))
+      (record {
+        here = record {
+          pc = let e : (at + 2) % 65536 ≡ at + 2 = omega arith in e;
+          stack = refl;
+          binary = refl;
+          mem = refl;
+          text = refl;
+          answers = refl;
+        };
+        number = refl;
+        negative = refl;
+        overflow = refl;
+      }))
   takes_signed (At p) a c d r st = whatever_known f room fits at a c bs m text answers _ [] 1 (λ x y n v i z.
       loads_last f room fits 0xED p Sbc (view a x y n v i z c at bs m text answers) _ _ refl refl refl small st d refl
-          (record { here = record { pc = let e : (at + 3) % 65536 ≡ at + 3 = omega arith in e; stack = refl; binary = refl; mem = refl; text = refl;
-          answers = refl }; number = refl; negative = refl; overflow = refl }))
+      (record {
+        here = record {
+          pc = let e : (at + 3) % 65536 ≡ at + 3 = omega arith in e;
+          stack = refl;
+          binary = refl;
+          mem = refl;
+          text = refl;
+          answers = refl;
+        };
+        number = refl;
+        negative = refl;
+        overflow = refl;
+      }))
 
   turns : (a : ℕ) → at + 2 ≤ highest_code → Bytes f.code at (instr_bytes (ins 0x49 128)) → Moves f (WithA at a bs m text answers)
       (WithN (at + 2) (has_bit (bit_xor a 128) 128) bs m text answers) [] 1
   turns a r st = whatever_a f room fits at a bs m text answers _ [] 1 (λ x y n v i z c.
       placed_last f room fits (ins 0x49 128) (view a x y n v i z c at bs m text answers) _ _ small st refl
-          (record { here = record { pc = let e : (at + 2) % 65536 ≡ at + 2 = omega arith in e; stack = refl; binary = refl; mem = refl; text = refl;
-          answers = refl }; negative = refl }))
+      (record {
+        here = record {
+          pc = let e : (at + 2) % 65536 ≡ at + 2 = omega arith in e;
+          stack = refl;
+          binary = refl;
+          mem = refl;
+          text = refl;
+          answers = refl;
+        };
+        negative = refl;
+      }))
 
 module _ (f : Setup) (room : ℕ) (fits : Fits f room) (at : ℕ) (bs : List ℕ) (m : ℕ → ℕ) (text answers : List ℕ) (small : leb (length bs) room ≡ true)
     (a b : Source) (x y : ℕ) (ga : Grounded a 0) (gb : Grounded b 0) (ha : SourceHolds m a x) (hb : SourceHolds m b y) (below : Bool)
@@ -120,11 +151,31 @@ module _ (f : Setup) (room : ℕ) (fits : Fits f room) (at : ℕ) (bs : List ℕ
       moves_then f _ _ _ [] [] 2 2 (weighs f room fits at bs m text answers small (low a) (low b) (omega (arith, lies.0)) (low_read a 0 ga) (low_read b 0 gb) (lies.1.0, (lies.1.1.0, tt)))
       (moves_then f _ _ _ [] [] 1 1
       (λ w g. loads_with f room fits p2 bs m text answers small (high a) c (high_read a 0 ga) (omega (arith, lies.0)) s2.0 w
-          (record { here = record { pc = g.here.pc ∙ lows; stack = g.here.stack; binary = g.here.binary; mem = g.here.mem; text = g.here.text;
-          answers = g.here.answers }; carry = g.carry }))
+      (record {
+        here = record {
+          pc = g.here.pc ∙ lows;
+          stack = g.here.stack;
+          binary = g.here.binary;
+          mem = g.here.mem;
+          text = g.here.text;
+          answers = g.here.answers;
+        };
+        carry = g.carry;
+      }))
       (moves_looser f _ _ _ [] 1 1 (omega arith)
-      (λ w g. record { here = record { pc = g.here.pc ∙ (let q : p3 + len (sbc (high b)) ≡ p4 = omega arith in q); stack = g.here.stack;
-          binary = g.here.binary; mem = g.here.mem; text = g.here.text; answers = g.here.answers }; number = g.number; negative = g.negative; overflow = g.overflow })
+      (λ w g. record {
+        here = record {
+          pc = g.here.pc ∙ (let q : p3 + len (sbc (high b)) ≡ p4 = omega arith in q);
+          stack = g.here.stack;
+          binary = g.here.binary;
+          mem = g.here.mem;
+          text = g.here.text;
+          answers = g.here.answers;
+        };
+        number = g.number;
+        negative = g.negative;
+        overflow = g.overflow;
+      })
       (takes_signed f room fits p3 bs m text answers small (high b) (value m (high a)) c (high_read b 0 gb) (omega (arith, lies.0)) s3.0)))
 
   -- N turned where V is set
@@ -166,12 +217,30 @@ module _ (f : Setup) (room : ℕ) (fits : Fits f room) (at : ℕ) (bs : List ℕ
       → Moves f (Here at bs m text answers) (WithN (at + len (lda b)) (has_bit (value m b) 128) bs m text answers) [] 1
   loads_sign (Fixed b) d r st = whatever f room fits at bs m text answers _ [] 1 (λ a x y n v i z c.
       placed_last f room fits (ins 0xA9 b) (view a x y n v i z c at bs m text answers) _ _ small st refl
-          (record { here = record { pc = let e : (at + 2) % 65536 ≡ at + 2 = omega arith in e; stack = refl; binary = refl; mem = refl; text = refl;
-          answers = refl }; negative = refl }))
+      (record {
+        here = record {
+          pc = let e : (at + 2) % 65536 ≡ at + 2 = omega arith in e;
+          stack = refl;
+          binary = refl;
+          mem = refl;
+          text = refl;
+          answers = refl;
+        };
+        negative = refl;
+      }))
   loads_sign (At p) d r st = whatever f room fits at bs m text answers _ [] 1 (λ a x y n v i z c.
       loads_last f room fits 0xAD p Lda (view a x y n v i z c at bs m text answers) _ _ refl refl refl small st d refl
-          (record { here = record { pc = let e : (at + 3) % 65536 ≡ at + 3 = omega arith in e; stack = refl; binary = refl; mem = refl; text = refl;
-          answers = refl }; negative = refl }))
+      (record {
+        here = record {
+          pc = let e : (at + 3) % 65536 ≡ at + 3 = omega arith in e;
+          stack = refl;
+          binary = refl;
+          mem = refl;
+          text = refl;
+          answers = refl;
+        };
+        negative = refl;
+      }))
 
   module _ (a : Source) (x : ℕ) (ga : Grounded a 0) (ha : SourceHolds m a x) (below : Bool) (first : Way) (next : ℕ)
       (lies : Lies f.code at (sign_code below first at a next)) (reach : SignReaches first at a next) where
@@ -194,7 +263,7 @@ module _ (f : Setup) (room : ℕ) (fits : Fits f room) (at : ℕ) (bs : List ℕ
     tests_sign w h =
         chained f w _ _ [] [] 1 2 (loads_sign (high a) (high_read a 0 ga) (omega (arith, lies.0)) lies.1.0 w h) (λ u g.
         looser f u _ _ [] 2 2 (omega arith) (λ v k. subst (λ e. Here (cond (turned below negative) e next) bs m text answers v) sign_end
-            (subst (λ p. Here p bs m text answers v) (last_leads below negative next (branch_at + way_size first)) k.here))
+        (subst (λ p. Here p bs m text answers v) (last_leads below negative next (branch_at + way_size first)) k.here))
         (branches f room fits bs m text answers small branch_at first Negative below negative next (branch_behind f branch_at first Negative below next [] lies.2).0 reach lies.2.1 u
         (record { pc = g.here.pc ∙ loaded_to; stack = g.here.stack; binary = g.here.binary; mem = g.here.mem; text = g.here.text; answers = g.here.answers }) (g.negative ∙ sign_so)))
 
@@ -224,7 +293,7 @@ module _ (f : Setup) (room : ℕ) (fits : Fits f room) (at : ℕ) (bs : List ℕ
   by_against side a x w ga ha word false e lies reach =
       moves_looser f _ _ _ [] 7 9 (omega arith)
       (λ u h. subst (λ t. Here (cond t (at + pieces_size (order_by (ByConstant side a w) wanted first second at next)) next) bs m text answers u)
-          (side_turned wanted side (int_lt (signed x) (signed w))) h)
+      (side_turned wanted side (int_lt (signed x) (signed w))) h)
       (tests_against f room fits at bs m text answers small a x w ga ha word (leaves_below (wanted_side wanted side)) first next lies reach)
 
   by_difference : (a b : Source) (x y : ℕ) → Grounded a 0 → Grounded b 0 → SourceHolds m a x → SourceHolds m b y → Leads (ByDifference a b) (int_lt (signed x) (signed y))
@@ -238,23 +307,23 @@ module _ (f : Setup) (room : ℕ) (fits : Fits f room) (at : ℕ) (bs : List ℕ
   by_words a (FixedWord w) x y ga gb ha hb =
       let e = fixed_is w y hb in
       subst (λ v. Leads (against Below a w) (int_lt (signed x) (signed v))) e (by_against Below a x w ga ha (omega (arith, e, hb.small)) (nat_eq w 0) refl)
-  by_words (FixedWord v) (AtPlace q) x y ga gb ha hb = by (nat_eq v 32767) refl
+  by_words (FixedWord v) (AtAddress q) x y ga gb ha hb = by (nat_eq v 32767) refl
     where
       e : v ≡ x
       e = fixed_is v x ha
 
-      by : (t : Bool) → nat_eq v 32767 ≡ t → Leads (if t then ByDifference (FixedWord v) (AtPlace q) else against NotBelow (AtPlace q) ((v + 1) % 65536)) (int_lt (signed x) (signed y))
-      by true g = by_difference (FixedWord v) (AtPlace q) x y ga gb ha hb
+      by : (t : Bool) → nat_eq v 32767 ≡ t → Leads (if t then ByDifference (FixedWord v) (AtAddress q) else against NotBelow (AtAddress q) ((v + 1) % 65536)) (int_lt (signed x) (signed y))
+      by true g = by_difference (FixedWord v) (AtAddress q) x y ga gb ha hb
       by false g =
-          subst (λ t. Leads (against NotBelow (AtPlace q) ((v + 1) % 65536)) t)
+          subst (λ t. Leads (against NotBelow (AtAddress q) ((v + 1) % 65536)) t)
           (below_next v y (omega (arith, e, ha.small)) hb.small (not_greatest v g) ∙ ap (λ v. int_lt (signed v) (signed y)) e)
-          (by_against NotBelow (AtPlace q) y ((v + 1) % 65536) gb hb (omega arith) (nat_eq ((v + 1) % 65536) 0) refl)
-  by_words (AtPlace p) (AtPlace q) x y ga gb ha hb = by_difference (AtPlace p) (AtPlace q) x y ga gb ha hb
+          (by_against NotBelow (AtAddress q) y ((v + 1) % 65536) gb hb (omega arith) (nat_eq ((v + 1) % 65536) 0) refl)
+  by_words (AtAddress p) (AtAddress q) x y ga gb ha hb = by_difference (AtAddress p) (AtAddress q) x y ga gb ha hb
 
 -- where a test for order leads
 module _ (f : Setup) (room : ℕ) (fits : Fits f room) (at : ℕ) (bs : List ℕ) (m : ℕ → ℕ) (text answers : List ℕ) (small : leb (length bs) room ≡ true)
     (a b : Source) (x y : ℕ) (ga : Grounded a 0) (gb : Grounded b 0) (ha : SourceHolds m a x) (hb : SourceHolds m b y) (wanted : Side) (first second : Way) (next : ℕ) where
   pub tests_order : Lies f.code at (order_code wanted first second at a b next) → OrderReaches first second at a b next
       → Moves f (Here at bs m text answers) (Here (cond (turned (leaves_below wanted) (int_lt (signed x) (signed y)))
-          (at + pieces_size (order_code wanted first second at a b next)) next) bs m text answers) [] 9
+      (at + pieces_size (order_code wanted first second at a b next)) next) bs m text answers) [] 9
   tests_order = by_words f room fits at bs m text answers small wanted first second next a b x y ga gb ha hb

@@ -3,7 +3,7 @@ use Rattle.std.proofs.Common.{◌≡◌, ℕ, ◌+◌, ◌/◌, ◌%◌, ◌≤�
 use Rattle.std.proofs.Common.{drop, refl, sym, ap, ◌∙◌, subst, arith, eqb, Option, Some, None, inl, inr}
 use Rattle.std.specs.Prelude.{nat_eq}
 use Rattle.tb_syntax.specs.Source.{numbers}
-use Rattle.tb_kernal.specs.declared.places.Service.TheVariants.{Getin}
+use Rattle.tb_kernal.specs.declared.rom.Service.TheVariants.{Getin}
 use Rattle.tb_kernal.specs.Machine.{first_or_zero}
 use Rattle.tb_meaning.specs.Control.{Place, At, Past, State, content_at, fault_text, highest, answered}
 use Rattle.tb_lower.specs.Slots.{Instr, Poll, Whole, Slots, SlotState, SlotCode, settled, staying, instr_at, instr_found}
@@ -14,8 +14,9 @@ use Rattle.tb_reaching.proofs.Services.{served_last}
 use Rattle.tb_reaching.specs.Start.{IsHome}
 use Rattle.tb_reaching.specs.View.{Comes, Fits, View, view}
 use Rattle.tb_opcodes.specs.Bytes.{AreBytes}
+use Rattle.tb_kernal.specs.declared.rom.TheConstants.{GETIN}
 use Rattle.tb_runtime16.specs.Routines.{Here, Moves, WithA}
-use Rattle.tb_simulation.specs.Layout.{place_at}
+use Rattle.tb_simulation.specs.Layout.{place_address}
 use Rattle.tb_simulation.proofs.Joins.{LawAt, sent_in}
 use Rattle.tb_simulation.proofs.Mirrors.{Flagged, HoldsState, Typable}
 use Rattle.tb_simulation.proofs.Pieces.{calls, moves_looser, moves_then, whatever}
@@ -71,9 +72,9 @@ module _ (around : Surroundings) (fits : Fits around.f 16) (limit : ℕ) (rs : S
 
   -- the answer is in A
   asks : (at : ℕ) (m : ℕ → ℕ) (text answers : List ℕ) → at + 3 ≤ highest_code
-      → Moves f (Here 0xFFE4 ((at + 2) % 256 ∷ (at + 2) / 256 ∷ own) m text answers) (WithA (at + 3) (first_or_zero answers) own m text (drop 1 answers)) [] 1
-  asks at m text answers b = whatever f 16 fits 0xFFE4 ((at + 2) % 256 ∷ (at + 2) / 256 ∷ own) m text answers _ [] 1 (λ a x y n v i z c.
-      served_last f 16 fits Getin (view a x y n v i z c 0xFFE4 ((at + 2) % 256 ∷ (at + 2) / 256 ∷ own) m text answers) ((at + 2) % 256) ((at + 2) / 256) own _ refl refl refl refl
+      → Moves f (Here GETIN ((at + 2) % 256 ∷ (at + 2) / 256 ∷ own) m text answers) (WithA (at + 3) (first_or_zero answers) own m text (drop 1 answers)) [] 1
+  asks at m text answers b = whatever f 16 fits GETIN ((at + 2) % 256 ∷ (at + 2) / 256 ∷ own) m text answers _ [] 1 (λ a x y n v i z c.
+      served_last f 16 fits Getin (view a x y n v i z c GETIN ((at + 2) % 256 ∷ (at + 2) / 256 ∷ own) m text answers) ((at + 2) % 256) ((at + 2) / 256) own _ refl refl refl refl
       (λ j. record { here = record { pc = behind_call at b; stack = refl; binary = refl; mem = refl; text = refl; answers = refl }; number = refl }))
 
   module _ (n : ℕ) (small : n < 65536) (is : List Instr) (s : State) (r : Slots) (closed : AreClosed code) (some : content_at code n
@@ -127,14 +128,14 @@ module _ (around : Surroundings) (fits : Fits around.f 16) (limit : ℕ) (rs : S
         → Moves f (Flagged near own w.mem s.text (drop 1 s.answers) false) (Matches around (line code n is s' r)) [] 2
     goes_on s' et ea hs short = moves_looser f _ _ _ [] 2 2 (omega arith)
         (stood around code n small is s' r onward w.mem s.text (drop 1 s.answers) rest hs
-            (subst (λ u. HoldsLive u r w.mem) (sym (closed n (Poll ∷ is) some)) (nothing_read r w.mem h.read.all_words)) h.homed (sym et) ea short)
+        (subst (λ u. HoldsLive u r w.mem) (sym (closed n (Poll ∷ is) some)) (nothing_read r w.mem h.read.all_words)) h.homed (sym et) ea short)
         (parts false)
 
     abbrev Led : Step SlotState → Type 0
     Led x = Moves f (WithA (at + 3) stop own w.mem s.text (drop 1 s.answers)) (Target around x) (sent_in x) (10 + limit)
 
     with_answers : (l : List ℕ) → HoldsState ly (record s { answers = l }) w.mem
-    with_answers l = let k = h.state in record { vars = k.vars; column = k.column; opened = k.opened; seeded = k.seeded; count = k.count; notes = k.notes; few = k.few; all_vars = k.all_vars }
+    with_answers l = let k = h.state in record { vars = k.vars; column = k.column; opened = k.opened; seeded = k.seeded; count = k.count; returns = k.returns; few = k.few; all_vars = k.all_vars }
 
     by_break : (a : ℕ) (l : List ℕ) → s.answers ≡ a ∷ l → AreBytes (a ∷ l) → (t : Bool) → nat_eq a 3 ≡ t
         → Led (if t then Stops Faulted (fault_text 0 n) else Goes (line code n is (record s { answers = l }) r) [])
@@ -169,8 +170,14 @@ module _ (around : Surroundings) (fits : Fits around.f 16) (limit : ℕ) (rs : S
           few = omega arith;
           one = looser (opened f) w _ _ [] 1 1 (omega arith)
               (λ u g. chained f u _ _ [] (sent_in (outcome code n is s r s.answers)) 1 (10 + limit) (asks at w.mem s.text s.answers lies.2 u g) (led s.answers refl h.short.answer_bytes))
-              (calls (opened f) 16 fits at own w.mem s.text s.answers refl 0xFFE4 refl lies.2 lies.3 w (record { pc = h.pc ∙ ap (place_at ly) here;
-                  stack = h.stack; binary = h.binary; mem = refl; text = h.text; answers = h.answers }));
+              (calls (opened f) 16 fits at own w.mem s.text s.answers refl GETIN refl lies.2 lies.3 w (record {
+                pc = h.pc ∙ ap (place_address ly) here;
+                stack = h.stack;
+                binary = h.binary;
+                mem = refl;
+                text = h.text;
+                answers = h.answers;
+              }));
         })
 
   -- ---- any place
@@ -184,7 +191,7 @@ module _ (around : Surroundings) (fits : Fits around.f 16) (limit : ℕ) (rs : S
         let n = highest ly.numbers in
         looser f w _ _ (fault_text 7 n) (4 + limit) (34 + (limit + limit)) (omega arith) (λ u x. x)
         (faults_at around fits limit rs n 7 laid.top (omega arith) ly.past w.mem w.text w.answers laid.past h.homed w
-            (record { pc = at; stack = h.stack; binary = h.binary; mem = refl; text = refl; answers = refl }))
+        (record { pc = at; stack = h.stack; binary = h.binary; mem = refl; text = refl; answers = refl }))
 
     -- no line there: fault 7
     no_line : w.regs.pc ≡ ly.past → first_group code whole ≡ Stops Faulted (fault_text 7 (highest (numbers code)))
@@ -196,9 +203,9 @@ module _ (around : Surroundings) (fits : Fits around.f 16) (limit : ℕ) (rs : S
     at_number : (n : ℕ) → s.place ≡ At n → (o : Option (List Instr)) → content_at code n ≡ o
         → LawAt Whole f w (Target around (first_group code whole)) (sent_in (first_group code whole)) (34 + (limit + limit))
     at_number n here None e =
-        no_line (h.pc ∙ ap (place_at ly) here ∙ laid.absent n e)
+        no_line (h.pc ∙ ap (place_address ly) here ∙ laid.absent n e)
         (ap (λ p. first code (select (ahead code Whole p)) whole) here ∙ ap (λ o. first code (select (or_empty o)) whole) e
-            ∙ ap (λ p. instr_at code Whole p s r) here ∙ ap (λ o. instr_found (numbers code) n o s r) e)
+        ∙ ap (λ p. instr_at code Whole p s r) here ∙ ap (λ o. instr_found (numbers code) n o s r) e)
     at_number n here (Some js) e =
         let p = laid.lines n js e in
         inr (line_law n p.small p.rest s r closed (e ∙ ap (λ l. Some l) p.polled) w h p.stands here)
@@ -206,7 +213,7 @@ module _ (around : Surroundings) (fits : Fits around.f 16) (limit : ℕ) (rs : S
     by_place : (p : Place) → s.place ≡ p → LawAt Whole f w (Target around (first_group code whole)) (sent_in (first_group code whole)) (34 + (limit + limit))
     by_place (At n) here = at_number n here (content_at code n) refl
     by_place Past here =
-        no_line (h.pc ∙ ap (place_at ly) here)
+        no_line (h.pc ∙ ap (place_address ly) here)
         (ap (λ p. first code (select (ahead code Whole p)) whole) here ∙ ap (λ p. instr_at code Whole p s r) here)
 
     -- the law where nothing of a line is left to be done

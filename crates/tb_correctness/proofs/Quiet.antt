@@ -31,7 +31,7 @@ module _ (around : Surroundings) (fits : Fits around.f 16) (code : SlotCode) (n 
       let fit = h.ranged.0.0 in
       looser f w _ _ [] 4 4 (omega arith)
       (word_lands around code n h.small (live (Put k v ∷ is)) (IntoSlot k) is s r r (word v) (word v % 256) (word v / 256)
-          (w.regs.pc + 10) w.mem w.text w.answers refl refl (omega arith) fit lasting h.rest (kept h) h.text h.answers h.short)
+      (w.regs.pc + 10) w.mem w.text w.answers refl refl (omega arith) fit lasting h.rest (kept h) h.text h.answers h.short)
       (sets f 16 fits w.regs.pc own w.mem w.text w.answers refl (word v) (slot_at k) h.lies.0 (word_in_data (slot_at k) (omega arith) (omega (arith, fit))) h.lies.1 w (here h))
     where
       lasting : Lasting (live (Put k v ∷ is)) (IntoSlot k) is r r
@@ -45,9 +45,9 @@ module _ (around : Surroundings) (fits : Fits around.f 16) (code : SlotCode) (n 
       let behind : w.regs.pc + (size text + 0) ≡ w.regs.pc + size text = omega arith in
       looser f w _ _ [] 4 4 (omega arith)
       (word_lands around code n h.small (live (Load k x ∷ is)) (IntoSlot k) is s r r (slice_index s.vars x) _ _ (w.regs.pc + size text) w.mem w.text
-          w.answers v.low v.high v.small fit.0 lasting (subst (λ p. GroupsLie ly f.code n p (select is)) behind h.rest) (kept h) h.text h.answers h.short)
+      w.answers v.low v.high v.small fit.0 lasting (subst (λ p. GroupsLie ly f.code n p (select is)) behind h.rest) (kept h) h.text h.answers h.short)
       (copies f 16 fits w.regs.pc own w.mem w.text w.answers refl (var_at x) (slot_at k) h.lies.0 (word_in_data (var_at x) (omega arith)
-          (omega (arith, fit.1))) (word_in_data (slot_at k) (omega arith) (omega (arith, fit.0))) (λ e. omega (arith, e, fit.1)) h.lies.1 w (here h))
+      (omega (arith, fit.1))) (word_in_data (slot_at k) (omega arith) (omega (arith, fit.0))) (λ e. omega (arith, e, fit.1)) h.lies.1 w (here h))
     where
       lasting : Lasting (live (Load k x ∷ is)) (IntoSlot k) is r r
       lasting = record { all = refl; same_held = refl; dead = tt; others = λ j lt ne. (written_reads j k (live is) lt ne, refl); held = λ q. q }

@@ -14,7 +14,7 @@ use Rattle.tb_meaning.specs.Values.{apply, given}
 use Rattle.tb_reaching.proofs.Comes.{chained, looser}
 use Rattle.tb_reaching.specs.Start.{IsHome}
 use Rattle.tb_reaching.specs.View.{Comes, Fits, View}
-use Rattle.tb_runtime16.specs.Places.{DIVIDE_AT, LEFT, RESULT, RIGHT}
+use Rattle.tb_runtime16.specs.Addresses.{DIVIDE_AT, LEFT, RESULT, RIGHT}
 use Rattle.tb_runtime16.specs.Routines.{Here, Moves, WordAt}
 use Rattle.tb_runtime16.proofs.StatePlaces.{not_argument}
 use Rattle.tb_simulation.proofs.Frames.{word_put}
@@ -27,7 +27,7 @@ use Rattle.tb_selection.specs.GroupSteps.{steps}
 use Rattle.tb_selection.specs.Liveness.{live}
 use Rattle.tb_selection.specs.Select.{omits_only_dead}
 use Rattle.tb_templates.specs.declared.sources.Source.{Source}
-use Rattle.tb_templates.specs.declared.sources.Source.TheVariants.{FixedWord, AtPlace}
+use Rattle.tb_templates.specs.declared.sources.Source.TheVariants.{FixedWord, AtAddress}
 use Rattle.tb_templates.specs.GroupTemplates.{may_be_zero}
 use Rattle.tb_templates.specs.Sources.{destination_at, source_of}
 use Rattle.tb_templates.specs.Templates.{var_at}
@@ -161,7 +161,7 @@ module _ (v : ℕ) (d : Operand) (to : Destination) (is : List Instr) where
       by InSlot =
           let behind = Compute op.Divide (slot_of to + 1) ∷ Compute op.Multiply (slot_of to + 1) ∷ Compute op.Subtract (slot_of to) ∷ (kept to ++ is) in
           fetch_reads (slot_of to + 2) (slot_of to) (Variable v) (Load (slot_of to + 1) v ∷ behind) (fetch_reads (slot_of to + 2) (slot_of to + 1)
-              (Variable v) behind (omega arith) (λ q. omega (arith, q))) (λ q. omega (arith, q))
+          (Variable v) behind (omega arith) (λ q. omega (arith, q))) (λ q. omega (arith, q))
 
   remains_lasting : (code : SlotCode) (n : ℕ) (s : State) (r : Slots) (all : length r.words ≡ 16) (room : slot_of to + 1 + 1 < 16)
       → omits_only_dead (Remains v d to) (live is) ≡ true → Lasting (live (spread_remains v d to is)) to is r (both code n v d to is s r all room)
@@ -184,7 +184,7 @@ module _ (v : ℕ) (d : Operand) (to : Destination) (is : List Instr) where
       same : (j : ℕ) → j < slot_of to → slice_index (both code n v d to is s r all room).words j ≡ slice_index r.words j
       same j lt =
           others_stand code n (slot_of to + 1) v d s (with_word r (slot_of to) (slice_index s.vars v))
-              (length-set r.words (slot_of to) (slice_index s.vars v) ∙ all) room j (λ q. omega (arith, q, lt)) (λ q. omega (arith, q, lt))
+          (length-set r.words (slot_of to) (slice_index s.vars v) ∙ all) room j (λ q. omega (arith, q, lt)) (λ q. omega (arith, q, lt))
           ∙ other_slot r (slot_of to) j (slice_index s.vars v) (λ q. omega (arith, q, lt))
 
 -- ---- single pieces
@@ -217,7 +217,7 @@ module _ (around : Surroundings) (fits : Fits around.f 16) (code : SlotCode) (li
   y = fetched s r (k + 2) d
 
   abbrev a : Source
-  a = AtPlace (var_at v)
+  a = AtAddress (var_at v)
 
   abbrev b : Source
   b = source_of (k + 2) d
@@ -322,7 +322,7 @@ module _ (around : Surroundings) (fits : Fits around.f 16) (code : SlotCode) (li
   copies_out m q c =
       moves_looser f _ _ _ [] 4 4 (omega arith)
       (λ u e. word_lands around code n h.small (live js) to is s r last value _ _ end m w.text w.answers q.low q.high q.small fit.dest
-          (remains_lasting v d to is code n s r h.read.all_words fit.room h.free) h.rest c h.text h.answers h.short u (moved _ end own _ w.text w.answers u e end_is))
+      (remains_lasting v d to is code n s r h.read.all_words fit.room h.free) h.rest c h.text h.answers h.short u (moved _ end own _ w.text w.answers u e end_is))
       (copies f 16 fits copy_at own m w.text w.answers refl RESULT dest fork.ends result_gives.0 (dest_in_data to fit.dest) (result_gives.1 to fit.dest) fork.behind_stands)
 
   -- where it is taken from 0
@@ -333,7 +333,7 @@ module _ (around : Surroundings) (fits : Fits around.f 16) (code : SlotCode) (li
   signs : y ≢ 0 → Moves f Told Ends [] 14
   signs some u told =
       chained f u _ _ [] [] 1 13 (loads_sign f 16 fits middle own u.mem w.text w.answers refl (At (var_at v + 1)) a_apart.0.1 (let r = parts.1.0 in
-          omega (arith, r)) parts.1.1.0 u told.here) (λ z g. by (is_negative x) refl z g)
+      omega (arith, r)) parts.1.1.0 u told.here) (λ z g. by (is_negative x) refl z g)
     where
       x_held : SourceHolds u.mem a x
       x_held = a_holds u.mem told.kept
@@ -356,10 +356,10 @@ module _ (around : Surroundings) (fits : Fits around.f 16) (code : SlotCode) (li
           let difference = subtracted_word 0 0 _ _ 0 rest_size refl refl told.result.low told.result.high (omega arith) told.result.small in
           let same = sym (value_is true e) in
           chained f z _ _ [] [] 2 11 (fork.leads u.mem true z (moved _ _ own _ w.text w.answers z g.here (omega arith)) (g.negative ∙ sign_is ∙ e)) (λ q l.
-          chained f q _ _ [] [] 7 4 (differs f 16 fits turned_at own u.mem w.text w.answers refl (FixedWord 0) (AtPlace RESULT) RESULT
-              (let r = fork.ends in omega (arith, r)) tt ((refl, refl), λ e. omega (arith, e)) (refl, refl) fork.stands q l.here) (λ q l.
+          chained f q _ _ [] [] 7 4 (differs f 16 fits turned_at own u.mem w.text w.answers refl (FixedWord 0) (AtAddress RESULT) RESULT
+          (let r = fork.ends in omega (arith, r)) tt ((refl, refl), λ e. omega (arith, e)) (refl, refl) fork.stands q l.here) (λ q l.
           copies_out _ (word_put u.mem RESULT _ _ value (difference.0 ∙ ap (λ v. v % 256) same) (difference.1 ∙ ap (λ v. v / 256) same) (omega arith))
-              (kept_put around (live js) s r u.mem RESULT _ _ h.some_read refl refl told.kept) q l))
+          (kept_put around (live js) s r u.mem RESULT _ _ h.some_read refl refl told.kept) q l))
 
   -- ---- by 0
   faults : y ≡ 0 → Comes f w (IsHome f) (fault_text 2 n) (13 + limit)
@@ -368,7 +368,7 @@ module _ (around : Surroundings) (fits : Fits around.f 16) (code : SlotCode) (li
       (lines_by fits h risky asking parts.0 _ (fault_text 2 n) (9 + limit)
       (asks_by fits h DIVIDE_AT at a b [] m c asking_lies x y a_apart b_apart (a_holds m c) b_holds _ (fault_text 2 n) limit
       (λ m' g. rs.divide_by_zero _ _ m' w.text w.answers x n g.left (subst (WordAt m' RIGHT) zero g.right)
-          (g.line (number_set h risky (λ e. never_zero w.mem y b (b_holds w.mem first) e zero))) g.kept.homed)))
+      (g.line (number_set h risky (λ e. never_zero w.mem y b (b_holds w.mem first) e zero))) g.kept.homed)))
 
   abbrev pub RemainsLeads : Step SlotState → Type 0
   RemainsLeads z = Comes f w (Target around z) (sent_in z) (34 + (limit + limit))

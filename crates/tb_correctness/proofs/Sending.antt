@@ -2,7 +2,7 @@
 use Rattle.std.proofs.Common.{◌≡◌, ℕ, ◌+◌, ◌-◌, ◌/◌, ◌%◌, ◌≤◌, List, [], ◌∷◌, length, refl, ap, ◌∙◌, subst, arith, append-nil}
 use Rattle.std.specs.Prelude.{replicate}
 use Rattle.tb_words.specs.Words.{digits_of}
-use Rattle.tb_kernal.specs.declared.places.Service.TheVariants.{Chrout}
+use Rattle.tb_kernal.specs.declared.rom.Service.TheVariants.{Chrout}
 use Rattle.tb_meaning.specs.Control.{State, column_after, zone}
 use Rattle.tb_lower.specs.Slots.{Instr, SendText, SendNumber, SendZone, SendNewline, Slots, SlotCode}
 use Rattle.tb_memmap.specs.Bytes.{with_byte}
@@ -13,7 +13,7 @@ use Rattle.tb_reaching.proofs.Services.{served_last}
 use Rattle.tb_reaching.specs.View.{Bytes, Comes, Fits, View, back_at, view}
 use Rattle.tb_runtime16.specs.Laws.{Leaves, Sent}
 use Rattle.tb_runtime16.specs.Routines.{Here, Moves, is_scratch}
-use Rattle.tb_runtime16.specs.Places.{COLUMN, LEFT, LENGTH, NUMBER_AT, TEXT_AT, ZONE_AT}
+use Rattle.tb_runtime16.specs.Addresses.{COLUMN, LEFT, LENGTH, NUMBER_AT, TEXT_AT, ZONE_AT}
 use Rattle.tb_simulation.proofs.Frames.{word_put}
 use Rattle.tb_simulation.proofs.Pieces.{calls, jumps, put_word, whatever}
 use Rattle.tb_simulation.proofs.Resolved.{highest_code, newline, size, text_call}
@@ -63,8 +63,14 @@ module _ (around : Surroundings) (fits : Fits around.f 16) (limit : ℕ) (rs : S
       along f 16 fits newline w.regs.pc (view a x y n' v i z c' w.regs.pc own w.mem w.text w.answers) _ _ (13 ∷ []) 1 h.lies.1 (refl, refl, (refl, refl, (refl, refl, (refl, refl, tt)))) refl
       (served_last f 16 fits Chrout _ _ _ _ _ refl refl refl refl (λ j.
       told_lands _ _ h r (λ m k. k) (13 ∷ []) (w.regs.pc + 10) _ w.mem h.rest (kept h) (returns_to w.regs.pc h.lies.0) _
-      (record { pc = refl; stack_is = refl; binary = refl; same_text = refl; same_answers = refl;
-          memory = record { column = refl; others = λ a o other. put_other w.mem COLUMN 0 a other } })))) w (here h)
+      (record {
+        pc = refl;
+        stack_is = refl;
+        binary = refl;
+        same_text = refl;
+        same_answers = refl;
+        memory = record { column = refl; others = λ a o other. put_other w.mem COLUMN 0 a other };
+      })))) w (here h)
     where
       returns_to : (at : ℕ) → at + 10 ≤ highest_code → back_at (last at % 256) (last at / 256) ≡ at + 10
       returns_to at b = let e : last at ≡ at + 9 = omega arith in ap (λ p. back_at (p % 256) (p / 256)) e ∙ (let e' : back_at ((at + 9) % 256) ((at + 9) / 256) ≡ at + 10 = omega arith in e')
@@ -79,12 +85,12 @@ module _ (around : Surroundings) (fits : Fits around.f 16) (limit : ℕ) (rs : S
       subst (λ l. Comes f v (Matches around (line code n is (sent t) r)) l (limit + 1)) (append-nil t)
       (chained f v _ _ t [] limit 1
       (rs.text low high m w.text w.answers (w.regs.pc + 19) t (record { low = el; high = eh; small = omega (arith, lies.2.2.0) }) en shown
-          lies.2.2.1.1 (omega (arith, h.above)) (omega (arith, lies.2.2.0)) h.ranged.0 (omega (arith, c.state.column)) v e)
+      lies.2.2.1.1 (omega (arith, h.above)) (omega (arith, lies.2.2.0)) h.ranged.0 (omega (arith, c.state.column)) v e)
       (λ u g.
       let c' = kept_told around (live is) s r m t u.mem h.few_behind g.memory c in
       looser f u _ _ [] 1 1 (omega arith)
       (λ v e. stood around code n h.small is (sent t) r (w.regs.pc + (16 + (3 + (length t + 0)))) u.mem w.text w.answers h.rest c'.state c'.read
-          c'.homed h.text h.answers h.short v (moved _ _ own _ w.text w.answers v e (omega arith)))
+      c'.homed h.text h.answers h.short v (moved _ _ own _ w.text w.answers v e (omega arith)))
       (jumps f 16 fits (w.regs.pc + 16) own u.mem w.text w.answers refl (w.regs.pc + 19 + length t) lies.2.1 u (back_here _ (w.regs.pc + 16) w.text w.answers _ u g e0))))
 
   pub text_law : (t : List ℕ) → Ready around n (Single (SendText t)) (SendText t ∷ is) is s r w → Comes f w (Matches around (line code n is (sent t) r)) t (8 + limit)
@@ -92,14 +98,14 @@ module _ (around : Surroundings) (fits : Fits around.f 16) (limit : ℕ) (rs : S
       let m = with_byte w.mem 0xFB ((w.regs.pc + 19) % 256) in
       let m' = with_byte m 0xFC ((w.regs.pc + 19) / 256) in
       let c = kept_scratch around (live is) s r w.mem (with_byte m' LENGTH (length t)) h.few_behind (λ a o. put_other m' LENGTH (length t) a
-          (apart a LENGTH o refl) ∙ put_other m 0xFC ((w.regs.pc + 19) / 256) a (apart a 0xFC o refl)
-          ∙ put_other w.mem 0xFB ((w.regs.pc + 19) % 256) a (apart a 0xFB o refl)) (kept h) in
+      (apart a LENGTH o refl) ∙ put_other m 0xFC ((w.regs.pc + 19) / 256) a (apart a 0xFC o refl)
+      ∙ put_other w.mem 0xFB ((w.regs.pc + 19) % 256) a (apart a 0xFB o refl)) (kept h) in
       whatever f 16 fits w.regs.pc own w.mem w.text w.answers _ t (8 + limit) (λ a x y n' v i z c'.
       looser f _ _ _ t (7 + (limit + 1)) (8 + limit) (omega arith) (λ u g. g)
       (along f 16 fits (text_call TEXT_AT (w.regs.pc + 19) (length t)) w.regs.pc (view a x y n' v i z c' w.regs.pc own w.mem w.text w.answers) _ _ t
-          (limit + 1) h.lies.1 (refl, refl, (refl, refl, (refl, refl, (refl, refl, (refl, refl, (refl, refl, (refl, refl, tt))))))) refl
+      (limit + 1) h.lies.1 (refl, refl, (refl, refl, (refl, refl, (refl, refl, (refl, refl, (refl, refl, (refl, refl, tt))))))) refl
       (text_sent t h _ _ (returns_to w.regs.pc h.lies.0) (with_byte m' LENGTH (length t)) c refl refl refl _
-          (record { pc = refl; stack = refl; binary = refl; mem = refl; text = refl; answers = refl })))) w (here h)
+      (record { pc = refl; stack = refl; binary = refl; mem = refl; text = refl; answers = refl })))) w (here h)
     where
       returns_to : (at : ℕ) → at + 16 ≤ highest_code
           → back_at ((((((((((at + 2) % 65536 + 2) % 65536 + 2) % 65536 + 2) % 65536 + 2) % 65536) + 3) % 65536 + 3) % 65536 + 65535) % 65536 % 256)
@@ -136,9 +142,9 @@ module _ (around : Surroundings) (fits : Fits around.f 16) (limit : ℕ) (rs : S
       let p = w.regs.pc + size (brought src LEFT) in
       looser f w _ _ t (4 + (1 + limit)) (5 + limit) (omega arith) (λ u x. x)
       (chained f w _ _ [] t 4 (1 + limit) (brings f 16 fits w.regs.pc own w.mem w.text w.answers refl src LEFT lies.0
-          (operand_apart 0 a LEFT (omega arith) (omega arith) fit) (refl, refl) lies.1 w (here h)) (λ u e.
+      (operand_apart 0 a LEFT (omega arith) (omega arith) fit) (refl, refl) lies.1 w (here h)) (λ u e.
       chained f u _ _ [] t 1 limit (calls f 16 fits p own m w.text w.answers refl NUMBER_AT refl lies.2.0 lies.2.1 u e) (λ u e.
       looser f u _ _ t limit limit (omega arith)
       (told_lands _ _ h (with_fetched s r 0 a) (λ m k. used_read AsNumber a is s r m h.free k) t (w.regs.pc + (size (brought src LEFT) + 3)) _ m
-          h.rest c (behind_call p lies.2.0 ∙ (let q : p + 3 ≡ w.regs.pc + (size (brought src LEFT) + 3) = omega arith in q)))
+      h.rest c (behind_call p lies.2.0 ∙ (let q : p + 3 ≡ w.regs.pc + (size (brought src LEFT) + 3) = omega arith in q)))
       (rs.number _ _ m w.text w.answers (fetched s r 0 a) (word_put w.mem LEFT _ _ _ v.low_byte v.high_byte v.small) (omega (arith, c.state.column)) u e))))

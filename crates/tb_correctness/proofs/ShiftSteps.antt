@@ -11,7 +11,7 @@ use Rattle.tb_reaching.proofs.Memory.{put_other}
 use Rattle.tb_reaching.proofs.Placed.{placed_last, placing}
 use Rattle.tb_reaching.proofs.Instr.{Instr, Stands, ins, instr_bytes}
 use Rattle.tb_reaching.specs.View.{Bytes, Comes, Part, Fits, Setup, View, view}
-use Rattle.tb_runtime16.specs.Places.{LEFT}
+use Rattle.tb_runtime16.specs.Addresses.{LEFT}
 use Rattle.tb_runtime16.specs.Routines.{Here, WithA, Moves}
 use Rattle.tb_simulation.proofs.Mirrors.{Carrying}
 use Rattle.tb_simulation.proofs.Pieces.{InData, loads, moves_then, moves_looser, put_word, whatever_a}
@@ -71,28 +71,66 @@ module _ (f : Setup) (room : ℕ) (fits : Fits f room) (at : ℕ) (bs : List ℕ
       (Known (at + 2) (bit_and a b) c bs m text answers) [] 1
   masks b a c r st = whatever_known f room fits at a c bs m text answers _ [] 1 (λ x y n v i z.
       placed_last f room fits (ins 0x29 b) (view a x y n v i z c at bs m text answers) _ _ small st refl
-          (record { here = record { pc = let e : (at + 2) % 65536 ≡ at + 2 = omega arith in e; stack = refl; binary = refl; mem = refl; text = refl;
-          answers = refl }; number = refl; carry = refl }))
+      (record {
+        here = record {
+          pc = let e : (at + 2) % 65536 ≡ at + 2 = omega arith in e;
+          stack = refl;
+          binary = refl;
+          mem = refl;
+          text = refl;
+          answers = refl;
+        };
+        number = refl;
+        carry = refl;
+      }))
 
   pub turns : (b a : ℕ) (c : Bool) → at + 2 ≤ highest_code → Bytes f.code at (instr_bytes (ins 0x49 b)) → Moves f (Known at a c bs m text answers)
       (Known (at + 2) (bit_xor a b) c bs m text answers) [] 1
   turns b a c r st = whatever_known f room fits at a c bs m text answers _ [] 1 (λ x y n v i z.
       placed_last f room fits (ins 0x49 b) (view a x y n v i z c at bs m text answers) _ _ small st refl
-          (record { here = record { pc = let e : (at + 2) % 65536 ≡ at + 2 = omega arith in e; stack = refl; binary = refl; mem = refl; text = refl;
-          answers = refl }; number = refl; carry = refl }))
+      (record {
+        here = record {
+          pc = let e : (at + 2) % 65536 ≡ at + 2 = omega arith in e;
+          stack = refl;
+          binary = refl;
+          mem = refl;
+          text = refl;
+          answers = refl;
+        };
+        number = refl;
+        carry = refl;
+      }))
 
   keeps_left : (a : ℕ) (c : Bool) → at + 2 ≤ highest_code → Bytes f.code at (instr_bytes (ins 0x85 LEFT)) → Moves f (Known at a c bs m text answers)
       (Carrying (at + 2) bs (with_byte m LEFT a) text answers c) [] 1
   keeps_left a c r st = whatever_known f room fits at a c bs m text answers _ [] 1 (λ x y n v i z.
       placed_last f room fits (ins 0x85 LEFT) (view a x y n v i z c at bs m text answers) _ _ small st refl
-          (record { here = record { pc = let e : (at + 2) % 65536 ≡ at + 2 = omega arith in e; stack = refl; binary = refl; mem = refl; text = refl;
-          answers = refl }; carry = refl }))
+      (record {
+        here = record {
+          pc = let e : (at + 2) % 65536 ≡ at + 2 = omega arith in e;
+          stack = refl;
+          binary = refl;
+          mem = refl;
+          text = refl;
+          answers = refl;
+        };
+        carry = refl;
+      }))
 
   loads_left : at + 2 ≤ highest_code → Bytes f.code at (instr_bytes (ins 0xA5 LEFT)) → Moves f (Here at bs m text answers) (WithA (at + 2) (m LEFT) bs m text answers) [] 1
   loads_left r st w e = whatever_a f room fits at w.regs.a bs m text answers _ [] 1 (λ x y n v i z c.
       placed_last f room fits (ins 0xA5 LEFT) (view w.regs.a x y n v i z c at bs m text answers) _ _ small st refl
-          (record { here = record { pc = let e : (at + 2) % 65536 ≡ at + 2 = omega arith in e; stack = refl; binary = refl; mem = refl; text = refl;
-          answers = refl }; number = refl })) w (record { here = e; number = refl })
+      (record {
+        here = record {
+          pc = let e : (at + 2) % 65536 ≡ at + 2 = omega arith in e;
+          stack = refl;
+          binary = refl;
+          mem = refl;
+          text = refl;
+          answers = refl;
+        };
+        number = refl;
+      })) w (record { here = e; number = refl })
 
   -- ---- shifts
   pub halves : (a : ℕ) → at + size halved ≤ highest_code → Stands f.code at halved → Moves f (WithA at a bs m text answers)
@@ -150,15 +188,24 @@ module _ (f : Setup) (room : ℕ) (fits : Fits f room) (at : ℕ) (bs : List ℕ
 
   pub increases : (l : ℕ) (a : Source) → at + size (increased a) ≤ highest_code → IsRead (low a) → IsRead (high a) → Stands f.code at (increased a)
       → Moves f (WithA at l bs m text answers) (WithA (at + size (increased a)) (sum_low l a % 256) bs
-          (with_byte m LEFT ((m LEFT + value m (high a) + bit (nat_lt 255 (sum_low l a))) % 256)) text answers) [] 7
+      (with_byte m LEFT ((m LEFT + value m (high a) + bit (nat_lt 255 (sum_low l a))) % 256)) text answers) [] 7
   increases l a r rl rh st =
       let front = ins 0x18 0 ∷ adc (low a) ∷ ins 0xAA 0 ∷ [] in
       let back = ins 0xA5 LEFT ∷ adc (high a) ∷ ins 0x85 LEFT ∷ ins 0x8A 0 ∷ [] in
       let parts = stands_split f.code at front back (omega (arith, r)) st in
       moves_then f _ _ _ [] [] 3 4 (adds_aside f room fits at bs m text answers small (low a) l (omega (arith, r)) rl parts.0)
       (moves_looser f _ _ _ [] 4 4 (omega arith)
-      (λ u k. record { here = record { pc = k.here.pc ∙ (let q : at + size front + size back ≡ at + size (increased a) = omega arith in q);
-          stack = k.here.stack; binary = k.here.binary; mem = k.here.mem; text = k.here.text; answers = k.here.answers }; number = k.number })
+      (λ u k. record {
+        here = record {
+          pc = k.here.pc ∙ (let q : at + size front + size back ≡ at + size (increased a) = omega arith in q);
+          stack = k.here.stack;
+          binary = k.here.binary;
+          mem = k.here.mem;
+          text = k.here.text;
+          answers = k.here.answers;
+        };
+        number = k.number;
+      })
       (adds_back f room fits (at + size front) bs m text answers small (high a) (sum_low l a % 256) (nat_lt 255 (sum_low l a)) (omega (arith, r)) rh parts.1))
 
   -- a word is brought, its low byte into A
@@ -174,8 +221,17 @@ module _ (f : Setup) (room : ℕ) (fits : Fits f room) (at : ℕ) (bs : List ℕ
       moves_then f _ _ _ [] [] 1 2 (loads_with f room fits at bs m text answers small (high a) c (high_read a LEFT g) (omega (arith, r)) st.0)
       (moves_then f _ _ _ [] [] 1 1 (keeps_left f room fits p1 bs m text answers small h c (omega (arith, r)) s1.0)
       (moves_looser f _ _ _ [] 1 1 (omega arith)
-      (λ u k. record { here = record { pc = k.here.pc ∙ (let q : p2 + len (lda (low a)) ≡ at + size (begun a) = omega arith in q);
-          stack = k.here.stack; binary = k.here.binary; mem = k.here.mem; text = k.here.text; answers = k.here.answers }; number = k.number ∙ same })
+      (λ u k. record {
+        here = record {
+          pc = k.here.pc ∙ (let q : p2 + len (lda (low a)) ≡ at + size (begun a) = omega arith in q);
+          stack = k.here.stack;
+          binary = k.here.binary;
+          mem = k.here.mem;
+          text = k.here.text;
+          answers = k.here.answers;
+        };
+        number = k.number ∙ same;
+      })
       (λ u k. loads_byte f room fits p2 bs (with_byte m LEFT h) text answers small (low a) (low_read a LEFT g) (omega (arith, r)) s2.0 u k.here))) w (record { here = e; carry = refl })
 
   -- C is the sign of a word
@@ -186,8 +242,17 @@ module _ (f : Setup) (room : ℕ) (fits : Fits f room) (at : ℕ) (bs : List ℕ
       let s1 = behind f.code at (lda (high a)) (cmp (Fixed 128) ∷ []) (omega (arith, r)) st in
       moves_then f _ _ _ [] [] 1 1 (loads_byte f room fits at bs m text answers small (high a) (high_read a LEFT g) (omega (arith, r)) st.0)
       (moves_looser f _ _ _ [] 1 1 (omega arith)
-      (λ u k. record { here = record { pc = k.here.pc ∙ (let q : p1 + 2 ≡ at + size (signed a) = omega arith in q); stack = k.here.stack;
-          binary = k.here.binary; mem = k.here.mem; text = k.here.text; answers = k.here.answers }; carry = k.carry })
+      (λ u k. record {
+        here = record {
+          pc = k.here.pc ∙ (let q : p1 + 2 ≡ at + size (signed a) = omega arith in q);
+          stack = k.here.stack;
+          binary = k.here.binary;
+          mem = k.here.mem;
+          text = k.here.text;
+          answers = k.here.answers;
+        };
+        carry = k.carry;
+      })
       (compares_byte f room fits p1 bs m text answers small (Fixed 128) (value m (high a)) tt (omega (arith, r)) s1.0))
 
   masked : (k : ℕ) → k < 5 → (bit_xor (bit_and 255 (all_but_lowest (suc k))) (all_but_lowest (suc k)) ≡ 0)
@@ -220,9 +285,18 @@ module _ (f : Setup) (room : ℕ) (fits : Fits f room) (at : ℕ) (bs : List ℕ
       moves_looser f _ _ _ [] 2 5 (omega arith) (λ u k. k)
       (moves_then f _ _ _ [] [] 1 1 (loads_with f room fits at bs m text answers small (low a) c (low_read a LEFT g) (omega (arith, r)) st.0)
       (moves_looser f _ _ _ [] 1 1 (omega arith)
-      (λ u k. record { here = record { pc = k.here.pc ∙ (let q : p1 + 2 ≡ at + size (rounded zero a) = omega arith in q); stack = k.here.stack;
-          binary = k.here.binary; mem = k.here.mem; text = k.here.text; answers = k.here.answers }; number = k.number ∙ ap (λ n. n % 256) e;
-          carry = k.carry ∙ ap (λ n. nat_lt 255 n) e })
+      (λ u k. record {
+        here = record {
+          pc = k.here.pc ∙ (let q : p1 + 2 ≡ at + size (rounded zero a) = omega arith in q);
+          stack = k.here.stack;
+          binary = k.here.binary;
+          mem = k.here.mem;
+          text = k.here.text;
+          answers = k.here.answers;
+        };
+        number = k.number ∙ ap (λ n. n % 256) e;
+        carry = k.carry ∙ ap (λ n. nat_lt 255 n) e;
+      })
       (adds_byte f room fits p1 bs m text answers small (Fixed 0) l c tt (omega (arith, r)) s1.0)))
     where
       by : (c : Bool) → value m (low a) + 0 + bit c ≡ value m (low a) + more zero c
@@ -246,9 +320,19 @@ module _ (f : Setup) (room : ℕ) (fits : Fits f room) (at : ℕ) (bs : List ℕ
       (moves_then f _ _ _ [] [] 1 2 (masks f room fits (at + 2 + 2) bs m text answers small mask (filled c) c1 (omega (arith, r)) s2.0)
       (moves_then f _ _ _ [] [] 1 1 (turns f room fits (at + 2 + 2 + 2) bs m text answers small mask (bit_and (filled c) mask) c1 (omega (arith, r)) s3.0)
       (moves_looser f _ _ _ [] 1 1 (omega arith)
-      (λ u k'. record { here = record { pc = k'.here.pc ∙ (let q : at + 2 + 2 + 2 + 2 + len (adc (low a)) ≡ at + size (rounded (suc k) a) =
-          omega arith in q); stack = k'.here.stack; binary = k'.here.binary; mem = k'.here.mem; text = k'.here.text; answers = k'.here.answers };
-          number = k'.number ∙ ap (λ n. n % 256) e; carry = k'.carry ∙ ap (λ n. nat_lt 255 n) e })
+      (λ u k'. record {
+        here = record {
+          pc = k'.here.pc ∙ (let q : at + 2 + 2 + 2 + 2 + len (adc (low a)) ≡ at + size (rounded (suc k) a) =
+              omega arith in q);
+          stack = k'.here.stack;
+          binary = k'.here.binary;
+          mem = k'.here.mem;
+          text = k'.here.text;
+          answers = k'.here.answers;
+        };
+        number = k'.number ∙ ap (λ n. n % 256) e;
+        carry = k'.carry ∙ ap (λ n. nat_lt 255 n) e;
+      })
       (adds_byte f room fits (at + 2 + 2 + 2 + 2) bs m text answers small (low a) (left_in k c) c1 (low_read a LEFT g) (omega (arith, r)) s4.0)))))
 
   -- the low byte is kept, and the carry added to the high one
@@ -265,8 +349,17 @@ module _ (f : Setup) (room : ℕ) (fits : Fits f room) (at : ℕ) (bs : List ℕ
       moves_then f _ _ _ [] [] 1 2 (keeps_left f room fits at bs m text answers small l c (omega (arith, r)) st.0)
       (moves_then f _ _ _ [] [] 1 1 (loads_with f room fits p1 bs m1 text answers small (high a) c (high_read a LEFT g) (omega (arith, r)) s1.0)
       (moves_looser f _ _ _ [] 1 1 (omega arith)
-      (λ u k. record { here = record { pc = k.here.pc ∙ (let q : p2 + 2 ≡ at + size (carried a) = omega arith in q); stack = k.here.stack;
-          binary = k.here.binary; mem = k.here.mem; text = k.here.text; answers = k.here.answers }; number = k.number ∙ ap (λ n. n % 256) e })
+      (λ u k. record {
+        here = record {
+          pc = k.here.pc ∙ (let q : p2 + 2 ≡ at + size (carried a) = omega arith in q);
+          stack = k.here.stack;
+          binary = k.here.binary;
+          mem = k.here.mem;
+          text = k.here.text;
+          answers = k.here.answers;
+        };
+        number = k.number ∙ ap (λ n. n % 256) e;
+      })
       (adds_byte f room fits p2 bs m1 text answers small (Fixed 0) h c tt (omega (arith, r)) s2.0)))
 
   -- ---- to its place
@@ -280,8 +373,15 @@ module _ (f : Setup) (room : ℕ) (fits : Fits f room) (at : ℕ) (bs : List ℕ
       moves_then f _ _ _ [] [] 1 2 (puts_byte f room fits at bs m text answers small to l d.0.0 (omega (arith, r)) st.0)
       (moves_then f _ _ _ [] [] 1 1 (loads_left f room fits (at + 3) bs m1 text answers small (omega (arith, r)) s1.0)
       (moves_looser f _ _ _ [] 1 1 (omega arith)
-      (λ u k. record { pc = k.pc ∙ (let q : at + 3 + 2 + 3 ≡ at + 8 = omega arith in q); stack = k.stack; binary = k.binary; mem = k.mem
-          ∙ ap (λ b. with_byte m1 (to + 1) b) same; text = k.text; answers = k.answers })
+      (λ u k. record {
+        pc = k.pc ∙ (let q : at + 3 + 2 + 3 ≡ at + 8 = omega arith in q);
+        stack = k.stack;
+        binary = k.binary;
+        mem = k.mem
+            ∙ ap (λ b. with_byte m1 (to + 1) b) same;
+        text = k.text;
+        answers = k.answers;
+      })
       (puts_byte f room fits (at + 3 + 2) bs m1 text answers small (to + 1) (m1 LEFT) d.0.1 (omega (arith, r)) s2.0)))
 
   pub ends_high : (h to : ℕ) → at + 8 ≤ highest_code → Beyond to → Stands f.code at (high_first to) → Moves f (WithA at h bs m text answers)
@@ -294,6 +394,13 @@ module _ (f : Setup) (room : ℕ) (fits : Fits f room) (at : ℕ) (bs : List ℕ
       moves_then f _ _ _ [] [] 1 2 (puts_byte f room fits at bs m text answers small (to + 1) h d.0.1 (omega (arith, r)) st.0)
       (moves_then f _ _ _ [] [] 1 1 (loads_left f room fits (at + 3) bs m1 text answers small (omega (arith, r)) s1.0)
       (moves_looser f _ _ _ [] 1 1 (omega arith)
-      (λ u k. record { pc = k.pc ∙ (let q : at + 3 + 2 + 3 ≡ at + 8 = omega arith in q); stack = k.stack; binary = k.binary; mem = k.mem
-          ∙ ap (λ b. with_byte m1 to b) same ∙ swapped m (to + 1) to h (m LEFT) (λ q. omega (arith, q)); text = k.text; answers = k.answers })
+      (λ u k. record {
+        pc = k.pc ∙ (let q : at + 3 + 2 + 3 ≡ at + 8 = omega arith in q);
+        stack = k.stack;
+        binary = k.binary;
+        mem = k.mem
+            ∙ ap (λ b. with_byte m1 to b) same ∙ swapped m (to + 1) to h (m LEFT) (λ q. omega (arith, q));
+        text = k.text;
+        answers = k.answers;
+      })
       (puts_byte f room fits (at + 3 + 2) bs m1 text answers small to (m1 LEFT) d.0.0 (omega (arith, r)) s2.0)))

@@ -12,7 +12,7 @@ use Rattle.tb_reaching.proofs.Comes.{chained, looser}
 use Rattle.tb_reaching.proofs.Instr.{Stands}
 use Rattle.tb_reaching.proofs.Memory.{put_other, put_same}
 use Rattle.tb_reaching.specs.View.{Fits, Setup, View}
-use Rattle.tb_runtime16.specs.Places.{LEFT}
+use Rattle.tb_runtime16.specs.Addresses.{LEFT}
 use Rattle.tb_runtime16.specs.Routines.{Here, Moves, WithA}
 use Rattle.tb_simulation.proofs.Resolved.{Code, Lies, highest_code, pieces_size, size}
 use Rattle.tb_selection.specs.Groups.{Operand, Destination, Calculate, slot_of}
@@ -142,13 +142,13 @@ module _ (f : Setup) (room : ℕ) (fits : Fits f room) (bs : List ℕ) (m : ℕ 
         (chained f w _ q [] [] 2 (5 + (3 + (3 * suc k + j))) (signs f room fits at bs m text answers small a (omega (arith, r, sizes)) ga s1.0 w e) (λ u g.
         chained f u _ q [] [] 5 (3 + (3 * suc k + j)) (rounds f room fits p1 bs m text answers small k a c few (omega (arith, r, sizes)) ga s2.0 u g) (λ u g.
         chained f u _ q [] [] 3 (3 * suc k + j) (carries f room fits p2 bs m text answers small ((value m (low a) + n) % 256)
-            (nat_lt 255 (value m (low a) + n)) a (omega (arith, r, sizes)) ga s3.0 u g) (λ u g.
+        (nat_lt 255 (value m (low a) + n)) a (omega (arith, r, sizes)) ga s3.0 u g) (λ u g.
         halves_then (suc k) p3 (word (x + more k (nat_le 32768 x))) (omega (arith, r, sizes)) s4.0 q j (λ u g. next u (subst (λ v. HighInA p4 v u) there g)) u (raised_here u g)))))
 
 module _ {around : Surroundings} (fits : Fits around.f 16) (code : SlotCode) {n : ℕ} {a b : Operand} {d : Destination} {is : List Instr} {s : State}
     {r : Slots} {w : View} (h : Ready around n (Calculate op.Divide a b d) (spread op.Divide a b d is) is s r w) (j : ℕ) (few : j < 6)
     (lies : Lies around.f.code w.regs.pc (Code (shifted j (source_of (slot_of d) a) (destination_at d)) ∷ []))
-        (rest : GroupsLie around.ly around.f.code n (w.regs.pc + pieces_size (Code (shifted j (source_of (slot_of d) a) (destination_at d)) ∷ [])) (select is)) where
+    (rest : GroupsLie around.ly around.f.code n (w.regs.pc + pieces_size (Code (shifted j (source_of (slot_of d) a) (destination_at d)) ∷ [])) (select is)) where
   open around use {ly, f, lo, hi}
   open calculation a b d s r use {x, y, left, to}
 
@@ -175,9 +175,9 @@ module _ {around : Surroundings} (fits : Fits around.f 16) (code : SlotCode) {n 
   lands u g =
       looser f u _ _ [] 3 3 (omega arith)
       (result_lands h code v (u.mem LEFT) u.regs.a (at + 8) u.mem g.low g.high g.is_word behind
-          (kept_scratch around (live (spread op.Divide a b d is)) s r w.mem u.mem h.some_read (λ p o. g.others p (apart p LEFT o refl)) (kept h)))
+      (kept_scratch around (live (spread op.Divide a b d is)) s r w.mem u.mem h.some_read (λ p o. g.others p (apart p LEFT o refl)) (kept h)))
       (ends_high f 16 fits at own u.mem w.text w.answers refl u.regs.a to (let e = end_here in omega (arith, e, lies.0)) (dest_beyond d (fit h).dest)
-          (last_stands f 16 fits own w.mem w.text w.answers refl w.regs.pc left x (left_apart h) ha j few to lies.0 lies.1) u (record { here = g.here; number = refl }))
+      (last_stands f 16 fits own w.mem w.text w.answers refl w.regs.pc left x (left_apart h) ha j few to lies.0 lies.1) u (record { here = g.here; number = refl }))
 
   pub shift_law : y ≡ 2 ^ (j + 1) → y ≢ 0 → Leads h code 31
   shift_law power some =

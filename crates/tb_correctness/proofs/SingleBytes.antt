@@ -10,14 +10,14 @@ use Rattle.tb_words.specs.Words.{word}
 use Rattle.tb_meaning.specs.Control.{has_line}
 use Rattle.tb_lower.specs.Slots as slots
 use Rattle.tb_lower.specs.Ranges.{IsInRange}
-use Rattle.tb_runtime16.specs.Places.{POINTER, LENGTH, TEXT_AT}
+use Rattle.tb_runtime16.specs.Addresses.{POINTER, LENGTH, TEXT_AT}
 use Rattle.tb_templates.specs.declared.labels.Inner.TheVariants as inside
 use Rattle.tb_templates.specs.declared.labels.Target.TheVariants as target
 use Rattle.tb_templates.specs.Labels.{label_of}
 use Rattle.tb_templates.specs.Layout.{LabelsAt}
 use Rattle.tb_templates.specs.Templates as product
 use Rattle.tb_templates.specs.Templates.{var_at, slot_at}
-use Rattle.tb_simulation.specs.Layout.{Layout, place_of, layout_of, next_at}
+use Rattle.tb_simulation.specs.Layout.{Layout, label_address, layout_of, next_at}
 use Rattle.tb_simulation.proofs.Numbers.{low_of, high_of, start_of_line, constant_bytes, copied_bytes, faulted_bytes, jump_bytes}
 use Rattle.std.proofs.lemmas.List.{append-nil}
 use Rattle.tb_reaching.proofs.Instr.{flat}
@@ -43,13 +43,13 @@ module _ (labels : List (Name × ℕ)) (ns : List ℕ) (seed : ℕ) (seed_small 
   text_bytes i at t small below h =
       let text = target.Inside inside.Text n i in
       let over = target.Inside inside.Behind n i in
-      let here : place_of labels text ≡ at + 19 = of_label labels ns seed (label_of text) _ h.1.1.1.1.1.1.1.1.0 ∙ omega arith in
-      let end : place_of labels over ≡ at + 19 + length t = of_label labels ns seed (label_of over) _ h.1.1.1.1.1.1.1.1.1.1.0 ∙ omega arith in
+      let here : label_address labels text ≡ at + 19 = of_label labels ns seed (label_of text) _ h.1.1.1.1.1.1.1.1.0 ∙ omega arith in
+      let end : label_address labels over ≡ at + 19 + length t = of_label labels ns seed (label_of over) _ h.1.1.1.1.1.1.1.1.1.1.0 ∙ omega arith in
       let l : number_in labels (LowOf (label_of text)) % 256 ≡ (at + 19) % 256 = omega (arith, low_of labels ns seed (label_of text), here) in
       let r : number_in labels (HighOf (label_of text)) % 256 ≡ (at + 19) / 256 = omega (arith, high_of labels ns seed (label_of text), here, below) in
       let m : length t % 256 ≡ length t = omega (arith, small) in
       λ j. 0xa9 ∷ l j ∷ 0x85 ∷ POINTER ∷ 0xa9 ∷ r j ∷ 0x85 ∷ (POINTER + 1) ∷ 0xa9 ∷ m j ∷ 0x8d ∷ LENGTH % 256 ∷ LENGTH / 256 ∷ 0x20 ∷ TEXT_AT % 256
-          ∷ TEXT_AT / 256 ∷ 0x4c ∷ end j % 256 ∷ end j / 256 ∷ (t ++ [])
+      ∷ TEXT_AT / 256 ∷ 0x4c ∷ end j % 256 ∷ end j / 256 ∷ (t ++ [])
 
   -- a group of another kind is none of a single instruction
   abbrev is_single : Group → Bool

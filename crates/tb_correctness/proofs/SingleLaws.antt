@@ -48,9 +48,9 @@ module _ (around : Surroundings) (fits : Fits around.f 16) (limit : ℕ) (rs : S
     by_number_room k h true false e e' = looser f w _ _ (fault_text 4 n) (12 + limit) most (omega arith) (λ u x. x) (call_to_full around fits limit rs code laid n is s r w k h e e')
     by_number_room k h true true e e' = looser f w _ _ [] (13 + limit) most (omega arith) (λ u x. x) (call_to_found around fits limit rs code laid n is s r w k h e e')
 
-    by_notes : Begins Return → (l : List Place) → s.returns ≡ l → Leads w (settled n is r (leaving (return_to n l s)))
-    by_notes h [] e = looser f w _ _ (fault_text 5 n) (11 + limit) most (omega arith) (λ u x. x) (return_fails around fits limit rs code laid n is s r w h e)
-    by_notes h (p ∷ ps) e = looser f w _ _ [] (13 + limit) most (omega arith) (λ u x. x) (return_law around fits limit rs code laid n is s r w h p ps e)
+    by_returns : Begins Return → (l : List Place) → s.returns ≡ l → Leads w (settled n is r (leaving (return_to n l s)))
+    by_returns h [] e = looser f w _ _ (fault_text 5 n) (11 + limit) most (omega arith) (λ u x. x) (return_fails around fits limit rs code laid n is s r w h e)
+    by_returns h (p ∷ ps) e = looser f w _ _ [] (13 + limit) most (omega arith) (λ u x. x) (return_law around fits limit rs code laid n is s r w h p ps e)
 
     by_turn : (x : ℕ) → Begins (Input x) → (o : Bool) → s.open_line ≡ o → (t : Turn) → turn Nothing s.text ≡ t
         → Leads w (settled n is r (staying r (if o then take_turn n x t s else after_sending (63 ∷ 32 ∷ [])
@@ -96,5 +96,5 @@ module _ (around : Surroundings) (fits : Fits around.f 16) (limit : ℕ) (rs : S
     act_law Call a h = absurd (let no : ⊥ = cc in no)
     act_law (JumpTo k) a h = by_number k h (has_line ly.numbers k) refl
     act_law (CallTo k) a h = by_number_room k h (has_line ly.numbers k) (nat_lt (length s.returns) deepest) refl refl
-    act_law Return a h = by_notes h s.returns refl
+    act_law Return a h = by_returns h s.returns refl
     act_law End a h = looser f w _ _ [] 1 most (omega arith) (λ u x. x) (end_law around fits n is s r w h)

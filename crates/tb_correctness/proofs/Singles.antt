@@ -53,8 +53,15 @@ merged_so i g = by (merged i g) (merged_is i g)
     by (Some m) e = several_so m (omega (arith, ap length e, some_in g))
 
 both_so : (g a b : Group) (is : List Instr) → expand g ++ [] ≡ expand a ++ (expand b ++ is) → IsAlone g
-both_so g a b is e = several_so g (let lengths = ap length e in omega (arith, lengths, length-append (expand g) [],
-    length-append (expand a) (expand b ++ is), length-append (expand b) is, some_in a, some_in b))
+both_so g a b is e = several_so g (let lengths = ap length e in omega (
+  arith,
+  lengths,
+  length-append (expand g) [],
+  length-append (expand a) (expand b ++ is),
+  length-append (expand b) is,
+  some_in a,
+  some_in b,
+))
 
 three_so : (a b c : Group) → IfAny (three_as_one a b c)
 three_so a b c = by (three_as_one a b c) (three_is a b c)

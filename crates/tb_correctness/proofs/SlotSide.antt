@@ -158,7 +158,7 @@ module _ (code : SlotCode) (n : ℕ) (op : Operator) (a b : Operand) (d : Destin
       (line code n (spread op a b d is) s r) ≡ Goes (line code n is (landed d v s) (calculated s r a b d v)) []
   calculate_goes v e =
       let got : apply op (slice_index both.words k) (slice_index both.words (k + 1)) ≡ Some v = ap (λ x. apply op x (slice_index both.words (k + 1)))
-          left_is ∙ ap (λ y. apply op (fetched s r k a) y) right_is ∙ e in
+      left_is ∙ ap (λ y. apply op (fetched s r k a) y) right_is ∙ e in
       so_far ∙ ends code n (Compute op k) d is s s both v (omega (arith, both_length, room)) (ap (λ o. into n k (given o s.seed) s both) got)
 
   -- and where it has none
@@ -166,7 +166,7 @@ module _ (code : SlotCode) (n : ℕ) (op : Operator) (a b : Operand) (d : Destin
       (line code n (spread op a b d is) s r) ≡ Stops Faulted (fault_text 2 n)
   calculate_fails e =
       let got : apply op (slice_index both.words k) (slice_index both.words (k + 1)) ≡ None = ap (λ x. apply op x (slice_index both.words (k + 1)))
-          left_is ∙ ap (λ y. apply op (fetched s r k a) y) right_is ∙ e in
+      left_is ∙ ap (λ y. apply op (fetched s r k a) y) right_is ∙ e in
       so_far ∙ stops code n (Compute op k) (kept d) (kept d ++ is) s both (fault_text 2 n) (ap (λ o. into n k (given o s.seed) s both) got)
 
 -- ---- what is read

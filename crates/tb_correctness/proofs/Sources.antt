@@ -78,25 +78,63 @@ module _ (f : Setup) (room : ℕ) (fits : Fits f room) where
     pub clears : at + 1 ≤ highest_code → Bytes f.code at (instr_bytes (ins 0x18 0)) → Moves f (Here at bs m text answers) (Carrying (at + 1) bs m text answers false) [] 1
     clears r st = whatever f room fits at bs m text answers _ [] 1 (λ a x y n v i z c.
         placed_last f room fits (ins 0x18 0) (view a x y n v i z c at bs m text answers) _ _ small st refl
-            (record { here = record { pc = let e : (at + 1) % 65536 ≡ at + 1 = omega arith in e; stack = refl; binary = refl; mem = refl; text = refl;
-            answers = refl }; carry = refl }))
+        (record {
+          here = record {
+            pc = let e : (at + 1) % 65536 ≡ at + 1 = omega arith in e;
+            stack = refl;
+            binary = refl;
+            mem = refl;
+            text = refl;
+            answers = refl;
+          };
+          carry = refl;
+        }))
 
     pub raises_carry : at + 1 ≤ highest_code → Bytes f.code at (instr_bytes (ins 0x38 0)) → Moves f (Here at bs m text answers) (Carrying (at + 1) bs m text answers true) [] 1
     raises_carry r st = whatever f room fits at bs m text answers _ [] 1 (λ a x y n v i z c.
         placed_last f room fits (ins 0x38 0) (view a x y n v i z c at bs m text answers) _ _ small st refl
-            (record { here = record { pc = let e : (at + 1) % 65536 ≡ at + 1 = omega arith in e; stack = refl; binary = refl; mem = refl; text = refl;
-            answers = refl }; carry = refl }))
+        (record {
+          here = record {
+            pc = let e : (at + 1) % 65536 ≡ at + 1 = omega arith in e;
+            stack = refl;
+            binary = refl;
+            mem = refl;
+            text = refl;
+            answers = refl;
+          };
+          carry = refl;
+        }))
 
     pub loads_with : (b : Byte) (c : Bool) → IsRead b → at + len (lda b) ≤ highest_code → Bytes f.code at (instr_bytes (lda b))
         → Moves f (Carrying at bs m text answers c) (Known (at + len (lda b)) (value m b) c bs m text answers) [] 1
     loads_with (Fixed b) c d r st = whatever_with f room fits at bs m text answers c _ [] 1 (λ a x y n v i z.
         placed_last f room fits (ins 0xA9 b) (view a x y n v i z c at bs m text answers) _ _ small st refl
-            (record { here = record { pc = let e : (at + 2) % 65536 ≡ at + 2 = omega arith in e; stack = refl; binary = refl; mem = refl; text = refl;
-            answers = refl }; number = refl; carry = refl }))
+        (record {
+          here = record {
+            pc = let e : (at + 2) % 65536 ≡ at + 2 = omega arith in e;
+            stack = refl;
+            binary = refl;
+            mem = refl;
+            text = refl;
+            answers = refl;
+          };
+          number = refl;
+          carry = refl;
+        }))
     loads_with (At p) c d r st = whatever_with f room fits at bs m text answers c _ [] 1 (λ a x y n v i z.
         loads_last f room fits 0xAD p Lda (view a x y n v i z c at bs m text answers) _ _ refl refl refl small st d refl
-            (record { here = record { pc = let e : (at + 3) % 65536 ≡ at + 3 = omega arith in e; stack = refl; binary = refl; mem = refl; text = refl;
-            answers = refl }; number = refl; carry = refl }))
+        (record {
+          here = record {
+            pc = let e : (at + 3) % 65536 ≡ at + 3 = omega arith in e;
+            stack = refl;
+            binary = refl;
+            mem = refl;
+            text = refl;
+            answers = refl;
+          };
+          number = refl;
+          carry = refl;
+        }))
 
     pub loads_byte : (b : Byte) → IsRead b → at + len (lda b) ≤ highest_code → Bytes f.code at (instr_bytes (lda b))
         → Moves f (Here at bs m text answers) (WithA (at + len (lda b)) (value m b) bs m text answers) [] 1
@@ -106,42 +144,111 @@ module _ (f : Setup) (room : ℕ) (fits : Fits f room) where
         → Moves f (Known at a c bs m text answers) (Known (at + len (adc b)) ((a + value m b + carry c) % 256) (nat_lt 255 (a + value m b + carry c)) bs m text answers) [] 1
     adds_byte (Fixed b) a c d r st = whatever_known at a c bs m text answers _ [] 1 (λ x y n v i z.
         placed_last f room fits (ins 0x69 b) (view a x y n v i z c at bs m text answers) _ _ small st refl
-            (record { here = record { pc = let e : (at + 2) % 65536 ≡ at + 2 = omega arith in e; stack = refl; binary = refl; mem = refl; text = refl;
-            answers = refl }; number = refl; carry = refl }))
+        (record {
+          here = record {
+            pc = let e : (at + 2) % 65536 ≡ at + 2 = omega arith in e;
+            stack = refl;
+            binary = refl;
+            mem = refl;
+            text = refl;
+            answers = refl;
+          };
+          number = refl;
+          carry = refl;
+        }))
     adds_byte (At p) a c d r st = whatever_known at a c bs m text answers _ [] 1 (λ x y n v i z.
         loads_last f room fits 0x6D p Adc (view a x y n v i z c at bs m text answers) _ _ refl refl refl small st d refl
-            (record { here = record { pc = let e : (at + 3) % 65536 ≡ at + 3 = omega arith in e; stack = refl; binary = refl; mem = refl; text = refl;
-            answers = refl }; number = refl; carry = refl }))
+        (record {
+          here = record {
+            pc = let e : (at + 3) % 65536 ≡ at + 3 = omega arith in e;
+            stack = refl;
+            binary = refl;
+            mem = refl;
+            text = refl;
+            answers = refl;
+          };
+          number = refl;
+          carry = refl;
+        }))
 
     pub takes_byte : (b : Byte) (a : ℕ) (c : Bool) → IsRead b → at + len (sbc b) ≤ highest_code → Bytes f.code at (instr_bytes (sbc b))
         → Moves f (Known at a c bs m text answers) (Known (at + len (sbc b)) ((a + 256 - (value m b + carry (not c))) % 256)
         (nat_le (value m b + carry (not c)) a) bs m text answers) [] 1
     takes_byte (Fixed b) a c d r st = whatever_known at a c bs m text answers _ [] 1 (λ x y n v i z.
         placed_last f room fits (ins 0xE9 b) (view a x y n v i z c at bs m text answers) _ _ small st refl
-            (record { here = record { pc = let e : (at + 2) % 65536 ≡ at + 2 = omega arith in e; stack = refl; binary = refl; mem = refl; text = refl;
-            answers = refl }; number = refl; carry = refl }))
+        (record {
+          here = record {
+            pc = let e : (at + 2) % 65536 ≡ at + 2 = omega arith in e;
+            stack = refl;
+            binary = refl;
+            mem = refl;
+            text = refl;
+            answers = refl;
+          };
+          number = refl;
+          carry = refl;
+        }))
     takes_byte (At p) a c d r st = whatever_known at a c bs m text answers _ [] 1 (λ x y n v i z.
         loads_last f room fits 0xED p Sbc (view a x y n v i z c at bs m text answers) _ _ refl refl refl small st d refl
-            (record { here = record { pc = let e : (at + 3) % 65536 ≡ at + 3 = omega arith in e; stack = refl; binary = refl; mem = refl; text = refl;
-            answers = refl }; number = refl; carry = refl }))
+        (record {
+          here = record {
+            pc = let e : (at + 3) % 65536 ≡ at + 3 = omega arith in e;
+            stack = refl;
+            binary = refl;
+            mem = refl;
+            text = refl;
+            answers = refl;
+          };
+          number = refl;
+          carry = refl;
+        }))
 
     pub compares_byte : (b : Byte) (a : ℕ) → IsRead b → at + len (cmp b) ≤ highest_code → Bytes f.code at (instr_bytes (cmp b))
         → Moves f (WithA at a bs m text answers) (Compared (at + len (cmp b)) (eqb ((a + 256 - value m b) % 256) 0) (nat_le (value m b) a) bs m text answers) [] 1
     compares_byte (Fixed b) a d r st = whatever_a f room fits at a bs m text answers _ [] 1 (λ x y n v i z c.
         placed_last f room fits (ins 0xC9 b) (view a x y n v i z c at bs m text answers) _ _ small st refl
-            (record { here = record { pc = let e : (at + 2) % 65536 ≡ at + 2 = omega arith in e; stack = refl; binary = refl; mem = refl; text = refl;
-            answers = refl }; zero = refl; carry = refl }))
+        (record {
+          here = record {
+            pc = let e : (at + 2) % 65536 ≡ at + 2 = omega arith in e;
+            stack = refl;
+            binary = refl;
+            mem = refl;
+            text = refl;
+            answers = refl;
+          };
+          zero = refl;
+          carry = refl;
+        }))
     compares_byte (At p) a d r st = whatever_a f room fits at a bs m text answers _ [] 1 (λ x y n v i z c.
         loads_last f room fits 0xCD p Cmp (view a x y n v i z c at bs m text answers) _ _ refl refl refl small st d refl
-            (record { here = record { pc = let e : (at + 3) % 65536 ≡ at + 3 = omega arith in e; stack = refl; binary = refl; mem = refl; text = refl;
-            answers = refl }; zero = refl; carry = refl }))
+        (record {
+          here = record {
+            pc = let e : (at + 3) % 65536 ≡ at + 3 = omega arith in e;
+            stack = refl;
+            binary = refl;
+            mem = refl;
+            text = refl;
+            answers = refl;
+          };
+          zero = refl;
+          carry = refl;
+        }))
 
     pub writes_byte : (p a : ℕ) (c : Bool) → is_data p ≡ true → at + 3 ≤ highest_code → Bytes f.code at (instr_bytes (ins 0x8D p))
         → Moves f (Known at a c bs m text answers) (Carrying (at + 3) bs (with_byte m p a) text answers c) [] 1
     writes_byte p a c d r st = whatever_known at a c bs m text answers _ [] 1 (λ x y n v i z.
         stores_last f room fits p (view a x y n v i z c at bs m text answers) _ small st d
-            (record { here = record { pc = let e : (at + 3) % 65536 ≡ at + 3 = omega arith in e; stack = refl; binary = refl; mem = refl; text = refl;
-            answers = refl }; carry = refl }))
+        (record {
+          here = record {
+            pc = let e : (at + 3) % 65536 ≡ at + 3 = omega arith in e;
+            stack = refl;
+            binary = refl;
+            mem = refl;
+            text = refl;
+            answers = refl;
+          };
+          carry = refl;
+        }))
 
     pub puts_byte : (p a : ℕ) → is_data p ≡ true → at + 3 ≤ highest_code → Bytes f.code at (instr_bytes (ins 0x8D p))
         → Moves f (WithA at a bs m text answers) (Here (at + 3) bs (with_byte m p a) text answers) [] 1
@@ -153,8 +260,17 @@ module _ (f : Setup) (room : ℕ) (fits : Fits f room) where
         (WithA (at + len (ins (if t then 0xA5 else 0xAD) p)) (m p) bs m text answers) [] 1
     loads_by true p d r st = whatever f room fits at bs m text answers _ [] 1 (λ a x y n v i z c.
         loads_short_last f room fits p (view a x y n v i z c at bs m text answers) _ _ small st d refl
-            (record { here = record { pc = let e : (at + 2) % 65536 ≡ at + 2 = omega arith in e; stack = refl; binary = refl; mem = refl; text = refl;
-            answers = refl }; number = refl }))
+        (record {
+          here = record {
+            pc = let e : (at + 2) % 65536 ≡ at + 2 = omega arith in e;
+            stack = refl;
+            binary = refl;
+            mem = refl;
+            text = refl;
+            answers = refl;
+          };
+          number = refl;
+        }))
     loads_by false p d r st = loads_byte (At p) d r st
 
     pub loads_place : (p : ℕ) → is_data p ≡ true → at + len (lda_at p) ≤ highest_code → Bytes f.code at (instr_bytes (lda_at p))
@@ -165,8 +281,15 @@ module _ (f : Setup) (room : ℕ) (fits : Fits f room) where
         → Bytes f.code at (instr_bytes (ins (if t then 0x85 else 0x8D) p)) → Moves f (WithA at a bs m text answers)
         (Here (at + len (ins (if t then 0x85 else 0x8D) p)) bs (with_byte m p a) text answers) [] 1
     puts_by true p a d r st = whatever_a f room fits at a bs m text answers _ [] 1 (λ x y n v i z c.
-        stores_short_last f room fits p (view a x y n v i z c at bs m text answers) _ small st d (record { pc = let e : (at + 2) % 65536 ≡ at + 2 =
-            omega arith in e; stack = refl; binary = refl; mem = refl; text = refl; answers = refl }))
+        stores_short_last f room fits p (view a x y n v i z c at bs m text answers) _ small st d (record {
+          pc = let e : (at + 2) % 65536 ≡ at + 2 =
+              omega arith in e;
+          stack = refl;
+          binary = refl;
+          mem = refl;
+          text = refl;
+          answers = refl;
+        }))
     puts_by false p a d r st = puts_byte p a d r st
 
     pub puts_place : (p a : ℕ) → is_data p ≡ true → at + len (sta_at p) ≤ highest_code → Bytes f.code at (instr_bytes (sta_at p))

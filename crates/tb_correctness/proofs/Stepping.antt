@@ -15,7 +15,7 @@ use Rattle.tb_lower.specs.Slots.{Instr, Put, Load, Store, Compute, Slots, SlotCo
 use Rattle.tb_meaning.specs.Steps.{Goes, Stops, Faulted}
 use Rattle.tb_meaning.specs.Values.{apply, given}
 use Rattle.tb_reaching.specs.View.{View}
-use Rattle.tb_runtime16.specs.Places.{HELD}
+use Rattle.tb_runtime16.specs.Addresses.{HELD}
 use Rattle.tb_runtime16.specs.Routines.{WordAt}
 use Rattle.tb_simulation.proofs.Resolved.{Lies, Piece, pieces_size}
 use Rattle.tb_selection.specs.Groups.{Operand, Constant, Variable, InSlot, Home, IntoVariable, Destination, IntoSlot, IntoHome, Group, Calculate, Stepped, Move, fetch, expand, expand_all}
@@ -126,9 +126,10 @@ first_ranged : (op : Operator) (a b : Operand) (by : Operator) (w x : ℕ) → A
 first_ranged op a b by w x h =
     let l = range_fetch 0 a (fetch 1 b ++ tail op by w x []) h in
     let r = range_fetch 1 b (tail op by w x []) l.1 in
-    let k = r.1 in
-    (ranged 0 a _ l.0 (omega arith) (range_words 0 a _ h) (ranged 1 b _ r.0 (omega arith) (range_words 1 b _ l.1) (k.0, (k.1.1.1.0, tt))),
-        ((omega arith, k.1.1.1.0), (k.1.0, (k.1.1.0, (k.1.1.1.0, tt)))))
+    let k = r.1 in (
+      ranged 0 a _ l.0 (omega arith) (range_words 0 a _ h) (ranged 1 b _ r.0 (omega arith) (range_words 1 b _ l.1) (k.0, (k.1.1.1.0, tt))),
+      ((omega arith, k.1.1.1.0), (k.1.0, (k.1.1.0, (k.1.1.1.0, tt)))),
+    )
   where
     -- a word that is fetched is one
     WordFits : Operand → Type 0
@@ -196,7 +197,7 @@ module _ (code : SlotCode) (n : ℕ) (op : Operator) (a b : Operand) (by : Opera
     first_done =
         so_far (tail op by w x []) (tail op by w x is)
         ∙ acts code n (Compute op 0) (Put 1 w ∷ Compute by 0 ∷ Store x ∷ []) (Put 1 w ∷ Compute by 0 ∷ Store x ∷ is) s s both (resulted v)
-            (ap (λ o. into n 0 (given o s.seed) s both) (got (Some v) e))
+        (ap (λ o. into n 0 (given o s.seed) s both) (got (Some v) e))
         ∙ fetches code n 1 (Constant w) (Compute by 0 ∷ Store x ∷ []) (Compute by 0 ∷ Store x ∷ is) s (resulted v)
 
     result_stands : slice_index (with_constant v).words 0 ≡ v
@@ -273,9 +274,15 @@ module _ (around : Surroundings) (n : ℕ) (op : Operator) (a b : Operand) (by :
         lies = parts.0;
         ranged = ranged.0;
         rest =
-            subst (GroupsLie ly f.code n next) (sym (second_selected by w x is h.free))
-            (h.second, h.second, (let k = ranged.1 in (k.0, (k.1.0, (k.1.1.0, (k.1.1.1.0, behind_ranged (select is) _ lies_behind))))), parts.1,
-                lies_behind, h.reach.1, (let q = h.above in omega (arith, q)));
+            subst (GroupsLie ly f.code n next) (sym (second_selected by w x is h.free)) (
+              h.second,
+              h.second,
+              (let k = ranged.1 in (k.0, (k.1.0, (k.1.1.0, (k.1.1.1.0, behind_ranged (select is) _ lies_behind))))),
+              parts.1,
+              lies_behind,
+              h.reach.1,
+              (let q = h.above in omega (arith, q)),
+            );
         reach = h.reach.0;
         above = h.above;
         free = ap (λ k. nat_le k 0) no_slots;

@@ -13,31 +13,31 @@ use Rattle.tb_simulation.proofs.Resolved.{copied, highest_code, lda_at, size, st
 use Rattle.tb_correctness.proofs.Sources.{Byte, Known, value, IsRead, lda, adc, sbc, len, behind, clears, raises_carry, loads_with, loads_byte, adds_byte}
 use Rattle.tb_correctness.proofs.Sources.{takes_byte, writes_byte, puts_byte, loads_place, puts_place}
 use Rattle.tb_templates.specs.declared.sources.Source.{Source}
-use Rattle.tb_templates.specs.declared.sources.Source.TheVariants.{FixedWord, AtPlace}
+use Rattle.tb_templates.specs.declared.sources.Source.TheVariants.{FixedWord, AtAddress}
 use Rattle.tb_correctness.proofs.GroupCode.{low, high, brought, summed, taken}
 
 -- a word's source is among the data, and its high byte is not where another word's low byte goes
 abbrev pub Grounded : Source → ℕ → Type 0
 Grounded (FixedWord w) to = Unit {0}
-Grounded (AtPlace p) to = InData p × (p + 1 ≢ to)
+Grounded (AtAddress p) to = InData p × (p + 1 ≢ to)
 
 -- it is behind the bytes of page zero
 abbrev pub Away : Source → Type 0
 Away (FixedWord w) = Unit {0}
-Away (AtPlace p) = 0xC000 ≤ p
+Away (AtAddress p) = 0xC000 ≤ p
 
 pub low_read : (a : Source) (to : ℕ) → Grounded a to → IsRead (low a)
 low_read (FixedWord w) to h = tt
-low_read (AtPlace p) to h = h.0.0
+low_read (AtAddress p) to h = h.0.0
 
 pub high_read : (a : Source) (to : ℕ) → Grounded a to → IsRead (high a)
 high_read (FixedWord w) to h = tt
-high_read (AtPlace p) to h = h.0.1
+high_read (AtAddress p) to h = h.0.1
 
 -- the high byte is the same once the low one is written
 pub high_same : (a : Source) (to x : ℕ) (m : ℕ → ℕ) → Grounded a to → value (with_byte m to x) (high a) ≡ value m (high a)
 high_same (FixedWord w) to x m h = refl
-high_same (AtPlace p) to x m h = put_other m to x (p + 1) h.1
+high_same (AtAddress p) to x m h = put_other m to x (p + 1) h.1
 
 -- two words joined byte by byte, by an instruction that joins a byte to A and C
 abbrev joined : (Byte → Instr) → Source → Source → ℕ → List Instr
@@ -46,11 +46,11 @@ joined join a b to = lda (low a) ∷ join (low b) ∷ ins 0x8D to ∷ lda (high 
 module _ (f : Setup) (room : ℕ) (fits : Fits f room) (at : ℕ) (bs : List ℕ) (m : ℕ → ℕ) (text answers : List ℕ) (small : leb (length bs) room ≡ true)
     (join : Byte → Instr) (result : ℕ → ℕ → Bool → ℕ) (out : ℕ → ℕ → Bool → Bool)
     (law : (p : ℕ) (k : ℕ → ℕ) (b : Byte) (x : ℕ) (c : Bool) → IsRead b → p + len (join b) ≤ highest_code → Bytes f.code p (instr_bytes (join b))
-        → Moves f (Known p x c bs k text answers) (Known (p + len (join b)) (result x (value k b) c) (out x (value k b) c) bs k text answers) [] 1) where
+    → Moves f (Known p x c bs k text answers) (Known (p + len (join b)) (result x (value k b) c) (out x (value k b) c) bs k text answers) [] 1) where
   joins : (begun : Bool) (end : ℕ) (a b : Source) (to : ℕ) → at + size (joined join a b to) ≡ end → end ≤ highest_code → Grounded a to → Grounded b to
       → InData to → Stands f.code at (joined join a b to)
       → Moves f (Carrying at bs m text answers begun) (Here end bs (put_word m to (result (value m (low a)) (value m (low b)) begun)
-          (result (value m (high a)) (value m (high b)) (out (value m (low a)) (value m (low b)) begun))) text answers) [] 6
+      (result (value m (high a)) (value m (high b)) (out (value m (low a)) (value m (low b)) begun))) text answers) [] 6
   joins begun end a b to e r ga gb d st =
       let x = result (value m (low a)) (value m (low b)) begun in
       let c = out (value m (low a)) (value m (low b)) begun in
@@ -75,11 +75,18 @@ module _ (f : Setup) (room : ℕ) (fits : Fits f room) (at : ℕ) (bs : List ℕ
       (moves_then f _ _ _ [] [] 1 2 (loads_with f room fits p3 bs m1 text answers small (high a) c (high_read a to ga) (omega (arith, e, r)) s3.0)
       (moves_then f _ _ _ [] [] 1 1 (law p4 m1 (high b) (value m1 (high a)) c (high_read b to gb) (omega (arith, e, r)) s4.0)
       (moves_looser f _ _ _ [] 1 1 (omega arith)
-      (λ w h. record { pc = h.here.pc ∙ (let q : p5 + 3 ≡ end = omega (arith, e) in q); stack = h.here.stack; binary = h.here.binary; mem = h.here.mem
-          ∙ ap (λ y. with_byte m1 (to + 1) (result y (value m1 (high b)) c)) (high_same a to x m ga)
-          ∙ ap (λ y. with_byte m1 (to + 1) (result (value m (high a)) y c)) (high_same b to x m gb); text = h.here.text; answers = h.here.answers })
+      (λ w h. record {
+        pc = h.here.pc ∙ (let q : p5 + 3 ≡ end = omega (arith, e) in q);
+        stack = h.here.stack;
+        binary = h.here.binary;
+        mem = h.here.mem
+            ∙ ap (λ y. with_byte m1 (to + 1) (result y (value m1 (high b)) c)) (high_same a to x m ga)
+            ∙ ap (λ y. with_byte m1 (to + 1) (result (value m (high a)) y c)) (high_same b to x m gb);
+        text = h.here.text;
+        answers = h.here.answers;
+      })
       (writes_byte f room fits p5 bs m1 text answers small (to + 1) (result (value m1 (high a)) (value m1 (high b)) c)
-          (out (value m1 (high a)) (value m1 (high b)) c) d.1 (omega (arith, e, r)) s5.0))))))
+      (out (value m1 (high a)) (value m1 (high b)) c) d.1 (omega (arith, e, r)) s5.0))))))
 
 module _ (f : Setup) (room : ℕ) (fits : Fits f room) (at : ℕ) (bs : List ℕ) (m : ℕ → ℕ) (text answers : List ℕ) (small : leb (length bs) room ≡ true) where
   -- a word brought to a place
@@ -97,8 +104,14 @@ module _ (f : Setup) (room : ℕ) (fits : Fits f room) (at : ℕ) (bs : List ℕ
       (moves_then f _ _ _ [] [] 1 2 (puts_place f room fits p1 bs m text answers small to (value m (low a)) d.0 (omega (arith, r)) s1.0)
       (moves_then f _ _ _ [] [] 1 1 (loads_byte f room fits p2 bs m1 text answers small (high a) (high_read a to g) (omega (arith, r)) s2.0)
       (moves_looser f _ _ _ [] 1 1 (omega arith)
-      (λ w h. record { pc = h.pc ∙ (let q : p3 + len (sta_at (to + 1)) ≡ at + size (brought a to) = omega arith in q); stack = h.stack;
-          binary = h.binary; mem = h.mem ∙ ap (λ b. with_byte m1 (to + 1) b) (high_same a to (value m (low a)) m g); text = h.text; answers = h.answers })
+      (λ w h. record {
+        pc = h.pc ∙ (let q : p3 + len (sta_at (to + 1)) ≡ at + size (brought a to) = omega arith in q);
+        stack = h.stack;
+        binary = h.binary;
+        mem = h.mem ∙ ap (λ b. with_byte m1 (to + 1) b) (high_same a to (value m (low a)) m g);
+        text = h.text;
+        answers = h.answers;
+      })
       (puts_place f room fits p3 bs m1 text answers small (to + 1) (value m1 (high a)) d.1 (omega (arith, r)) s3.0))))
 
   -- a word copied
@@ -116,8 +129,15 @@ module _ (f : Setup) (room : ℕ) (fits : Fits f room) (at : ℕ) (bs : List ℕ
       (moves_then f _ _ _ [] [] 1 2 (puts_byte f room fits p1 bs m text answers small to (m from) dt.0 (omega (arith, r)) s1.0)
       (moves_then f _ _ _ [] [] 1 1 (loads_place f room fits p2 bs m1 text answers small (from + 1) df.1 (omega (arith, r)) s2.0)
       (moves_looser f _ _ _ [] 1 1 (omega arith)
-      (λ w h. record { pc = h.pc ∙ (let q : p3 + 3 ≡ at + size (copied from to) = omega arith in q); stack = h.stack; binary = h.binary; mem = h.mem
-          ∙ ap (λ b. with_byte m1 (to + 1) b) (put_other m to (m from) (from + 1) apart); text = h.text; answers = h.answers })
+      (λ w h. record {
+        pc = h.pc ∙ (let q : p3 + 3 ≡ at + size (copied from to) = omega arith in q);
+        stack = h.stack;
+        binary = h.binary;
+        mem = h.mem
+            ∙ ap (λ b. with_byte m1 (to + 1) b) (put_other m to (m from) (from + 1) apart);
+        text = h.text;
+        answers = h.answers;
+      })
       (puts_byte f room fits p3 bs m1 text answers small (to + 1) (m1 (from + 1)) dt.1 (omega (arith, r)) s3.0))))
 
   -- the sum of two words
@@ -128,7 +148,7 @@ module _ (f : Setup) (room : ℕ) (fits : Fits f room) (at : ℕ) (bs : List ℕ
   sums a b to r ga gb d st =
       moves_then f _ _ _ [] [] 1 6 (clears f room fits at bs m text answers small (omega (arith, r)) st.0)
       (joins f room fits (at + 1) bs m text answers small adc (λ x y c. (x + y + carry c) % 256) (λ x y c. nat_lt 255 (x + y + carry c))
-          (λ p k b x c. adds_byte f room fits p bs k text answers small b x c) false _ a b to (omega arith) r ga gb d
+      (λ p k b x c. adds_byte f room fits p bs k text answers small b x c) false _ a b to (omega arith) r ga gb d
       (behind f.code at (ins 0x18 0) (joined adc a b to) (omega (arith, r)) st))
 
   -- the difference of two words
@@ -139,5 +159,5 @@ module _ (f : Setup) (room : ℕ) (fits : Fits f room) (at : ℕ) (bs : List ℕ
   differs a b to r ga gb d st =
       moves_then f _ _ _ [] [] 1 6 (raises_carry f room fits at bs m text answers small (omega (arith, r)) st.0)
       (joins f room fits (at + 1) bs m text answers small sbc (λ x y c. (x + 256 - (y + carry (not c))) % 256) (λ x y c. nat_le (y + carry (not c)) x)
-          (λ p k b x c. takes_byte f room fits p bs k text answers small b x c) true _ a b to (omega arith) r ga gb d
+      (λ p k b x c. takes_byte f room fits p bs k text answers small b x c) true _ a b to (omega arith) r ga gb d
       (behind f.code at (ins 0x38 0) (joined sbc a b to) (omega (arith, r)) st))

@@ -15,7 +15,7 @@ use Rattle.tb_reaching.proofs.Instr.{Instr, ins}
 use Rattle.tb_templates.specs.declared.labels.Target.{Target}
 use Rattle.tb_templates.specs.Labels.{label_of}
 use Rattle.tb_templates.specs.declared.sources.Source.{Source}
-use Rattle.tb_templates.specs.declared.sources.Source.TheVariants.{FixedWord, AtPlace}
+use Rattle.tb_templates.specs.declared.sources.Source.TheVariants.{FixedWord, AtAddress}
 use Rattle.tb_templates.specs.Templates as product
 use Rattle.tb_templates.specs.GroupTemplates as items
 use Rattle.tb_templates.specs.Orders as orders
@@ -104,7 +104,7 @@ module _ (labels : List (Name × ℕ)) where
         let b2 = cut_branch Bne leaves [] c2.rest c2.of in
         let is : fs ≡ equality_forms false b1.way b2.way leaves [] =
         c1.is ∙ ap (λ t. map kept low_pair ++ t) (b1.is ∙ ap (λ t. formed b1.way Bne leaves ∷ t) (c2.is ∙ ap (λ t. map kept high_pair ++ t) (b2.is
-            ∙ ap (λ t. formed b2.way Bne leaves ∷ t) (no_more b2.rest b2.of)))) in
+        ∙ ap (λ t. formed b2.way Bne leaves ∷ t) (no_more b2.rest b2.of)))) in
         subst (Equality false at) (sym is) (equality false b1.way b2.way at leaves [] (subst (Rest labels at) is r) there top (ends labels))
 
     pub unequal_emitted : (at : ℕ) (skip : Name) (fs : List Form)
@@ -118,7 +118,7 @@ module _ (labels : List (Name × ℕ)) where
         let tail : List Form = kept (label skip) ∷ [] in
         let is : fs ≡ equality_forms true b1.way b2.way skip tail =
         c1.is ∙ ap (λ t. map kept low_pair ++ t) (b1.is ∙ ap (λ t. formed b1.way Bne skip ∷ t) (c2.is ∙ ap (λ t. map kept high_pair ++ t) (b2.is
-            ∙ ap (λ t. formed b2.way Beq leaves ∷ t) (c3.is ∙ ap (λ t. kept (label skip) ∷ t) (no_more c3.rest c3.of))))) in
+        ∙ ap (λ t. formed b2.way Beq leaves ∷ t) (c3.is ∙ ap (λ t. kept (label skip) ∷ t) (no_more c3.rest c3.of))))) in
         let r' = subst (Rest labels at) is r in
         let end = r4 true b1.way b2.way at skip tail r' in
         subst (Equality true at) (sym is)
@@ -174,16 +174,16 @@ module _ (labels : List (Name × ℕ)) where
 
     pub weighing_emitted : (below : Bool) (at : ℕ) (skip : Name) (fs : List Form)
         → AreFormsOf (both_pairs ++ (instr Bvc Relative (Label skip) ∷ ((product.const Eor 128 ∷ label skip ∷ [])
-            ++ (instr (branch_by Negative below) Relative (Label leaves) ∷ [])))) fs → Rest labels at fs → Weighing below at fs
+        ++ (instr (branch_by Negative below) Relative (Label leaves) ∷ [])))) fs → Rest labels at fs → Weighing below at fs
     weighing_emitted below at skip fs h r =
         let c1 = cut both_pairs (instr Bvc Relative (Label skip) ∷ ((product.const Eor 128 ∷ label skip ∷ [])
-            ++ (instr (branch_by Negative below) Relative (Label leaves) ∷ []))) fs both_straight h in
+        ++ (instr (branch_by Negative below) Relative (Label leaves) ∷ []))) fs both_straight h in
         let b1 = cut_branch Bvc skip ((product.const Eor 128 ∷ label skip ∷ []) ++ (instr (branch_by Negative below) Relative (Label leaves) ∷ [])) c1.rest c1.of in
         let c2 = cut (product.const Eor 128 ∷ label skip ∷ []) (instr (branch_by Negative below) Relative (Label leaves) ∷ []) b1.rest refl b1.of in
         let b2 = cut_branch (branch_by Negative below) leaves [] c2.rest c2.of in
         let is : fs ≡ order_forms below b1.way b2.way skip =
         c1.is ∙ ap (λ t. map kept both_pairs ++ t) (b1.is ∙ ap (λ t. formed b1.way Bvc skip ∷ t) (c2.is
-            ∙ ap (λ t. kept (product.const Eor 128) ∷ kept (label skip) ∷ t) (b2.is ∙ ap (λ t. formed b2.way (branch_by Negative below) leaves ∷ t) (no_more b2.rest b2.of)))) in
+        ∙ ap (λ t. kept (product.const Eor 128) ∷ kept (label skip) ∷ t) (b2.is ∙ ap (λ t. formed b2.way (branch_by Negative below) leaves ∷ t) (no_more b2.rest b2.of)))) in
         subst (Weighing below at) (sym is) (order below b1.way b2.way at skip (subst (Rest labels at) is r))
 
   -- ---- order, by how it is told
@@ -236,12 +236,12 @@ module _ (labels : List (Name × ℕ)) where
 
     order_words : (s t : Source) → IsWord s → IsWord t → AreWords (order_of s t)
     order_words s (FixedWord w) h k = against_words Below s w h
-    order_words (FixedWord v) (AtPlace q) h k = by (nat_eq v 32767)
+    order_words (FixedWord v) (AtAddress q) h k = by (nat_eq v 32767)
       where
-        by : (t : Bool) → AreWords (if t then ByDifference (FixedWord v) (AtPlace q) else orders.against NotBelow (AtPlace q) ((v + 1) % 65536))
+        by : (t : Bool) → AreWords (if t then ByDifference (FixedWord v) (AtAddress q) else orders.against NotBelow (AtAddress q) ((v + 1) % 65536))
         by true = (h, k)
-        by false = against_words NotBelow (AtPlace q) ((v + 1) % 65536) k
-    order_words (AtPlace p) (AtPlace q) h k = (h, k)
+        by false = against_words NotBelow (AtAddress q) ((v + 1) % 65536) k
+    order_words (AtAddress p) (AtAddress q) h k = (h, k)
 
     pub record OrderEmitted (order : Order) (wanted : Side) (at : ℕ) (fs : List Form) : Type 0 where
       pub first : Way

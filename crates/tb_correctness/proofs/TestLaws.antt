@@ -114,7 +114,7 @@ module _ (code : SlotCode) (n : ℕ) (rel : Rel) (a : Tested) (b : Operand) (to 
   go_goes held found e q =
       so_far code n rel a b (JumpTo to ∷ is) s r (JumpTo to ∷ [])
       ∙ ap (λ t. next code n (JumpTo to ∷ []) (settled n (JumpTo to ∷ is) after (if t then Goes (Stays s after) [] else leaving
-          (fall (numbers code) n s)))) (decided code n rel a b (JumpTo to ∷ is) s r all free held e)
+      (fall (numbers code) n s)))) (decided code n rel a b (JumpTo to ∷ is) s r all free held e)
       ∙ decides held found q
 
 -- ---- the laws
@@ -256,7 +256,7 @@ module _ (around : Surroundings) (fits : Fits around.f 16) (code : SlotCode) (sa
           by true c =
               looser f w _ _ (fault_text 1 n) (9 + (4 + limit)) (15 + limit) (omega arith) (λ u g. g)
               (chained f w _ _ [] (fault_text 1 n) 9 (4 + limit) c (faults_at around fits limit rs n 1 h.small (omega arith)
-                  (w.regs.pc + pieces_size code_lost) w.mem w.text w.answers parts.1 h.homed))
+              (w.regs.pc + pieces_size code_lost) w.mem w.text w.answers parts.1 h.homed))
           by false c = looser f w _ _ [] 9 (15 + limit) (omega arith) (out false) c
 
     by_line : (found : Bool) → has_line ly.numbers to ≡ found → Gone (outcome (holds rel x y) found)

@@ -124,19 +124,31 @@ tested_length s r (HeldNow a) b = fetched_length s (with_held s r (HeldNow a)) 0
 pub tested_read : (rel : Rel) (a : Tested) (b : Operand) (is : List Instr) (s : State) (r : Slots) (m : ℕ → ℕ) → test_words_dead a b (live is) ≡ true
     → HoldsLive (live (spread_test rel a b is)) r m → HoldsLive (live is) (tested s r a b) m
 tested_read rel HeldBefore InSlot is s r m f h = record { words = λ k lt. h.words k (omega (arith, lt)); held = λ q. h.held refl; all_words = h.all_words }
-tested_read rel HeldBefore (Constant w) is s r m f h = record { words = λ k lt. absurd (omega (arith, lt, leb-true _ _ f)); held = λ q. h.held refl;
-    all_words = tested_length s r HeldBefore (Constant w) ∙ h.all_words }
-tested_read rel HeldBefore (Variable x) is s r m f h = record { words = λ k lt. absurd (omega (arith, lt, leb-true _ _ f)); held = λ q. h.held refl;
-    all_words = tested_length s r HeldBefore (Variable x) ∙ h.all_words }
+tested_read rel HeldBefore (Constant w) is s r m f h = record {
+  words = λ k lt. absurd (omega (arith, lt, leb-true _ _ f));
+  held = λ q. h.held refl;
+  all_words = tested_length s r HeldBefore (Constant w) ∙ h.all_words;
+}
+tested_read rel HeldBefore (Variable x) is s r m f h = record {
+  words = λ k lt. absurd (omega (arith, lt, leb-true _ _ f));
+  held = λ q. h.held refl;
+  all_words = tested_length s r HeldBefore (Variable x) ∙ h.all_words;
+}
 tested_read rel (HeldNow a) InSlot is s r m f h = absurd (let no : ⊥ = cc in no)
 tested_read rel (HeldNow a) (Constant w) is s r m f h =
     let p = and_parts (nat_le (live is).slots 0) (not (live is).held) f in
-    record { words = λ k lt. absurd (omega (arith, lt, leb-true _ _ p.0)); held = λ q. absurd (let no : ⊥ = not_both (live is).held q p.1 in no);
-        all_words = tested_length s r (HeldNow a) (Constant w) ∙ h.all_words }
+    record {
+      words = λ k lt. absurd (omega (arith, lt, leb-true _ _ p.0));
+      held = λ q. absurd (let no : ⊥ = not_both (live is).held q p.1 in no);
+      all_words = tested_length s r (HeldNow a) (Constant w) ∙ h.all_words;
+    }
 tested_read rel (HeldNow a) (Variable x) is s r m f h =
     let p = and_parts (nat_le (live is).slots 0) (not (live is).held) f in
-    record { words = λ k lt. absurd (omega (arith, lt, leb-true _ _ p.0)); held = λ q. absurd (let no : ⊥ = not_both (live is).held q p.1 in no);
-        all_words = tested_length s r (HeldNow a) (Variable x) ∙ h.all_words }
+    record {
+      words = λ k lt. absurd (omega (arith, lt, leb-true _ _ p.0));
+      held = λ q. absurd (let no : ⊥ = not_both (live is).held q p.1 in no);
+      all_words = tested_length s r (HeldNow a) (Variable x) ∙ h.all_words;
+    }
 
 -- past a test that leaves the line nothing is read
 pub left_read : (s : State) (r : Slots) (a : Tested) (b : Operand) (m : ℕ → ℕ) → length r.words ≡ 16 → HoldsLive nothing_live (tested s r a b) m

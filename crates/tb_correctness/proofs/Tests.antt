@@ -32,8 +32,18 @@ module _ (f : Setup) (room : ℕ) (fits : Fits f room) (at : ℕ) (bs : List ℕ
       let s1 = behind f.code at (lda a) (cmp b ∷ []) (omega (arith, r)) st in
       moves_then f _ _ _ [] [] 1 1 (loads_byte f room fits at bs m text answers small a da (omega (arith, r)) st.0)
       (moves_looser f _ _ _ [] 1 1 (omega arith)
-      (λ w h. record { here = record { pc = h.here.pc ∙ (let q : p1 + len (cmp b) ≡ at + size (weighed a b) = omega arith in q); stack = h.here.stack;
-          binary = h.here.binary; mem = h.here.mem; text = h.here.text; answers = h.here.answers }; zero = h.zero; carry = h.carry })
+      (λ w h. record {
+        here = record {
+          pc = h.here.pc ∙ (let q : p1 + len (cmp b) ≡ at + size (weighed a b) = omega arith in q);
+          stack = h.here.stack;
+          binary = h.here.binary;
+          mem = h.here.mem;
+          text = h.here.text;
+          answers = h.here.answers;
+        };
+        zero = h.zero;
+        carry = h.carry;
+      })
       (compares_byte f room fits p1 bs m text answers small b (value m a) db (omega (arith, r)) s1.0))
 
   -- whether they are equal is in Z

@@ -5,7 +5,7 @@ use Rattle.tb_meaning.specs.Control.{State, next_after}
 use Rattle.tb_lower.specs.Slots.{Whole, Slots, SlotCode}
 use Rattle.tb_reaching.specs.View.{View}
 use Rattle.tb_runtime16.specs.Routines.{Entered, Here}
-use Rattle.tb_simulation.specs.Layout.{next_at, place_at}
+use Rattle.tb_simulation.specs.Layout.{next_at, place_address}
 use Rattle.tb_simulation.proofs.Mirrors.{HoldsState, Typable}
 use Rattle.tb_selection.specs.Groups.{Tested, HeldBefore, HeldNow}
 use Rattle.tb_selection.specs.Liveness.{nothing_live}
@@ -28,13 +28,21 @@ module _ (around : Surroundings) (code : SlotCode) (same_numbers : numbers code 
       → answers ≡ s.answers → Typable keys s.text s.answers → (w : View) → Here (next_at ly n) (lo ∷ hi ∷ []) m t answers w
       → Matches around (record { state = record s { place = next_after (numbers code) n }; rest = Whole; slots = r }) w
   left_at m t answers hs hr en text got short w e = record {
-    pc = e.pc ∙ ap (λ ns. place_at ly (next_after ns n)) (sym same_numbers);
+    pc = e.pc ∙ ap (λ ns. place_address ly (next_after ns n)) (sym same_numbers);
     stack = e.stack;
     binary = e.binary;
     text = e.text ∙ text;
     answers = e.answers ∙ got;
-    state = subst (HoldsState ly (record s { place = next_after (numbers code) n })) (sym e.mem) (record { vars = hs.vars; column = hs.column;
-        opened = hs.opened; seeded = hs.seeded; count = hs.count; notes = hs.notes; few = hs.few; all_vars = hs.all_vars });
+    state = subst (HoldsState ly (record s { place = next_after (numbers code) n })) (sym e.mem) (record {
+      vars = hs.vars;
+      column = hs.column;
+      opened = hs.opened;
+      seeded = hs.seeded;
+      count = hs.count;
+      returns = hs.returns;
+      few = hs.few;
+      all_vars = hs.all_vars;
+    });
     read = subst (HoldsLive nothing_live r) (sym e.mem) hr;
     homed = subst (Entered f lo hi) (sym e.mem) en;
     short = short;

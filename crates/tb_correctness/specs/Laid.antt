@@ -7,7 +7,7 @@ use Rattle.tb_syntax.specs.Source.{numbers}
 use Rattle.tb_meaning.specs.Control.{first_place, has_line, content_at}
 use Rattle.tb_lower.specs.Slots.{Instr, Poll, SlotCode}
 use Rattle.tb_lower.specs.Ranges.{AreInRange}
-use Rattle.tb_runtime16.specs.Places.{PROLOGUE_AT, LINES_AT}
+use Rattle.tb_runtime16.specs.Addresses.{PROLOGUE_AT, LINES_AT}
 use Rattle.tb_runtime16.specs.Block.{block_bytes}
 use Rattle.tb_runtime16.specs.Search.{AreRising}
 use Rattle.tb_settling.specs.Settled.{AreFormsOf}
@@ -16,7 +16,7 @@ use Rattle.tb_templates.specs.Templates.{next_line}
 use Rattle.tb_templates.specs.Breaks.{broken, ends_away}
 use Rattle.tb_templates.specs.Program.{line_code, past_code, find_code, table_code}
 use Rattle.tb_reaching.specs.View.{Part, Bytes}
-use Rattle.tb_simulation.specs.Layout.{Lies, place_of, place_at, layout_of}
+use Rattle.tb_simulation.specs.Layout.{Lies, label_address, place_address, layout_of}
 
 -- each list of slot code begins by taking an answer
 abbrev pub ArePolled : SlotCode → Type 0
@@ -26,38 +26,38 @@ ArePolled (line ∷ lines) = ((rest : List Instr) × (line.content ≡ Poll ∷ 
 -- no line begins inside these items
 abbrev pub IsClear : List (Name × ℕ) → List ℕ → ℕ → List Entry → Type 0
 IsClear labels ns at es =
-    (n : ℕ) → has_line ns n ≡ true → (place_of labels (target.Line n) < at) ⊎ (at + size es ≤ place_of labels (target.Line n))
+    (n : ℕ) → has_line ns n ≡ true → (label_address labels (target.Line n) < at) ⊎ (at + size es ≤ label_address labels (target.Line n))
 
 -- a line's settled code, which has bytes, lies at its label, its branches reach, the next line's code or fault 7 comes behind it unless it
 -- ends away, and no line begins inside it but itself
 pub record LineLies (labels : List (Name × ℕ)) (code : Part) (ns : List ℕ) (seed n : ℕ) (is : List Instr) : Type 0 where
   pub forms : List Form
   pub of : AreFormsOf (line_code ns seed (record { number = n; content = is })) forms
-  pub some : 1 ≤ size (items_from (place_of labels (target.Line n)) forms)
-  pub lies : Lies code labels (place_of labels (target.Line n)) (items_from (place_of labels (target.Line n)) forms)
-  pub near : some_branch_far labels (place_of labels (target.Line n)) (items_from (place_of labels (target.Line n)) forms) ≡ false
-  pub next : ends_away is ≡ false → place_of labels (target.Line n) + size (items_from (place_of labels (target.Line n)) forms) ≡ place_of labels (next_line ns n)
-  pub clear : (m : ℕ) → has_line ns m ≡ true → (place_of labels (target.Line m) ≤ place_of labels (target.Line n)) ⊎ (place_of labels (target.Line n)
-      + size (items_from (place_of labels (target.Line n)) forms) ≤ place_of labels (target.Line m))
+  pub some : 1 ≤ size (items_from (label_address labels (target.Line n)) forms)
+  pub lies : Lies code labels (label_address labels (target.Line n)) (items_from (label_address labels (target.Line n)) forms)
+  pub near : some_branch_far labels (label_address labels (target.Line n)) (items_from (label_address labels (target.Line n)) forms) ≡ false
+  pub next : ends_away is ≡ false → label_address labels (target.Line n) + size (items_from (label_address labels (target.Line n)) forms) ≡ label_address labels (next_line ns n)
+  pub clear : (m : ℕ) → has_line ns m ≡ true → (label_address labels (target.Line m) ≤ label_address labels (target.Line n)) ⊎ (label_address labels (target.Line n)
+      + size (items_from (label_address labels (target.Line n)) forms) ≤ label_address labels (target.Line m))
   pub ranged : AreInRange 256 is
   pub small : n < 65536
-  pub after_block : LINES_AT ≤ place_of labels (target.Line n)
+  pub after_block : LINES_AT ≤ label_address labels (target.Line n)
 
 -- the code of a program lies where the labels say
 pub record Laid (labels : List (Name × ℕ)) (seed : ℕ) (code : Part) (program : SlotCode) : Type 0 where
   pub block : Bytes code PROLOGUE_AT block_bytes
   pub lines : (n : ℕ) (is : List Instr) → content_at program n ≡ Some is → LineLies labels code (numbers program) seed n is
   -- what is done for the STOP key in each line
-  pub breaks : (n : ℕ) → has_line (numbers program) n ≡ true → Lies code labels (place_of labels (target.Break n)) (broken n)
-  pub breaks_clear : (n : ℕ) → has_line (numbers program) n ≡ true → IsClear labels (numbers program) (place_of labels (target.Break n)) (broken n)
-  pub past : Lies code labels (place_of labels target.Past) (past_code (numbers program))
-  pub past_clear : IsClear labels (numbers program) (place_of labels target.Past) (past_code (numbers program))
-  pub find : Lies code labels (place_of labels target.Find) (find_code (numbers program))
-  pub find_clear : IsClear labels (numbers program) (place_of labels target.Find) (find_code (numbers program))
-  pub table : Lies code labels (place_of labels target.Table) (table_code (numbers program))
-  pub table_clear : IsClear labels (numbers program) (place_of labels target.Table) (table_code (numbers program))
+  pub breaks : (n : ℕ) → has_line (numbers program) n ≡ true → Lies code labels (label_address labels (target.Break n)) (broken n)
+  pub breaks_clear : (n : ℕ) → has_line (numbers program) n ≡ true → IsClear labels (numbers program) (label_address labels (target.Break n)) (broken n)
+  pub past : Lies code labels (label_address labels target.Past) (past_code (numbers program))
+  pub past_clear : IsClear labels (numbers program) (label_address labels target.Past) (past_code (numbers program))
+  pub find : Lies code labels (label_address labels target.Find) (find_code (numbers program))
+  pub find_clear : IsClear labels (numbers program) (label_address labels target.Find) (find_code (numbers program))
+  pub table : Lies code labels (label_address labels target.Table) (table_code (numbers program))
+  pub table_clear : IsClear labels (numbers program) (label_address labels target.Table) (table_code (numbers program))
   -- the lines begin behind the block
-  pub first : place_at (layout_of labels (numbers program) seed) (first_place (numbers program)) ≡ LINES_AT
+  pub first : place_address (layout_of labels (numbers program) seed) (first_place (numbers program)) ≡ LINES_AT
   pub some : 1 ≤ length (numbers program)
   pub rising : AreRising (numbers program)
   pub seed_small : seed < 65536

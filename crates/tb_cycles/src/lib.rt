@@ -13,7 +13,7 @@ ghost use Rattle.tb_cpu.specs.Operands.{reading};
 ghost use Rattle.tb_cpu.specs.Instructions.{advanced, branch_target};
 ghost use Rattle.tb_cycles.specs.Cycles.{base_by, reads_indexed, crosses_page, index_extra, is_taken, taken_extra, branch_extra, extra_of, same_page, cycles_at};
 
-use tb_cpu::{Flags, Regs, operand_place};
+use tb_cpu::{Flags, Regs, operand_address};
 use tb_memmap::Memory;
 use tb_opcodes::{Mnemonic, Mode, decode};
 
@@ -80,8 +80,8 @@ fn crosses_page(regs: &Regs, memory: &Memory) -> bool
         ..*regs
     };
     !is_same_page(
-        operand_place(regs, memory),
-        operand_place(&unindexed, memory),
+        operand_address(regs, memory),
+        operand_address(&unindexed, memory),
     )
 }
 

@@ -7,7 +7,7 @@ use Rattle.tb_kernal.specs.declared.events.Event.TheVariants.{Go, Interrupt}
 use Rattle.tb_words.specs.Words.{seed_after}
 use Rattle.tb_kernal.specs.Outsides.{rude_clobber, rude_event, rude_writes}
 use Rattle.tb_kernal.specs.Machine.{State, entered, happens, is_lawful, is_stopped, status}
-use Rattle.tb_kernal.specs.Places.{all_writable, service_at}
+use Rattle.tb_kernal.specs.Rom.{all_writable, service_at}
 use Rattle.tb_kernal.specs.Runs.{run, all_lawful, is_own}
 use Rattle.tb_kernal.specs.LawfulEvents.{rude_writable, lawful_at, writes_of}
 use Rattle.tb_reaching.proofs.Laws.{run_append}

@@ -1,16 +1,16 @@
 -- The lines to return to, one by one.
 use Rattle.std.proofs.Common.{◌≡◌, append_assoc, ℕ, suc, ◌+◌, ◌-◌, ◌<◌, List, [], ◌∷◌, ◌++◌, Option, sym, ap, ◌∙◌, arith}
 use Rattle.tb_debug.specs.Lines.{line_at}
-use Rattle.tb_debug.specs.Readings.{lines_of_notes, note_read}
+use Rattle.tb_debug.specs.Readings.{lines_of_returns, return_read}
 
 module _ (lines : List (ℕ × ℕ)) (m : ℕ → ℕ) (told : List (Option ℕ)) (count n : ℕ) where
-  pub one_told : (now : List (Option ℕ)) (line : Option ℕ) → n < count → now ≡ told ++ line ∷ [] → line ≡ line_at lines (note_read m (count - 1 - n))
-      → told ++ lines_of_notes lines m (count - n) ≡ lines_of_notes lines m count → now ++ lines_of_notes lines m (count - (n + 1)) ≡ lines_of_notes lines m count
+  pub one_told : (now : List (Option ℕ)) (line : Option ℕ) → n < count → now ≡ told ++ line ∷ [] → line ≡ line_at lines (return_read m (count - 1 - n))
+      → told ++ lines_of_returns lines m (count - n) ≡ lines_of_returns lines m count → now ++ lines_of_returns lines m (count - (n + 1)) ≡ lines_of_returns lines m count
   one_told now line few pushed is h =
       let k = count - 1 - n in
       let rest : count - (n + 1) ≡ count - 1 - n = omega (arith, few) in
       let all : count - n ≡ suc (count - 1 - n) = omega (arith, few) in
-      let step : line ∷ lines_of_notes lines m (count - (n + 1)) ≡ lines_of_notes lines m (count - n) =
-      ap (λ j. line ∷ lines_of_notes lines m j) rest ∙ ap (λ l. l ∷ lines_of_notes lines m k) is ∙ sym (ap (lines_of_notes lines m) all) in
-      ap (λ xs. xs ++ lines_of_notes lines m (count - (n + 1))) pushed ∙ append_assoc told (line ∷ []) (lines_of_notes lines m (count - (n + 1)))
+      let step : line ∷ lines_of_returns lines m (count - (n + 1)) ≡ lines_of_returns lines m (count - n) =
+      ap (λ j. line ∷ lines_of_returns lines m j) rest ∙ ap (λ l. l ∷ lines_of_returns lines m k) is ∙ sym (ap (lines_of_returns lines m) all) in
+      ap (λ xs. xs ++ lines_of_returns lines m (count - (n + 1))) pushed ∙ append_assoc told (line ∷ []) (lines_of_returns lines m (count - (n + 1)))
       ∙ ap (λ ys. told ++ ys) step ∙ h

@@ -7,15 +7,15 @@ use Rattle.tb_memmap.specs.Regions.{is_open}
 use Rattle.tb_cpu.specs.Operands.{word_from, word_in}
 use Rattle.tb_asm.specs.declared.names.Name.{Name}
 use Rattle.tb_meaning.specs.Control.{At, Past, Place, has_line}
-use Rattle.tb_runtime16.specs.Places.{NOTES, NOTE_HIGH, NOTE_LOW}
+use Rattle.tb_runtime16.specs.Addresses.{NOTES, RETURN_HIGH, RETURN_LOW}
 use Rattle.tb_templates.specs.declared.labels.Target.TheVariants.{Line}
 use Rattle.tb_templates.specs.Labels.{label_of}
 use Rattle.tb_simulation.specs.Layout.{is_start}
 use Rattle.tb_simulation.specs.LineStarts as kept
 use Rattle.tb_simulation.specs.LineStarts.{HoldsReturns, StandsFor}
-use Rattle.tb_codegen.specs.Compiled.{PlacesRise, stands_at, starts_in}
+use Rattle.tb_codegen.specs.Compiled.{AddressesRise, stands_at, starts_in}
 use Rattle.tb_debug.specs.Lines.{line_at}
-use Rattle.tb_debug.specs.Readings.{byte_at, lines_of_notes, note_read, notes_in, word_at}
+use Rattle.tb_debug.specs.Readings.{byte_at, lines_of_returns, return_read, returns_in, word_at}
 use Rattle.tb_debug.specs.Runs.{begins_at}
 use Rattle.tb_debug.specs.Sources.{line_of}
 
@@ -33,10 +33,10 @@ word_there m a from to =
     (λ i. word_from (byte_there m a (open_data a from (omega (arith, to))) i) (byte_at m (next i)))
     ∙ ap (word_from (m a)) (byte_there m (a + 1) (open_data (a + 1) (omega (arith, from)) to))
 
-note_there : (m : ℕ → ℕ) (k : ℕ) → k < 500 → note_read m k ≡ kept.note_at m k
-note_there m k few =
-    λ i. word_from (byte_there m (NOTE_LOW + k) (open_data (NOTE_LOW + k) (omega arith) (omega (arith, few))) i)
-    (byte_there m (NOTE_HIGH + k) (open_data (NOTE_HIGH + k) (omega arith) (omega (arith, few))) i)
+return_found : (m : ℕ → ℕ) (k : ℕ) → k < 500 → return_read m k ≡ kept.return_at m k
+return_found m k few =
+    λ i. word_from (byte_there m (RETURN_LOW + k) (open_data (RETURN_LOW + k) (omega arith) (omega (arith, few))) i)
+    (byte_there m (RETURN_HIGH + k) (open_data (RETURN_HIGH + k) (omega arith) (omega (arith, few))) i)
 
 -- ---- the lines of places
 
@@ -44,7 +44,7 @@ module _ (labels : List (Name × ℕ)) where
   abbrev at_label : ℕ → ℕ
   at_label n = stands_at labels (label_of (Line n))
 
-  above : (ns : List ℕ) (low n : ℕ) → PlacesRise low (starts_in labels ns) → has_line ns n ≡ true → low ≤ at_label n
+  above : (ns : List ℕ) (low n : ℕ) → AddressesRise low (starts_in labels ns) → has_line ns n ≡ true → low ≤ at_label n
   above [] low n rise has = absurd (cc)
   above (m ∷ ns) low n (here, rest) has = go (nat_eq m n) refl (above ns (at_label m + 1) n rest) has
     where
@@ -56,7 +56,7 @@ module _ (labels : List (Name × ℕ)) where
   same_place a = grind (arith, nat_tests)
 
   -- a line of the program is found where it begins
-  found_there : (ns : List ℕ) (low n : ℕ) → PlacesRise low (starts_in labels ns) → has_line ns n ≡ true
+  found_there : (ns : List ℕ) (low n : ℕ) → AddressesRise low (starts_in labels ns) → has_line ns n ≡ true
       → line_at (starts_in labels ns) (at_label n) ≡ Some n
   found_there [] low n rise has = absurd (cc)
   found_there (m ∷ ns) low n (here, rest) has =
@@ -84,25 +84,25 @@ module _ (labels : List (Name × ℕ)) where
       go true later e = absurd (cc)
       go false later e = later e
 
-  module _ (start : ℕ → ℕ) (ns : List ℕ) (low : ℕ) (rise : PlacesRise low (starts_in labels ns))
+  module _ (start : ℕ → ℕ) (ns : List ℕ) (low : ℕ) (rise : AddressesRise low (starts_in labels ns))
       (firsts : (n : ℕ) → has_line ns n ≡ true → start n ≡ at_label n) (same : (a : ℕ) → is_start start ns a ≡ begins_at (starts_in labels ns) a) where
     place_told : (p : Place) (a : ℕ) → StandsFor start ns p a → line_at (starts_in labels ns) a ≡ line_of p
     place_told (At n) a (has, is) = ap (line_at (starts_in labels ns)) (is ∙ firsts n has) ∙ found_there ns low n rise has
     place_told Past a none = none_there (starts_in labels ns) a (sym (same a) ∙ none)
 
     -- the lines that the notes lead to are those of the places
-    pub notes_told : (m : ℕ → ℕ) (ps : List Place) → length ps ≤ 500 → HoldsReturns start ns m ps
-        → lines_of_notes (starts_in labels ns) m (length ps) ≡ map line_of ps
-    notes_told m [] few held = refl
-    notes_told m (p ∷ ps) few held =
-        let here : line_at (starts_in labels ns) (note_read m (length ps)) ≡ line_of p =
-        ap (line_at (starts_in labels ns)) (note_there m (length ps) (omega (arith, few))) ∙ place_told p (kept.note_at m (length ps)) held.0 in
-        let rest = notes_told m ps (omega (arith, few)) held.1 in
+    pub returns_told : (m : ℕ → ℕ) (ps : List Place) → length ps ≤ 500 → HoldsReturns start ns m ps
+        → lines_of_returns (starts_in labels ns) m (length ps) ≡ map line_of ps
+    returns_told m [] few held = refl
+    returns_told m (p ∷ ps) few held =
+        let here : line_at (starts_in labels ns) (return_read m (length ps)) ≡ line_of p =
+        ap (line_at (starts_in labels ns)) (return_found m (length ps) (omega (arith, few))) ∙ place_told p (kept.return_at m (length ps)) held.0 in
+        let rest = returns_told m ps (omega (arith, few)) held.1 in
         λ i. here i ∷ rest i
 
 -- as many notes are told as there are
-pub all_notes : (m : ℕ → ℕ) (count : ℕ) → count ≤ 500 → word_in m NOTES ≡ count → notes_in m ≡ count
-all_notes m count few is =
+pub all_returns : (m : ℕ → ℕ) (count : ℕ) → count ≤ 500 → word_in m NOTES ≡ count → returns_in m ≡ count
+all_returns m count few is =
     let there : word_at m NOTES ≡ count = word_there m NOTES (omega arith) (omega arith) ∙ is in
     let small : nat_le count 500 ≡ true = grind (arith, nat_tests) in
     ap (λ n. if nat_le n 500 then n else 500) there ∙ ap (λ b. if b then count else 500) small

@@ -4,7 +4,7 @@ use Rattle.std.specs.Prelude.{nat_eq, unwrap_or, Option, None, IfSome, if◌then
 use Rattle.std.proofs.lemmas.Bool.{eqb-true, or_right, eq-eqb}
 use Rattle.tb_asm.specs.declared.names.Name.{Name}
 use Rattle.tb_asm.specs.Layout.{labels_from}
-use Rattle.tb_runtime16.specs.Places.{PROLOGUE_AT}
+use Rattle.tb_runtime16.specs.Addresses.{PROLOGUE_AT}
 use Rattle.tb_kernal.specs.Machine.{State, state_of}
 use Rattle.tb_kernal.specs.Runs.{run}
 use Rattle.tb_simulation.specs.Layout.{is_start}
@@ -21,12 +21,12 @@ use Rattle.tb_debug.specs.Lines.{line_at}
 use Rattle.std.specs.Int.{cast_signed, w16}
 use Rattle.std.specs.Prelude.{length}
 use Rattle.std.proofs.Common.{arith}
-use Rattle.tb_runtime16.specs.Places.{LINES_AT}
+use Rattle.tb_runtime16.specs.Addresses.{LINES_AT}
 use Rattle.tb_templates.specs.Templates.{var_at}
-use Rattle.tb_codegen.specs.Compiled.{PlacesRise}
-use Rattle.tb_debug.specs.Readings.{lines_of_notes, returns_of}
+use Rattle.tb_codegen.specs.Compiled.{AddressesRise}
+use Rattle.tb_debug.specs.Readings.{lines_of_returns, returns_of}
 use Rattle.tb_debug.specs.Sources.{Debugs, IsMadeOf, ShowsLine}
-use Rattle.tb_debug.proofs.SourceState.{all_notes, notes_told, word_there}
+use Rattle.tb_debug.proofs.SourceState.{all_returns, returns_told, word_there}
 use Rattle.tb_debug.proofs.EventLists.{begun_to, events_to, lawful_to, run_to}
 
 module _ (labels : List (Name × ℕ)) where
@@ -82,14 +82,14 @@ shows_all source seed start d n made firsts same begins =
     let m = (state_of d.present.machine).mem in
     let labels = labels_from PROLOGUE_AT made.compiled.items in
     let told = made.compiled.starts in
-    let rise = subst (PlacesRise LINES_AT) told made.compiled.rising in
+    let rise = subst (AddressesRise LINES_AT) told made.compiled.rising in
     let here : (a : ℕ) → is_start (start_of c) ns a ≡ begins_at (starts_in labels ns) a = λ a. same a ∙ ap (λ ss. begins_at ss a) told in
-    let count = all_notes m (length begins.state.returns) begins.few begins.notes in
+    let count = all_returns m (length begins.state.returns) begins.few begins.depth in
     record {
       begins = begins;
       variables = λ x few. ap (cast_signed w16) (word_there m (var_at x) (omega arith) (omega (arith, few)) ∙ begins.vars x few);
-      returns = ap (λ ss. returns_of ss m) told ∙ ap (lines_of_notes (starts_in labels ns) m) count
-          ∙ notes_told labels (start_of c) ns LINES_AT rise firsts here m begins.state.returns begins.few begins.returns;
+      returns = ap (λ ss. returns_of ss m) told ∙ ap (lines_of_returns (starts_in labels ns) m) count
+          ∙ returns_told labels (start_of c) ns LINES_AT rise firsts here m begins.state.returns begins.few begins.returns;
     }
 
 -- where a debugger stands at a line's beginning, the source goes on at that line

@@ -11,7 +11,7 @@ use Rattle.tb_disasm.specs.declared.listing.Line.{Line}
 use Rattle.tb_disasm.specs.Lines.{shown}
 use Rattle.tb_disasm.specs.Listing.{line_at as code_line}
 use Rattle.tb_debug.specs.Lines.{line_at}
-use Rattle.tb_runtime16.specs.Places.{NOTES, NOTE_HIGH, NOTE_LOW, VARS}
+use Rattle.tb_runtime16.specs.Addresses.{NOTES, RETURN_HIGH, RETURN_LOW, VARS}
 
 -- what a read gives, and 0 where it is refused
 abbrev pub or_zero : Result ℕ Closed → ℕ
@@ -35,21 +35,21 @@ unfoldable pub variables_of : (ℕ → ℕ) → List ℤ
 variables_of m = map (variable_of m) (range_with_len 0 26)
 
 -- how many notes the return list has, 500 at most
-abbrev pub notes_in : (ℕ → ℕ) → ℕ
-notes_in m = if nat_le (word_at m NOTES) 500 then word_at m NOTES else 500
+abbrev pub returns_in : (ℕ → ℕ) → ℕ
+returns_in m = if nat_le (word_at m NOTES) 500 then word_at m NOTES else 500
 
 -- where the line begins to which a note returns
-abbrev pub note_read : (ℕ → ℕ) → ℕ → ℕ
-note_read m k = word_from (byte_at m (NOTE_LOW + k)) (byte_at m (NOTE_HIGH + k))
+abbrev pub return_read : (ℕ → ℕ) → ℕ → ℕ
+return_read m k = word_from (byte_at m (RETURN_LOW + k)) (byte_at m (RETURN_HIGH + k))
 
 -- the lines of the first so many notes, the newest first
-abbrev pub lines_of_notes : List (ℕ × ℕ) → (ℕ → ℕ) → ℕ → List (Option ℕ)
-lines_of_notes lines m zero = []
-lines_of_notes lines m (suc k) = line_at lines (note_read m k) ∷ lines_of_notes lines m k
+abbrev pub lines_of_returns : List (ℕ × ℕ) → (ℕ → ℕ) → ℕ → List (Option ℕ)
+lines_of_returns lines m zero = []
+lines_of_returns lines m (suc k) = line_at lines (return_read m k) ∷ lines_of_returns lines m k
 
 -- the lines to return to, the newest first; none for a return behind the last line
 abbrev pub returns_of : List (ℕ × ℕ) → (ℕ → ℕ) → List (Option ℕ)
-returns_of lines m = lines_of_notes lines m (notes_in m)
+returns_of lines m = lines_of_returns lines m (returns_in m)
 
 -- ---- bytes and code
 

@@ -5,7 +5,7 @@ ghost use Rattle.tb_disasm.specs.Lines.{shown};
 ghost use Rattle.tb_cpu.specs.Operands.{word_from};
 ghost use Rattle.tb_kernal.specs.Machine.{state_of};
 ghost use Rattle.tb_codegen.specs.Compiled.{pair_of, starts_of};
-ghost use Rattle.tb_debug.specs.Readings.{IsCodeLine, as_read, byte_at, bytes_of, code_bytes, code_of, word_at, variable_of, variables_of, note_read, notes_in, returns_of};
+ghost use Rattle.tb_debug.specs.Readings.{IsCodeLine, as_read, byte_at, bytes_of, code_bytes, code_of, word_at, variable_of, variables_of, return_read, returns_in, returns_of};
 ghost use Rattle.tb_debug.specs.Lines.{line_at};
 
 use crate::breakpoints::Variables;
@@ -14,7 +14,7 @@ use tb_codegen::{Compiled, LineStart};
 use tb_disasm::{Line, first_line};
 use tb_kernal::Machine;
 use tb_memmap::Memory;
-use tb_runtime16::{NOTE_HIGH, NOTE_LOW, NOTES, VARS};
+use tb_runtime16::{NOTES, RETURN_HIGH, RETURN_LOW, VARS};
 
 /// How many notes the return list has at most.
 const MOST_NOTES: u16 = 500;
@@ -83,17 +83,17 @@ pub fn returns(
 ) -> Result<Vec<Option<u16>>, AllocError>
     ensures { IfOk result (λ lines. lines.items ≡ returns_of (starts_of program.now) (at memory.now)) }
 {
-    let count = notes(memory);
+    let count = returns(memory);
     let mut lines = Vec::new(alloc);
     for told in 0..count {
-        lines.push(line_from(program, note(memory, count - 1 - told)))?;
+        lines.push(line_from(program, return_address(memory, count - 1 - told)))?;
     }
     Ok(lines)
 }
 
 // How many notes the return list has.
-fn notes(memory: &Memory) -> u16
-    ensures { result ≡ notes_in (at memory.now) }
+fn returns(memory: &Memory) -> u16
+    ensures { result ≡ returns_in (at memory.now) }
 {
     let count = word(memory, NOTES);
     if count <= MOST_NOTES {
@@ -104,13 +104,13 @@ fn notes(memory: &Memory) -> u16
 }
 
 // A note by its place in the return list.
-fn note(memory: &Memory, index: u16) -> u16
+fn return_address(memory: &Memory, index: u16) -> u16
     requires { index < 500 }
-    ensures { result ≡ note_read (at memory.now) index }
+    ensures { result ≡ return_read (at memory.now) index }
 {
     word_from(
-        byte(memory, NOTE_LOW + index),
-        byte(memory, NOTE_HIGH + index),
+        byte(memory, RETURN_LOW + index),
+        byte(memory, RETURN_HIGH + index),
     )
 }
 

@@ -114,8 +114,8 @@ pub record ReadsDirectory (blocks : ℕ → List ℕ) (files : List File) : Type
 slot_block : (blocks : ℕ → List ℕ) (files : List File) (j : ℕ) → ReadsDirectory blocks files → length files ≤ 144 → j < 18
     → blocks (358 + j) ≡ take 256 (concat (drop (8 * j) (slots files)))
 slot_block blocks files j reads few h =
-    let place : 256 * j ≡ 32 * (8 * j) = omega arith in
-    reads.at j h ∙ ap (λ d. take 256 (drop (256 * j) d)) (directory_is files) ∙ ap (λ m. take 256 (drop m (concat (slots files)))) place
+    let block_index : 256 * j ≡ 32 * (8 * j) = omega arith in
+    reads.at j h ∙ ap (λ d. take 256 (drop (256 * j) d)) (directory_is files) ∙ ap (λ m. take 256 (drop m (concat (slots files)))) block_index
     ∙ ap (take 256) (drop_pieces 32 (8 * j) (slots files) (sizes (length files) 0 (slots files) (slots_are files)) (omega (arith, slots_length files few)))
 
 -- a block of eight entries or more begins with the first one's prefix
@@ -181,12 +181,12 @@ directory_chain blocks files reads few (suc c) j (suc most) e h =
     let t = track_there (j + 1) (omega arith) in
     let number : 8 * j / 8 + 2 ≡ j + 1 + 1 = omega arith in
     let s = number ∙ sym (sector_there (j + 1) (omega arith)) in
-    let place : 358 + (j + 1) ≡ 358 + j + 1 = omega arith in
+    let block_index : 358 + (j + 1) ≡ 358 + j + 1 = omega arith in
     let link : blocks (358 + j) ≡ track_at (358 + (j + 1)) ∷ sector_at (358 + (j + 1)) ∷ b.rest =
     b.is ∙ ap (λ p. p ++ b.rest) next ∙ (λ i. sym t i ∷ s i ∷ b.rest) in
     let rest = directory_chain blocks files reads few c (j + 1) most (omega arith) (omega arith) in
     chain_next most blocks (358 + j) (358 + (j + 1)) b.rest (range_with_len (358 + (j + 1)) (suc c)) (omega arith) (omega arith) link rest
-    ∙ ap (λ q. Some ((358 + j) ∷ range_with_len q (suc c))) place
+    ∙ ap (λ q. Some ((358 + j) ∷ range_with_len q (suc c))) block_index
 
 -- the entries in the directory's blocks
 pub entries_there : (blocks : ℕ → List ℕ) (files : List File) → ReadsDirectory blocks files → length files ≤ 144
@@ -195,7 +195,7 @@ entries_there blocks files reads few zero j h = refl
 entries_there blocks files reads few (suc c) j h =
     let n : ℕ = length files in
     let ss : List (List ℕ) = drop (8 * j) (slots files) in
-    let place : 358 + j + 1 ≡ 358 + (j + 1) = omega arith in
+    let block_index : 358 + j + 1 ≡ 358 + (j + 1) = omega arith in
     let there : 8 * (j + 1) ≡ 8 * j + 8 = omega arith in
     let all : 8 + 8 * c ≡ 8 * suc c = omega arith in
     let z : 0 + 8 * j ≡ 8 * j = omega arith in
@@ -204,7 +204,7 @@ entries_there blocks files reads few (suc c) j h =
     ap entries_in (slot_block blocks files j reads few (omega arith))
     ∙ eight ss (sizes n (8 * j) ss are) (omega (arith, length-drop (8 * j) (slots files), slots_length files few)) in
     ap (λ x. x ++ flat_map (λ p. entries_in (blocks p)) (range_with_len (358 + j + 1) c)) here
-    ∙ ap (λ q. take 8 ss ++ flat_map (λ p. entries_in (blocks p)) (range_with_len q c)) place
+    ∙ ap (λ q. take 8 ss ++ flat_map (λ p. entries_in (blocks p)) (range_with_len q c)) block_index
     ∙ ap (λ x. take 8 ss ++ x) (entries_there blocks files reads few c (j + 1) (omega arith))
     ∙ ap (λ m. take 8 ss ++ take (8 * c) (drop m (slots files))) there
     ∙ ap (λ x. take 8 ss ++ take (8 * c) x) (sym (drop-drop 8 (8 * j) (slots files)))

@@ -4,9 +4,9 @@ use Rattle.std.proofs.Common.{drop, map, Option, Some, None, sym, ap, ◌∙◌,
 use Rattle.std.specs.Prelude.{replicate, flat_map, slice_index, option_map, if◌then◌else◌}
 use Rattle.std.specs.List.{range_with_len}
 use Rattle.std.proofs.lemmas.List.{take_at, drop_at, drop-drop, length-take-le, length-replicate, append-nil, take-append-drop}
-use Rattle.tb_disk.specs.D64.{chain, data_in, place}
-use Rattle.tb_disk.specs.Layout.{place_of, track_at, sector_at, further, filled, laid}
-use Rattle.tb_disk.proofs.Sectors.{place_back, on_disk, some_track, place_within}
+use Rattle.tb_disk.specs.D64.{chain, data_in, block_index}
+use Rattle.tb_disk.specs.Layout.{file_block, track_at, sector_at, further, filled, laid}
+use Rattle.tb_disk.proofs.Sectors.{index_back, on_disk, some_track, index_within}
 
 -- a chain goes on from a block p with these bytes
 step : ℕ → (ℕ → List ℕ) → ℕ → List ℕ → Option (List ℕ)
@@ -16,8 +16,8 @@ step most blocks p b =
 chain_steps : (most : ℕ) (blocks : ℕ → List ℕ) (p : ℕ) (b : List ℕ) → p < 683 → blocks p ≡ b → chain (suc most) blocks (track_at p) (sector_at p) ≡ step most blocks p b
 unfolding chain step
 chain_steps most blocks p b h e =
-    ap (λ on. if on then step most blocks (place (track_at p) (sector_at p)) (blocks (place (track_at p) (sector_at p))) else None) (on_disk p h)
-    ∙ ap (λ q. step most blocks q (blocks q)) (place_back p h)
+    ap (λ on. if on then step most blocks (block_index (track_at p) (sector_at p)) (blocks (block_index (track_at p) (sector_at p))) else None) (on_disk p h)
+    ∙ ap (λ q. step most blocks q (blocks q)) (index_back p h)
     ∙ ap (step most blocks p) e
 
 -- a block that links to track 0 ends the chain
@@ -49,48 +49,48 @@ full_data q bytes h e =
 
 -- the blocks for files are these bytes
 pub record Reads (blocks : ℕ → List ℕ) (area : List ℕ) : Type 0 where
-  pub at : (k : ℕ) → k < 664 → blocks (place_of k) ≡ take 256 (drop (256 * k) area)
+  pub at : (k : ℕ) → k < 664 → blocks (file_block k) ≡ take 256 (drop (256 * k) area)
 
 -- the places of a file's blocks: the k-th for files, and the given number more
-abbrev pub places_from : ℕ → ℕ → List ℕ
-places_from k more = map place_of (range_with_len k (suc more))
+abbrev pub indices_from : ℕ → ℕ → List ℕ
+indices_from k more = map file_block (range_with_len k (suc more))
 
 -- what following a chain finds
 pub record Follows (blocks : ℕ → List ℕ) (most k more : ℕ) (bytes : List ℕ) : Type 0 where
-  pub goes : chain most blocks (track_at (place_of k)) (sector_at (place_of k)) ≡ Some (places_from k more)
-  pub holds : flat_map (λ p. data_in (blocks p)) (places_from k more) ≡ bytes
+  pub goes : chain most blocks (track_at (file_block k)) (sector_at (file_block k)) ≡ Some (indices_from k more)
+  pub holds : flat_map (λ p. data_in (blocks p)) (indices_from k more) ≡ bytes
 
 -- a block is the first 256 bytes of those known from it on
 block_is : (blocks : ℕ → List ℕ) (area b tail : List ℕ) (k : ℕ) → Reads blocks area → k < 664 → length b ≡ 256 → drop (256 * k) area ≡ b ++ tail
-    → blocks (place_of k) ≡ b
+    → blocks (file_block k) ≡ b
 block_is blocks area b tail k reads h size at = reads.at k h ∙ ap (take 256) at ∙ take_at b tail 256 size
 
 -- the bytes from the next block on
 pub next_at : (area b tail : List ℕ) (k : ℕ) → length b ≡ 256 → drop (256 * k) area ≡ b ++ tail → drop (256 * (k + 1)) area ≡ tail
 next_at area b tail k size at =
-    let place : 256 * (k + 1) ≡ 256 * k + 256 = omega arith in
-    ap (λ n. drop n area) place ∙ sym (drop-drop 256 (256 * k) area) ∙ ap (drop 256) at ∙ drop_at b tail 256 size
+    let block_index : 256 * (k + 1) ≡ 256 * k + 256 = omega arith in
+    ap (λ n. drop n area) block_index ∙ sym (drop-drop 256 (256 * k) area) ∙ ap (drop 256) at ∙ drop_at b tail 256 size
 
 follow_last : (blocks : ℕ → List ℕ) (area tail : List ℕ) → Reads blocks area → (k most : ℕ) (bytes : List ℕ) → k < 664 → length bytes ≤ 254
     → drop (256 * k) area ≡ filled 0 (length bytes + 1) bytes ++ tail → Follows blocks (suc most) k zero bytes
 follow_last blocks area tail reads k most bytes fits short at =
     let b = block_is blocks area (filled 0 (length bytes + 1) bytes) tail k reads fits (filled_length 0 (length bytes + 1) bytes short) at in
     record {
-      goes = chain_last most blocks (place_of k) (length bytes + 1) (bytes ++ replicate (254 - length bytes) 0) (place_within k fits) b;
-      holds = append-nil (data_in (blocks (place_of k))) ∙ ap data_in b ∙ last_data bytes;
+      goes = chain_last most blocks (file_block k) (length bytes + 1) (bytes ++ replicate (254 - length bytes) 0) (index_within k fits) b;
+      holds = append-nil (data_in (blocks (file_block k))) ∙ ap data_in b ∙ last_data bytes;
     }
 
 follow_more : (blocks : ℕ → List ℕ) (area tail : List ℕ) → Reads blocks area → (k most more : ℕ) (bytes : List ℕ) → k + 1 < 664 → 254 < length bytes
-    → drop (256 * k) area ≡ filled (track_at (place_of (k + 1))) (sector_at (place_of (k + 1))) (take 254 bytes) ++ tail
+    → drop (256 * k) area ≡ filled (track_at (file_block (k + 1))) (sector_at (file_block (k + 1))) (take 254 bytes) ++ tail
     → Follows blocks most (k + 1) more (drop 254 bytes) → Follows blocks (suc most) k (suc more) bytes
 follow_more blocks area tail reads k most more bytes fits long at rest =
-    let q : ℕ = place_of (k + 1) in
-    let within : q < 683 = place_within (k + 1) fits in
+    let q : ℕ = file_block (k + 1) in
+    let within : q < 683 = index_within (k + 1) fits in
     let full : length (take 254 bytes) ≡ 254 = length-take-le 254 bytes (omega arith) in
     let b = block_is blocks area (filled (track_at q) (sector_at q) (take 254 bytes)) tail k reads (omega arith) (filled_length (track_at q) (sector_at q) (take 254 bytes) (omega arith)) at in
-    let behind : List ℕ = flat_map (λ p. data_in (blocks p)) (places_from (k + 1) more) in
+    let behind : List ℕ = flat_map (λ p. data_in (blocks p)) (indices_from (k + 1) more) in
     record {
-      goes = chain_next most blocks (place_of k) q (take 254 bytes ++ replicate (254 - length (take 254 bytes)) 0) (places_from (k + 1) more) (place_within k (omega arith)) within b rest.goes;
+      goes = chain_next most blocks (file_block k) q (take 254 bytes ++ replicate (254 - length (take 254 bytes)) 0) (indices_from (k + 1) more) (index_within k (omega arith)) within b rest.goes;
       holds = ap (λ x. x ++ behind) (ap data_in b ∙ full_data q (take 254 bytes) within full) ∙ ap (λ x. take 254 bytes ++ x) rest.holds ∙ take-append-drop 254 bytes;
     }
 
@@ -102,11 +102,11 @@ follows blocks area tail reads more k zero bytes fits is room at = absurd (omega
 follows blocks area tail reads zero k (suc most) bytes fits is room at = follow_last blocks area tail reads k most bytes (omega arith) (omega arith) at
 follows blocks area tail reads (suc more) k (suc most) bytes fits is room at =
     let long : 254 < length bytes = omega arith in
-    let first : List ℕ = filled (track_at (place_of (k + 1))) (sector_at (place_of (k + 1))) (take 254 bytes) in
+    let first : List ℕ = filled (track_at (file_block (k + 1))) (sector_at (file_block (k + 1))) (take 254 bytes) in
     let behind : List ℕ = laid more (k + 1) (drop 254 bytes) in
     let there : drop (256 * k) area ≡ first ++ (behind ++ tail) = at ∙ append_assoc first behind tail in
     let full : length (take 254 bytes) ≡ 254 = length-take-le 254 bytes (omega arith) in
-    let next = next_at area first (behind ++ tail) k (filled_length (track_at (place_of (k + 1))) (sector_at (place_of (k + 1))) (take 254 bytes) (omega arith)) there in
+    let next = next_at area first (behind ++ tail) k (filled_length (track_at (file_block (k + 1))) (sector_at (file_block (k + 1))) (take 254 bytes) (omega arith)) there in
     follow_more blocks area (behind ++ tail) reads k most more bytes (omega arith) long there
     (follows blocks area tail reads more (k + 1) most (drop 254 bytes) (omega arith) (omega (arith, length-drop 254 bytes)) (omega arith) next)
 
@@ -115,8 +115,8 @@ pub laid_length : (more k : ℕ) (bytes : List ℕ) → more ≡ further bytes �
 unfolding laid
 laid_length zero k bytes is = filled_length 0 (length bytes + 1) bytes (omega arith)
 laid_length (suc more) k bytes is =
-    let t : ℕ = track_at (place_of (k + 1)) in
-    let s : ℕ = sector_at (place_of (k + 1)) in
+    let t : ℕ = track_at (file_block (k + 1)) in
+    let s : ℕ = sector_at (file_block (k + 1)) in
     let full : length (take 254 bytes) ≡ 254 = length-take-le 254 bytes (omega arith) in
     let rest = laid_length more (k + 1) (drop 254 bytes) (omega (arith, length-drop 254 bytes)) in
     length-append (filled t s (take 254 bytes)) (laid more (k + 1) (drop 254 bytes)) ∙ omega (arith, filled_length t s (take 254 bytes) (omega arith), rest)

@@ -7,12 +7,12 @@ use Rattle.std.proofs.lemmas.List.{take_at, drop_at, length-take-le, length-repl
 use Rattle.tb_disk.specs.declared.names.Name.{Name}
 use Rattle.tb_disk.specs.declared.image.File.{File}
 use Rattle.tb_disk.specs.Images.{blocks_of, uses, IsDiskOf}
-use Rattle.tb_disk.specs.D64.{Found, Walk, walk, walk_from, chain, sectors, files_of, in_use, block, name_in, place, is_on_disk, map_bit, free_on}
+use Rattle.tb_disk.specs.D64.{Found, Walk, walk, walk_from, chain, sectors, files_of, in_use, block, name_in, block_index, is_on_disk, map_bit, free_on}
 use Rattle.tb_disk.specs.Layout.{no_entry, head_block, title, free_map, laid_all, file_area, directory_of, directory_blocks, image_of, is_free}
 use Rattle.tb_disk.proofs.Chains.{Reads}
 use Rattle.tb_disk.proofs.Listing.{area_length}
 use Rattle.tb_disk.proofs.Reading.{Sizes, joined, reads_area, reads_head, reads_directory}
-use Rattle.tb_disk.proofs.Walking.{found_from, files_found, none_found, names_found, bytes_found, places_found}
+use Rattle.tb_disk.proofs.Walking.{found_from, files_found, none_found, names_found, bytes_found, indices_found}
 use Rattle.tb_disk.proofs.Catalog.{ReadsDirectory, directory_chain, entries_there, directory_length, slots_front}
 use Rattle.tb_disk.proofs.Mapping.{times, all_used, uses_are, bits_are, counts_are, bit_tells, free_map_length}
 
@@ -104,7 +104,7 @@ disk_of name files few small =
     let image : List ℕ = image_of name files in
     let at_head : block image 357 ≡ first = reads_head area first directory s in
     let w : Walk = walk_of (range_with_len 358 d) (found_from 0 files) in
-    let used_places : in_use w ≡ all_used used d = ap (λ x. 357 ∷ (range_with_len 358 d ++ x)) (places_found 0 files) in
+    let used_places : in_use w ≡ all_used used d = ap (λ x. 357 ∷ (range_with_len 358 d ++ x)) (indices_found 0 files) in
     let uses_is : (p : ℕ) → uses w p ≡ (if is_free used d p then 0 else 1) = λ p. ap (times p) used_places ∙ uses_are used d p few_blocks in
     record {
       fits = (small, few);
@@ -118,7 +118,7 @@ disk_of name files few small =
         once = λ p. at_most_once (is_free used d p) (uses w p) (uses_is p);
         bits = λ track sector l u h.
             ap (λ b. map_bit b track sector) at_head ∙ bits_are used d name.field track sector l u h ∙ bit_tells used d track sector few_blocks l u
-            ∙ ap (λ x. if is_on_disk track sector then 1 - times (place track sector) x else 0) (sym used_places);
+            ∙ ap (λ x. if is_on_disk track sector then 1 - times (block_index track sector) x else 0) (sym used_places);
         counts = λ track l u.
             ap (λ b. free_on b track) at_head ∙ counts_are used d name.field track l u
             ∙ ap (λ b. sum_by (map_bit b track) (range_with_len 0 24)) (sym at_head);

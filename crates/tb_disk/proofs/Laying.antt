@@ -1,6 +1,6 @@
 -- The blocks of a file, one after the other.
 use Rattle.std.proofs.Common.{◌≡◌, ℕ, suc, ◌+◌, ◌<◌, ◌≤◌, List, ◌++◌, length, take, drop, sym, ap, ◌∙◌, subst, arith, length-drop, append_assoc}
-use Rattle.tb_disk.specs.Layout.{further, filled, laid, track_at, sector_at, place_of}
+use Rattle.tb_disk.specs.Layout.{further, filled, laid, track_at, sector_at, file_block}
 
 further_more : (bytes : List ℕ) → 254 < length bytes → further bytes ≡ suc (further (drop 254 bytes))
 further_more bytes h = omega (arith, length-drop 254 bytes)
@@ -10,7 +10,7 @@ further_none bytes h = omega arith
 
 -- a full block, which links to the k-th for files
 linked : ℕ → List ℕ → List ℕ
-linked k part = filled (track_at (place_of k)) (sector_at (place_of k)) part
+linked k part = filled (track_at (file_block k)) (sector_at (file_block k)) part
 
 laid_more : (k : ℕ) (bytes : List ℕ) → 254 < length bytes
     → laid (further bytes) k bytes ≡ linked (k + 1) (take 254 bytes) ++ laid (further (drop 254 bytes)) (k + 1) (drop 254 bytes)
@@ -29,7 +29,7 @@ pub record LaidTo (old : List ℕ) (k : ℕ) (bytes : List ℕ) (now : List ℕ)
 -- the loop of `push_file` goes on over a full block
 pub laid_step : (old : List ℕ) (k : ℕ) (bytes now : List ℕ) (at : ℕ) (rest part behind new : List ℕ) (track sector : ℕ)
     → LaidTo old k bytes now at rest → 254 < length rest → part ≡ take 254 rest → behind ≡ drop 254 rest
-    → track ≡ track_at (place_of (at + 1)) → sector ≡ sector_at (place_of (at + 1))
+    → track ≡ track_at (file_block (at + 1)) → sector ≡ sector_at (file_block (at + 1))
     → new ≡ now ++ filled track sector part → LaidTo old k bytes new (at + 1) behind
 unfolding linked
 laid_step old k bytes now at rest part behind new track sector l h p b t s e =

@@ -7,8 +7,8 @@ use Rattle.std.specs.List.{range_with_len}
 use Rattle.std.proofs.lemmas.Bool.{eq-eqb, ne_eqb, cases_lt, cases_eq, lt-ltb, le-ltb, le-leb, lt-leb}
 use Rattle.std.proofs.lemmas.List.{map-id, get_or_append_left, get_or-append_right}
 use Rattle.std.proofs.lemmas.List.Sums.{sum_by-cons, sum_by-append}
-use Rattle.tb_disk.specs.D64.{sectors_on, is_on_disk, place, map_bit, free_on}
-use Rattle.tb_disk.specs.Layout.{place_of, is_free, free_bit, bits_from, ones_from, track_map, free_map, title, head_block}
+use Rattle.tb_disk.specs.D64.{sectors_on, is_on_disk, block_index, map_bit, free_on}
+use Rattle.tb_disk.specs.Layout.{file_block, is_free, free_bit, bits_from, ones_from, track_map, free_map, title, head_block}
 
 -- how often a number occurs in a list
 abbrev pub times : ℕ → List ℕ → ℕ
@@ -42,42 +42,42 @@ once f p a (suc m) j l u e others = elim (cases_eq a j) [
       ∙ once f p (a + 1) m j above (omega arith) e others
 ]
 
-low_place : (j : ℕ) → j < 357 → place_of j ≡ j
+low_place : (j : ℕ) → j < 357 → file_block j ≡ j
 low_place j h = ap (λ b. if b then j else j + 19) (lt-ltb j 357 h)
 
-high_place : (j : ℕ) → 357 ≤ j → place_of j ≡ j + 19
+high_place : (j : ℕ) → 357 ≤ j → file_block j ≡ j + 19
 high_place j h = ap (λ b. if b then j else j + 19) (le-ltb j 357 h)
 
 -- the places of blocks for files, taken once each
-files_below : (used p : ℕ) → p < 357 → times p (map place_of (range_with_len 0 used)) ≡ (if nat_le used p then 0 else 1)
+files_below : (used p : ℕ) → p < 357 → times p (map file_block (range_with_len 0 used)) ≡ (if nat_le used p then 0 else 1)
 files_below used p h = elim (cases_lt p used) [
   | inl l ↦
-      once place_of p 0 used p (omega arith) (omega arith) (low_place p h) (λ i ne e. elim (cases_lt i 357) [
+      once file_block p 0 used p (omega arith) (omega arith) (low_place p h) (λ i ne e. elim (cases_lt i 357) [
         | inl low ↦ let x = low_place i low in absurd (ne (omega (arith, x, e)))
         | inr high ↦ let x = high_place i high in absurd (omega (arith, x, e, h))
       ]) ∙ ap (λ b. if b then 0 else 1) (sym (lt-leb used p l))
   | inr g ↦
-      never place_of p 0 used (λ j low high e. elim (cases_lt j 357) [
+      never file_block p 0 used (λ j low high e. elim (cases_lt j 357) [
         | inl l ↦ let x = low_place j l in absurd (omega (arith, x, e, g, high))
         | inr l ↦ let x = high_place j l in absurd (omega (arith, x, e, h))
       ]) ∙ ap (λ b. if b then 0 else 1) (sym (le-leb used p g))
 ]
 
-files_between : (used p : ℕ) → 357 ≤ p → p ≤ 375 → times p (map place_of (range_with_len 0 used)) ≡ 0
-files_between used p l u = never place_of p 0 used (λ j low high e. elim (cases_lt j 357) [
+files_between : (used p : ℕ) → 357 ≤ p → p ≤ 375 → times p (map file_block (range_with_len 0 used)) ≡ 0
+files_between used p l u = never file_block p 0 used (λ j low high e. elim (cases_lt j 357) [
   | inl h ↦ let x = low_place j h in absurd (omega (arith, x, e))
   | inr h ↦ let x = high_place j h in absurd (omega (arith, x, e))
 ])
 
-files_above : (used p : ℕ) → 376 ≤ p → times p (map place_of (range_with_len 0 used)) ≡ (if nat_le (used + 19) p then 0 else 1)
+files_above : (used p : ℕ) → 376 ≤ p → times p (map file_block (range_with_len 0 used)) ≡ (if nat_le (used + 19) p then 0 else 1)
 files_above used p h = elim (cases_lt p (used + 19)) [
   | inl l ↦
-      once place_of p 0 used (p - 19) (omega arith) (omega arith) (high_place (p - 19) (omega arith) ∙ omega arith) (λ i ne e. elim (cases_lt i 357) [
+      once file_block p 0 used (p - 19) (omega arith) (omega arith) (high_place (p - 19) (omega arith) ∙ omega arith) (λ i ne e. elim (cases_lt i 357) [
         | inl low ↦ let x = low_place i low in absurd (omega (arith, x, e, h))
         | inr high ↦ let x = high_place i high in absurd (ne (omega (arith, x, e)))
       ]) ∙ ap (λ b. if b then 0 else 1) (sym (lt-leb (used + 19) p l))
   | inr g ↦
-      never place_of p 0 used (λ j low high e. elim (cases_lt j 357) [
+      never file_block p 0 used (λ j low high e. elim (cases_lt j 357) [
         | inl l ↦ let x = low_place j l in absurd (omega (arith, x, e, h))
         | inr l ↦ let x = high_place j l in absurd (omega (arith, x, e, g, high))
       ]) ∙ ap (λ b. if b then 0 else 1) (sym (le-leb (used + 19) p g))
@@ -95,13 +95,13 @@ directory_in d p l h = ap (times p) (sym (map-id (range_with_len 358 d))) ∙ on
 
 -- all places in use: the head, the directory's blocks, and those of the files
 abbrev pub behind_head : ℕ → ℕ → List ℕ
-behind_head used d = range_with_len 358 d ++ map place_of (range_with_len 0 used)
+behind_head used d = range_with_len 358 d ++ map file_block (range_with_len 0 used)
 
 abbrev pub all_used : ℕ → ℕ → List ℕ
 all_used used d = 357 ∷ behind_head used d
 
-parts : (used d p : ℕ) → times p (behind_head used d) ≡ times p (range_with_len 358 d) + times p (map place_of (range_with_len 0 used))
-parts used d p = sum_by-append (λ q. if q == p then 1 else 0) (range_with_len 358 d) (map place_of (range_with_len 0 used))
+parts : (used d p : ℕ) → times p (behind_head used d) ≡ times p (range_with_len 358 d) + times p (map file_block (range_with_len 0 used))
+parts used d p = sum_by-append (λ q. if q == p then 1 else 0) (range_with_len 358 d) (map file_block (range_with_len 0 used))
 
 -- a place is in use once if it is not free, and else not at all
 pub uses_are : (used d p : ℕ) → d ≤ 18 → times p (all_used used d) ≡ (if is_free used d p then 0 else 1)
@@ -142,7 +142,7 @@ uses_are used d p few = elim (cases_lt p 357) [
 
 -- ---- the bits of the map
 bit_small : (used d track s : ℕ) → free_bit used d track s ≤ 1
-bit_small used d track s = by (nat_lt s (sectors_on track)) (is_free used d (place track s))
+bit_small used d track s = by (nat_lt s (sectors_on track)) (is_free used d (block_index track s))
   where
     by : (a b : Bool) → (if a then (if b then 1 else 0) else 0) ≤ 1
     by true true = omega arith
@@ -299,10 +299,10 @@ counts_are used d field track l u =
 
 -- a sector's bit, by what is in use
 pub bit_tells : (used d track sector : ℕ) → d ≤ 18 → 1 ≤ track → track ≤ 35
-    → free_bit used d track sector ≡ (if is_on_disk track sector then 1 - times (place track sector) (all_used used d) else 0)
+    → free_bit used d track sector ≡ (if is_on_disk track sector then 1 - times (block_index track sector) (all_used used d) else 0)
 bit_tells used d track sector few l u =
-    tests (nat_lt sector (sectors_on track)) (is_free used d (place track sector)) (times (place track sector) (all_used used d)) (uses_are used d (place track sector) few)
-    ∙ (λ i. if (sym (le-leb 1 track l) i && sym (le-leb track 35 u) i && nat_lt sector (sectors_on track)) then 1 - times (place track sector) (all_used used d) else 0)
+    tests (nat_lt sector (sectors_on track)) (is_free used d (block_index track sector)) (times (block_index track sector) (all_used used d)) (uses_are used d (block_index track sector) few)
+    ∙ (λ i. if (sym (le-leb 1 track l) i && sym (le-leb track 35 u) i && nat_lt sector (sectors_on track)) then 1 - times (block_index track sector) (all_used used d) else 0)
   where
     tests : (a b : Bool) (n : ℕ) → n ≡ (if b then 0 else 1) → (if a then (if b then 1 else 0) else 0) ≡ (if (true && true && a) then 1 - n else 0)
     tests true true n e = omega (arith, e)

@@ -2,12 +2,12 @@
 use Rattle.std.proofs.Common.{◌≡◌, ℕ, ◌==◌, ◌<◌, true, false, refl, arith}
 use Rattle.std.proofs.lemmas.Bool.{agree_below_at, eqb-true}
 use Rattle.std.proofs.lemmas.Bool.Decides.{nat_tests}
-use Rattle.tb_disk.specs.D64.{place, is_on_disk}
-use Rattle.tb_disk.specs.Layout.{place_of, track_at, sector_at}
+use Rattle.tb_disk.specs.D64.{block_index, is_on_disk}
+use Rattle.tb_disk.specs.Layout.{file_block, track_at, sector_at}
 
 -- the track and the sector of a place have that place
-pub place_back : (p : ℕ) → p < 683 → place (track_at p) (sector_at p) ≡ p
-place_back p h = eqb-true _ _ (agree_below_at (λ p. place (track_at p) (sector_at p) == p) (λ p. true) 683 p refl h)
+pub index_back : (p : ℕ) → p < 683 → block_index (track_at p) (sector_at p) ≡ p
+index_back p h = eqb-true _ _ (agree_below_at (λ p. block_index (track_at p) (sector_at p) == p) (λ p. true) 683 p refl h)
 
 -- the track and the sector of a place are on the disk
 pub on_disk : (p : ℕ) → p < 683 → is_on_disk (track_at p) (sector_at p) ≡ true
@@ -18,5 +18,5 @@ pub some_track : (p : ℕ) → p < 683 → (track_at p == 0) ≡ false
 some_track p h = agree_below_at (λ p. track_at p == 0) (λ p. false) 683 p refl h
 
 -- the blocks for files are on the disk
-pub place_within : (k : ℕ) → k < 664 → place_of k < 683
-place_within k h = grind (arith, nat_tests)
+pub index_within : (k : ℕ) → k < 664 → file_block k < 683
+index_within k h = grind (arith, nat_tests)

@@ -10,14 +10,14 @@ use Rattle.std.proofs.lemmas.List.Sums.{sum_by-cons}
 use Rattle.tb_disk.specs.declared.image.File.{File}
 use Rattle.tb_disk.specs.Images.{blocks_of, text_of}
 use Rattle.tb_disk.specs.D64.{Found, sectors, found, file_of, files_of, name_in}
-use Rattle.tb_disk.specs.Layout.{place_of, track_at, sector_at, further, laid, laid_all, prefix, entry, entries, no_entry}
-use Rattle.tb_disk.proofs.Chains.{Reads, Follows, follows, places_from, laid_length}
+use Rattle.tb_disk.specs.Layout.{file_block, track_at, sector_at, further, laid, laid_all, prefix, entry, entries, no_entry}
+use Rattle.tb_disk.proofs.Chains.{Reads, Follows, follows, indices_from, laid_length}
 
 -- the files as a walk finds them, the first block of which is the k-th for files
 abbrev pub found_from : ℕ → List File → List Found
 found_from k [] = []
 found_from k (f ∷ fs) =
-    record { name = text_of f.name; bytes = f.bytes.now; places = places_from k (further f.bytes.now) } ∷ found_from (k + blocks_of f) fs
+    record { name = text_of f.name; bytes = f.bytes.now; blocks_used = indices_from k (further f.bytes.now) } ∷ found_from (k + blocks_of f) fs
 
 -- a list of two
 pub record Two (xs : List ℕ) : Type 0 where
@@ -40,7 +40,7 @@ abbrev behind : File → List ℕ
 behind f = f.name.field ++ replicate 9 0 ++ (blocks_of f % 256) ∷ (blocks_of f / 256) ∷ []
 
 abbrev entry_bytes : ℕ → ℕ → ℕ → File → List ℕ
-entry_bytes x y k f = x ∷ y ∷ 0x82 ∷ track_at (place_of k) ∷ sector_at (place_of k) ∷ behind f
+entry_bytes x y k f = x ∷ y ∷ 0x82 ∷ track_at (file_block k) ∷ sector_at (file_block k) ∷ behind f
 
 named_in : (f : File) → take 16 (behind f) ≡ f.name.field
 named_in f =
@@ -56,32 +56,32 @@ low_byte f = get_or_at (f.name.field ++ replicate 9 0) (blocks_of f % 256) ((blo
 high_byte : (f : File) → slice_index (behind f) 26 ≡ blocks_of f / 256
 high_byte f = get_or-append_right (f.name.field ++ replicate 9 0) ((blocks_of f % 256) ∷ (blocks_of f / 256) ∷ []) 25 26 0 (low_at f) (omega arith)
 
-length-places : (k more : ℕ) → length (places_from k more) ≡ suc more
-length-places k more = length-map-range_with_len place_of k (suc more)
+length-blocks_used : (k more : ℕ) → length (indices_from k more) ≡ suc more
+length-blocks_used k more = length-map-range_with_len file_block k (suc more)
 
-counted : (f : File) (k : ℕ) → slice_index (behind f) 25 + 256 * slice_index (behind f) 26 ≡ length (places_from k (further f.bytes.now))
-counted f k = omega (arith, low_byte f, high_byte f, length-places k (further f.bytes.now))
+counted : (f : File) (k : ℕ) → slice_index (behind f) 25 + 256 * slice_index (behind f) 26 ≡ length (indices_from k (further f.bytes.now))
+counted f k = omega (arith, low_byte f, high_byte f, length-blocks_used k (further f.bytes.now))
 
 abbrev found_if : List ℕ → Bool → List ℕ → List ℕ → Option Found
-found_if places right name bytes = if right then Some (record { name = name; bytes = bytes; places = places }) else None
+found_if blocks_used right name bytes = if right then Some (record { name = name; bytes = bytes; blocks_used = blocks_used }) else None
 
 -- an entry's file
 file_found : (blocks : ℕ → List ℕ) (x y k : ℕ) (f : File) → Follows blocks sectors k (further f.bytes.now) f.bytes.now
-    → file_of blocks (entry_bytes x y k f) ≡ Some (record { name = text_of f.name; bytes = f.bytes.now; places = places_from k (further f.bytes.now) })
+    → file_of blocks (entry_bytes x y k f) ≡ Some (record { name = text_of f.name; bytes = f.bytes.now; blocks_used = indices_from k (further f.bytes.now) })
 unfolding file_of
 file_found blocks x y k f follow =
-    let places : List ℕ = places_from k (further f.bytes.now) in
-    let right = eq-eqb (slice_index (behind f) 25 + 256 * slice_index (behind f) 26) (length places) (counted f k) in
+    let blocks_used : List ℕ = indices_from k (further f.bytes.now) in
+    let right = eq-eqb (slice_index (behind f) 25 + 256 * slice_index (behind f) 26) (length blocks_used) (counted f k) in
     let name = ap name_in (named_in f) in
     ap (option_and_then (found blocks (entry_bytes x y k f))) follow.goes
-    ∙ (λ i. found_if places (right i) (name i) (follow.holds i))
+    ∙ (λ i. found_if blocks_used (right i) (name i) (follow.holds i))
 
 -- the bytes after the blocks of a file
 behind_file : (area tail : List ℕ) (k : ℕ) (bytes : List ℕ) → drop (256 * k) area ≡ laid (further bytes) k bytes ++ tail
     → drop (256 * (k + (further bytes + 1))) area ≡ tail
 behind_file area tail k bytes at =
-    let place : 256 * (k + (further bytes + 1)) ≡ 256 * k + 256 * (further bytes + 1) = omega arith in
-    ap (λ n. drop n area) place ∙ sym (drop-drop (256 * (further bytes + 1)) (256 * k) area) ∙ ap (drop (256 * (further bytes + 1))) at
+    let block_index : 256 * (k + (further bytes + 1)) ≡ 256 * k + 256 * (further bytes + 1) = omega arith in
+    ap (λ n. drop n area) block_index ∙ sym (drop-drop (256 * (further bytes + 1)) (256 * k) area) ∙ ap (drop (256 * (further bytes + 1))) at
     ∙ drop_at (laid (further bytes) k bytes) tail (256 * (further bytes + 1)) (laid_length (further bytes) k bytes refl)
 
 -- the entries give the files back
@@ -99,7 +99,7 @@ files_found blocks area tail reads n i k (f ∷ fs) others few at none =
     let rest = files_found blocks area tail reads n (i + 1) (k + blocks_of f) fs others (omega (arith, sum, few)) next none in
     let two = prefix_two n i in
     let others' : List (List ℕ) = entries n (i + 1) (k + blocks_of f) fs ++ others in
-    let one : Found = record { name = text_of f.name; bytes = f.bytes.now; places = places_from k (further f.bytes.now) } in
+    let one : Found = record { name = text_of f.name; bytes = f.bytes.now; blocks_used = indices_from k (further f.bytes.now) } in
     ap (λ p. files_of blocks ((p ++ entry k f) ∷ others')) two.is
     ∙ ap (option_and_then (λ file. option_map (λ files. file ∷ files) (files_of blocks others'))) (file_found blocks two.first two.second k f follow)
     ∙ ap (option_map (λ files. one ∷ files)) rest
@@ -123,19 +123,19 @@ bytes_found k [] = refl
 bytes_found k (f ∷ fs) = ap (λ x. f.bytes.now ∷ x) (bytes_found (k + blocks_of f) fs)
 
 -- the places of the files' blocks are those of the blocks for files from the k-th on
-pub places_found : (k : ℕ) (files : List File) → flat_map (λ f. f.places) (found_from k files) ≡ map place_of (range_with_len k (sum_by blocks_of files))
-places_found k [] = refl
-places_found k (f ∷ fs) =
+pub indices_found : (k : ℕ) (files : List File) → flat_map (λ f. f.blocks_used) (found_from k files) ≡ map file_block (range_with_len k (sum_by blocks_of files))
+indices_found k [] = refl
+indices_found k (f ∷ fs) =
     let more : sum_by blocks_of (f ∷ fs) ≡ suc (further f.bytes.now) + sum_by blocks_of fs = sum_by-cons blocks_of f fs ∙ omega arith in
-    ap (λ x. places_from k (further f.bytes.now) ++ x) (places_found (k + blocks_of f) fs)
+    ap (λ x. indices_from k (further f.bytes.now) ++ x) (indices_found (k + blocks_of f) fs)
     ∙ joined_ranges (suc (further f.bytes.now)) k (k + blocks_of f) (sum_by blocks_of fs) (omega arith)
-    ∙ ap (λ n. map place_of (range_with_len k n)) (sym more)
+    ∙ ap (λ n. map file_block (range_with_len k n)) (sym more)
   where
-    joined_ranges : (a k l b : ℕ) → l ≡ k + a → map place_of (range_with_len k a) ++ map place_of (range_with_len l b) ≡ map place_of (range_with_len k (a + b))
+    joined_ranges : (a k l b : ℕ) → l ≡ k + a → map file_block (range_with_len k a) ++ map file_block (range_with_len l b) ≡ map file_block (range_with_len k (a + b))
     joined_ranges zero k l b e =
         let z : 0 + b ≡ b = omega arith in
         let s : l ≡ k = omega arith in
-        (λ i. map place_of (range_with_len (s i) (sym z i)))
+        (λ i. map file_block (range_with_len (s i) (sym z i)))
     joined_ranges (suc a) k l b e =
         let z : suc (a + b) ≡ suc a + b = omega arith in
-        ap (λ x. place_of k ∷ x) (joined_ranges a (k + 1) l b (omega arith)) ∙ ap (λ n. map place_of (range_with_len k n)) z
+        ap (λ x. file_block k ∷ x) (joined_ranges a (k + 1) l b (omega arith)) ∙ ap (λ n. map file_block (range_with_len k n)) z

@@ -14,8 +14,8 @@ abbrev pub is_on_disk : ℕ → ℕ → Bool
 is_on_disk track sector = nat_le 1 track && nat_le track 35 && nat_lt sector (sectors_on track)
 
 -- the place of a sector in the image: the number of sectors before it
-abbrev pub place : ℕ → ℕ → ℕ
-place track sector =
+abbrev pub block_index : ℕ → ℕ → ℕ
+block_index track sector =
     if nat_le track 17 then 21 * (track - 1) + sector
     else if nat_le track 24 then 357 + 19 * (track - 18) + sector
     else if nat_le track 30 then 490 + 18 * (track - 25) + sector
@@ -38,7 +38,7 @@ block image p = take 256 (drop (256 * p) image)
 unfoldable pub chain : ℕ → (ℕ → List ℕ) → ℕ → ℕ → Option (List ℕ)
 chain zero blocks track sector = None
 chain (suc most) blocks track sector =
-    let p = place track sector in
+    let p = block_index track sector in
     let rest = option_map (λ ps. p ∷ ps) (chain most blocks (slice_index (blocks p) 0) (slice_index (blocks p) 1)) in
     if is_on_disk track sector then (if slice_index (blocks p) 0 == 0 then Some (p ∷ []) else rest) else None
 
@@ -54,7 +54,7 @@ name_in field = before_first (λ c. c == 0xa0) field
 pub record Found : Type 0 where
   pub name : List ℕ
   pub bytes : List ℕ
-  pub places : List ℕ
+  pub blocks_used : List ℕ
 
 -- the eight entries of a block of the directory
 abbrev pub entries_in : List ℕ → List (List ℕ)
@@ -62,17 +62,17 @@ entries_in b = map (λ i. take 32 (drop (32 * i) b)) (range_with_len 0 8)
 
 -- the file of an entry's chain, if the entry's number of blocks is right
 abbrev pub found : (ℕ → List ℕ) → List ℕ → List ℕ → Option Found
-found blocks entry places =
+found blocks entry blocks_used =
     let name = name_in (take 16 (drop 5 entry)) in
-    let bytes = flat_map (λ p. data_in (blocks p)) places in
+    let bytes = flat_map (λ p. data_in (blocks p)) blocks_used in
     let count = slice_index entry 30 + 256 * slice_index entry 31 in
-    if count == length places then Some (record { name = name; bytes = bytes; places = places }) else None
+    if count == length blocks_used then Some (record { name = name; bytes = bytes; blocks_used = blocks_used }) else None
 
 -- the file of an entry: a program ($82) with the track and the sector of its first block
 unfoldable pub file_of : (ℕ → List ℕ) → List ℕ → Option Found
 file_of blocks entry =
-    let places = chain sectors blocks (slice_index entry 3) (slice_index entry 4) in
-    if slice_index entry 2 == 0x82 then option_and_then (found blocks entry) places else None
+    let blocks_used = chain sectors blocks (slice_index entry 3) (slice_index entry 4) in
+    if slice_index entry 2 == 0x82 then option_and_then (found blocks entry) blocks_used else None
 
 -- the files of entries, without those of type 0; `None` if one can't be read
 unfoldable pub files_of : (ℕ → List ℕ) → List (List ℕ) → Option (List Found)
@@ -98,7 +98,7 @@ walk blocks =
 
 -- the places of all blocks in use, as often as they are used
 abbrev pub in_use : Walk → List ℕ
-in_use w = head ∷ w.directory ++ flat_map (λ f. f.places) w.files
+in_use w = head ∷ w.directory ++ flat_map (λ f. f.blocks_used) w.files
 
 -- the bit of a sector in the head's map, 1 for a free block: four bytes a track, a count and then the bits, the lowest
 -- first

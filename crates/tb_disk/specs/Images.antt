@@ -2,7 +2,7 @@
 use Rattle.std.specs.Prelude.{ℕ, ◌≡◌, ◌<◌, ◌≤◌, ◌-◌, ◌+◌, ◌*◌, ◌/◌, ◌==◌, List, [], ◌∷◌, map, length, take, drop}
 use Rattle.std.specs.Prelude.{slice_index, sum_by, count_by, Some, if◌then◌else◌}
 use Rattle.std.specs.List.{range_with_len}
-use Rattle.tb_disk.specs.D64.{Walk, walk, block, head, sectors, in_use, map_bit, free_on, name_in, is_on_disk, place}
+use Rattle.tb_disk.specs.D64.{Walk, walk, block, head, sectors, in_use, map_bit, free_on, name_in, is_on_disk, block_index}
 use Rattle.tb_disk.specs.declared.names.Name.{Name}
 use Rattle.tb_disk.specs.declared.image.File.{File}
 use Rattle.tb_disk.specs.declared.image.DiskError.{DiskError}
@@ -25,7 +25,7 @@ uses w p = count_by (λ q. q == p) (in_use w)
 pub record IsMapped (image : List ℕ) (w : Walk) : Type 0 where
   pub once : (p : ℕ) → uses w p ≤ 1
   pub bits : (track sector : ℕ) → 1 ≤ track → track ≤ 35 → sector < 24
-      → map_bit (block image head) track sector ≡ (if is_on_disk track sector then 1 - uses w (place track sector) else 0)
+      → map_bit (block image head) track sector ≡ (if is_on_disk track sector then 1 - uses w (block_index track sector) else 0)
   pub counts : (track : ℕ) → 1 ≤ track → track ≤ 35
       → free_on (block image head) track ≡ sum_by (map_bit (block image head) track) (range_with_len 0 24)
 

@@ -3,14 +3,14 @@
 use Rattle.std.specs.Prelude.{ℕ, zero, suc, Bool, ◌==◌, ◌+◌, ◌-◌, ◌*◌, ◌/◌, ◌%◌, not, max, nat_le, nat_lt, List, [], ◌∷◌}
 use Rattle.std.specs.Prelude.{◌++◌, flat_map, length, take, drop, replicate, sum_by, if◌then◌else◌}
 use Rattle.std.specs.List.{range_with_len, concat}
-use Rattle.tb_disk.specs.D64.{sectors_on, place}
+use Rattle.tb_disk.specs.D64.{sectors_on, block_index}
 use Rattle.tb_disk.specs.Images.{blocks_of}
 use Rattle.tb_disk.specs.declared.names.Name.{Name}
 use Rattle.tb_disk.specs.declared.image.File.{File}
 
 -- the place of the k-th block for files, of 664
-abbrev pub place_of : ℕ → ℕ
-place_of k = if nat_lt k 357 then k else k + 19
+abbrev pub file_block : ℕ → ℕ
+file_block k = if nat_lt k 357 then k else k + 19
 
 -- the track and the sector at a place
 abbrev pub track_at : ℕ → ℕ
@@ -35,7 +35,7 @@ filled track sector bytes = track ∷ sector ∷ bytes ++ replicate (254 - lengt
 unfoldable pub laid : ℕ → ℕ → List ℕ → List ℕ
 laid zero k bytes = filled 0 (length bytes + 1) bytes
 laid (suc more) k bytes =
-    filled (track_at (place_of (k + 1))) (sector_at (place_of (k + 1))) (take 254 bytes) ++ laid more (k + 1) (drop 254 bytes)
+    filled (track_at (file_block (k + 1))) (sector_at (file_block (k + 1))) (take 254 bytes) ++ laid more (k + 1) (drop 254 bytes)
 
 -- the blocks of all files
 unfoldable pub laid_all : ℕ → List File → List ℕ
@@ -57,7 +57,7 @@ prefix n k =
 -- the other 30 bytes of a file's entry
 abbrev pub entry : ℕ → File → List ℕ
 entry k f =
-    0x82 ∷ track_at (place_of k) ∷ sector_at (place_of k) ∷ f.name.field
+    0x82 ∷ track_at (file_block k) ∷ sector_at (file_block k) ∷ f.name.field
     ++ replicate 9 0 ++ (blocks_of f % 256) ∷ (blocks_of f / 256) ∷ []
 
 -- the entries of files from the i-th on
@@ -77,7 +77,7 @@ is_free used directory p =
 -- the bit of a sector of a track
 abbrev pub free_bit : ℕ → ℕ → ℕ → ℕ → ℕ
 free_bit used directory track sector =
-    if nat_lt sector (sectors_on track) then (if is_free used directory (place track sector) then 1 else 0) else 0
+    if nat_lt sector (sectors_on track) then (if is_free used directory (block_index track sector) then 1 else 0) else 0
 
 -- eight bits as a byte, from a sector on
 unfoldable pub bits_from : ℕ → ℕ → ℕ → ℕ → ℕ

@@ -2,7 +2,7 @@
 ghost use Rattle.std.specs.Prelude.{◌≡◌, ◌+◌, ◌*◌, ◌<◌, ◌≤◌, ◌++◌, OnOk, length, replicate};
 ghost use Rattle.tb_disk.specs.Layout.{filled, further, laid};
 
-use crate::places::{Location, locate};
+use crate::locations::{Location, locate};
 use std::alloc::AllocError;
 
 /// The most bytes of a file that a block holds.

@@ -5,7 +5,7 @@ ghost use Rattle.tb_disk.specs.Images.{blocks_of};
 
 use crate::blocks::{further_blocks, push_zeros};
 use crate::image::File;
-use crate::places::{DIRECTORY_TRACK, Location, locate};
+use crate::locations::{DIRECTORY_TRACK, Location, locate};
 use std::alloc::AllocError;
 
 /// How many entries a block of the directory has.

@@ -3,10 +3,10 @@ ghost use Rattle.std.specs.Prelude.{◌≡◌, ◌+◌, ◌<◌, ◌≤◌, ◌+
 ghost use Rattle.tb_disk.specs.Layout.{is_free, free_bit, bits_from, ones_from, track_map, free_map, title, head_block};
 
 use crate::blocks::push_zeros;
-use crate::names::Name;
-use crate::places::{
-    BELOW_DIRECTORY, DIRECTORY_SECTORS, DIRECTORY_TRACK, Location, TRACKS, place, sectors,
+use crate::locations::{
+    BELOW_DIRECTORY, DIRECTORY_SECTORS, DIRECTORY_TRACK, Location, TRACKS, block_index, sectors,
 };
+use crate::names::Name;
 use std::alloc::AllocError;
 
 /// How many blocks are in use: those of files, and those of the directory.
@@ -18,16 +18,16 @@ pub struct Used {
     ghost directory_fits: { directory ≤ 18 },
 }
 
-fn is_free(used: Used, place: usize) -> bool
-    requires { place < 683 }
-    ensures { result ≡ is_free used.files used.directory place }
+fn is_free(used: Used, block_index: usize) -> bool
+    requires { block_index < 683 }
+    ensures { result ≡ is_free used.files used.directory block_index }
 {
-    if place < BELOW_DIRECTORY {
-        used.files <= place
-    } else if place < BELOW_DIRECTORY + DIRECTORY_SECTORS {
-        BELOW_DIRECTORY + used.directory < place
+    if block_index < BELOW_DIRECTORY {
+        used.files <= block_index
+    } else if block_index < BELOW_DIRECTORY + DIRECTORY_SECTORS {
+        BELOW_DIRECTORY + used.directory < block_index
     } else {
-        used.files + DIRECTORY_SECTORS <= place
+        used.files + DIRECTORY_SECTORS <= block_index
     }
 }
 
@@ -37,7 +37,7 @@ fn free_bit(used: Used, track: u8, sector: u8) -> u8
     ensures value { result ≡ free_bit used.files used.directory track sector }
     ensures bit { result ≤ 1 }
 {
-    if sector < sectors(track) && is_free(used, place(Location { track, sector })) {
+    if sector < sectors(track) && is_free(used, block_index(Location { track, sector })) {
         1
     } else {
         0

@@ -6,8 +6,8 @@ ghost use Rattle.tb_disk.specs.Layout.{file_area};
 use crate::blocks::{further_blocks, push_file, push_zeros};
 use crate::directory::{MOST_FILES, directory_blocks, push_directory};
 use crate::head::{Used, push_head};
+use crate::locations::{BELOW_DIRECTORY, FILE_BLOCKS};
 use crate::names::Name;
-use crate::places::{BELOW_DIRECTORY, FILE_BLOCKS};
 use std::alloc::{AllocError, Global};
 use thiserror::Error;
 

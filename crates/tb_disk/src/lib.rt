@@ -5,8 +5,8 @@ mod blocks;
 mod directory;
 mod head;
 mod image;
+mod locations;
 mod names;
-mod places;
 
 pub use image::{DiskError, File, disk};
 pub use names::Name;

@@ -19,7 +19,7 @@ use Rattle.tb_syntax.specs.Source.{Program}
 use Rattle.tb_meaning.specs.Meaning.{source_run}
 use Rattle.tb_meaning.specs.Steps.{End, Ended, Faulted, Waits, Over}
 use Rattle.tb_parser.specs.Files.{Outcome}
-use Rattle.tb_runtime16.specs.Places.{PROLOGUE_AT}
+use Rattle.tb_runtime16.specs.Addresses.{PROLOGUE_AT}
 use Rattle.tb_opcodes.specs.Bytes.{AreBytes}
 use Rattle.tb_simulation.specs.Kept.{Starts, HasEnded, IsSound, Keeps}
 use Rattle.tb_codegen.specs.declared.compiled.Compiled.{Compiled}

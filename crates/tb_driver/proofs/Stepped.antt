@@ -39,7 +39,7 @@ module _ (text answers : List ℕ) (limit : ℕ) where
   -- what was made of a source's program and of commands that were read
   pub steps_made : (seed : ℕ) (had_commands left_commands : Option (List ℕ)) (source typed commands : List ℕ) (program : Compiled) (warnings : List Warning)
       (made : Result Text NoText) → Reads had_commands typed → Consumes had_commands left_commands typed → commands ≡ typed
-          → Compiles seed source (Ok program) → warnings ≡ warnings_of program
+      → Compiles seed source (Ok program) → warnings ≡ warnings_of program
       → Makes (Steps text answers limit program commands) made
       → Makes (MadeFromTaken had_commands left_commands (StepsThrough seed text answers limit warnings source)) made
   steps_made seed had_commands left_commands source typed commands program warnings made reads taken same compiled warned m =

@@ -3,6 +3,7 @@ ghost use Rattle.std.specs.Prelude.{◌≤◌, ℕ, [], List, vec_len};
 ghost use Rattle.tb_streams.specs.Failures.{failures_of};
 ghost use Rattle.tb_play.specs.Plays.{PlaysFile, PlayFaults, RunsTyped, Shows};
 ghost use Rattle.tb_driver.specs.Output.{KeepsSource, RunsSource};
+ghost use Rattle.tb_play.specs.Lines.{most_typed};
 
 use crate::sources::are_bytes;
 use std::alloc::Global;
@@ -29,7 +30,7 @@ pub fn play_compiled<R: Read, W: Write>(
     ensures output { (seed : ℕ) (source : List ℕ) → KeepsSource seed source file.now
         → Shows (λ text product. RunsSource seed text [] source product) result.outcome result.typed.items
         (W.contents writer.old.stream) (W.contents writer.new.stream) }
-    ensures within { vec_len result.typed ≤ 1048576 }
+    ensures within { vec_len result.typed ≤ most_typed }
     ensures faults { PlayFaults result.outcome (failures_of keys.old) (failures_of keys.new)
         (failures_of writer.old) (failures_of writer.new) }
 {

@@ -7,16 +7,13 @@ ghost use Rattle.tb_parser.specs.Files.{AreStated, RisesFrom};
 ghost use Rattle.tb_simulation.specs.Kept.{Keeps};
 
 use std::alloc::Global;
-use tb_codegen::{CompileError, cost};
+use tb_codegen::{CompileError, MOST_COST, cost};
 use tb_lower::lower;
 use tb_prg::write;
 use tb_runtime16::BLOCK_AT;
 use tb_settling::assemble_settled;
 use tb_syntax::Program;
 use tb_templates::program_items;
-
-/// The most that a program may cost.
-const MOST: u32 = 37_888;
 
 /// The PRG file of a program, of which nothing is said but that its bytes, loaded at `$0801`, keep the program.
 pub fn keeping_file(alloc: Global, program: &Program, seed: u16) -> Result<Vec<u8>, CompileError>
@@ -27,7 +24,7 @@ pub fn keeping_file(alloc: Global, program: &Program, seed: u16) -> Result<Vec<u
 {
     let code = lower(alloc, program)?;
     let cost = cost(program);
-    if cost > MOST {
+    if cost > MOST_COST {
         return Err(CompileError::TooLarge(cost));
     }
     let items = program_items(alloc, seed, &code)?;

@@ -3,6 +3,7 @@ ghost use Rattle.std.specs.Prelude.{◌≡◌, ◌≤◌, [], vec_len};
 ghost use Rattle.tb_streams.specs.Failures.{failures_of};
 ghost use Rattle.tb_play.specs.Talks.{Plays};
 ghost use Rattle.tb_play.specs.Plays.{PlayFaults};
+ghost use Rattle.tb_play.specs.Lines.{most_typed};
 
 use std::alloc::Global;
 use std::io::{Read, Write};
@@ -22,7 +23,7 @@ pub fn played<R: Read, W: Write>(
     ensures dialogue { Plays limit machine.old result.outcome result.typed.items
         (R.remaining keys.old.stream) (R.remaining keys.new.stream) (failures_of keys.old) (failures_of keys.new)
         (W.contents writer.old.stream) (W.contents writer.new.stream) }
-    ensures within { vec_len result.typed ≤ 1048576 }
+    ensures within { vec_len result.typed ≤ most_typed }
     ensures faults { PlayFaults result.outcome (failures_of keys.old) (failures_of keys.new)
         (failures_of writer.old) (failures_of writer.new) }
 {

@@ -2,12 +2,13 @@
 ghost use Rattle.std.specs.Prelude.{◌≡◌, ◌+◌, ◌-◌, ◌≤◌, length, drop, map, IfOk};
 ghost use Rattle.tb_syntax.specs.PlainData.{lines_of};
 ghost use Rattle.tb_meaning.specs.Cost as cost;
-ghost use Rattle.tb_runtime16.specs.Places.{PROLOGUE_AT};
+ghost use Rattle.tb_runtime16.specs.Addresses.{PROLOGUE_AT};
 ghost use Rattle.tb_disasm.specs.Back.{GivesBack};
-ghost use Rattle.tb_codegen.specs.Compiled.{pair_of, prg_of, starts_of, table_of};
+ghost use Rattle.tb_codegen.specs.Compiled.{most_cost, pair_of, prg_of, starts_of, table_of};
 ghost use Rattle.tb_listing.specs.Comments.{ShowsLines};
-ghost use Rattle.tb_listing.specs.Labels.{places, labels_text};
+ghost use Rattle.tb_listing.specs.Labels.{all_labels, labels_text};
 ghost use Rattle.tb_listing.specs.Map.{map_text};
+ghost use Rattle.tb_streams.specs.Streams.{most_input};
 
 use std::alloc::{AllocError, Global};
 use tb_codegen::{Compiled, LineStart};
@@ -16,7 +17,7 @@ use tb_syntax::Program;
 
 /// `labels`.
 pub fn labels_of(alloc: Global, starts: &[LineStart], table: u16) -> Result<Vec<u8>, AllocError>
-    ensures { IfOk result (λ text. text.items ≡ labels_text (places (map pair_of starts.now) table)) }
+    ensures { IfOk result (λ text. text.items ≡ labels_text (all_labels (map pair_of starts.now) table)) }
 {
     labels(alloc, starts, table)
 }
@@ -26,7 +27,7 @@ pub fn listing_of(alloc: Global, compiled: &Compiled, source: &[u8]) -> Result<V
     requires headed { 14 ≤ length (prg_of compiled.now) }
     requires ends { PROLOGUE_AT + (length (prg_of compiled.now) - 14) ≤ 0xA000 }
     ensures back { IfOk result (λ text. GivesBack PROLOGUE_AT text.items (drop 14 (prg_of compiled.now))) }
-    ensures readable { IfOk result (λ text. length text.items ≤ 1048576) }
+    ensures readable { IfOk result (λ text. length text.items ≤ most_input) }
     ensures shows { IfOk result (λ text. ShowsLines source.now (starts_of compiled.now) (drop 14 (prg_of compiled.now)) text.items) }
 {
     list(alloc, compiled, source)
@@ -34,7 +35,7 @@ pub fn listing_of(alloc: Global, compiled: &Compiled, source: &[u8]) -> Result<V
 
 /// `chart`.
 pub fn map_of(alloc: Global, compiled: &Compiled, program: &Program) -> Result<Vec<u8>, AllocError>
-    requires small { cost.cost (lines_of program.now) ≤ 37888 }
+    requires small { cost.cost (lines_of program.now) ≤ most_cost }
     requires ends { PROLOGUE_AT + (length (prg_of compiled.now) - 14) ≤ 0xA000 }
     ensures { IfOk result (λ text. text.items ≡ map_text (starts_of compiled.now) (table_of compiled.now) (length (prg_of compiled.now) - 14) (lines_of program.now)) }
 {

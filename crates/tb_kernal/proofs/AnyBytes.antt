@@ -4,11 +4,11 @@ use Rattle.std.specs.Prelude.{Option, Some, None, Result, Ok, Err}
 use Rattle.tb_cpu.specs.declared.wrong.Wrong.{Wrong}
 use Rattle.tb_cpu.specs.Instructions as cpu
 use Rattle.tb_cpu.specs.Instructions.{next}
-use Rattle.tb_kernal.specs.declared.places.Service.{Service}
-use Rattle.tb_kernal.specs.declared.places.Service.TheVariants.{Chrout, Chrin, Getin}
+use Rattle.tb_kernal.specs.declared.rom.Service.{Service}
+use Rattle.tb_kernal.specs.declared.rom.Service.TheVariants.{Chrout, Chrin, Getin}
 use Rattle.tb_kernal.specs.declared.events.Clobber.{Clobber}
 use Rattle.tb_kernal.specs.declared.status.Status.TheVariants.{Running}
-use Rattle.tb_kernal.specs.Places.{service_at}
+use Rattle.tb_kernal.specs.Rom.{service_at}
 use Rattle.tb_kernal.specs.Machine.{State, status_by, is_home, waits_for, stepped, gone, gone_at}
 use Rattle.tb_kernal.specs.Laws.{Refused, RunsAnyBytes}
 

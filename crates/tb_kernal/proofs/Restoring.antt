@@ -4,7 +4,7 @@ use Rattle.std.proofs.lemmas.Bool.{cases_eq, and_parts, cases_Bool}
 use Rattle.std.proofs.lemmas.Bool.Decides.{nat_tests}
 use Rattle.tb_memmap.specs.Regions.{is_open}
 use Rattle.tb_memmap.specs.Bytes.{Writes, with_byte, written}
-use Rattle.tb_kernal.specs.Places.{all_open, written_open}
+use Rattle.tb_kernal.specs.Rom.{all_open, written_open}
 
 -- an address is among those of a list
 abbrev pub is_among : ℕ → Writes → Bool

@@ -10,10 +10,10 @@ use Rattle.tb_memmap.specs.Bytes.{Writes, written, at}
 use Rattle.tb_cpu.specs.declared.wrong.Wrong.{Wrong}
 use Rattle.tb_cpu.specs.Operands.{reading}
 use Rattle.tb_cpu.specs.Instructions as cpu
-use Rattle.tb_cpu.specs.Instructions.{Outcome, outcome, finished, next, place_of}
+use Rattle.tb_cpu.specs.Instructions.{Outcome, outcome, finished, next, operand_address}
 use Rattle.tb_cpu.proofs.Touching.{IsTouched, AllTouched, Touches, outcome_touches}
-use Rattle.tb_kernal.specs.declared.places.Service.{Service}
-use Rattle.tb_kernal.specs.declared.places.Service.TheVariants.{Chrout, Chrin, Getin}
+use Rattle.tb_kernal.specs.declared.rom.Service.{Service}
+use Rattle.tb_kernal.specs.declared.rom.Service.TheVariants.{Chrout, Chrin, Getin}
 use Rattle.tb_kernal.specs.declared.events.Clobber.{Clobber}
 use Rattle.tb_kernal.specs.declared.events.Event.{Event}
 use Rattle.tb_kernal.specs.declared.events.Event.TheVariants.{Go, Interrupt}
@@ -21,9 +21,9 @@ use Rattle.tb_kernal.specs.declared.status.Status.{Status}
 use Rattle.tb_kernal.specs.declared.status.Status.TheVariants.{Running, Waits, Returned, Wrong as WentWrong}
 use Rattle.tb_kernal.specs.declared.status.EventError.TheVariants.{Unlawful, Sent}
 use Rattle.tb_kernal.specs.Former.{Former}
-use Rattle.tb_kernal.specs.Places.{all_writable, all_open, old_of, written_open, service_at}
+use Rattle.tb_kernal.specs.Rom.{all_writable, all_open, old_of, written_open, service_at}
 use Rattle.tb_kernal.specs.Machine.{State, Content, state_of, status, is_stopped, happens, gone, gone_at, stepped, is_lawful, is_lawful_go, sends, SameKeyboard, Happened}
-use Rattle.tb_kernal.specs.Undoing.{IsFormer, Undone, TakesBack, SameButRoom, places_of, places_of_go, back_to}
+use Rattle.tb_kernal.specs.Undoing.{IsFormer, Undone, TakesBack, SameButRoom, addresses_of, addresses_of_go, back_to}
 use Rattle.tb_kernal.proofs.WriteLists.{rom_writable_open}
 use Rattle.tb_kernal.proofs.Restoring.{is_among, all_among, AreOf, restored_open}
 
@@ -119,20 +119,20 @@ stepped_back s o (Err w) h = nothing_back s.mem (three s.regs.s o)
 -- ---- the writes of an event
 
 gone_at_back : (o : Option Service) (k : Clobber) (m : Content) → m.regs.s < 256 → is_lawful_go o m.regs.s k.writes.items ≡ true →
-    written_open (gone_at o k (state_of m)).mem (old_of (at m.memory) (places_of_go o k m)) ≡ at m.memory
+    written_open (gone_at o k (state_of m)).mem (old_of (at m.memory) (addresses_of_go o k m)) ≡ at m.memory
 gone_at_back None k m l h =
     let read = reading (at m.memory) in
-    stepped_back (state_of m) (place_of m.regs read) (outcome m.regs read) (outcome_touches m.regs read l)
+    stepped_back (state_of m) (operand_address m.regs read) (outcome m.regs read) (outcome_touches m.regs read l)
 gone_at_back (Some Chrout) k m l h = own_back m.regs.s (at m.memory) k.writes.items l h
 gone_at_back (Some Chrin) k m l h = own_back m.regs.s (at m.memory) k.writes.items l h
 gone_at_back (Some Getin) k m l h = own_back m.regs.s (at m.memory) k.writes.items l h
 
 gone_back : (t : Status) (k : Clobber) (m : Content) → m.regs.s < 256 → (is_stopped t || is_lawful_go (service_at m.regs.pc) m.regs.s k.writes.items) ≡ true →
-    written_open (gone t k (state_of m)).mem (old_of (at m.memory) (places_of_go (service_at m.regs.pc) k m)) ≡ at m.memory
+    written_open (gone t k (state_of m)).mem (old_of (at m.memory) (addresses_of_go (service_at m.regs.pc) k m)) ≡ at m.memory
 gone_back Running k m l h = gone_at_back (service_at m.regs.pc) k m l h
-gone_back Waits k m l h = nothing_back (at m.memory) (places_of_go (service_at m.regs.pc) k m)
-gone_back Returned k m l h = nothing_back (at m.memory) (places_of_go (service_at m.regs.pc) k m)
-gone_back (WentWrong w) k m l h = nothing_back (at m.memory) (places_of_go (service_at m.regs.pc) k m)
+gone_back Waits k m l h = nothing_back (at m.memory) (addresses_of_go (service_at m.regs.pc) k m)
+gone_back Returned k m l h = nothing_back (at m.memory) (addresses_of_go (service_at m.regs.pc) k m)
+gone_back (WentWrong w) k m l h = nothing_back (at m.memory) (addresses_of_go (service_at m.regs.pc) k m)
 
 interrupted_back : (b : Bool) (ws : Writes) (m : Content) → m.regs.s < 256 → (b || all_writable m.regs.s ws) ≡ true →
     written_open (if b then state_of m else record (state_of m) { mem = written (at m.memory) ws }).mem (old_of (at m.memory) ws) ≡ at m.memory
@@ -140,7 +140,7 @@ interrupted_back true ws m l h = nothing_back (at m.memory) ws
 interrupted_back false ws m l h = own_back m.regs.s (at m.memory) ws l h
 
 memory_back : (m : Content) (e : Event) → m.regs.s < 256 → is_lawful (state_of m) e ≡ true →
-    written_open (happens (state_of m) e).mem (old_of (at m.memory) (places_of e m)) ≡ at m.memory
+    written_open (happens (state_of m) e).mem (old_of (at m.memory) (addresses_of e m)) ≡ at m.memory
 memory_back m (Go k) l h = gone_back (status (state_of m)) k m l h
 memory_back m (Interrupt ws) l h = interrupted_back (is_stopped (status (state_of m))) ws.items m l h
 
@@ -189,7 +189,7 @@ back_is noted now n h = let t : nat_le noted n ≡ true = grind (arith, nat_test
 
 -- undoing what came to t, an onward state whose writes the noted bytes take back
 taken_back_from : (u : Former) (m n q : Content) (e : Event) (t : State) → IsFormer u m e → Undone u n q → state_of n ≡ t → SameKeyboard m n → Onward (state_of m) t →
-    written_open t.mem (old_of (at m.memory) (places_of e m)) ≡ at m.memory →
+    written_open t.mem (old_of (at m.memory) (addresses_of e m)) ≡ at m.memory →
     SameButRoom m q × (q.room ≡ n.room + (length n.sent - length m.sent))
 taken_back_from u m n q e t noted done s keys on back =
     let text_in : m.text_taken ≤ length n.all_text = rw keys.0 noted.text_in in
@@ -225,7 +225,7 @@ takes_back u n q done m e (Ok t) after noted h same =
 takes_back u n q done m e (Err w) after noted h same =
     let unchanged : state_of n ≡ state_of m = same.0 ∙ ap state_of h.1 in
     let keys : SameKeyboard m n = (same.1.0 ∙ ap (λ (c : Content). c.all_text) h.1, same.1.1 ∙ ap (λ (c : Content). c.all_answers) h.1) in
-    taken_back_from u m n q e (state_of m) noted done unchanged keys (onward_same (state_of m) (state_of m) refl refl refl) (nothing_back (at m.memory) (places_of e m))
+    taken_back_from u m n q e (state_of m) noted done unchanged keys (onward_same (state_of m) (state_of m) refl refl refl) (nothing_back (at m.memory) (addresses_of e m))
 
 -- what the undo of an event gives back of the machine that the event came to
 pub former_gives_back : (u : Former) (m : Content) (e : Event) (t : Status) (n : Content) → IsFormer u m e → Happened m e (Ok t) n →

@@ -6,14 +6,14 @@ use Rattle.tb_memmap.specs.Bytes.{Writes, written}
 use Rattle.tb_cpu.specs.declared.wrong.Wrong.{Wrong}
 use Rattle.tb_cpu.specs.Instructions as cpu
 use Rattle.tb_cpu.specs.Instructions.{next}
-use Rattle.tb_kernal.specs.declared.places.Service.{Service}
-use Rattle.tb_kernal.specs.declared.places.Service.TheVariants.{Chrout, Chrin, Getin}
+use Rattle.tb_kernal.specs.declared.rom.Service.{Service}
+use Rattle.tb_kernal.specs.declared.rom.Service.TheVariants.{Chrout, Chrin, Getin}
 use Rattle.tb_kernal.specs.declared.events.Clobber.{Clobber}
 use Rattle.tb_kernal.specs.declared.events.Event.{Event}
 use Rattle.tb_kernal.specs.declared.events.Event.TheVariants.{Go, Interrupt}
 use Rattle.tb_kernal.specs.declared.status.Status.{Status}
 use Rattle.tb_kernal.specs.declared.status.Status.TheVariants.{Running, Waits, Returned, Wrong as WentWrong}
-use Rattle.tb_kernal.specs.Places.{service_at}
+use Rattle.tb_kernal.specs.Rom.{service_at}
 use Rattle.tb_kernal.specs.Machine.{State, Content, state_of, status, status_by, is_home, is_stopped, waits_for, stepped, gone, gone_at, interrupted, happens, is_lawful, is_lawful_event}
 use Rattle.tb_kernal.specs.Runs.{run, all_lawful}
 use Rattle.tb_kernal.specs.Typing.{with_typed, with_more, TypingKeepsRuns}

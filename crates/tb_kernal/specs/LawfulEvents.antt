@@ -5,10 +5,10 @@ use Rattle.std.proofs.lemmas.Bool.{or_right}
 use Rattle.std.specs.Prelude.{◌==◌, if◌then◌else◌, Option, Some, None}
 use Rattle.std.proofs.lemmas.Bool.Decides.{nat_tests}
 use Rattle.tb_memmap.specs.Bytes.{Writes}
-use Rattle.tb_kernal.specs.declared.places.Service.{Service}
+use Rattle.tb_kernal.specs.declared.rom.Service.{Service}
 use Rattle.tb_kernal.specs.declared.events.Event.{Event}
 use Rattle.tb_kernal.specs.declared.events.Event.TheVariants.{Go, Interrupt}
-use Rattle.tb_kernal.specs.Places.{all_writable, service_at}
+use Rattle.tb_kernal.specs.Rom.{all_writable, service_at}
 use Rattle.tb_kernal.specs.Machine.{Content, state_of, status, is_stopped, is_lawful, is_lawful_go}
 use Rattle.tb_kernal.specs.Runs.{quiet, is_quiet}
 use Rattle.tb_kernal.specs.Outsides.{turn, rude_writes, rude_clobber, rude_event}

@@ -1,20 +1,20 @@
 -- The start of a program in a machine of which nothing else is known.
 use Rattle.std.specs.Prelude.{ℕ, ◌≡◌, ◌+◌, ◌<◌, ◌≤◌, true, None, List, [], length, slice_index}
 use Rattle.tb_memmap.specs.Regions.{CODE_START, is_rom}
-use Rattle.tb_kernal.specs.Places.{service_at}
+use Rattle.tb_kernal.specs.Rom.{service_at}
 use Rattle.tb_kernal.specs.Machine.{State, home_of}
 
 -- bytes lie in a memory from an address on
 abbrev pub LieAt : ℕ → List ℕ → (ℕ → ℕ) → Type 0
-LieAt place bytes m = (k : ℕ) → k < length bytes → m (place + k) ≡ slice_index bytes k
+LieAt base bytes m = (k : ℕ) → k < length bytes → m (base + k) ≡ slice_index bytes k
 
 -- each place of a memory holds a byte
 abbrev pub HoldsBytes : (ℕ → ℕ) → Type 0
 HoldsBytes m = (a : ℕ) → m a < 256
 
 -- a machine with a program's bytes at their place, every other byte, A, X, Y, all flags and the keyboard arbitrary, at the start of the program
-pub record IsStart (place : ℕ) (bytes : List ℕ) (s : State) : Type 0 where
-  pub loaded : LieAt place bytes s.mem
+pub record IsStart (base : ℕ) (bytes : List ℕ) (s : State) : Type 0 where
+  pub loaded : LieAt base bytes s.mem
   pub holds_bytes : HoldsBytes s.mem
   pub pc : s.regs.pc ≡ CODE_START
   pub s_from : 0x60 ≤ s.regs.s

@@ -14,7 +14,7 @@ use Rattle.tb_lower.specs.Slots.{Instr}
 use Rattle.tb_lower.proofs.Ranged.{in_range}
 use Rattle.tb_parser.specs.Files.{AreStated, RisesFrom}
 use Rattle.tb_prg.specs.Prg.{header}
-use Rattle.tb_runtime16.specs.Places.{PROLOGUE_AT, LINES_AT}
+use Rattle.tb_runtime16.specs.Addresses.{PROLOGUE_AT, LINES_AT}
 use Rattle.tb_settling.specs.Settled.{AreFormsOf}
 use Rattle.tb_settling.proofs.Forms.{forms_size, items_size, size_append, split, settled_by}
 use Rattle.tb_templates.specs.declared.labels.Target.TheVariants.{Line}
@@ -25,13 +25,13 @@ use Rattle.tb_templates.proofs.Settled.{Sections, last_broken, sections, labels_
 use Rattle.tb_codegen.proofs.Stretches.{asking_on, stretch, stretch_at, stretch_some, stretched}
 use Rattle.tb_templates.proofs.Taken.{block_size}
 use Rattle.tb_codegen.specs.declared.compiled.Compiled.{Compiled}
-use Rattle.tb_codegen.specs.Compiled.{IsCompiled, PlacesRise, prg_of, starts_of, table_of, starts_in, stands_at}
+use Rattle.tb_codegen.specs.Compiled.{IsCompiled, AddressesRise, prg_of, starts_of, table_of, starts_in, stands_at}
 use Rattle.tb_codegen.proofs.Sized.{IsSettling, settling}
 use Rattle.tb_codegen.proofs.Placed.{starts_low}
 
 -- lines that begin one behind the other from $0C00 on, and a line table behind them in an image of so many bytes
 pub record AreLaid (starts : List (ℕ × ℕ)) (table bytes : ℕ) : Type 0 where
-  pub rising : PlacesRise LINES_AT (starts ++ (0, table) ∷ [])
+  pub rising : AddressesRise LINES_AT (starts ++ (0, table) ∷ [])
   pub within : table ≤ PROLOGUE_AT + bytes
   pub ends : PROLOGUE_AT + bytes ≤ 0xA000
 
@@ -54,7 +54,7 @@ before_table table own past last find e = omega arith
 -- lines begin one behind the other, and what lies behind their code comes behind them
 lines_rise : (labels : List (Name × ℕ)) (ns : List ℕ) (seed a : ℕ) (asking : List ℕ) (p : Program) (fs : List Form) (end : ℕ)
     → AreFormsOf (lines_code ns seed asking (lowered.program_code p)) fs → LabelsAt labels a (items_from a fs) → a + forms_size fs ≤ end
-    → PlacesRise a (starts_in labels (numbers p) ++ (0, end) ∷ [])
+    → AddressesRise a (starts_in labels (numbers p) ++ (0, end) ∷ [])
 lines_rise labels ns seed a asking [] fs end h l le = (front_within a (forms_size fs) end le, tt)
 lines_rise labels ns seed a asking (line ∷ lines) fs end h l le =
     let own : Numbered (List Instr) = record { number = line.number; content = lowered.list_code line.content } in
@@ -80,20 +80,20 @@ are_laid seed ls c stated rises h =
     let s : IsSettling seed code = settling seed p refl stated rises (in_range ls code h.shallow refl) h.small refl in
     let labels = labels_from PROLOGUE_AT h.items in
     let g : Sections seed code h.items labels = sections seed code s.lists s.rising h.items
-        (settled_by PROLOGUE_AT (program_code seed code) h.items h.settled (settled_reaches PROLOGUE_AT (program_code seed code) h.items h.settled)) in
+    (settled_by PROLOGUE_AT (program_code seed code) h.items h.settled (settled_reaches PROLOGUE_AT (program_code seed code) h.items h.settled)) in
     let own = items_from LINES_AT g.lines in
     let past = past_code ns in let last = last_broken code in let find = find_code ns in let rows = table_code ns in
     let table : table_of c ≡ LINES_AT + forms_size g.lines + size past + size last + size find = ap (λ o. unwrap_or o 0) (sym h.table ∙ g.table) in
     let all : size h.items ≡ size block_code + (size own + (size past + (size last + (size find + size rows)))) =
     ap size g.are ∙ size_append block_code (own ++ (past ++ (last ++ (find ++ rows))))
-        ∙ ap (λ n. size block_code + n) (size_append own (past ++ (last ++ (find ++ rows)))
-        ∙ ap (λ n. size own + n) (size_append past (last ++ (find ++ rows)) ∙ ap (λ n. size past + n) (size_append last (find ++ rows)
-        ∙ ap (λ n. size last + n) (size_append find rows)))) in
+    ∙ ap (λ n. size block_code + n) (size_append own (past ++ (last ++ (find ++ rows)))
+    ∙ ap (λ n. size own + n) (size_append past (last ++ (find ++ rows)) ∙ ap (λ n. size past + n) (size_append last (find ++ rows)
+    ∙ ap (λ n. size last + n) (size_append find rows)))) in
     let own_size : size own ≡ forms_size g.lines = items_size LINES_AT g.lines in
     let file : length (prg_of c) ≡ length header + length (image_of PROLOGUE_AT h.items) = ap length h.prg ∙ length-append header (image_of PROLOGUE_AT h.items) in
     let image : length (image_of PROLOGUE_AT h.items) ≡ size h.items = all_size labels PROLOGUE_AT h.items in
     record {
-      rising = subst (λ ss. PlacesRise LINES_AT (ss ++ (0, table_of c) ∷ [])) (sym h.starts)
+      rising = subst (λ ss. AddressesRise LINES_AT (ss ++ (0, table_of c) ∷ [])) (sym h.starts)
           (lines_rise labels ns seed LINES_AT [] p g.lines (table_of c) g.of_lines g.line_labels (before_table (table_of c) (forms_size g.lines) (size past) (size last) (size find) table));
       within = lies (table_of c) (length (prg_of c)) (length (image_of PROLOGUE_AT h.items)) (size h.items) (forms_size g.lines) (size block_code)
           (size past) (size last) (size find) (size rows) (size own) table all block_size own_size file image;

@@ -13,7 +13,7 @@ use Rattle.tb_asm.specs.Mnemonics.{name_of}
 use Rattle.tb_disasm.specs.Listing.{operand_of, is_page_end, as_instruction, entry_at, listed, lines_of}
 use Rattle.tb_disasm.specs.ListingText.{operand_text, address_text, line_text, text_of}
 use Rattle.tb_disasm.proofs.Steps.{size_within}
-use Rattle.tb_runtime16.specs.Places.{PROLOGUE_AT}
+use Rattle.tb_runtime16.specs.Addresses.{PROLOGUE_AT}
 
 name_long : (n : Mnemonic) → length (name_of n) ≡ 3
 name_long Adc = refl

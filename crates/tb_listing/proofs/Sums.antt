@@ -3,18 +3,18 @@ use Rattle.std.proofs.Common.{◌≡◌, ℕ, ◌+◌, ◌-◌, ◌≤◌, List,
 use Rattle.std.proofs.lemmas.List.Sums.{sum_by-append, sum_by-cons}
 use Rattle.tb_syntax.specs.Source.{Program, numbers}
 use Rattle.tb_meaning.specs.Cost.{statement_cost, cost}
-use Rattle.tb_runtime16.specs.Places.{PROLOGUE_AT, LINES_AT}
-use Rattle.tb_codegen.specs.Compiled.{PlacesRise}
+use Rattle.tb_runtime16.specs.Addresses.{PROLOGUE_AT, LINES_AT}
+use Rattle.tb_codegen.specs.Compiled.{AddressesRise}
 use Rattle.tb_codegen.specs.Texts.{end_before}
 use Rattle.tb_listing.specs.Map.{first_part, line_parts, block_part, table_part, parts}
 use Rattle.tb_listing.proofs.Laid.{AreLaid}
 
 -- the next line, or the line table, comes behind
-ends_behind : (low table : ℕ) (starts : List (ℕ × ℕ)) → PlacesRise low (starts ++ (0, table) ∷ []) → low ≤ end_before table starts
+ends_behind : (low table : ℕ) (starts : List (ℕ × ℕ)) → AddressesRise low (starts ++ (0, table) ∷ []) → low ≤ end_before table starts
 ends_behind low table [] h = h.0
 ends_behind low table (s ∷ starts) h = h.0
 
-lines_bytes : (low table : ℕ) (starts : List (ℕ × ℕ)) (p : Program) → PlacesRise low (starts ++ (0, table) ∷ []) → map (λ s. s.0) starts ≡ numbers p
+lines_bytes : (low table : ℕ) (starts : List (ℕ × ℕ)) (p : Program) → AddressesRise low (starts ++ (0, table) ∷ []) → map (λ s. s.0) starts ≡ numbers p
     → sum_by (λ q. q.bytes) (line_parts starts table p) + end_before table starts ≡ table
 lines_bytes low table [] [] h e = omega arith
 lines_bytes low table [] (line ∷ lines) h e = absurd (let l = ap length e in omega (arith, l))
@@ -55,4 +55,4 @@ prices_add_up starts table bytes p e =
     let whole : sum_by (λ q. q.price) (parts starts table bytes p) ≡ 64 + sum_by (λ q. q.price) (line_parts starts table p ++ table_part table bytes ∷ []) =
     sum_by-cons (λ q. q.price) (block_part starts table) (line_parts starts table p ++ table_part table bytes ∷ []) in
     whole ∙ ap (λ n. 64 + n) (let e : sum_by (λ q. q.price) (line_parts starts table p ++ table_part table bytes ∷ [])
-        ≡ sum_by (λ line. 36 + statement_cost line.content) p = omega (arith, lines, both, last) in e)
+    ≡ sum_by (λ line. 36 + statement_cost line.content) p = omega (arith, lines, both, last) in e)

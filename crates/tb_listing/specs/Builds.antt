@@ -1,16 +1,17 @@
 -- What a build makes of a source.
 use Rattle.std.specs.Prelude.{◌≡◌, ℕ, ◌-◌, ◌≤◌, List, Ok, Err, drop, length, sum_by}
+use Rattle.tb_streams.specs.Streams.{most_input}
 use Rattle.tb_syntax.specs.Source.{Program}
 use Rattle.tb_meaning.specs.Cost.{cost}
 use Rattle.tb_parser.specs.Files.{Outcome}
-use Rattle.tb_runtime16.specs.Places.{PROLOGUE_AT}
+use Rattle.tb_runtime16.specs.Addresses.{PROLOGUE_AT}
 use Rattle.tb_compile_errors.specs.declared.refusals.CompileError.{CompileError}
 use Rattle.tb_codegen.specs.declared.compiled.Compiled.{Compiled}
 use Rattle.tb_codegen.specs.Answers.{HasOutcome, LinesMake, OutcomeAnswer}
-use Rattle.tb_codegen.specs.Compiled.{PlacesRise, prg_of, starts_of, table_of, warnings_of}
+use Rattle.tb_codegen.specs.Compiled.{AddressesRise, prg_of, starts_of, table_of, warnings_of}
 use Rattle.tb_disasm.specs.Back.{GivesBack}
 use Rattle.tb_listing.specs.declared.build.Made.{Made}
-use Rattle.tb_listing.specs.Labels.{places, labels_text}
+use Rattle.tb_listing.specs.Labels.{all_labels, labels_text}
 use Rattle.tb_listing.specs.Map.{parts, map_text}
 use Rattle.tb_listing.specs.Comments.{ShowsLines}
 
@@ -22,9 +23,9 @@ image_size c = length (prg_of c) - 14
 -- of the source, the map of its parts, and the warnings
 pub record Tells (source : List ℕ) (compiled : Compiled) (program : Program) (made : Made) : Type 0 where
   pub prg : made.prg.items ≡ prg_of compiled
-  pub labels : made.labels.items ≡ labels_text (places (starts_of compiled) (table_of compiled))
+  pub labels : made.labels.items ≡ labels_text (all_labels (starts_of compiled) (table_of compiled))
   pub listing : GivesBack PROLOGUE_AT made.listing.items (drop 14 (prg_of compiled))
-  pub readable : length made.listing.items ≤ 1048576
+  pub readable : length made.listing.items ≤ most_input
   pub shows : ShowsLines source (starts_of compiled) (drop 14 (prg_of compiled)) made.listing.items
   pub map : made.map.items ≡ map_text (starts_of compiled) (table_of compiled) (image_size compiled) program
   pub warnings : made.warnings.items ≡ warnings_of compiled
@@ -34,7 +35,7 @@ pub record IsMade (seed : ℕ) (source : List ℕ) (made : Made) : Type 0 where
   pub compiled : Compiled
   pub answered : HasOutcome seed source (Ok compiled)
   pub only : (outcome : Outcome) → LinesMake source outcome → OutcomeAnswer seed outcome (Ok compiled)
-  pub sorted : PlacesRise 0 (places (starts_of compiled) (table_of compiled))
+  pub sorted : AddressesRise 0 (all_labels (starts_of compiled) (table_of compiled))
   pub program : Program
   pub makes : LinesMake source (Ok program)
   pub tells : Tells source compiled program made

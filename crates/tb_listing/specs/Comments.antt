@@ -4,7 +4,7 @@ use Rattle.std.specs.List.{filter}
 use Rattle.tb_asm.specs.Text.{split_lines}
 use Rattle.tb_disasm.specs.Listing.{lines_of}
 use Rattle.tb_disasm.specs.ListingText.{text_of}
-use Rattle.tb_runtime16.specs.Places.{PROLOGUE_AT}
+use Rattle.tb_runtime16.specs.Addresses.{PROLOGUE_AT}
 use Rattle.tb_source_text.specs.Lines.{last_of, numbered}
 use Rattle.tb_source_text.specs.ShownBytes.{shown}
 

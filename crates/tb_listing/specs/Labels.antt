@@ -3,9 +3,10 @@ use Rattle.std.specs.Prelude.{ℕ, ◌+◌, ◌*◌, ◌/◌, ◌%◌, List, [],
 use Rattle.std.specs.List.{range_with_len}
 use Rattle.std.specs.Fmt.{decimal}
 use Rattle.hex.specs.Hex.{encode_lower}
-use Rattle.tb_runtime16.specs.Places.{VARS, NOTES, CHRIN, CHROUT, GETIN, PROLOGUE_AT, SEND_AT, entry_of}
-use Rattle.tb_runtime16.specs.declared.places.Routine.{Routine}
-use Rattle.tb_runtime16.specs.declared.places.Routine.TheVariants.{Multiply, Divide, Random, Number, Text, Zone, Input, Search, Push, Pop, FaultLine, Fault, Poll}
+use Rattle.tb_kernal.specs.declared.rom.TheConstants.{CHRIN, CHROUT, GETIN}
+use Rattle.tb_runtime16.specs.Addresses.{VARS, NOTES, PROLOGUE_AT, SEND_AT, entry_of}
+use Rattle.tb_runtime16.specs.declared.addresses.Routine.{Routine}
+use Rattle.tb_runtime16.specs.declared.addresses.Routine.TheVariants.{Multiply, Divide, Random, Number, Text, Zone, Input, Search, Push, Pop, FaultLine, Fault, Poll}
 
 -- ── places: each a name and an address ──
 -- the name of a routine
@@ -29,32 +30,32 @@ abbrev pub all_routines : List Routine
 all_routines = Multiply ∷ Divide ∷ Random ∷ Number ∷ Text ∷ Zone ∷ Input ∷ Search ∷ Push ∷ Pop ∷ FaultLine ∷ Fault ∷ Poll ∷ []
 
 -- a routine where it is called
-abbrev pub routine_place : Routine → List ℕ × ℕ
-routine_place r = (name_of r, entry_of r)
+abbrev pub routine_label : Routine → List ℕ × ℕ
+routine_label r = (name_of r, entry_of r)
 
 -- the places of the block
-abbrev pub block_places : List (List ℕ × ℕ)
-block_places = (codes "prologue", PROLOGUE_AT) ∷ (codes "send", SEND_AT) ∷ map routine_place all_routines
+abbrev pub block_labels : List (List ℕ × ℕ)
+block_labels = (codes "prologue", PROLOGUE_AT) ∷ (codes "send", SEND_AT) ∷ map routine_label all_routines
 
 -- a line by its number and the address where its code begins
-abbrev pub line_place : ℕ × ℕ → List ℕ × ℕ
-line_place start = (codes "line" ++ decimal start.0, start.1)
+abbrev pub line_label : ℕ × ℕ → List ℕ × ℕ
+line_label start = (codes "line" ++ decimal start.0, start.1)
 
 -- the variable of a letter, 0 for A
-abbrev pub variable_place : ℕ → List ℕ × ℕ
-variable_place i = (codes "var" ++ (65 + i) ∷ [], VARS + 2 * i)
+abbrev pub variable_label : ℕ → List ℕ × ℕ
+variable_label i = (codes "var" ++ (65 + i) ∷ [], VARS + 2 * i)
 
 -- how many notes there are, and the services
-abbrev pub service_places : List (List ℕ × ℕ)
-service_places = (codes "notes", NOTES) ∷ (codes "chrin", CHRIN) ∷ (codes "chrout", CHROUT) ∷ (codes "getin", GETIN) ∷ []
+abbrev pub service_labels : List (List ℕ × ℕ)
+service_labels = (codes "notes", NOTES) ∷ (codes "chrin", CHRIN) ∷ (codes "chrout", CHROUT) ∷ (codes "getin", GETIN) ∷ []
 
 -- the 26 variables, and what lies behind them
-abbrev pub data_places : List (List ℕ × ℕ)
-data_places = map variable_place (range_with_len 0 26) ++ service_places
+abbrev pub data_labels : List (List ℕ × ℕ)
+data_labels = map variable_label (range_with_len 0 26) ++ service_labels
 
 -- a program's places, by where its lines begin and where its line table does
-abbrev pub places : List (ℕ × ℕ) → ℕ → List (List ℕ × ℕ)
-places starts table = block_places ++ (map line_place starts ++ ((codes "line_table", table) ∷ data_places))
+abbrev pub all_labels : List (ℕ × ℕ) → ℕ → List (List ℕ × ℕ)
+all_labels starts table = block_labels ++ (map line_label starts ++ ((codes "line_table", table) ∷ data_labels))
 
 -- ── their text ──
 -- `al C:0c00 .line10`: the line of a place

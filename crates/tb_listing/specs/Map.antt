@@ -4,8 +4,8 @@ use Rattle.std.specs.Fmt.{decimal}
 use Rattle.hex.specs.Hex.{encode_upper}
 use Rattle.tb_syntax.specs.Source.{Program}
 use Rattle.tb_meaning.specs.Cost.{statement_cost, cost}
-use Rattle.tb_runtime16.specs.Places.{PROLOGUE_AT}
-use Rattle.tb_codegen.specs.Compiled.{most}
+use Rattle.tb_runtime16.specs.Addresses.{PROLOGUE_AT}
+use Rattle.tb_codegen.specs.Compiled.{most_cost}
 use Rattle.tb_codegen.specs.Texts.{end_before}
 
 -- ── parts ──
@@ -59,7 +59,7 @@ sum_part size program = record { name = codes "sum"; at = PROLOGUE_AT; bytes = s
 
 -- what is left of both rooms
 abbrev pub left_part : ℕ → Program → Part
-left_part size program = record { name = codes "left"; at = PROLOGUE_AT + size; bytes = 0xA000 - (PROLOGUE_AT + size); price = most - cost program }
+left_part size program = record { name = codes "left"; at = PROLOGUE_AT + size; bytes = 0xA000 - (PROLOGUE_AT + size); price = most_cost - cost program }
 
 -- the map: a heading, the parts, their sums, and what is left
 abbrev pub map_text : List (ℕ × ℕ) → ℕ → ℕ → Program → List ℕ

@@ -2,22 +2,16 @@
 ghost use Rattle.std.specs.Prelude.{◌≡◌, ◌<◌, ◌++◌, OnOk, IfOk, map};
 ghost use Rattle.std.specs.List.{range_with_len};
 ghost use Rattle.tb_codegen.specs.Compiled.{pair_of};
-ghost use Rattle.tb_listing.specs.Labels.{name_of, all_routines, routine_place, line_place, variable_place, block_places, data_places, places, label_text, labels_text};
+ghost use Rattle.tb_listing.specs.Labels.{name_of, all_routines, routine_label, line_label, variable_label, block_labels, data_labels, all_labels, label_text, labels_text};
 
 use hex::encode;
 use std::alloc::{AllocError, Global};
 use tb_codegen::LineStart;
+use tb_kernal::{CHRIN, CHROUT, GETIN};
 use tb_runtime16::{BLOCK_AT, NOTES, Routine, SEND_AT, VARS, entry};
 
 /// How many variables there are.
 const VARIABLES: u16 = 26;
-
-// The services of the ROM that a program calls.
-pub const CHRIN: u16 = 0xffcf;
-
-pub const CHROUT: u16 = 0xffd2;
-
-pub const GETIN: u16 = 0xffe4;
 
 /// The routines by rising address.
 pub const ROUTINES: [Routine; 13] = [
@@ -38,7 +32,7 @@ pub const ROUTINES: [Routine; 13] = [
 
 /// The label file of a program whose lines begin at these places, with its line table at `table`.
 pub fn labels(alloc: Global, starts: &[LineStart], table: u16) -> Result<Vec<u8>, AllocError>
-    ensures { IfOk result (λ text. text.items ≡ labels_text (places (map pair_of starts.now) table)) }
+    ensures { IfOk result (λ text. text.items ≡ labels_text (all_labels (map pair_of starts.now) table)) }
 {
     let mut text = Vec::new(alloc);
     push_block(alloc, &mut text)?;
@@ -61,7 +55,7 @@ fn push_label(alloc: Global, text: &mut Vec<u8>, name: &[u8], at: u16) -> Result
 
 // Appends the places of the block.
 fn push_block(alloc: Global, text: &mut Vec<u8>) -> Result<(), AllocError>
-    ensures { OnOk result (text.new.items ≡ text.old.items ++ labels_text block_places) }
+    ensures { OnOk result (text.new.items ≡ text.old.items ++ labels_text block_labels) }
 {
     push_label(alloc, text, b"prologue", BLOCK_AT)?;
     push_label(alloc, text, b"send", SEND_AT)?;
@@ -70,7 +64,7 @@ fn push_block(alloc: Global, text: &mut Vec<u8>) -> Result<(), AllocError>
 }
 
 fn push_routines(alloc: Global, text: &mut Vec<u8>) -> Result<(), AllocError>
-    ensures { OnOk result (text.new.items ≡ text.old.items ++ labels_text (map routine_place all_routines)) }
+    ensures { OnOk result (text.new.items ≡ text.old.items ++ labels_text (map routine_label all_routines)) }
 {
     for routine in ROUTINES {
         push_label(alloc, text, name(routine), entry(routine))?;
@@ -101,7 +95,7 @@ pub fn name(routine: Routine) -> &'static [u8]
 
 // Appends where the code of each line begins.
 fn push_lines(alloc: Global, text: &mut Vec<u8>, starts: &[LineStart]) -> Result<(), AllocError>
-    ensures { OnOk result (text.new.items ≡ text.old.items ++ labels_text (map line_place (map pair_of starts.now))) }
+    ensures { OnOk result (text.new.items ≡ text.old.items ++ labels_text (map line_label (map pair_of starts.now))) }
 {
     for start in starts {
         push_line(alloc, text, start.number, start.at)?;
@@ -110,7 +104,7 @@ fn push_lines(alloc: Global, text: &mut Vec<u8>, starts: &[LineStart]) -> Result
 }
 
 fn push_line(alloc: Global, text: &mut Vec<u8>, number: u16, at: u16) -> Result<(), AllocError>
-    ensures { OnOk result (text.new.items ≡ text.old.items ++ label_text (line_place (number, at))) }
+    ensures { OnOk result (text.new.items ≡ text.old.items ++ label_text (line_label (number, at))) }
 {
     let name = format!(in alloc; "line{number}")?;
     push_label(alloc, text, name.as_bytes(), at)
@@ -118,7 +112,7 @@ fn push_line(alloc: Global, text: &mut Vec<u8>, number: u16, at: u16) -> Result<
 
 // Appends the variables, the count of notes, and the services.
 fn push_data(alloc: Global, text: &mut Vec<u8>) -> Result<(), AllocError>
-    ensures { OnOk result (text.new.items ≡ text.old.items ++ labels_text data_places) }
+    ensures { OnOk result (text.new.items ≡ text.old.items ++ labels_text data_labels) }
 {
     push_variables(alloc, text)?;
     push_label(alloc, text, b"notes", NOTES)?;
@@ -129,7 +123,7 @@ fn push_data(alloc: Global, text: &mut Vec<u8>) -> Result<(), AllocError>
 }
 
 fn push_variables(alloc: Global, text: &mut Vec<u8>) -> Result<(), AllocError>
-    ensures { OnOk result (text.new.items ≡ text.old.items ++ labels_text (map variable_place (range_with_len 0 26))) }
+    ensures { OnOk result (text.new.items ≡ text.old.items ++ labels_text (map variable_label (range_with_len 0 26))) }
 {
     'variables: for index in 0..VARIABLES {
         push_variable(alloc, text, index)?;
@@ -139,7 +133,7 @@ fn push_variables(alloc: Global, text: &mut Vec<u8>) -> Result<(), AllocError>
 
 fn push_variable(alloc: Global, text: &mut Vec<u8>, index: u16) -> Result<(), AllocError>
     requires { index < 26 }
-    ensures { OnOk result (text.new.items ≡ text.old.items ++ label_text (variable_place index)) }
+    ensures { OnOk result (text.new.items ≡ text.old.items ++ label_text (variable_label index)) }
 {
     push_label(
         alloc,

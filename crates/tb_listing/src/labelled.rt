@@ -159,7 +159,7 @@ fn signs_around(mode: Mode, named: Named) -> Option<Around> {
 }
 
 // The name of the place of the image that a piece names, where a piece begins there.
-fn named_place(
+fn named_address(
     alloc: Global,
     view: &View<'_>,
     piece: &Piece<'_>,
@@ -184,7 +184,7 @@ fn push_code(
     let (line, _) = first_line(piece.at, piece.bytes);
     if let Content::Instr(mnemonic, mode, _) = &line.content {
         if let (Some(place), Some(around)) = (
-            named_place(alloc, view, piece)?,
+            named_address(alloc, view, piece)?,
             signs_around(*mode, piece.named),
         ) {
             row.extend_from_slice(name(*mnemonic).as_slice())?;
@@ -202,7 +202,7 @@ fn push_address(
     view: &View<'_>,
     piece: &Piece<'_>,
 ) -> Result<(), AllocError> {
-    match named_place(alloc, view, piece)? {
+    match named_address(alloc, view, piece)? {
         Some(place) => {
             row.extend_from_slice(b".word ")?;
             row.extend_from_slice(&place)?;

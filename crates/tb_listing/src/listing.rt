@@ -2,11 +2,12 @@
 ghost use Rattle.std.specs.Prelude.{◌≡◌, ◌⊎◌, ◌+◌, ◌-◌, ◌≤◌, true, false, None, length, drop, map, IfOk};
 ghost use Rattle.tb_asm.specs.Layout.{entry_of, image_of};
 ghost use Rattle.tb_asm.specs.Assembled.{refusal};
-ghost use Rattle.tb_runtime16.specs.Places.{PROLOGUE_AT};
+ghost use Rattle.tb_runtime16.specs.Addresses.{PROLOGUE_AT};
 ghost use Rattle.tb_codegen.specs.Compiled.{prg_of, starts_of};
 ghost use Rattle.tb_disasm.specs.Back.{GivesBack};
 ghost use Rattle.tb_listing.specs.Comments.{ShowsLines, comment_on, comments, plain};
 ghost use Rattle.tb_source_text.specs.Lines.{numbered};
+ghost use Rattle.tb_streams.specs.Streams.{most_input};
 
 use crate::labelled::{View, labelled};
 use crate::marks::marks_of;
@@ -17,12 +18,10 @@ use tb_codegen::Compiled;
 use tb_disasm::disassemble;
 use tb_runtime16::BLOCK_AT;
 use tb_source_text::numbered_lines;
+use tb_streams::MOST_INPUT;
 
 /// How many bytes a PRG file has before the block: its load address and the BASIC line.
 const HEADER: usize = 14;
-
-/// The most bytes of a text that is read to be assembled.
-const MOST_READ: usize = 1_048_576;
 
 /// The listing of a compiled source: assembler text whose assembling at `$080D` gives the image, all bytes behind the
 /// BASIC line. Lines and routines stand under their names; comments show addresses, bytes, texts, and the source line
@@ -31,7 +30,7 @@ pub fn list(alloc: Global, compiled: &Compiled, source: &[u8]) -> Result<Vec<u8>
     requires headed { 14 ≤ length (prg_of compiled.now) }
     requires ends { PROLOGUE_AT + (length (prg_of compiled.now) - 14) ≤ 0xA000 }
     ensures back { IfOk result (λ text. GivesBack PROLOGUE_AT text.items (drop 14 (prg_of compiled.now))) }
-    ensures readable { IfOk result (λ text. length text.items ≤ 1048576) }
+    ensures readable { IfOk result (λ text. length text.items ≤ most_input) }
     // The lines of the source stand in it as comments, where it isn't the listing without names.
     ensures shows { IfOk result (λ text. ShowsLines source.now (starts_of compiled.now) (drop 14 (prg_of compiled.now)) text.items) }
 {
@@ -73,10 +72,10 @@ fn with_names(
 fn checked(alloc: Global, text: Vec<u8>, image: &[u8]) -> Result<Vec<u8>, AllocError>
     requires { PROLOGUE_AT + length image.now ≤ 0xA000 }
     ensures back { IfOk result (λ text. GivesBack PROLOGUE_AT text.items image.now) }
-    ensures readable { IfOk result (λ text. length text.items ≤ 1048576) }
+    ensures readable { IfOk result (λ text. length text.items ≤ most_input) }
     ensures either { IfOk result (λ shown. (shown.items ≡ text.items) ⊎ (shown.items ≡ plain image.now)) }
 {
-    if text.len() <= MOST_READ && gives_back(alloc, &text, image)? {
+    if text.len() <= MOST_INPUT && gives_back(alloc, &text, image)? {
         return Ok(text);
     }
     without_names(alloc, image)
@@ -116,7 +115,7 @@ fn no_image(kind: AsmErrorKind) -> Result<bool, AllocError>
 fn without_names(alloc: Global, image: &[u8]) -> Result<Vec<u8>, AllocError>
     requires { PROLOGUE_AT + length image.now ≤ 0xA000 }
     ensures back { IfOk result (λ text. GivesBack PROLOGUE_AT text.items image.now) }
-    ensures readable { IfOk result (λ text. length text.items ≤ 1048576) }
+    ensures readable { IfOk result (λ text. length text.items ≤ most_input) }
     ensures plain { IfOk result (λ text. text.items ≡ plain image.now) }
 {
     match disassemble(alloc, BLOCK_AT, image) {

@@ -2,19 +2,16 @@
 ghost use Rattle.std.specs.Prelude.{◌≡◌, ◌≤◌, ◌+◌, ◌-◌, ◌++◌, ◌∷◌, [], IfOk, OnOk, map, drop, length, replicate};
 ghost use Rattle.tb_syntax.specs.PlainData.{lines_of};
 ghost use Rattle.tb_meaning.specs.Cost as cost;
-ghost use Rattle.tb_runtime16.specs.Places.{PROLOGUE_AT};
-ghost use Rattle.tb_codegen.specs.Compiled.{pair_of, prg_of, starts_of, table_of};
+ghost use Rattle.tb_runtime16.specs.Addresses.{PROLOGUE_AT};
+ghost use Rattle.tb_codegen.specs.Compiled.{most_cost, pair_of, prg_of, starts_of, table_of};
 ghost use Rattle.tb_codegen.specs.Texts.{end_before};
 ghost use Rattle.tb_listing.specs.Map.{left, right, row_text, rows_text, first_part, line_parts, block_part, table_part, map_text};
 
 use hex::encode_upper;
 use std::alloc::{AllocError, Global};
-use tb_codegen::{Compiled, LineStart, line_cost};
+use tb_codegen::{Compiled, LineStart, MOST_COST, line_cost};
 use tb_runtime16::BLOCK_AT;
 use tb_syntax::Program;
-
-/// The most that a program may cost.
-const MOST: u32 = 37_888;
 
 /// What every program costs beside its lines.
 const BASE: u32 = 64;
@@ -32,7 +29,7 @@ const NUMBER_WIDTH: usize = 8;
 /// The map of a compiled program: a table of the block, each line and the line table with address, bytes and cost, their
 /// sums, and what is left of the room. The highest line has what lies before the line table.
 pub fn chart(alloc: Global, compiled: &Compiled, program: &Program) -> Result<Vec<u8>, AllocError>
-    requires small { cost.cost (lines_of program.now) ≤ 37888 }
+    requires small { cost.cost (lines_of program.now) ≤ most_cost }
     requires ends { PROLOGUE_AT + (length (prg_of compiled.now) - 14) ≤ 0xA000 }
     ensures { IfOk result (λ text. text.items ≡ map_text (starts_of compiled.now) (table_of compiled.now) (length (prg_of compiled.now) - 14) (lines_of program.now)) }
 {
@@ -41,7 +38,7 @@ pub fn chart(alloc: Global, compiled: &Compiled, program: &Program) -> Result<Ve
     let mut text = Vec::from_slice(alloc, b"part        addr   bytes    cost\n")?;
     let cost = push_parts(alloc, &mut text, compiled, size, program)?;
     push_row(alloc, &mut text, b"sum", BLOCK_AT, size, cost)?;
-    let (left, budget) = (END - end, MOST - cost);
+    let (left, budget) = (END - end, MOST_COST - cost);
     push_row(alloc, &mut text, b"left", end as u16, left, budget)?;
     Ok(text)
 }
@@ -54,7 +51,7 @@ fn push_parts(
     size: usize,
     program: &Program,
 ) -> Result<u32, AllocError>
-    requires small { cost.cost (lines_of program.now) ≤ 37888 }
+    requires small { cost.cost (lines_of program.now) ≤ most_cost }
     requires ends { PROLOGUE_AT + size ≤ 0xA000 }
     ensures sum { IfOk result (λ sum. sum ≡ cost.cost (lines_of program.now)) }
     ensures rows { OnOk result (text.new.items ≡ text.old.items ++ (row_text (block_part (starts_of compiled.now) (table_of compiled.now)) ++ (rows_text (line_parts (starts_of compiled.now) (table_of compiled.now) (lines_of program.now)) ++ row_text (table_part (table_of compiled.now) size)))) }
@@ -91,7 +88,7 @@ fn push_lines(
     table: u16,
     program: &Program,
 ) -> Result<u32, AllocError>
-    requires { cost.cost (lines_of program.now) ≤ 37888 }
+    requires { cost.cost (lines_of program.now) ≤ most_cost }
     ensures { IfOk result (λ sum. (sum ≡ cost.cost (lines_of program.now)) × (text.new.items ≡ text.old.items ++ rows_text (line_parts (map pair_of starts.now) table (lines_of program.now)))) }
 {
     let mut sum = BASE;

@@ -3,15 +3,16 @@ ghost use Rattle.std.specs.Prelude.{◌≡◌, ◌++◌, false, true, IfOk, OnOk
 ghost use Rattle.std.specs.Fmt.{decimal};
 ghost use Rattle.tb_listing.specs.Comments.{begins_plainly, is_comment};
 
-use crate::label_file::{CHRIN, CHROUT, GETIN, ROUTINES, name};
+use crate::label_file::{ROUTINES, name};
 use crate::marks::Marks;
 use crate::pieces::{Kind, Program};
 use std::alloc::{AllocError, Global};
 use tb_codegen::LineStart;
 use tb_disasm::write_word;
+use tb_kernal::{CHRIN, CHROUT, GETIN};
 use tb_runtime16::{
-    BLOCK_AT, BYTE, COLUMN, COUNT, HELD, HOME_S, LEFT, LENGTH, LINE, LINES_AT, NOTE_HIGH, NOTE_LOW,
-    NOTES, OPEN, RESULT, RIGHT, SCRATCH, SEED, SEEDED, SEND_AT, SLOTS, VARS, WANTED, entry,
+    BLOCK_AT, BYTE, COLUMN, COUNT, HELD, HOME_S, LEFT, LENGTH, LINE, LINES_AT, NOTES, OPEN, RESULT,
+    RETURN_HIGH, RETURN_LOW, RIGHT, SCRATCH, SEED, SEEDED, SEND_AT, SLOTS, VARS, WANTED, entry,
 };
 
 /// Where the variables, the slots and the scratch places of the routines end.
@@ -185,8 +186,8 @@ fn outside_name(at: u16) -> &'static [u8] {
         COUNT => b"count",
         LENGTH => b"length",
         BYTE => b"byte",
-        NOTE_LOW => b"note_low",
-        NOTE_HIGH => b"note_high",
+        RETURN_LOW => b"note_low",
+        RETURN_HIGH => b"note_high",
         CHRIN => b"chrin",
         CHROUT => b"chrout",
         GETIN => b"getin",

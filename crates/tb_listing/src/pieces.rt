@@ -6,7 +6,7 @@ use tb_asm::Operand;
 use tb_codegen::LineStart;
 use tb_disasm::{Content, first_line};
 use tb_opcodes::Mode;
-use tb_runtime16::{BLOCK_AT, LINES_AT, NOTE_LOW, Routine, block, entry};
+use tb_runtime16::{BLOCK_AT, LINES_AT, RETURN_LOW, Routine, block, entry};
 
 // The opcodes by which texts and addresses are found.
 const JSR: u8 = 0x20;
@@ -284,7 +284,7 @@ fn first_load(program: &Program<'_>, at: u16, rest: &[u8]) -> Option<Load> {
         [LDA, low, STA_ZERO_PAGE, _, LDA, high, behind @ ..]
             if at == program.search() || hands_over(behind) => loads(*low, *high, 4),
         [LDA, low, STA_BY_X, to_low, to_high, LDA, high, STA_BY_X, ..]
-            if u16::from_le_bytes([*to_low, *to_high]) == NOTE_LOW => loads(*low, *high, 5),
+            if u16::from_le_bytes([*to_low, *to_high]) == RETURN_LOW => loads(*low, *high, 5),
         _ => None,
     }
 }

@@ -168,7 +168,7 @@ module _ (program : Program) (shallow : IsShallow program) where
       (joined out (does_found (numbers program) n x s)) (joined out (instr_found (numbers (program_code program)) n x' s w))
   found_arrives n s w out None x' e len fit =
       subst (λ y. Arrives (program_code program) (longest (program_code program)) 1 1 (joined out (past (numbers program)))
-          (joined out (instr_found (numbers (program_code program)) n y s w))) (sym e)
+      (joined out (instr_found (numbers (program_code program)) n y s w))) (sym e)
       record { steps = 0; few = omega arith; meets = (ap (λ ns. joined out (past ns)) (numbers_code program), omega arith) }
   found_arrives n s w out (Some c) x' e len fit =
       let ns = numbers (program_code program) in
@@ -287,9 +287,12 @@ follows program shallow = record {
   lists = λ n. subst (IsListOf (content_at program n)) (sym (found_code program n)) (list_of (content_at program n));
   reaches = λ seed text answers w len m.
       let c = program_code program in
-      let a = all_reach program shallow m (start (numbers c) seed text answers) w [] len in
-      (a.k, a.few, subst (λ ns. Meets m (advance_by (line program) m (GoesOn (start ns seed text answers) [])) (slot_run c seed text answers w a.k)
-          (beginnings c a.k (slot_start c seed text answers w))) (numbers_code program) a.meets);
+      let a = all_reach program shallow m (start (numbers c) seed text answers) w [] len in (
+        a.k,
+        a.few,
+        subst (λ ns. Meets m (advance_by (line program) m (GoesOn (start ns seed text answers) [])) (slot_run c seed text answers w a.k)
+            (beginnings c a.k (slot_start c seed text answers w))) (numbers_code program) a.meets,
+      );
   reaches_only = λ seed text answers w len k.
       let c = program_code program in
       let a = all_reach program shallow k (start (numbers c) seed text answers) w [] len in (
@@ -304,17 +307,17 @@ follows program shallow = record {
     agrees_at c k j r (GoesOn s out) h =
         let d : j ≡ k + (j - k) = omega (arith, few_beginnings c j r, h.3) in
         agrees_before c (j - k) k (beginnings c j r) (advance_by (slot_step c) k r) (advance_by (slot_step c) j r) (GoesOn s out)
-            (ap (λ n. advance_by (slot_step c) n r) d ∙ advance_sum (slot_step c) k (j - k) r) h
+        (ap (λ n. advance_by (slot_step c) n r) d ∙ advance_sum (slot_step c) k (j - k) r) h
     agrees_at c k j r (Over why out) h =
         ⊎_elim
         (λ lt.
         let d : k ≡ j + (k - j) = omega arith in
         agrees_after c (k - j) k (beginnings c j r) (advance_by (slot_step c) k r) (advance_by (slot_step c) j r) why out
-            (ap (λ n. advance_by (slot_step c) n r) d ∙ advance_sum (slot_step c) j (k - j) r) h)
+        (ap (λ n. advance_by (slot_step c) n r) d ∙ advance_sum (slot_step c) j (k - j) r) h)
         (λ le.
         let d : j ≡ k + (j - k) = omega arith in
         agrees_before c (j - k) k (beginnings c j r) (advance_by (slot_step c) k r) (advance_by (slot_step c) j r) (Over why out)
-            (ap (λ n. advance_by (slot_step c) n r) d ∙ advance_sum (slot_step c) k (j - k) r) h)
+        (ap (λ n. advance_by (slot_step c) n r) d ∙ advance_sum (slot_step c) k (j - k) r) h)
         (cases_lt j k)
 
 shallow_if : (b : Bool) (l : Numbered Statement) (lines : Program) → nat_le (statement_need l.content) 16 ≡ b

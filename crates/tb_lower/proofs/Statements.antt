@@ -102,11 +102,11 @@ module _ (ns : List ℕ) (n : ℕ) where
   statement_runs (source.Input xs) size fits s w len = inputs_runs xs size s w len
   statement_runs (If l rel r c) size fits s w len =
       value_runs ns n l 0 (Hold ∷ (value_code r 0 ++ (LeaveUnless rel ∷ statement_code c))) s w
-          (λ a s'. valued n r s' (λ b s''. if holds rel a b then does ns n c s'' else fall ns n s'')) (omega arith)
+      (λ a s'. valued n r s' (λ b s''. if holds rel a b then does ns n c s'' else fall ns n s'')) (omega arith)
       (λ a s' w' kept at.
       after_nothing _
       ∙ value_runs ns n r 0 (LeaveUnless rel ∷ statement_code c) s' (record w' { held = slice_index w'.words 0 })
-          (λ b s''. if holds rel a b then does ns n c s'' else fall ns n s'') (omega (arith, kept.size))
+      (λ b s''. if holds rel a b then does ns n c s'' else fall ns n s'') (omega (arith, kept.size))
       (λ b s'' w'' kept' at'.
       leave_runs (holds rel w''.held (slice_index w''.words 0)) (statement_code c) s'' w'' (does ns n c s'') (statement_runs c size (omega arith) s'' w'' (kept'.size ∙ kept.size ∙ len))
       ∙ ap₂ (λ x y. if holds rel x y then does ns n c s'' else fall ns n s'') (kept'.held ∙ at) at'))

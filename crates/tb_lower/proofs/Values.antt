@@ -139,6 +139,6 @@ module _ (ns : List ℕ) (n : ℕ) where
       let left : slice_index w''.words k ≡ a = kept'.below k (omega arith) ∙ at in
       into_runs k is s'' w'' (given (apply op (slice_index w''.words k) (slice_index w''.words (k + 1))) s''.seed) go
       (λ v s3. h v s3 (with_word w'' k v) (kept_trans k k w w'' _ (omega arith) (kept_trans k (k + 1) w w' w'' (omega arith) kept kept')
-          (put_kept k v w'')) (put_at k v w'' (omega (arith, kept.size, kept'.size))))
+      (put_kept k v w'')) (put_at k v w'' (omega (arith, kept.size, kept'.size))))
       ∙ ap₂ (λ x y. with_value n (given (apply op x y) s''.seed) s'' go) left at'))
       ∙ binary_valued n op r (value l s.vars s.seed) s go)

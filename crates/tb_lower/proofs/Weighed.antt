@@ -25,8 +25,14 @@ value_weight w (source.Negate e) k =
     (omega (arith, weigh_append w (value_code e k) (Negate k ∷ []), value_weight w e k))
 value_weight w (Binary op l r) k =
     let few : weigh w (value_code l k ++ (value_code r (k + 1) ++ Compute op k ∷ [])) ≤ w.work * (1 + (nodes l + nodes r)) =
-    omega (arith, weigh_append w (value_code l k) (value_code r (k + 1) ++ Compute op k ∷ []), weigh_append w (value_code r (k + 1))
-        (Compute op k ∷ []), value_weight w l k, value_weight w r (k + 1)) in
+    omega (
+      arith,
+      weigh_append w (value_code l k) (value_code r (k + 1) ++ Compute op k ∷ []),
+      weigh_append w (value_code r (k + 1))
+          (Compute op k ∷ []),
+      value_weight w l k,
+      value_weight w r (k + 1),
+    ) in
     omega (arith, constant_weight w (constant (Binary op l r)) k (nodes l + nodes r) _ few)
 value_weight w (source.Random e) k = omega (arith, weigh_append w (value_code e k) (Random k ∷ []), value_weight w e k)
 
@@ -54,8 +60,14 @@ bounded (Print items true) w = omega (arith, weigh_append w (items_code items) (
 bounded (Print items false) w = omega (arith, weigh_append w (items_code items) [], items_weight w items)
 bounded (source.Input xs) w = omega (arith, inputs_weight w xs)
 bounded (If l rel r c) w =
-    omega (arith, weigh_append w (value_code l 0) (Hold ∷ (value_code r 0 ++ (LeaveUnless rel ∷ statement_code c))),
-        weigh_append w (value_code r 0) (LeaveUnless rel ∷ statement_code c), value_weight w l 0, value_weight w r 0, bounded c w)
+    omega (
+      arith,
+      weigh_append w (value_code l 0) (Hold ∷ (value_code r 0 ++ (LeaveUnless rel ∷ statement_code c))),
+      weigh_append w (value_code r 0) (LeaveUnless rel ∷ statement_code c),
+      value_weight w l 0,
+      value_weight w r 0,
+      bounded c w,
+    )
 bounded (Goto e) w =
     target_weight w (constant e) JumpTo _ _ (λ v. omega arith) (omega (arith, weigh_append w (value_code e 0) (Jump ∷ []), value_weight w e 0))
 bounded (Gosub e) w =

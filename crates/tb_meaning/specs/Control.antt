@@ -2,6 +2,7 @@
 use Rattle.std.specs.Prelude.{ℕ, ◌+◌, ◌-◌, ◌%◌, Bool, false, ◌||◌, List, [], ◌∷◌, ◌++◌, length, replicate, if◌then◌else◌, nat_lt, nat_eq, Option, Some, None}
 use Rattle.tb_syntax.specs.Source.{Numbered}
 use Rattle.tb_words.specs.Words.{digits_of}
+use Rattle.tb_meaning.specs.declared.interpreter.TheConstants.{DEEPEST}
 use Rattle.tb_meaning.specs.Steps.{Faulted, Step, Goes, Stops}
 
 -- where a run is: at a line, or past the last one
@@ -26,7 +27,7 @@ pub record State : Type 0 where
 
 -- how many returns can be noted
 abbrev pub deepest : ℕ
-deepest = 500
+deepest = DEEPEST
 
 -- the content of line n
 abbrev pub content_at : {A : Type 0} → List (Numbered A) → ℕ → Option A

@@ -21,7 +21,7 @@ use tb_syntax::{Expr, PrintItem, Program, Statement};
 use tb_words::{Letter, Rel, holds, next_seed};
 
 /// How many returns can be noted.
-const DEEPEST: usize = 500;
+pub const DEEPEST: usize = 500;
 
 /// How far a run has come.
 #[derive(Clone, Copy, PartialEq, Eq, Debug, Drop)]
@@ -283,7 +283,7 @@ impl<'a> Interpreter<'a> {
         if self.returns.len() >= DEEPEST {
             return Err(RunStop::Fault(Fault::ReturnsTooDeep, number));
         }
-        note(&mut self.returns, next_after(program, number))?;
+        push_return(&mut self.returns, next_after(program, number))?;
         self.place = Place::At(target);
         Ok(())
     }
@@ -378,7 +378,7 @@ impl<'a> Interpreter<'a> {
     }
 }
 
-fn note(returns: &mut Vec<Place>, place: Place) -> Result<(), AllocError>
+fn push_return(returns: &mut Vec<Place>, place: Place) -> Result<(), AllocError>
     ensures { OnOk result (returns.new.items ≡ returns.old.items ++ place ∷ []) }
 {
     returns.push(place)?;

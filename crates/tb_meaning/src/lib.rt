@@ -12,6 +12,6 @@ mod places;
 mod turns;
 
 pub use evaluation::{EvalError, constant, eval};
-pub use interpreter::{RunEnd, SourceRun, run_source};
+pub use interpreter::{DEEPEST, RunEnd, SourceRun, run_source};
 pub use missing::{Warning, warnings};
 pub use places::Place;

@@ -5,14 +5,14 @@ use Rattle.std.specs.Prelude.{Option, Some, None, Result, Ok, Err, if◌then◌e
 use Rattle.tb_memmap.specs.Bytes.{Writes, written}
 use Rattle.tb_cpu.specs.declared.wrong.Wrong.{Wrong}
 use Rattle.tb_cpu.specs.Instructions as cpu
-use Rattle.tb_kernal.specs.declared.places.Service.{Service}
-use Rattle.tb_kernal.specs.declared.places.Service.TheVariants.{Chrout, Chrin, Getin}
+use Rattle.tb_kernal.specs.declared.rom.Service.{Service}
+use Rattle.tb_kernal.specs.declared.rom.Service.TheVariants.{Chrout, Chrin, Getin}
 use Rattle.tb_kernal.specs.declared.events.Clobber.{Clobber}
 use Rattle.tb_kernal.specs.declared.events.Event.{Event}
 use Rattle.tb_kernal.specs.declared.events.Event.TheVariants.{Go, Interrupt}
 use Rattle.tb_kernal.specs.declared.status.Status.{Status}
 use Rattle.tb_kernal.specs.declared.status.Status.TheVariants.{Running, Waits, Returned, Wrong as WentWrong}
-use Rattle.tb_kernal.specs.Places.{service_at}
+use Rattle.tb_kernal.specs.Rom.{service_at}
 use Rattle.tb_kernal.specs.Machine.{State, Content, state_of, status, is_stopped, stepped, gone, gone_at, happens}
 use Rattle.tb_kernal.specs.Runs.{run}
 use Rattle.tb_play.specs.Talks.{Stretch, sent_since}

@@ -5,13 +5,14 @@ use Rattle.std.specs.Char.{to_ascii_uppercase}
 use Rattle.std.specs.declared.alloc.Global.{Global}
 use Rattle.std.specs.declared.vec.Vec.{Vec}
 pub use Rattle.tb_opcodes.specs.Bytes.{AreBytes}
+use Rattle.tb_streams.specs.Streams.{most_input}
 use Rattle.tb_streams.specs.Lines.{without_return, TakesLine, TakesNothing, TakesPart}
 use Rattle.tb_streams.specs.declared.stream.InputError.{InputError}
 use Rattle.tb_streams.specs.declared.stream.InputError.TheVariants.{Fault, NoMemory}
 
 -- the most bytes that are handed over in all
 abbrev pub most_typed : ℕ
-most_typed = 1048576
+most_typed = most_input
 
 -- what a line hands over: its letters as capitals, and a return
 abbrev pub keys_of : List ℕ → List ℕ

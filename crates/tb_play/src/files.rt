@@ -2,6 +2,7 @@
 ghost use Rattle.std.specs.Prelude.{◌≡◌, ◌≤◌, [], vec_len};
 ghost use Rattle.tb_streams.specs.Failures.{failures_of};
 ghost use Rattle.tb_play.specs.Plays.{IsStarted, PlaysFile, PlayFaults, RunsTyped, Shows};
+ghost use Rattle.tb_play.specs.Lines.{most_typed};
 
 use crate::talk::{Played, play};
 use std::alloc::Global;
@@ -40,7 +41,7 @@ pub fn play_file<R: Read, W: Write>(
         (W.contents writer.old.stream) (W.contents writer.new.stream) }
     ensures whole { Shows (RunsTyped file.now) result.outcome result.typed.items
         (W.contents writer.old.stream) (W.contents writer.new.stream) }
-    ensures within { vec_len result.typed ≤ 1048576 }
+    ensures within { vec_len result.typed ≤ most_typed }
     ensures faults { PlayFaults result.outcome (failures_of keys.old) (failures_of keys.new)
         (failures_of writer.old) (failures_of writer.new) }
 {

@@ -1,7 +1,7 @@
 //! What lines of input hand to the keyboard.
 ghost use Rattle.std.specs.Prelude.{◌≡◌, ◌≤◌, IfOk, vec_len};
 ghost use Rattle.tb_streams.specs.Failures.{failures_of};
-ghost use Rattle.tb_play.specs.Lines.{keys_of, ReadsKeys};
+ghost use Rattle.tb_play.specs.Lines.{keys_of, ReadsKeys, most_typed};
 
 use std::alloc::{AllocError, Global};
 use std::io::Read;
@@ -31,7 +31,7 @@ pub fn read_keys<R: Read>(
     reader: &mut Tracked<R>,
     room: usize,
 ) -> Result<Option<Vec<u8>>, InputError>
-    requires { room ≤ 1048576 }
+    requires { room ≤ most_typed }
     ensures { ReadsKeys result room (R.remaining reader.old.stream) (R.remaining reader.new.stream)
         (failures_of reader.old) (failures_of reader.new) }
 {

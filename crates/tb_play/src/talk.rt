@@ -3,6 +3,7 @@ ghost use Rattle.std.specs.Prelude.{◌≡◌, ◌≤◌, [], drop, length, vec_
 ghost use Rattle.tb_streams.specs.Failures.{failures_of};
 ghost use Rattle.tb_play.specs.Talks.{is_waiting, GoesOn, Hears, Plays};
 ghost use Rattle.tb_play.specs.Plays.{PlayFaults};
+ghost use Rattle.tb_play.specs.Lines.{most_typed};
 
 use crate::lines::{MOST_TYPED, read_keys};
 use std::alloc::Global;
@@ -63,7 +64,7 @@ fn hear<R: Read>(
     keys: &mut Tracked<R>,
     typed: &mut Vec<u8>,
 ) -> Result<bool, Outcome>
-    requires { vec_len typed.old ≤ 1048576 }
+    requires { vec_len typed.old ≤ most_typed }
     ensures { Hears machine.old typed.old.items result machine.new typed.new.items
         (R.remaining keys.old.stream) (R.remaining keys.new.stream)
         (failures_of keys.old) (failures_of keys.new) }
@@ -96,7 +97,7 @@ fn talk<R: Read, W: Write>(
     ensures dialogue { Plays limit machine.old result typed.new.items
         (R.remaining keys.old.stream) (R.remaining keys.new.stream) (failures_of keys.old) (failures_of keys.new)
         (W.contents writer.old.stream) (W.contents writer.new.stream) }
-    ensures within { vec_len typed.new ≤ 1048576 }
+    ensures within { vec_len typed.new ≤ most_typed }
     ensures faults { PlayFaults result (failures_of keys.old) (failures_of keys.new)
         (failures_of writer.old) (failures_of writer.new) }
 {
@@ -131,7 +132,7 @@ pub fn play<R: Read, W: Write>(
     ensures dialogue { Plays limit machine.old result.outcome result.typed.items
         (R.remaining keys.old.stream) (R.remaining keys.new.stream) (failures_of keys.old) (failures_of keys.new)
         (W.contents writer.old.stream) (W.contents writer.new.stream) }
-    ensures within { vec_len result.typed ≤ 1048576 }
+    ensures within { vec_len result.typed ≤ most_typed }
     ensures faults { PlayFaults result.outcome (failures_of keys.old) (failures_of keys.new)
         (failures_of writer.old) (failures_of writer.new) }
 {

@@ -9,38 +9,38 @@ use Rattle.tb_kernal.specs.declared.events.Event.TheVariants.{Go, Interrupt}
 use Rattle.tb_kernal.specs.declared.events.Clobber.{Clobber}
 use Rattle.tb_kernal.specs.Machine.{State, happens}
 use Rattle.tb_kernal.specs.Runs.{run}
-use Rattle.tb_profile.specs.Steps.{Step, is_place, line_by, step_of, steps, cycles_of_go, times_of, instructions_of, cycles_of}
+use Rattle.tb_profile.specs.Steps.{Step, begins_line, line_by, step_of, steps, cycles_of_go, times_of, instructions_of, cycles_of}
 use Rattle.tb_profile.specs.Tallies.{Counted, IsTally, last_line, with_step, CountsEvent}
 use Rattle.tb_profile.proofs.Marking.{more_at}
 
 -- a run has at most one step for each event
-pub few_steps : (places : List ℕ) (line : ℕ) (es : List Event) (s : State) → length (steps places line es s) ≤ length es
-few_steps places line [] s = omega arith
-few_steps places line (Go k ∷ es) s = omega (arith, few_steps places (step_of places line s).line es (happens s (Go k)))
-few_steps places line (Interrupt ws ∷ es) s = omega (arith, few_steps places line es (happens s (Interrupt ws)))
+pub few_steps : (starts : List ℕ) (line : ℕ) (es : List Event) (s : State) → length (steps starts line es s) ≤ length es
+few_steps starts line [] s = omega arith
+few_steps starts line (Go k ∷ es) s = omega (arith, few_steps starts (step_of starts line s).line es (happens s (Go k)))
+few_steps starts line (Interrupt ws ∷ es) s = omega (arith, few_steps starts line es (happens s (Interrupt ws)))
 
-steps_go : (places : List ℕ) (line : ℕ) (es : List Event) (k : Clobber) (s : State)
-    → steps places line (es ++ Go k ∷ []) s ≡ steps places line es s ++ step_of places (last_line line (steps places line es s)) (run es s) ∷ []
-steps_go places line [] k s = refl
-steps_go places line (Go j ∷ es) k s =
-    ap (λ ts. step_of places line s ∷ ts) (steps_go places (step_of places line s).line es k (happens s (Go j)))
-steps_go places line (Interrupt ws ∷ es) k s = steps_go places line es k (happens s (Interrupt ws))
+steps_go : (starts : List ℕ) (line : ℕ) (es : List Event) (k : Clobber) (s : State)
+    → steps starts line (es ++ Go k ∷ []) s ≡ steps starts line es s ++ step_of starts (last_line line (steps starts line es s)) (run es s) ∷ []
+steps_go starts line [] k s = refl
+steps_go starts line (Go j ∷ es) k s =
+    ap (λ ts. step_of starts line s ∷ ts) (steps_go starts (step_of starts line s).line es k (happens s (Go j)))
+steps_go starts line (Interrupt ws ∷ es) k s = steps_go starts line es k (happens s (Interrupt ws))
 
-steps_interrupt : (places : List ℕ) (line : ℕ) (es : List Event) (e : Event) (ws : _) (s : State) → e ≡ Interrupt ws
-    → steps places line (es ++ e ∷ []) s ≡ steps places line es s
-steps_interrupt places line [] e ws s h = rw h refl
-steps_interrupt places line (Go j ∷ es) e ws s h =
-    ap (λ ts. step_of places line s ∷ ts) (steps_interrupt places (step_of places line s).line es e ws (happens s (Go j)) h)
-steps_interrupt places line (Interrupt vs ∷ es) e ws s h = steps_interrupt places line es e ws (happens s (Interrupt vs)) h
+steps_interrupt : (starts : List ℕ) (line : ℕ) (es : List Event) (e : Event) (ws : _) (s : State) → e ≡ Interrupt ws
+    → steps starts line (es ++ e ∷ []) s ≡ steps starts line es s
+steps_interrupt starts line [] e ws s h = rw h refl
+steps_interrupt starts line (Go j ∷ es) e ws s h =
+    ap (λ ts. step_of starts line s ∷ ts) (steps_interrupt starts (step_of starts line s).line es e ws (happens s (Go j)) h)
+steps_interrupt starts line (Interrupt vs ∷ es) e ws s h = steps_interrupt starts line es e ws (happens s (Interrupt vs)) h
 
 last_more : (line : ℕ) (ts : List Step) (t : Step) → last_line line (ts ++ t ∷ []) ≡ t.line
 last_more line [] t = refl
 last_more line (u ∷ ts) t = last_more u.line ts t
 
 -- one more step
-step_more : (places : List ℕ) (ts : List Step) (t : Counted) (s : Step) → IsTally places ts t
-    → IsTally places (ts ++ s ∷ []) (with_step t s.pc s.line s.cycles)
-step_more places ts t s h =
+step_more : (starts : List ℕ) (ts : List Step) (t : Counted) (s : Step) → IsTally starts ts t
+    → IsTally starts (ts ++ s ∷ []) (with_step t s.pc s.line s.cycles)
+step_more starts ts t s h =
     record {
       whole = (
         h.whole.0,
@@ -61,19 +61,19 @@ step_more places ts t s h =
     }
 
 -- one more event
-pub event_more : (places : List ℕ) (es : List Event) (first now : State) (e : Event) (t u : Counted)
-    → now ≡ run es first → IsTally places (steps places 0 es first) t → CountsEvent e now t u
-    → IsTally places (steps places 0 (es ++ e ∷ []) first) u
-event_more places es first now (Go k) t u same h (address, e) =
-    let ts : List Step = steps places 0 es first in
-    let begins : slice_index_or t.begins now.regs.pc false ≡ is_place places now.regs.pc = h.begins now.regs.pc address in
-    let line : line_by (slice_index_or t.begins now.regs.pc false) t.line now.regs.pc ≡ line_by (is_place places now.regs.pc) (last_line 0 ts) now.regs.pc =
-    ap (λ b. line_by b t.line now.regs.pc) begins ∙ ap (λ l. line_by (is_place places now.regs.pc) l now.regs.pc) h.line in
-    let s : Step = step_of places (last_line 0 ts) now in
+pub event_more : (starts : List ℕ) (es : List Event) (first now : State) (e : Event) (t u : Counted)
+    → now ≡ run es first → IsTally starts (steps starts 0 es first) t → CountsEvent e now t u
+    → IsTally starts (steps starts 0 (es ++ e ∷ []) first) u
+event_more starts es first now (Go k) t u same h (address, e) =
+    let ts : List Step = steps starts 0 es first in
+    let begins : slice_index_or t.begins now.regs.pc false ≡ begins_line starts now.regs.pc = h.begins now.regs.pc address in
+    let line : line_by (slice_index_or t.begins now.regs.pc false) t.line now.regs.pc ≡ line_by (begins_line starts now.regs.pc) (last_line 0 ts) now.regs.pc =
+    ap (λ b. line_by b t.line now.regs.pc) begins ∙ ap (λ l. line_by (begins_line starts now.regs.pc) l now.regs.pc) h.line in
+    let s : Step = step_of starts (last_line 0 ts) now in
     let counted : u ≡ with_step t s.pc s.line s.cycles = e ∙ ap (λ l. with_step t now.regs.pc l (cycles_of_go now.regs (reading now.mem))) line in
-    let there : steps places 0 (es ++ Go k ∷ []) first ≡ ts ++ s ∷ [] =
-    steps_go places 0 es k first ∙ ap (λ m. ts ++ step_of places (last_line 0 ts) m ∷ []) (sym same) in
-    subst (λ us. IsTally places us u) (sym there) (subst (λ v. IsTally places (ts ++ s ∷ []) v) (sym counted) (step_more places ts t s h))
-event_more places es first now (Interrupt ws) t u same h e =
-    subst (λ us. IsTally places us u) (sym (steps_interrupt places 0 es (Interrupt ws) ws first refl))
-    (subst (λ v. IsTally places (steps places 0 es first) v) (sym e) h)
+    let there : steps starts 0 (es ++ Go k ∷ []) first ≡ ts ++ s ∷ [] =
+    steps_go starts 0 es k first ∙ ap (λ m. ts ++ step_of starts (last_line 0 ts) m ∷ []) (sym same) in
+    subst (λ us. IsTally starts us u) (sym there) (subst (λ v. IsTally starts (ts ++ s ∷ []) v) (sym counted) (step_more starts ts t s h))
+event_more starts es first now (Interrupt ws) t u same h e =
+    subst (λ us. IsTally starts us u) (sym (steps_interrupt starts 0 es (Interrupt ws) ws first refl))
+    (subst (λ v. IsTally starts (steps starts 0 es first) v) (sym e) h)

@@ -10,7 +10,7 @@ use Rattle.tb_profile.specs.Tallies.{IsTally}
 
 -- a run of at most `limit` events that an outside gave, and the tally of its steps; nothing is said if memory ran out
 abbrev pub Profiled : {O : Type 0} → (O → Content → Event → O → Type 0) → O → Content → List ℕ → ℕ → Result Profile AllocError → O → Content → Type 0
-Profiled gives o m places limit (Ok profile) p n =
+Profiled gives o m starts limit (Ok profile) p n =
     (ran : RanOver gives o m limit (Ok profile.status) p n)
-    × IsTally places (steps places 0 ran.events (state_of m)) profile.tally
-Profiled gives o m places limit (Err e) p n = Unit {0}
+    × IsTally starts (steps starts 0 ran.events (state_of m)) profile.tally
+Profiled gives o m starts limit (Err e) p n = Unit {0}

@@ -5,7 +5,7 @@ use Rattle.tb_cpu.specs.Operands.{Reader, reading}
 use Rattle.tb_kernal.specs.declared.events.Event.{Event}
 use Rattle.tb_kernal.specs.declared.events.Event.TheVariants.{Go, Interrupt}
 use Rattle.tb_kernal.specs.Machine.{State, happens, is_no_service}
-use Rattle.tb_kernal.specs.Places.{service_at}
+use Rattle.tb_kernal.specs.Rom.{service_at}
 use Rattle.tb_cycles.specs.Cycles.{cycles_at}
 
 -- an instruction or a service: its PC, the address of the line begun last, 0 if no line was begun, and the cycles
@@ -15,9 +15,9 @@ pub record Step : Type 0 where
   pub cycles : ℕ
 
 -- whether a line begins at an address
-abbrev pub is_place : List ℕ → ℕ → Bool
-is_place [] a = false
-is_place (p ∷ places) a = (a == p) || is_place places a
+abbrev pub begins_line : List ℕ → ℕ → Bool
+begins_line [] a = false
+begins_line (p ∷ starts) a = (a == p) || begins_line starts a
 
 -- the address of the line begun last: PC if a line begins there, else as before
 abbrev pub line_by : Bool → ℕ → ℕ → ℕ
@@ -33,14 +33,14 @@ cycles_of_go r read = if is_no_service (service_at r.pc) then cycles_at r read e
 
 -- a Go of a running machine
 abbrev pub step_of : List ℕ → ℕ → State → Step
-step_of places line s =
-    record { pc = s.regs.pc; line = line_by (is_place places s.regs.pc) line s.regs.pc; cycles = cycles_of_go s.regs (reading s.mem) }
+step_of starts line s =
+    record { pc = s.regs.pc; line = line_by (begins_line starts s.regs.pc) line s.regs.pc; cycles = cycles_of_go s.regs (reading s.mem) }
 
 -- the steps of a run whose lines begin at these places; interrupts are the ROM's, and no steps
 abbrev pub steps : List ℕ → ℕ → List Event → State → List Step
-steps places line [] s = []
-steps places line (Go k ∷ es) s = step_of places line s ∷ steps places (step_of places line s).line es (happens s (Go k))
-steps places line (Interrupt ws ∷ es) s = steps places line es (happens s (Interrupt ws))
+steps starts line [] s = []
+steps starts line (Go k ∷ es) s = step_of starts line s ∷ steps starts (step_of starts line s).line es (happens s (Go k))
+steps starts line (Interrupt ws ∷ es) s = steps starts line es (happens s (Interrupt ws))
 
 -- ---- what is counted for a place
 

@@ -4,7 +4,7 @@ use Rattle.tb_cpu.specs.Operands.{reading}
 use Rattle.tb_kernal.specs.declared.events.Event.{Event}
 use Rattle.tb_kernal.specs.declared.events.Event.TheVariants.{Go, Interrupt}
 use Rattle.tb_kernal.specs.Machine.{State, Content, state_of, happens}
-use Rattle.tb_profile.specs.Steps.{Step, is_place, line_by, cycles_of_go, times_of, instructions_of, cycles_of}
+use Rattle.tb_profile.specs.Steps.{Step, begins_line, line_by, cycles_of_go, times_of, instructions_of, cycles_of}
 
 -- what a tally holds: three lists of 65,536 counts, the line begun last, and the number of all steps and of their cycles
 pub record Counted : Type 0 where
@@ -22,9 +22,9 @@ last_line line [] = line
 last_line line (t ∷ ts) = last_line t.line ts
 
 -- a tally has counted these steps of a program whose lines begin at these places
-pub record IsTally (places : List ℕ) (ts : List Step) (t : Counted) : Type 0 where
+pub record IsTally (starts : List ℕ) (ts : List Step) (t : Counted) : Type 0 where
   pub whole : (length t.begins ≡ 65536) × (length t.times ≡ 65536) × (length t.instructions ≡ 65536) × (length t.cycles ≡ 65536)
-  pub begins : (a : ℕ) → a < 65536 → slice_index_or t.begins a false ≡ is_place places a
+  pub begins : (a : ℕ) → a < 65536 → slice_index_or t.begins a false ≡ begins_line starts a
   pub times : (a : ℕ) → a < 65536 → slice_index t.times a ≡ times_of ts a
   pub instructions : (a : ℕ) → a < 65536 → slice_index t.instructions a ≡ instructions_of ts a
   pub cycles : (a : ℕ) → a < 65536 → slice_index t.cycles a ≡ cycles_of ts a

@@ -3,7 +3,7 @@ ghost use Rattle.std.specs.Prelude.{◌≡◌, ◌<◌, ◌≤◌, ◌*◌, ◌^
 ghost use Rattle.tb_memmap.specs.Bytes.{at};
 ghost use Rattle.tb_cpu.specs.Operands.{reading};
 ghost use Rattle.tb_kernal.specs.Machine.{state_of, status, is_running, is_no_service};
-ghost use Rattle.tb_kernal.specs.Places.{service_at};
+ghost use Rattle.tb_kernal.specs.Rom.{service_at};
 ghost use Rattle.tb_kernal.specs.declared.status.Status.TheVariants.{Running};
 ghost use Rattle.tb_profile.specs.Steps.{cycles_of_go};
 ghost use Rattle.tb_profile.specs.Tallies.{CountsEvent, Took, most_cycles};
@@ -12,16 +12,10 @@ ghost use Rattle.tb_profile.specs.Profiles.{Profiled};
 use crate::tally::Tally;
 use std::alloc::{AllocError, Global};
 use tb_cycles::cycles;
-use tb_kernal::{Event, Machine, Outside, Status};
+use tb_kernal::{CHRIN, CHROUT, Event, GETIN, Machine, Outside, Status};
 
 /// The cycles of a service: those of its RTS, since its other time isn't the program's.
 const SERVICE_CYCLES: u8 = 6;
-
-const CHROUT: u16 = 0xffd2;
-
-const CHRIN: u16 = 0xffcf;
-
-const GETIN: u16 = 0xffe4;
 
 /// The status of a machine after a run, and what was counted.
 #[derive(Drop)]
@@ -93,12 +87,12 @@ pub fn run_counted<O: Outside>(
     alloc: Global,
     machine: &mut Machine,
     outside: &mut O,
-    places: &[u16],
+    starts: &[u16],
     limit: u32,
 ) -> Result<Profile, AllocError>
-    ensures { Profiled O.gives outside.old machine.old places.now limit result outside.new machine.new }
+    ensures { Profiled O.gives outside.old machine.old starts.now limit result outside.new machine.new }
 {
-    let mut tally = Tally::new(alloc, places)?;
+    let mut tally = Tally::new(alloc, starts)?;
     for _ in 0..limit {
         let status = machine.status();
         if !is_running(status) {

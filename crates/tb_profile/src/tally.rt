@@ -1,6 +1,6 @@
 //! What is counted, by address.
 ghost use Rattle.std.specs.Prelude.{◌≡◌, ◌<◌, ◌≤◌, ◌+◌, ◌*◌, ◌^◌, ◌||◌, ℕ, [], length, slice_index, slice_index_or, vec_len, IfOk, false, replicate};
-ghost use Rattle.tb_profile.specs.Steps.{is_place};
+ghost use Rattle.tb_profile.specs.Steps.{begins_line};
 ghost use Rattle.tb_profile.specs.Tallies.{IsTally, with_more, after_step, most_cycles};
 
 use std::alloc::{AllocError, Global};
@@ -45,11 +45,11 @@ impl Model for Tally {
 
 impl Tally {
     /// The tally of no steps, of a program whose lines begin at these places. Fails only if memory runs out.
-    pub fn new(alloc: Global, places: &[u16]) -> Result<Tally, AllocError>
-        ensures { IfOk result (λ t. IsTally places.now [] t) }
+    pub fn new(alloc: Global, starts: &[u16]) -> Result<Tally, AllocError>
+        ensures { IfOk result (λ t. IsTally starts.now [] t) }
     {
         Ok(Tally {
-            begins: marks(alloc, places)?,
+            begins: marks(alloc, starts)?,
             times: zeros(alloc)?,
             instructions: zeros(alloc)?,
             cycles: zeros(alloc)?,
@@ -76,24 +76,24 @@ impl Tally {
     }
 
     /// How often a step began at an address.
-    pub fn times(&self, place: u16) -> u64
-        ensures { result ≡ slice_index self.now.times place }
+    pub fn times(&self, address: u16) -> u64
+        ensures { result ≡ slice_index self.now.times address }
     {
-        self.times[place as usize]
+        self.times[address as usize]
     }
 
     /// How many steps belong to the line that begins at an address; at 0 those before the first line.
-    pub fn instructions(&self, place: u16) -> u64
-        ensures { result ≡ slice_index self.now.instructions place }
+    pub fn instructions(&self, address: u16) -> u64
+        ensures { result ≡ slice_index self.now.instructions address }
     {
-        self.instructions[place as usize]
+        self.instructions[address as usize]
     }
 
     /// The cycles of the steps that belong to the line that begins at an address.
-    pub fn cycles(&self, place: u16) -> u64
-        ensures { result ≡ slice_index self.now.cycles place }
+    pub fn cycles(&self, address: u16) -> u64
+        ensures { result ≡ slice_index self.now.cycles address }
     {
-        self.cycles[place as usize]
+        self.cycles[address as usize]
     }
 
     /// How many steps were counted in all.
@@ -126,21 +126,21 @@ fn no_marks(alloc: Global) -> Result<Vec<bool>, AllocError>
 }
 
 // For each address, whether a line begins there.
-fn marks(alloc: Global, places: &[u16]) -> Result<Vec<bool>, AllocError>
+fn marks(alloc: Global, starts: &[u16]) -> Result<Vec<bool>, AllocError>
     ensures { IfOk result (λ v. (vec_len v ≡ 65536)
-        × ((a : ℕ) → a < 65536 → slice_index_or v.items a false ≡ is_place places.now a)) }
+        × ((a : ℕ) → a < 65536 → slice_index_or v.items a false ≡ begins_line starts.now a)) }
 {
     let mut begins = no_marks(alloc)?;
-    for place in places {
-        begins[*place as usize] = true;
+    for address in starts {
+        begins[*address as usize] = true;
     }
     Ok(begins)
 }
 
-fn add(counts: &mut Vec<u64>, place: u16, more: u64)
+fn add(counts: &mut Vec<u64>, address: u16, more: u64)
     requires length { vec_len counts.old ≡ 65536 }
-    requires fits { slice_index counts.old.items place + more < 2 ^ 64 }
-    ensures { counts.new.items ≡ with_more counts.old.items place more }
+    requires fits { slice_index counts.old.items address + more < 2 ^ 64 }
+    ensures { counts.new.items ≡ with_more counts.old.items address more }
 {
-    counts[place as usize] += more;
+    counts[address as usize] += more;
 }

@@ -8,9 +8,9 @@ use Rattle.tb_prg.specs.Prg.{content_of}
 use Rattle.tb_syntax.specs.Source.{Program}
 use Rattle.tb_parser.specs.Files.{Outcome as FileOutcome}
 use Rattle.tb_meaning.specs.declared.missing.Warning.{Warning}
-use Rattle.tb_runtime16.specs.Places.{LINES_AT}
+use Rattle.tb_runtime16.specs.Addresses.{LINES_AT}
 use Rattle.tb_codegen.specs.Answers.{HasOutcome, OutcomeAnswer, LinesMake}
-use Rattle.tb_codegen.specs.Compiled.{prg_of, starts_of, IsCompiled, PlacesRise}
+use Rattle.tb_codegen.specs.Compiled.{prg_of, starts_of, IsCompiled, AddressesRise}
 use Rattle.tb_codegen.specs.declared.compiled.Compiled.{Compiled}
 use Rattle.tb_engines.specs.Programs.{start}
 use Rattle.tb_engines.specs.Outcomes.{Product}
@@ -18,7 +18,7 @@ use Rattle.tb_engines.specs.declared.delivery.NoText.{NoText}
 use Rattle.tb_engines.specs.declared.delivery.NoText.TheVariants.{Refused, NoMemory}
 use Rattle.tb_driver.specs.Stepping.{IsLoadable}
 use Rattle.tb_driver.proofs.Loadable.{machine_at_start}
-use Rattle.tb_profile.specs.Steps.{Step, is_place}
+use Rattle.tb_profile.specs.Steps.{Step, begins_line}
 use Rattle.tb_profile_table.specs.declared.rows.Row.{Row}
 use Rattle.tb_profile_table.specs.declared.texts.Texts.{Texts}
 use Rattle.tb_profile_table.specs.Rows.{AreApart, row_of}
@@ -41,14 +41,14 @@ started gives o text answers limit program at bytes m result loadable content ma
 -- ---- lines begin at places of their own
 
 -- no start below an address is that address
-below : (low a : ℕ) (starts : List (ℕ × ℕ)) → a < low → PlacesRise low starts → is_place (map (λ s. s.1) starts) a ≡ false
+below : (low a : ℕ) (starts : List (ℕ × ℕ)) → a < low → AddressesRise low starts → begins_line (map (λ s. s.1) starts) a ≡ false
 below low a [] less rise = refl
 below low a (s ∷ starts) less rise =
     let from : low ≤ s.1 = rise.0 in
     let e : (a == s.1) ≡ false = grind (arith, nat_tests) in
-    ap (λ b. b || is_place (map (λ (x : ℕ × ℕ). x.1) starts) a) e ∙ below (s.1 + 1) a starts (omega arith) rise.1
+    ap (λ b. b || begins_line (map (λ (x : ℕ × ℕ). x.1) starts) a) e ∙ below (s.1 + 1) a starts (omega arith) rise.1
 
-apart : (low : ℕ) (starts : List (ℕ × ℕ)) → 0 < low → PlacesRise low starts → AreApart (map (λ s. s.1) starts)
+apart : (low : ℕ) (starts : List (ℕ × ℕ)) → 0 < low → AddressesRise low starts → AreApart (map (λ s. s.1) starts)
 apart low [] above rise = tt
 apart low (s ∷ starts) above rise =
     let from : low ≤ s.1 = rise.0 in

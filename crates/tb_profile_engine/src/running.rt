@@ -27,7 +27,7 @@ fn starts_of(alloc: Global, program: &Compiled) -> Result<Vec<Start>, AllocError
     for start in given {
         starts.push(Start {
             line: start.number,
-            place: start.at,
+            address: start.at,
         })?;
     }
     Ok(starts)

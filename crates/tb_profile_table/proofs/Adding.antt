@@ -8,7 +8,7 @@ use Rattle.std.proofs.lemmas.List.Sums.{sum_by-cons}
 use Rattle.tb_kernal.specs.declared.events.Event.{Event}
 use Rattle.tb_kernal.specs.declared.events.Event.TheVariants.{Go, Interrupt}
 use Rattle.tb_kernal.specs.Machine.{State, happens}
-use Rattle.tb_profile.specs.Steps.{Step, is_place, line_by, step_of, steps, instructions_of, cycles_of}
+use Rattle.tb_profile.specs.Steps.{Step, begins_line, line_by, step_of, steps, instructions_of, cycles_of}
 use Rattle.tb_profile_table.specs.declared.rows.Row.{Row}
 use Rattle.tb_profile_table.specs.declared.rows.Table.{Table}
 use Rattle.tb_profile_table.specs.Rows.{row_of, IsTable, AreApart, AddsUp}
@@ -51,43 +51,43 @@ second : (b c : Bool) → (b || c) ≡ true → b ≡ false → c ≡ true
 second true c h e = absurd cc
 second false c h e = h
 
-none_at : (k a : ℕ) (ps : List ℕ) → is_place ps a ≡ false → total (at k a) ps ≡ 0
+none_at : (k a : ℕ) (ps : List ℕ) → begins_line ps a ≡ false → total (at k a) ps ≡ 0
 unfolding total
 none_at k a [] h = refl
 none_at k a (p ∷ ps) h =
-    let both : ((a == p) ≡ false) × (is_place ps a ≡ false) = or_parts (a == p) (is_place ps a) h in
+    let both : ((a == p) ≡ false) × (begins_line ps a ≡ false) = or_parts (a == p) (begins_line ps a) h in
     omega (arith, at_other k a p both.0, none_at k a ps both.1)
 
-one_at : (k a : ℕ) (ps : List ℕ) → is_place ps a ≡ true → AreApart ps → total (at k a) ps ≡ k
+one_at : (k a : ℕ) (ps : List ℕ) → begins_line ps a ≡ true → AreApart ps → total (at k a) ps ≡ k
 unfolding total
 one_at k a [] h apart = absurd cc
 one_at k a (p ∷ ps) h apart =
     elim (cases_eq a p) [
       | inl same ↦
-          let rest : is_place ps a ≡ false = ap (is_place ps) same ∙ apart.1 in
+          let rest : begins_line ps a ≡ false = ap (begins_line ps) same ∙ apart.1 in
           omega (arith, at_here k a p same, none_at k a ps rest)
       | inr other ↦
           let e : (a == p) ≡ false = grind (arith, nat_tests) in
-          omega (arith, at_other k a p e, one_at k a ps (second (a == p) (is_place ps a) h e) apart.2)
+          omega (arith, at_other k a p e, one_at k a ps (second (a == p) (begins_line ps a) h e) apart.2)
     ]
 
 -- no line begins at 0
-no_start : (ps : List ℕ) → AreApart ps → is_place ps 0 ≡ false
+no_start : (ps : List ℕ) → AreApart ps → begins_line ps 0 ≡ false
 no_start [] apart = refl
 no_start (p ∷ ps) apart =
     let above : 0 < p = apart.0 in
     let e : (0 == p) ≡ false = grind (arith, nat_tests) in
-    ap (λ b. b || is_place ps 0) e ∙ no_start ps apart.2
+    ap (λ b. b || begins_line ps 0) e ∙ no_start ps apart.2
 
-whole_at : (k a : ℕ) (ps : List ℕ) → ((a == 0) || is_place ps a) ≡ true → AreApart ps → at k a 0 + total (at k a) ps ≡ k
+whole_at : (k a : ℕ) (ps : List ℕ) → ((a == 0) || begins_line ps a) ≡ true → AreApart ps → at k a 0 + total (at k a) ps ≡ k
 whole_at k a ps known apart =
     elim (cases_eq a 0) [
       | inl same ↦
-          let none : is_place ps a ≡ false = ap (is_place ps) same ∙ no_start ps apart in
+          let none : begins_line ps a ≡ false = ap (begins_line ps) same ∙ no_start ps apart in
           omega (arith, at_here k a 0 same, none_at k a ps none)
       | inr other ↦
           let e : (a == 0) ≡ false = grind (arith, nat_tests) in
-          omega (arith, at_other k a 0 e, one_at k a ps (second (a == 0) (is_place ps a) known e) apart)
+          omega (arith, at_other k a 0 e, one_at k a ps (second (a == 0) (begins_line ps a) known e) apart)
     ]
 
 -- ---- the weights of steps
@@ -103,7 +103,7 @@ all w (t ∷ ts) = w t + all w ts
 -- each step belongs to no line or to one of these
 Known : List ℕ → List Step → Type 0
 Known ps [] = Unit {0}
-Known ps (t ∷ ts) = (((t.line == 0) || is_place ps t.line) ≡ true) × Known ps ts
+Known ps (t ∷ ts) = (((t.line == 0) || begins_line ps t.line) ≡ true) × Known ps ts
 
 whole_weight : (w : Step → ℕ) (ps : List ℕ) (ts : List Step) → Known ps ts → AreApart ps → weight w ts 0 + total (weight w ts) ps ≡ all w ts
 unfolding weight all Known
@@ -134,24 +134,24 @@ whole_sum w f ps ts counts known apart =
 
 -- ---- the steps of a run
 
-known_line : (places : List ℕ) (b : Bool) (line pc : ℕ) → b ≡ is_place places pc → ((line == 0) || is_place places line) ≡ true
-    → ((line_by b line pc == 0) || is_place places (line_by b line pc)) ≡ true
-known_line places true line pc e h = or_right (pc == 0) (is_place places pc) (sym e)
-known_line places false line pc e h = h
+known_line : (addresses : List ℕ) (b : Bool) (line pc : ℕ) → b ≡ begins_line addresses pc → ((line == 0) || begins_line addresses line) ≡ true
+    → ((line_by b line pc == 0) || begins_line addresses (line_by b line pc)) ≡ true
+known_line addresses true line pc e h = or_right (pc == 0) (begins_line addresses pc) (sym e)
+known_line addresses false line pc e h = h
 
-known_steps : (places : List ℕ) (line : ℕ) (es : List Event) (s : State) → ((line == 0) || is_place places line) ≡ true
-    → Known places (steps places line es s)
+known_steps : (addresses : List ℕ) (line : ℕ) (es : List Event) (s : State) → ((line == 0) || begins_line addresses line) ≡ true
+    → Known addresses (steps addresses line es s)
 unfolding Known
-known_steps places line [] s h = tt
-known_steps places line (Go k ∷ es) s h =
-    let here : ((step_of places line s).line == 0) || is_place places (step_of places line s).line ≡ true =
-    known_line places (is_place places s.regs.pc) line s.regs.pc refl h in
-    (here, known_steps places (step_of places line s).line es (happens s (Go k)) here)
-known_steps places line (Interrupt ws ∷ es) s h = known_steps places line es (happens s (Interrupt ws)) h
+known_steps addresses line [] s h = tt
+known_steps addresses line (Go k ∷ es) s h =
+    let here : ((step_of addresses line s).line == 0) || begins_line addresses (step_of addresses line s).line ≡ true =
+    known_line addresses (begins_line addresses s.regs.pc) line s.regs.pc refl h in
+    (here, known_steps addresses (step_of addresses line s).line es (happens s (Go k)) here)
+known_steps addresses line (Interrupt ws ∷ es) s h = known_steps addresses line es (happens s (Interrupt ws)) h
 
 -- ---- the rows of a table
 
-sum_rows : (ts : List Step) (f : Row → ℕ) (g : ℕ → ℕ) (starts : List (ℕ × ℕ)) → ((line place : ℕ) → f (row_of ts line place) ≡ g place)
+sum_rows : (ts : List Step) (f : Row → ℕ) (g : ℕ → ℕ) (starts : List (ℕ × ℕ)) → ((line address : ℕ) → f (row_of ts line address) ≡ g address)
     → sum_by f (map (λ s. row_of ts s.0 s.1) starts) ≡ total g (map (λ s. s.1) starts)
 unfolding total
 sum_rows ts f g [] h = refl
@@ -164,19 +164,19 @@ sum_rows ts f g (s ∷ starts) h =
 pub adds_up : (es : List Event) (s : State) (starts : List (ℕ × ℕ)) (table : Table) → IsTable (steps (map (λ s. s.1) starts) 0 es s) starts table
     → AreApart (map (λ s. s.1) starts) → AddsUp table
 adds_up es s starts table is apart =
-    let places : List ℕ = map (λ (x : ℕ × ℕ). x.1) starts in
-    let ts : List Step = steps places 0 es s in
-    let known : Known places ts = known_steps places 0 es s refl in
-    let instructions : instructions_of ts 0 + total (instructions_of ts) places ≡ sum_by (λ _. 1) ts =
-    whole_sum (λ _. 1) (instructions_of ts) places ts (λ a. refl) known apart in
-    let cycles : cycles_of ts 0 + total (cycles_of ts) places ≡ sum_by (λ t. t.cycles) ts =
-    whole_sum (λ t. t.cycles) (cycles_of ts) places ts (λ a. refl) known apart in
+    let addresses : List ℕ = map (λ (x : ℕ × ℕ). x.1) starts in
+    let ts : List Step = steps addresses 0 es s in
+    let known : Known addresses ts = known_steps addresses 0 es s refl in
+    let instructions : instructions_of ts 0 + total (instructions_of ts) addresses ≡ sum_by (λ _. 1) ts =
+    whole_sum (λ _. 1) (instructions_of ts) addresses ts (λ a. refl) known apart in
+    let cycles : cycles_of ts 0 + total (cycles_of ts) addresses ≡ sum_by (λ t. t.cycles) ts =
+    whole_sum (λ t. t.cycles) (cycles_of ts) addresses ts (λ a. refl) known apart in
     let first : table.whole.start.instructions ≡ instructions_of ts 0 = ap (λ r. r.instructions) is.before in
     let before : table.whole.start.cycles ≡ cycles_of ts 0 = ap (λ r. r.cycles) is.before in
-    let rows : sum_by (λ r. r.instructions) table.rows.items ≡ total (instructions_of ts) places =
-    ap (sum_by (λ (r : Row). r.instructions)) is.rows ∙ sum_rows ts (λ r. r.instructions) (instructions_of ts) starts (λ line place. refl) in
-    let spent : sum_by (λ r. r.cycles) table.rows.items ≡ total (cycles_of ts) places =
-    ap (sum_by (λ (r : Row). r.cycles)) is.rows ∙ sum_rows ts (λ r. r.cycles) (cycles_of ts) starts (λ line place. refl) in
+    let rows : sum_by (λ r. r.instructions) table.rows.items ≡ total (instructions_of ts) addresses =
+    ap (sum_by (λ (r : Row). r.instructions)) is.rows ∙ sum_rows ts (λ r. r.instructions) (instructions_of ts) starts (λ line address. refl) in
+    let spent : sum_by (λ r. r.cycles) table.rows.items ≡ total (cycles_of ts) addresses =
+    ap (sum_by (λ (r : Row). r.cycles)) is.rows ∙ sum_rows ts (λ r. r.cycles) (cycles_of ts) starts (λ line address. refl) in
     record {
       instructions = omega (arith, instructions, first, rows, is.instructions, length_is ts);
       cycles = omega (arith, cycles, before, spent, is.cycles);

@@ -15,26 +15,26 @@ use Rattle.tb_profile_table.specs.declared.rows.Whole.{Whole}
 use Rattle.tb_profile_table.specs.Rows.{start_pair, row_in, row_of, IsTable, IsTableOf, Tabled, Profiles}
 use Rattle.tb_profile_table.proofs.Adding.{adds_up}
 
-same_row : (places : List ℕ) (ts : List Step) (t : Counted) (line place : ℕ) → IsTally places ts t → place < 65536 → row_in t line place ≡ row_of ts line place
-same_row places ts t line place h inside = λ i. record {
+same_row : (addresses : List ℕ) (ts : List Step) (t : Counted) (line address : ℕ) → IsTally addresses ts t → address < 65536 → row_in t line address ≡ row_of ts line address
+same_row addresses ts t line address h inside = λ i. record {
   line = line;
-  times = h.times place inside i;
-  instructions = h.instructions place inside i;
-  cycles = h.cycles place inside i;
+  times = h.times address inside i;
+  instructions = h.instructions address inside i;
+  cycles = h.cycles address inside i;
 }
 
-same_rows : (places : List ℕ) (ts : List Step) (t : Counted) (starts : List Start) → IsTally places ts t
+same_rows : (addresses : List ℕ) (ts : List Step) (t : Counted) (starts : List Start) → IsTally addresses ts t
     → ((k : ℕ) → slice_index (map (λ s. s.1) (map start_pair starts)) k < 65536)
-    → map (λ s. row_in t s.line s.place) starts ≡ map (λ s. row_of ts s.0 s.1) (map start_pair starts)
-same_rows places ts t [] h below = refl
-same_rows places ts t (s ∷ starts) h below =
-    let first : row_in t s.line s.place ≡ row_of ts s.line s.place = same_row places ts t s.line s.place h (below 0) in
-    let rest : map (λ x. row_in t x.line x.place) starts ≡ map (λ x. row_of ts x.0 x.1) (map start_pair starts) = same_rows places ts t starts h (λ k. below (suc k)) in
+    → map (λ s. row_in t s.line s.address) starts ≡ map (λ s. row_of ts s.0 s.1) (map start_pair starts)
+same_rows addresses ts t [] h below = refl
+same_rows addresses ts t (s ∷ starts) h below =
+    let first : row_in t s.line s.address ≡ row_of ts s.line s.address = same_row addresses ts t s.line s.address h (below 0) in
+    let rest : map (λ x. row_in t x.line x.address) starts ≡ map (λ x. row_of ts x.0 x.1) (map start_pair starts) = same_rows addresses ts t starts h (λ k. below (suc k)) in
     λ i. first i ∷ rest i
 
-pair_places : (starts : List Start) → map (λ s. s.place) starts ≡ map (λ s. s.1) (map start_pair starts)
+pair_places : (starts : List Start) → map (λ s. s.address) starts ≡ map (λ s. s.1) (map start_pair starts)
 pair_places [] = refl
-pair_places (s ∷ starts) = ap (λ ps. s.place ∷ ps) (pair_places starts)
+pair_places (s ∷ starts) = ap (λ ps. s.address ∷ ps) (pair_places starts)
 
 module _ {O : Type 0} (gives : O → Content → Event → O → Type 0) (o : O) (m : Content) (starts : List Start) (limit : ℕ) (p : O) (n : Content) where
   is_table : (ts : List Step) (table : Table) (profile : Profile) → ((k : ℕ) → slice_index (map (λ s. s.1) (map start_pair starts)) k < 65536)
@@ -63,12 +63,12 @@ module _ {O : Type 0} (gives : O → Content → Event → O → Type 0) (o : O)
         adds_up = adds_up ran.events (state_of m) (map start_pair starts) table made;
       }
 
-  pub profiles : (places : List ℕ) (result : Result Table AllocError) (profile : Profile) → places ≡ map (λ s. s.place) starts
-      → ((k : ℕ) → slice_index places k < 65536) → Profiled gives o m places limit (Ok profile) p n
+  pub profiles : (addresses : List ℕ) (result : Result Table AllocError) (profile : Profile) → addresses ≡ map (λ s. s.address) starts
+      → ((k : ℕ) → slice_index addresses k < 65536) → Profiled gives o m addresses limit (Ok profile) p n
       → IfOk result (IsTableOf profile.tally starts profile.status) → Profiles gives o m (map start_pair starts) limit result p n
-  profiles places (Ok table) profile are below counted is =
-      let there : places ≡ map (λ s. s.1) (map start_pair starts) = are ∙ pair_places starts in
+  profiles addresses (Ok table) profile are below counted is =
+      let there : addresses ≡ map (λ s. s.1) (map start_pair starts) = are ∙ pair_places starts in
       tabled table profile
       (subst (λ (ps : List ℕ). (k : ℕ) → slice_index ps k < 65536) there below)
       (subst (λ ps. Profiled gives o m ps limit (Ok profile) p n) there counted) is
-  profiles places (Err e) profile are below counted is = tt
+  profiles addresses (Err e) profile are below counted is = tt

@@ -5,7 +5,7 @@ use Rattle.tb_kernal.specs.declared.events.Event.{Event}
 use Rattle.tb_kernal.specs.declared.status.Status.{Status}
 use Rattle.tb_kernal.specs.Machine.{Content, state_of}
 use Rattle.tb_kernal.specs.Runs.{RanOver}
-use Rattle.tb_profile.specs.Steps.{Step, steps, is_place, times_of, instructions_of, cycles_of}
+use Rattle.tb_profile.specs.Steps.{Step, steps, begins_line, times_of, instructions_of, cycles_of}
 use Rattle.tb_profile.specs.Tallies.{Counted}
 use Rattle.tb_profile_table.specs.declared.rows.Start.{Start}
 use Rattle.tb_profile_table.specs.declared.rows.Row.{Row}
@@ -14,18 +14,18 @@ use Rattle.tb_profile_table.specs.declared.rows.Table.{Table}
 
 -- a line with the place where it begins
 abbrev pub start_pair : Start → ℕ × ℕ
-start_pair s = (s.line, s.place)
+start_pair s = (s.line, s.address)
 
 -- ---- by a tally
 
 -- the row of a line that begins at a place
 abbrev pub row_in : Counted → ℕ → ℕ → Row
-row_in t line place =
+row_in t line address =
     record {
       line = line;
-      times = slice_index t.times place;
-      instructions = slice_index t.instructions place;
-      cycles = slice_index t.cycles place;
+      times = slice_index t.times address;
+      instructions = slice_index t.instructions address;
+      cycles = slice_index t.cycles address;
     }
 
 -- the whole run
@@ -35,15 +35,15 @@ whole_in t = record { start = record (row_in t 0 0) { times = 1 }; instructions 
 -- a table of these lines
 pub record IsTableOf (t : Counted) (starts : List Start) (status : Status) (table : Table) : Type 0 where
   pub whole : table.whole ≡ whole_in t
-  pub rows : table.rows.items ≡ map (λ s. row_in t s.line s.place) starts
+  pub rows : table.rows.items ≡ map (λ s. row_in t s.line s.address) starts
   pub ends : table.status ≡ status
 
 -- ---- by the steps of a run
 
 -- the row of a line that begins at a place: how many steps began there, how many belong to the line, and their cycles
 abbrev pub row_of : List Step → ℕ → ℕ → Row
-row_of ts line place =
-    record { line = line; times = times_of ts place; instructions = instructions_of ts place; cycles = cycles_of ts place }
+row_of ts line address =
+    record { line = line; times = times_of ts address; instructions = instructions_of ts address; cycles = cycles_of ts address }
 
 -- a table of lines and their places: the row of each, what came before the first, whose times are 1, all steps and all
 -- cycles
@@ -56,7 +56,7 @@ pub record IsTable (ts : List Step) (starts : List (ℕ × ℕ)) (table : Table)
 -- no place is 0, and none stands twice
 abbrev pub AreApart : List ℕ → Type 0
 AreApart [] = Unit {0}
-AreApart (p ∷ places) = (0 < p) × (is_place places p ≡ false) × AreApart places
+AreApart (p ∷ addresses) = (0 < p) × (begins_line addresses p ≡ false) × AreApart addresses
 
 -- the rows and what came before them are the whole: nothing is counted twice, and nothing is left out
 pub record AddsUp (table : Table) : Type 0 where

@@ -10,7 +10,7 @@ use tb_profile::{Tally, run_counted};
 #[derive(Clone, Copy, Drop)]
 pub struct Start {
     pub line: u16,
-    pub place: u16,
+    pub address: u16,
 }
 
 /// What a line took: how often it was begun, and the instructions and cycles of its steps.
@@ -43,42 +43,42 @@ pub struct Table {
 }
 
 // Where lines begin.
-fn places_of(alloc: Global, starts: &[Start]) -> Result<Vec<u16>, AllocError>
-    ensures { IfOk result (λ places. places.items ≡ map (λ s. s.place) starts.now) }
+fn addresses_of(alloc: Global, starts: &[Start]) -> Result<Vec<u16>, AllocError>
+    ensures { IfOk result (λ addresses. addresses.items ≡ map (λ s. s.address) starts.now) }
 {
-    let mut places = Vec::new(alloc);
+    let mut addresses = Vec::new(alloc);
     for start in starts {
-        if places.push(start.place).is_err() {
+        if addresses.push(start.address).is_err() {
             return Err(AllocError);
         }
     }
-    Ok(places)
+    Ok(addresses)
 }
 
 // Places are addresses: nothing is done, the proof of `profile` takes it from here.
-fn are_addresses(places: &[u16])
-    ensures { (k : ℕ) → slice_index places.now k < 65536 }
+fn are_addresses(addresses: &[u16])
+    ensures { (k : ℕ) → slice_index addresses.now k < 65536 }
 {}
 
 // What the line that begins at a place took.
-fn row_at(tally: &Tally, line: u16, place: u16) -> Row
-    ensures { result ≡ row_in tally.now line place }
+fn row_at(tally: &Tally, line: u16, address: u16) -> Row
+    ensures { result ≡ row_in tally.now line address }
 {
     Row {
         line,
-        times: tally.times(place),
-        instructions: tally.instructions(place),
-        cycles: tally.cycles(place),
+        times: tally.times(address),
+        instructions: tally.instructions(address),
+        cycles: tally.cycles(address),
     }
 }
 
 // What these lines took.
 fn rows_of(alloc: Global, tally: &Tally, starts: &[Start]) -> Result<Vec<Row>, AllocError>
-    ensures { IfOk result (λ rows. rows.items ≡ map (λ s. row_in tally.now s.line s.place) starts.now) }
+    ensures { IfOk result (λ rows. rows.items ≡ map (λ s. row_in tally.now s.line s.address) starts.now) }
 {
     let mut rows = Vec::new(alloc);
     for start in starts {
-        if rows.push(row_at(tally, start.line, start.place)).is_err() {
+        if rows.push(row_at(tally, start.line, start.address)).is_err() {
             return Err(AllocError);
         }
     }
@@ -125,8 +125,8 @@ pub fn profile<O: Outside>(
 ) -> Result<Table, AllocError>
     ensures { Profiles O.gives outside.old machine.old (map start_pair starts.now) limit result outside.new machine.new }
 {
-    let places = places_of(alloc, starts)?;
-    are_addresses(&places);
-    let profile = run_counted(alloc, machine, outside, &places, limit)?;
+    let addresses = addresses_of(alloc, starts)?;
+    are_addresses(&addresses);
+    let profile = run_counted(alloc, machine, outside, &addresses, limit)?;
     table_of(alloc, &profile.tally, starts, profile.status)
 }

@@ -16,12 +16,12 @@ use Rattle.tb_cpu.specs.declared.wrong.Wrong.TheVariants.{Closed, Brk}
 use Rattle.tb_cpu.specs.Effects.{status_flags}
 use Rattle.tb_cpu.specs.Operands.{Reader, reading, and_then, operand_of, is_accumulator, word_from}
 use Rattle.tb_cpu.specs.Instructions.{Outcome, executed, executed_on_a, advanced, instruction, outcome, finished, unchanged, next, pulled as pulled_byte}
-use Rattle.tb_kernal.specs.declared.places.Service.TheVariants.{Chrout, Chrin, Getin}
+use Rattle.tb_kernal.specs.declared.rom.Service.TheVariants.{Chrout, Chrin, Getin}
 use Rattle.tb_kernal.specs.declared.events.Clobber.{Clobber}
 use Rattle.tb_kernal.specs.declared.events.Event.TheVariants.{Go, Interrupt}
 use Rattle.tb_kernal.specs.declared.status.Status.{Status}
 use Rattle.tb_kernal.specs.declared.status.Status.TheVariants.{Running, Waits, Returned, Wrong as WentWrong}
-use Rattle.tb_kernal.specs.Places.{all_writable, service_at}
+use Rattle.tb_kernal.specs.Rom.{all_writable, service_at}
 use Rattle.tb_kernal.specs.Machine.{State, status, status_by, is_home, waits_for, happens, gone, gone_at, stepped, interrupted, is_lawful, is_stopped}
 use Rattle.tb_kernal.proofs.Keeping.{written_keeps}
 use Rattle.tb_reaching.specs.View.{View, Setup, At, Stays, Part, Holds, Fits, Stacked, with_s, is_data, is_program, is_fixed}
@@ -155,14 +155,16 @@ module _ (f : Setup) (v : View) (s : State) (at : At f v s) where
   }
 
   -- ---- the stack
-  pushed : (b : ℕ) (r : Regs) → 1 ≤ s.regs.s → At f (record v { regs = r; stack = b ∷ v.stack }) (record s { regs = with_s ((s.regs.s + 255) % 256) r;
-      mem = with_byte s.mem (256 + s.regs.s) b })
+  pushed : (b : ℕ) (r : Regs) → 1 ≤ s.regs.s → At f (record v { regs = r; stack = b ∷ v.stack }) (record s {
+    regs = with_s ((s.regs.s + 255) % 256) r;
+    mem = with_byte s.mem (256 + s.regs.s) b;
+  })
   pushed b r some =
       let down = (s.regs.s + 255) % 256 in
       let one_less : down + 1 ≡ s.regs.s = omega (arith, s_small) in
       let m = with_byte s.mem (256 + s.regs.s) b in
       let other : (a : ℕ) → is_fixed a ≡ true → m a ≡ s.mem a = λ a t. put_other s.mem (256 + s.regs.s) b a
-          (λ e. ⊎_elim (λ h. omega arith) (λ h. omega (arith, s_small)) (fixed_not_stack a t)) in
+      (λ e. ⊎_elim (λ h. omega arith) (λ h. omega (arith, s_small)) (fixed_not_stack a t)) in
       let at_one : 0x0101 + down + 1 ≡ 0x0101 + s.regs.s = omega arith in
       record {
         regs = refl;
@@ -355,7 +357,7 @@ module _ (f : Setup) (room : ℕ) (fits : Fits f room) (v : View) (s : State) (a
       ∙ ap (λ x. if x then Err Brk else instruction (decoded b) (with_s s.regs.s v.regs) (reading s.mem)) some
       ∙ ap (λ x. instruction x (with_s s.regs.s v.regs) (reading s.mem)) (decoded_by b) ∙ l.1 in
       let e : happens s (Go k) ≡ record s { regs = l.0.0; mem = written s.mem l.0.1 } = goes_by_instruction f v s at
-          (code_at f v s at v.regs.pc b here).0 k ∙ ap (λ x. stepped s (finished s.mem x)) same in
+      (code_at f v s at v.regs.pc b here).0 k ∙ ap (λ x. stepped s (finished s.mem x)) same in
       (subst (At f w) (sym e) l.2, ap (λ x. x.sent) e)
 
   -- ---- an instruction that is fetched from a part of the program

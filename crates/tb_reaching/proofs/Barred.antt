@@ -38,14 +38,28 @@ module _ (f : Setup) (v : View) (q : View → Type 0) (t : List ℕ) (n : ℕ) w
   pub open_up : (w : View) (s : State) → At f w s → At (opened f) w s
   open_up w s at =
       let st = at.stays in
-      record { regs = at.regs; depth = at.depth; stack = at.stack; bytes = at.bytes; text = at.text; answers = at.answers;
-          stays = record { whole = st.whole; inner = λ a b e. e; right = st.right; home = st.home; home_s = st.home_s; far = st.far; apart = st.apart } }
+      record {
+        regs = at.regs;
+        depth = at.depth;
+        stack = at.stack;
+        bytes = at.bytes;
+        text = at.text;
+        answers = at.answers;
+        stays = record { whole = st.whole; inner = λ a b e. e; right = st.right; home = st.home; home_s = st.home_s; far = st.far; apart = st.apart };
+      }
 
   close : (w : View) (s : State) → Holds f.code f.whole → At (opened f) w s → At f w s
   close w s inner at =
       let st = at.stays in
-      record { regs = at.regs; depth = at.depth; stack = at.stack; bytes = at.bytes; text = at.text; answers = at.answers;
-          stays = record { whole = st.whole; inner = inner; right = st.right; home = st.home; home_s = st.home_s; far = st.far; apart = st.apart } }
+      record {
+        regs = at.regs;
+        depth = at.depth;
+        stack = at.stack;
+        bytes = at.bytes;
+        text = at.text;
+        answers = at.answers;
+        stays = record { whole = st.whole; inner = inner; right = st.right; home = st.home; home_s = st.home_s; far = st.far; apart = st.apart };
+      }
 
   -- nothing but interrupts yet, or the law's two cases over the inner code
   pub enters : Enters f v q t n → (s : State) → At f v s → (es : List Event) → all_lawful es s ≡ true
@@ -56,8 +70,15 @@ module _ (f : Setup) (v : View) (q : View → Type 0) (t : List ℕ) (n : ℕ) w
       there_first a =
           let h' = lawful_after a.before a.after s (subst (λ x. all_lawful x s ≡ true) a.split h) in
           inr (⊎_elim
-          (λ b. let c = then_arrived _ _ [] t 1 l.rest s es a b in inl (record { before = c.before; after = c.after; split = c.split; some = c.some;
-              few = omega (arith, c.few, l.few); there = c.there; sent = c.sent }))
+          (λ b. let c = then_arrived _ _ [] t 1 l.rest s es a b in inl (record {
+            before = c.before;
+            after = c.after;
+            split = c.split;
+            some = c.some;
+            few = omega (arith, c.few, l.few);
+            there = c.there;
+            sent = c.sent;
+          }))
           (λ b. let c = then_on_the_way (UnderWay f) _ [] t 1 l.rest s es a b in
-              inr (record { few = omega (arith, c.few, l.few); kept = c.kept; so_far = c.so_far; to_come = c.to_come; sent = c.sent; whole = c.whole }))
+          inr (record { few = omega (arith, c.few, l.few); kept = c.kept; so_far = c.so_far; to_come = c.to_come; sent = c.sent; whole = c.whole }))
           (a.there.2.reaches.leads (run a.before s) (close a.there.0 (run a.before s) at.stays.inner a.there.1) a.after h'))

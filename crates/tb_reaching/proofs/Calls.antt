@@ -38,8 +38,15 @@ module _ (f : Setup) (own : List ℕ) where
     reaches = record {
       leads = λ s at es l.
           ⊎_elim
-          (λ a. let h = a.there in inl (record { before = a.before; after = a.after; split = a.split; some = a.some; few = a.few;
-              there = (stacked_on own h.0, out_of h.0 _ h.1, (h.0, h.2, refl)); sent = a.sent }))
+          (λ a. let h = a.there in inl (record {
+            before = a.before;
+            after = a.after;
+            split = a.split;
+            some = a.some;
+            few = a.few;
+            there = (stacked_on own h.0, out_of h.0 _ h.1, (h.0, h.2, refl));
+            sent = a.sent;
+          }))
           (λ a. let k = a.kept in inr (record {
             few = a.few;
             kept = record { runs = k.runs; not_below = k.not_below; not_above = omega (arith, k.not_above, length-append own f.rest); on_code = k.on_code };

@@ -122,8 +122,19 @@ module _ (f : Setup) where
 -- ---- views that are known by their parts
 -- S is not looked at
 any_s : (f : Setup) (v : View) (k : ℕ) (q : View → Type 0) (t : List ℕ) (n : ℕ) → Comes f (record v { regs = with_s k v.regs }) q t n → Comes f v q t n
-any_s f v k q t n c = record { reaches = record { leads = λ s at. c.reaches.leads s (record { regs = at.regs; depth = at.depth; stack = at.stack;
-    bytes = at.bytes; text = at.text; answers = at.answers; stays = at.stays }) } }
+any_s f v k q t n c = record {
+  reaches = record {
+    leads = λ s at. c.reaches.leads s (record {
+      regs = at.regs;
+      depth = at.depth;
+      stack = at.stack;
+      bytes = at.bytes;
+      text = at.text;
+      answers = at.answers;
+      stays = at.stays;
+    });
+  };
+}
 
 -- a view whose place, stack and keyboard are known, with D clear
 pub known : (f : Setup) (w : View) (pc : ℕ) (stack text answers : List ℕ) (q : View → Type 0) (t : List ℕ) (n : ℕ) → w.regs.pc ≡ pc → w.stack ≡ stack
@@ -133,8 +144,21 @@ known f w pc stack text answers q t n p k d h e c = any_s f w 0 q t n (subst (λ
   where
     same : view w.regs.a w.regs.x w.regs.y w.regs.flags.n w.regs.flags.v w.regs.flags.i w.regs.flags.z w.regs.flags.c pc stack w.mem text answers ≡ record w { regs = with_s 0 w.regs }
     same = λ j. record {
-      regs = record { a = w.regs.a; x = w.regs.x; y = w.regs.y; s = 0; pc = sym p j; flags = record { n = w.regs.flags.n; v = w.regs.flags.v;
-          d = sym d j; i = w.regs.flags.i; z = w.regs.flags.z; c = w.regs.flags.c } };
+      regs = record {
+        a = w.regs.a;
+        x = w.regs.x;
+        y = w.regs.y;
+        s = 0;
+        pc = sym p j;
+        flags = record {
+          n = w.regs.flags.n;
+          v = w.regs.flags.v;
+          d = sym d j;
+          i = w.regs.flags.i;
+          z = w.regs.flags.z;
+          c = w.regs.flags.c;
+        };
+      };
       stack = sym k j;
       mem = w.mem;
       text = sym h j;

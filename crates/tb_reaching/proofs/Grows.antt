@@ -3,14 +3,14 @@ use Rattle.std.proofs.Common.{◌≡◌, [], ◌∷◌, refl, Option, Some, None
 use Rattle.std.specs.Prelude.{Result, Ok, Err}
 use Rattle.tb_cpu.specs.declared.wrong.Wrong.{Wrong}
 use Rattle.tb_cpu.specs.Instructions as cpu
-use Rattle.tb_kernal.specs.declared.places.Service.{Service}
-use Rattle.tb_kernal.specs.declared.places.Service.TheVariants.{Chrout, Chrin, Getin}
+use Rattle.tb_kernal.specs.declared.rom.Service.{Service}
+use Rattle.tb_kernal.specs.declared.rom.Service.TheVariants.{Chrout, Chrin, Getin}
 use Rattle.tb_kernal.specs.declared.events.Clobber.{Clobber}
 use Rattle.tb_kernal.specs.declared.events.Event.{Event}
 use Rattle.tb_kernal.specs.declared.events.Event.TheVariants.{Go, Interrupt}
 use Rattle.tb_kernal.specs.declared.status.Status.{Status}
 use Rattle.tb_kernal.specs.declared.status.Status.TheVariants.{Running, Waits, Returned, Wrong as WentWrong}
-use Rattle.tb_kernal.specs.Places.{service_at}
+use Rattle.tb_kernal.specs.Rom.{service_at}
 use Rattle.tb_kernal.specs.Machine.{State, status, happens, gone, gone_at, stepped}
 use Rattle.tb_words.specs.Prefixes.{IsPrefix}
 use Rattle.tb_words.proofs.Prefixes.{prefix_same}

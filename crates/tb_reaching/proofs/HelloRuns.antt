@@ -7,7 +7,7 @@ use Rattle.tb_memmap.specs.Bytes.{with_byte}
 use Rattle.tb_memmap.specs.Regions.{CODE_START}
 use Rattle.tb_opcodes.specs.declared.Mnemonic.TheVariants.{Lda}
 use Rattle.tb_opcodes.specs.declared.Mode.TheVariants.{IndirectY}
-use Rattle.tb_kernal.specs.declared.places.Service.TheVariants.{Chrout}
+use Rattle.tb_kernal.specs.declared.rom.Service.TheVariants.{Chrout}
 use Rattle.tb_reaching.specs.declared.example.TheConstants.{HELLO}
 use Rattle.tb_kernal.specs.Machine.{State}
 use Rattle.tb_kernal.specs.Runs.{run}
@@ -108,15 +108,31 @@ module _ (f : Setup) (fits : Fits f 4) (st : Holds hello_part f.code) (lo hi : �
       (after f 4 fits hello_part st 1 (view a x y n v i z c 0x082b (lo ∷ hi ∷ []) m text answers) _ _ (1 + (9 * length bs + 3)) refl
       (rw t (after f 4 fits hello_part st 0 (view _ _ _ _ _ _ _ _ 0x082f (lo ∷ hi ∷ []) (with_byte m pointer ((m pointer + 1) % 256)) text answers) _ _ (9 * length bs + 3) refl
       (go _ _ _ _ _ _ _ _ _ (at + 1)
-      (record { word_is = omega arith; low = omega arith; high_byte = omega arith; shown = shown; from = omega (arith, h.from);
-          to = omega (arith, h.to); few = omega (arith, h.few); others = put_high _ _ (put_pointer m _ h.others) })
+      (record {
+        word_is = omega arith;
+        low = omega arith;
+        high_byte = omega arith;
+        shown = shown;
+        from = omega (arith, h.from);
+        to = omega (arith, h.to);
+        few = omega (arith, h.few);
+        others = put_high _ _ (put_pointer m _ h.others);
+      })
       e)))))
       (λ under. let t : eqb ((m pointer + 1) % 256) 0 ≡ false = ne_eqb _ _ under in
       looser f _ _ _ bs (2 + (9 * length bs + 3)) (3 + (9 * length bs + 3)) (omega arith) (λ w h. h)
       (after f 4 fits hello_part st 1 (view a x y n v i z c 0x082b (lo ∷ hi ∷ []) m text answers) _ _ (9 * length bs + 3) refl
       (rw t (go _ _ _ _ _ _ _ _ _ (at + 1)
-      (record { word_is = omega arith; low = omega arith; high_byte = omega arith; shown = shown; from = omega (arith, h.from);
-          to = omega (arith, h.to); few = omega (arith, h.few); others = put_pointer m _ h.others })
+      (record {
+        word_is = omega arith;
+        low = omega arith;
+        high_byte = omega arith;
+        shown = shown;
+        from = omega (arith, h.from);
+        to = omega (arith, h.to);
+        few = omega (arith, h.few);
+        others = put_pointer m _ h.others;
+      })
       e))))
       (cases_eq ((m pointer + 1) % 256) 0)
 
@@ -160,8 +176,16 @@ module _ (f : Setup) (fits : Fits f 4) (st : Holds hello_part f.code) (lo hi : �
 pub sends_text : SendsText HELLO
 unfolding Rest
 sends_text f fits st lo hi text answers m a x y n v i z c sent p =
-    whole f fits st lo hi text answers m a x y n v i z c sent (record { word_is = refl; low = p.low; high_byte = p.high; shown = p.shown;
-        from = p.from; to = p.to; few = p.few; others = λ a p q r. refl }) p.count
+    whole f fits st lo hi text answers m a x y n v i z c sent (record {
+      word_is = refl;
+      low = p.low;
+      high_byte = p.high;
+      shown = p.shown;
+      from = p.from;
+      to = p.to;
+      few = p.few;
+      others = λ a p q r. refl;
+    }) p.count
 
 -- ---- the program
 program_from : 0x0800 ≤ CODE_START
@@ -203,4 +227,4 @@ prints_hello s h es l =
     (λ d. inl (home_returned f' above (run es s) d.0, d.1 ∙ ap (λ l. l ++ hello_text) h.nothing_sent))
     (λ d. inr (d.kept.runs, (d.to_come, ap (λ l. l ++ d.to_come) (d.sent ∙ ap (λ l. l ++ d.so_far) h.nothing_sent) ∙ sym d.whole), d.few))
     (settles (UnderWay f') (At f' (view_of s)) (Among f' (IsHome f')) hello_text 66 (runs s h).reaches (home_rests f' above) s
-        (at_start CODE_START HELLO program_from program_to hello_part st s h) es l)
+    (at_start CODE_START HELLO program_from program_to hello_part st s h) es l)

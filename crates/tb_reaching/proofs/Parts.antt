@@ -35,7 +35,7 @@ part_front at [] ys a x e = cc
 part_front at (b ∷ xs) ys a x e = ⊎_elim
     (λ s. ap (λ t. if t then Some b else part_at (at + 1) (xs ++ ys) a) (eq-eqb a at s) ∙ sym (ap (λ t. if t then Some b else part_at (at + 1) xs a) (eq-eqb a at s)) ∙ e)
     (λ n. ap (λ t. if t then Some b else part_at (at + 1) (xs ++ ys) a) (ne_eqb a at n)
-        ∙ part_front (at + 1) xs ys a x (sym (ap (λ t. if t then Some b else part_at (at + 1) xs a) (ne_eqb a at n)) ∙ e))
+    ∙ part_front (at + 1) xs ys a x (sym (ap (λ t. if t then Some b else part_at (at + 1) xs a) (ne_eqb a at n)) ∙ e))
     (cases_eq a at)
 
 pub part_back : (at : ℕ) (xs ys : List ℕ) → Holds (part_at (at + length xs) ys) (part_at at (xs ++ ys))
@@ -55,9 +55,11 @@ pub part_bytes : (at : ℕ) (bs : List ℕ) → at + length bs ≤ 65536 → Byt
 part_bytes at [] h = tt
 part_bytes at (b ∷ []) h = (part_first at b [], tt)
 part_bytes at (b ∷ c ∷ cs) h =
-    let e : at + 1 ≡ (at + 1) % 65536 = omega arith in
-    (part_first at b (c ∷ cs), subst (λ n. Bytes (part_at at (b ∷ c ∷ cs)) n (c ∷ cs)) e (bytes_same (part_at (at + 1) (c ∷ cs))
-        (part_at at (b ∷ c ∷ cs)) (part_next at b (c ∷ cs)) (at + 1) (c ∷ cs) (part_bytes (at + 1) (c ∷ cs) (omega arith))))
+    let e : at + 1 ≡ (at + 1) % 65536 = omega arith in (
+      part_first at b (c ∷ cs),
+      subst (λ n. Bytes (part_at at (b ∷ c ∷ cs)) n (c ∷ cs)) e (bytes_same (part_at (at + 1) (c ∷ cs))
+          (part_at at (b ∷ c ∷ cs)) (part_next at b (c ∷ cs)) (at + 1) (c ∷ cs) (part_bytes (at + 1) (c ∷ cs) (omega arith))),
+    )
 
 pub holds_bytes : (code : Part) (at : ℕ) (bs : List ℕ) → at + length bs ≤ 65536 → Holds (part_at at bs) code → Bytes code at bs
 holds_bytes code at bs r h = bytes_same (part_at at bs) code h at bs (part_bytes at bs r)

@@ -155,7 +155,7 @@ module _ (part : Part) (room : ℕ) (i : Instr) (v : View) (m : Mnemonic) (mode 
   changes_at b c r d read h =
       let allowed : stored r o c ≡ Ok (r, (o, c) ∷ []) = ap (λ t. if t then Ok (r, (o, c) ∷ []) else Err (Closed o)) (fixed_open o (data_fixed o d)) in
       acts_so (moved v.regs.s (r, (o, c) ∷ [])) (more_executed (λ a. Ok b) (reader_by mode i.operand (read_view part v.mem)) o (λ x e. read
-          ∙ e) v.regs.s m plain (advanced v.regs mode) (r, (o, c) ∷ []) (h ∙ allowed))
+      ∙ e) v.regs.s m plain (advanced v.regs mode) (r, (o, c) ∷ []) (h ∙ allowed))
       ∙ ap (λ t. if t && true then Some (record v { regs = with_s v.regs.s r; mem = with_byte v.mem o c }) else None) d
 
   -- an instruction that stores the byte b there

@@ -5,13 +5,13 @@ use Rattle.std.proofs.lemmas.Bool.{ne_eqb, eq-eqb, leb-true}
 use Rattle.tb_memmap.specs.Bytes.{written}
 use Rattle.tb_cpu.specs.declared.registers.Regs.{Regs}
 use Rattle.tb_cpu.specs.Operands.{word_from}
-use Rattle.tb_kernal.specs.declared.places.Service.{Service}
-use Rattle.tb_kernal.specs.declared.places.Service.TheVariants.{Chrout, Chrin, Getin}
+use Rattle.tb_kernal.specs.declared.rom.Service.{Service}
+use Rattle.tb_kernal.specs.declared.rom.Service.TheVariants.{Chrout, Chrin, Getin}
 use Rattle.tb_kernal.specs.declared.events.Clobber.{Clobber}
 use Rattle.tb_kernal.specs.declared.events.Event.{Event}
 use Rattle.tb_kernal.specs.declared.events.Event.TheVariants.{Go, Interrupt}
 use Rattle.tb_kernal.specs.declared.status.Status.TheVariants.{Running, Waits, Returned}
-use Rattle.tb_kernal.specs.Places.{all_writable, service_at}
+use Rattle.tb_kernal.specs.Rom.{all_writable, service_at}
 use Rattle.tb_kernal.specs.Machine.{State, status, status_by, waits_for, happens, gone, gone_at, served, after_service, clobbered, returned, first_or_zero}
 use Rattle.tb_kernal.specs.Machine.{interrupted, is_lawful, is_lawful_go, is_lawful_event, is_stopped}
 use Rattle.tb_reaching.specs.View.{View, Setup, At, Fits, Comes, with_s, back_at}
@@ -61,26 +61,39 @@ module _ (f : Setup) where
       → v.stack ≡ lo ∷ hi ∷ bs → At f (served_view q k v (back_at lo hi) bs) (served q k s) × ((served q k s).sent ≡ s.sent ++ sent_by q v.regs.a)
   serves q v s k lo hi bs at fair st = go q
     where
-      leaves : (a : ℕ) (t u l : List ℕ) → At f (record v { regs = record (clobbered k a v.regs) { pc = back_at lo hi }; stack = bs; text = t;
-          answers = u }) (after_service k a (record s { text = t; answers = u; sent = l }))
+      leaves : (a : ℕ) (t u l : List ℕ) → At f (record v {
+        regs = record (clobbered k a v.regs) { pc = back_at lo hi };
+        stack = bs;
+        text = t;
+        answers = u;
+      }) (after_service k a (record s { text = t; answers = u; sent = l }))
       leaves a t u l =
           let m = written s.mem k.writes.items in
           let w = with_keys v (record s { mem = m }) (rom_wrote f v s at k.writes.items fair) t u l in
           let d = returned_at (record v { text = t; answers = u }) (record s { mem = m; text = t; answers = u; sent = l }) lo hi bs (clobbered k a v.regs) w st in
           subst (λ r. At f (record v { regs = record (clobbered k a v.regs) { pc = back_at lo hi }; stack = bs; text = t; answers = u })
-              (record s { regs = returned m (clobbered k a r); mem = m; text = t; answers = u; sent = l })) (sym at.regs) d
+          (record s { regs = returned m (clobbered k a r); mem = m; text = t; answers = u; sent = l })) (sym at.regs) d
 
       both : ◌≡◌ {A = List ℕ × List ℕ} (v.text, v.answers) (s.text, s.answers)
       both = λ i. (sym at.text i, sym at.answers i)
 
       go : (q : Service) → At f (served_view q k v (back_at lo hi) bs) (served q k s) × ((served q k s).sent ≡ s.sent ++ sent_by q v.regs.a)
-      go Chrout = (subst (λ (p : List ℕ × List ℕ). At f (served_view Chrout k v (back_at lo hi) bs)
-          (after_service k k.a (record s { text = p.0; answers = p.1; sent = s.sent ++ s.regs.a ∷ [] }))) both
-          (leaves k.a v.text v.answers (s.sent ++ s.regs.a ∷ [])), ap (λ r. s.sent ++ r.a ∷ []) at.regs)
-      go Chrin = (subst (λ (p : List ℕ × List ℕ). At f (served_view Chrin k v (back_at lo hi) bs) (after_service k (first_or_zero p.0)
-          (record s { text = drop 1 p.0; answers = p.1; sent = s.sent }))) both (leaves (first_or_zero v.text) (drop 1 v.text) v.answers s.sent), sym (append-nil s.sent))
-      go Getin = (subst (λ (p : List ℕ × List ℕ). At f (served_view Getin k v (back_at lo hi) bs) (after_service k (first_or_zero p.1)
-          (record s { text = p.0; answers = drop 1 p.1; sent = s.sent }))) both (leaves (first_or_zero v.answers) v.text (drop 1 v.answers) s.sent), sym (append-nil s.sent))
+      go Chrout = (
+        subst (λ (p : List ℕ × List ℕ). At f (served_view Chrout k v (back_at lo hi) bs)
+            (after_service k k.a (record s { text = p.0; answers = p.1; sent = s.sent ++ s.regs.a ∷ [] }))) both
+            (leaves k.a v.text v.answers (s.sent ++ s.regs.a ∷ [])),
+        ap (λ r. s.sent ++ r.a ∷ []) at.regs,
+      )
+      go Chrin = (
+        subst (λ (p : List ℕ × List ℕ). At f (served_view Chrin k v (back_at lo hi) bs) (after_service k (first_or_zero p.0)
+            (record s { text = drop 1 p.0; answers = p.1; sent = s.sent }))) both (leaves (first_or_zero v.text) (drop 1 v.text) v.answers s.sent),
+        sym (append-nil s.sent),
+      )
+      go Getin = (
+        subst (λ (p : List ℕ × List ℕ). At f (served_view Getin k v (back_at lo hi) bs) (after_service k (first_or_zero p.1)
+            (record s { text = p.0; answers = drop 1 p.1; sent = s.sent }))) both (leaves (first_or_zero v.answers) v.text (drop 1 v.answers) s.sent),
+        sym (append-nil s.sent),
+      )
 
   -- some view after a service
   abbrev AfterService : Service → View → ℕ → List ℕ → View → Type 0
@@ -96,7 +109,7 @@ module _ (f : Setup) where
         let run = runs_at v s q at here ready in
         let service : service_at s.regs.pc ≡ Some q = ap service_at (pc_here f v s at) ∙ here in
         let fair : all_writable s.regs.s k.writes.items ≡ true = ap (λ x. is_lawful_go x s.regs.s k.writes.items) (sym service)
-            ∙ ap (λ t. is_stopped t || is_lawful_event s (Go k)) (sym run) ∙ l in
+        ∙ ap (λ t. is_stopped t || is_lawful_event s (Go k)) (sym run) ∙ l in
         let e : happens s (Go k) ≡ served q k s = ap (λ t. gone t k s) run ∙ ap (λ x. gone_at x k s) service in
         let d = serves q v s k lo hi bs at fair st in (
           (served_view q k v (back_at lo hi) bs, subst (At f (served_view q k v (back_at lo hi) bs)) (sym e) d.0, (k, refl)),

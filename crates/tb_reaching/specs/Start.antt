@@ -1,6 +1,7 @@
 -- How the view of a started program begins, and where it ends.
 use Rattle.std.specs.Prelude.{◌≡◌, ℕ, zero, suc, ◌+◌, ◌-◌, false, List, [], ◌∷◌, length}
 use Rattle.tb_memmap.specs.Regions.{CODE_START}
+use Rattle.tb_kernal.specs.declared.rom.TheConstants.{CHRIN}
 use Rattle.tb_kernal.specs.Machine.{State}
 use Rattle.tb_reaching.specs.View.{View, Setup, Part, back_at}
 
@@ -42,7 +43,7 @@ pub record IsHome (f : Setup) (w : View) : Type 0 where
 
 -- at CHRIN, with no byte left
 pub record IsWaiting (w : View) : Type 0 where
-  pub pc : w.regs.pc ≡ 0xffcf
+  pub pc : w.regs.pc ≡ CHRIN
   pub text : w.text ≡ []
 
 -- the return address of the start is lo, hi on the stack, and what stays lies above it

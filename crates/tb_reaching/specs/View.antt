@@ -4,9 +4,9 @@ use Rattle.std.specs.Prelude.{◌++◌, length, Option, Some, None, if◌then◌
 use Rattle.tb_cpu.specs.declared.registers.Regs.{Regs}
 use Rattle.tb_cpu.specs.declared.wrong.Wrong.{Wrong}
 use Rattle.tb_kernal.specs.declared.status.Status.TheVariants.{Running}
-use Rattle.tb_kernal.specs.declared.places.Service.{Service}
+use Rattle.tb_kernal.specs.declared.rom.Service.{Service}
 use Rattle.tb_memmap.specs.Regions.{within}
-use Rattle.tb_kernal.specs.Places.{service_at}
+use Rattle.tb_kernal.specs.Rom.{service_at}
 use Rattle.tb_kernal.specs.Machine.{State, status}
 use Rattle.tb_reaching.specs.Reaching.{States, Reaches}
 

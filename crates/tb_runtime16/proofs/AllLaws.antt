@@ -9,7 +9,7 @@ use Rattle.tb_kernal.specs.Machine.{first_or_zero}
 use Rattle.tb_words.specs.Words.{digits_of}
 use Rattle.tb_meaning.specs.Control.{fault_text, zone, column_after, deepest}
 use Rattle.tb_meaning.specs.Input.{Turn, Got, Bad, Dry, Nothing, turn}
-use Rattle.tb_runtime16.specs.Places.{COLUMN, OPEN, HOME_S, SEED, LINE, NOTES, TABLE, WANTED, COUNT, RANDOM_AT, INPUT_AT, SEARCH_AT, FAULT_LINE_AT}
+use Rattle.tb_runtime16.specs.Addresses.{COLUMN, OPEN, HOME_S, SEED, LINE, NOTES, TABLE, WANTED, COUNT, RANDOM_AT, INPUT_AT, SEARCH_AT, FAULT_LINE_AT}
 use Rattle.tb_reaching.specs.View.{View, Setup, Holds, Fits, Comes, view, back_at}
 use Rattle.tb_reaching.specs.Start.{IsHome, IsWaiting}
 use Rattle.tb_reaching.proofs.Comes.{looser}
@@ -19,7 +19,7 @@ use Rattle.tb_runtime16.specs.Laws.{Leaves, Back, Drawn, seed_of}
 use Rattle.tb_opcodes.specs.Bytes.{AreBytes}
 use Rattle.tb_runtime16.specs.Input as asking
 use Rattle.tb_runtime16.specs.Input.{prompt, Taken}
-use Rattle.tb_runtime16.specs.Notes.{Noted, Notes}
+use Rattle.tb_runtime16.specs.Returns.{AreReturns, ReturnList}
 use Rattle.tb_runtime16.specs.Search.{AreRising, address_of, Searched}
 use Rattle.tb_runtime16.specs.Routines.{WordAt, SeedAt, stored, first, Entered, line_end, Tabled, entries, limit_by, Routines, AllLaws}
 use Rattle.tb_runtime16.proofs.Gathered.{from_here, from_a, from_line, beside, unchanged, faulting, entries_length, entries_numbers, found, not_found}
@@ -32,14 +32,14 @@ use Rattle.tb_runtime16.proofs.DivideRuns.{divide_law, divide_by_zero_law}
 use Rattle.tb_runtime16.proofs.NumberRuns.{number_law}
 use Rattle.tb_runtime16.proofs.RandomRuns.{random_law, random_range_law}
 use Rattle.tb_runtime16.proofs.InputRuns.{input_law}
-use Rattle.tb_runtime16.proofs.NotesRuns.{push_law, push_full_law, pop_law, pop_none_law}
+use Rattle.tb_runtime16.proofs.ReturnsRuns.{push_law, push_full_law, pop_law, pop_none_law}
 use Rattle.tb_runtime16.proofs.SearchRuns.{search_law}
 use Rattle.tb_runtime16.proofs.FaultRuns.{fault_law, fault_line_law}
 use Rattle.tb_runtime16.proofs.PollRuns.{poll_law}
 
 -- ---- the return list
-notes_of : (m : ℕ → ℕ) (ns : List ℕ) → WordAt m NOTES (length ns) → Noted m ns → length ns ≤ deepest → Notes m ns
-notes_of m ns w h few = record { count = w; few = few; noted = h }
+return_addresses : (m : ℕ → ℕ) (ns : List ℕ) → WordAt m NOTES (length ns) → AreReturns m ns → length ns ≤ deepest → ReturnList m ns
+return_addresses m ns w h few = record { count = w; few = few; held = h }
 
 -- ---- INPUT
 -- a byte is no more than one
@@ -87,9 +87,9 @@ module _ (table seed_option : ℕ) (numbers : List ℕ) (start : ℕ → ℕ) (f
       (prompt o ++ asking.turn_sends j t) (45 * length text + 587)
   asks l h m text answers o j t is_open column small line e is x y z n b i c d =
       subst (λ t. Comes f (view x y z n b i c d INPUT_AT (l ∷ h ∷ own) m text answers) (asking.Ended f l h own m answers (m COLUMN) (prompt o) t)
-          (prompt o ++ asking.turn_sends j t) (45 * length text + 587)) is
+      (prompt o ++ asking.turn_sends j t) (45 * length text + 587)) is
       (input_law f 16 (let most : 13 ≤ 16 = omega arith in most) fits block lo hi [] (let deep : 6 ≤ 16 = omega arith in deep) l h text answers m e j
-          line small o is_open (m COLUMN) (let r : m COLUMN ≡ m COLUMN % 256 = omega (arith, column) in r) x y z n b i c d)
+      line small o is_open (m COLUMN) (let r : m COLUMN ≡ m COLUMN % 256 = omega (arith, column) in r) x y z n b i c d)
 
   -- back from INPUT
   taken : (l h : ℕ) (m : ℕ → ℕ) (answers : List ℕ) (stays : Bool) (v : ℕ) (left : List ℕ) (o : Bool) (w : View)
@@ -124,8 +124,15 @@ module _ (table seed_option : ℕ) (numbers : List ℕ) (start : ℕ → ℕ) (f
     text = λ l h m text answers at bytes pointer count shown small from to few column.
         from_here f _ _ m text answers _ bytes (limit_by keys) (λ x y z n v i c d.
         beside f own _ _ _ _ _ _ bytes (15 * length bytes + 3) (limit_by keys) (omega (arith, few))
-        (text_law (under f own) (omega (arith, fits)) block l h text answers m x y z n v i c d at bytes (record { pointer = pointer; shown = shown;
-            from = from; to = to; count = count; few = few; bytes_small = small }))
+        (text_law (under f own) (omega (arith, fits)) block l h text answers m x y z n v i c d at bytes (record {
+          pointer = pointer;
+          shown = shown;
+          from = from;
+          to = to;
+          count = count;
+          few = few;
+          bytes_small = small;
+        }))
         (λ w k. let s = k.column_small column in record { column = omega (arith, k.column, s); others = λ p o q. let r = not_pointer p (unless_scratch p o) in k.others p q r.0 r.1 r.2 }));
     zone = λ l h m text answers column.
         from_here f _ _ m text answers _ (zone (m COLUMN)) (limit_by keys) (λ x y z n v i c d.
@@ -156,16 +163,16 @@ module _ (table seed_option : ℕ) (numbers : List ℕ) (start : ℕ → ℕ) (f
         looser f _ _ _ (fault_text k n) 542 (limit_by keys) (omega arith) (λ w h. h)
         (subst (λ j. Comes f (view k (n % 256) (n / 256) b v i c d FAULT_LINE_AT own m text answers) (IsHome f) (fault_text k j) 542) (let s : n % 256 + 256 * (n / 256) ≡ n = omega arith in s)
         (fault_line_law f 16 (let most : 13 ≤ 16 = omega arith in most) fits block lo hi [] (let deep : 2 ≤ 16 = omega arith in
-            deep) text answers m e k (n % 256) (n / 256) b v i c d small (omega arith) (omega (arith, few)))));
-    pop = λ l h m text answers note notes count is few.
+        deep) text answers m e k (n % 256) (n / 256) b v i c d small (omega arith) (omega (arith, few)))));
+    pop = λ l h m text answers return_address returns count is few.
         from_here f _ _ m text answers _ [] (limit_by keys) (λ x y z n v i c d.
         beside f own _ _ _ _ _ _ [] 14 (limit_by keys) (omega arith)
-        (pop_law (under f own) (omega (arith, fits)) block l h text answers m x y z n v i c d note notes (notes_of m (note ∷ notes) count is few))
+        (pop_law (under f own) (omega (arith, fits)) block l h text answers m x y z n v i c d return_address returns (return_addresses m (return_address ∷ returns) count is few))
         (λ w k. k));
     pop_fails = λ l h m text answers j count line e.
         from_here f _ _ m text answers _ (fault_text 5 j) (limit_by keys) (λ x y z n v i c d.
         faulting f lo hi fits block l h 5 (let s : 5 < 10 = omega arith in s) m text answers j line e _ _ 6 (limit_by keys) (omega arith)
-        (pop_none_law (under f own) (omega (arith, fits)) block l h text answers m x y z n v i c d (notes_of m [] count tt (let s : 0 ≤ deepest = omega arith in s)))
+        (pop_none_law (under f own) (omega (arith, fits)) block l h text answers m x y z n v i c d (return_addresses m [] count tt (let s : 0 ≤ deepest = omega arith in s)))
         (unchanged m));
     random = λ l h m text answers a seed left right stored_at range.
         let g = not_zero a range in
@@ -180,21 +187,21 @@ module _ (table seed_option : ℕ) (numbers : List ℕ) (start : ℕ → ℕ) (f
         faulting f lo hi fits block l h 3 (let s : 3 < 10 = omega arith in s) m text answers j line e _ _ 7 (limit_by keys) (omega arith)
         (random_range_law (under f own) (omega (arith, fits)) block l h text answers m x y z n v i c d a left (bad_range a range))
         (unchanged m));
-    push = λ l h m text answers note notes left count is few.
+    push = λ l h m text answers return_address returns left count is few.
         from_here f _ _ m text answers _ [] (limit_by keys) (λ x y z n v i c d.
         beside f own _ _ _ _ _ _ [] 13 (limit_by keys) (omega arith)
-        (push_law (under f own) (omega (arith, fits)) block l h text answers m x y z n v i c d note notes left (notes_of m notes count is (omega (arith, few))) few)
+        (push_law (under f own) (omega (arith, fits)) block l h text answers m x y z n v i c d return_address returns left (return_addresses m returns count is (omega (arith, few))) few)
         (λ w k. k));
-    push_fails = λ l h m text answers notes j count is full line e.
+    push_fails = λ l h m text answers returns j count is full line e.
         from_here f _ _ m text answers _ (fault_text 4 j) (limit_by keys) (λ x y z n v i c d.
         faulting f lo hi fits block l h 4 (let s : 4 < 10 = omega arith in s) m text answers j line e _ _ 7 (limit_by keys) (omega arith)
-        (push_full_law (under f own) (omega (arith, fits)) block l h text answers m x y z n v i c d notes (notes_of m notes count is (omega (arith, full))) full)
+        (push_full_law (under f own) (omega (arith, fits)) block l h text answers m x y z n v i c d returns (return_addresses m returns count is (omega (arith, full))) full)
         (unchanged m));
     input = λ l h m text answers o stays v left j is_open column small few line e got.
         from_here f _ _ m text answers _ (prompt o ++ line_end stays) (limit_by keys) (λ x y z n b i c d.
         looser f _ _ _ (prompt o ++ line_end stays) (45 * length text + 587) (limit_by keys) (omega (arith, few)) (λ w k. taken l h m answers stays v left o w k)
         (subst (λ s. Comes f (view x y z n b i c d INPUT_AT (l ∷ h ∷ own) m text answers) (asking.Ended f l h own m answers (m COLUMN) (prompt o)
-            (Got v stays left)) s (45 * length text + 587)) (ends_with o stays v left j)
+        (Got v stays left)) s (45 * length text + 587)) (ends_with o stays v left j)
         (asks l h m text answers o j (Got v stays left) is_open column small line e got x y z n b i c d)));
     input_fails = λ l h m text answers o j is_open column small few got line e.
         from_here f _ _ m text answers _ (prompt o ++ fault_text 6 j) (limit_by keys) (λ x y z n b i c d.
@@ -209,12 +216,12 @@ module _ (table seed_option : ℕ) (numbers : List ℕ) (start : ℕ → ℕ) (f
         from_here f _ _ m text answers _ [] (limit_by keys) (λ x y z n v i c d.
         looser f _ _ _ [] 5 (limit_by keys) (omega arith) (λ w k. k)
         ((poll_law f 16 (let most : 13 ≤ 16 = omega arith in most) fits block lo hi [] (let deep : 6 ≤ 16 = omega arith in deep) l h text answers m e
-            j line (first_small answers small) x y z n v i c d).0 (λ q. let bad : true ≡ false = sym (eq-eqb (first_or_zero answers) 3 q) ∙ other in cc)));
+        j line (first_small answers small) x y z n v i c d).0 (λ q. let bad : true ≡ false = sym (eq-eqb (first_or_zero answers) 3 q) ∙ other in cc)));
     poll_breaks = λ l h m text answers j small stop line e.
         from_here f _ _ m text answers _ (fault_text 0 j) (limit_by keys) (λ x y z n v i c d.
         looser f _ _ _ (fault_text 0 j) 546 (limit_by keys) (omega arith) (λ w k. k)
         ((poll_law f 16 (let most : 13 ≤ 16 = omega arith in most) fits block lo hi [] (let deep : 6 ≤ 16 = omega arith in deep) l h text answers m e
-            j line (first_small answers small) x y z n v i c d).1 (eqb-true (first_or_zero answers) 3 stop)));
+        j line (first_small answers small) x y z n v i c d).1 (eqb-true (first_or_zero answers) 3 stop)));
   }
 
 pub all_laws : AllLaws

@@ -86,7 +86,7 @@ ten_thousands_same w =
     let c : w % 10000 / 10 % 10 ≡ w / 10 % 10 = omega arith in
     let d : w % 10000 % 10 ≡ w % 10 = omega arith in
     cons _ _ _ _ (ap (λ n. 48 + n) (by_ten_thousand w)) (thousands_same (w % 10000)
-        ∙ cons _ _ _ _ (ap (λ n. 48 + n) a) (cons _ _ _ _ (ap (λ n. 48 + n) b) (cons _ _ _ _ (ap (λ n. 48 + n) c) (cons _ _ _ _ (ap (λ n. 48 + n) d) refl))))
+    ∙ cons _ _ _ _ (ap (λ n. 48 + n) a) (cons _ _ _ _ (ap (λ n. 48 + n) b) (cons _ _ _ _ (ap (λ n. 48 + n) c) (cons _ _ _ _ (ap (λ n. 48 + n) d) refl))))
 
 tens : (k w : ℕ) → w < 100 → sent (10 ∷ []) false w ≡ digits_before (suc (suc k)) w []
 tens k w to = ⊎_elim
@@ -109,6 +109,6 @@ thousands k w to = ⊎_elim
 pub ten_thousands : (w : ℕ) → w < 100000 → sent (10000 ∷ 1000 ∷ 100 ∷ 10 ∷ []) false w ≡ digits_before 5 w []
 ten_thousands w to = ⊎_elim
     (λ less. skipped 10000 (1000 ∷ 100 ∷ 10 ∷ []) w (omega (arith, less)) ∙ ap (sent (1000 ∷ 100 ∷ 10 ∷ []) false) (let e : w % 10000 ≡ w =
-        omega (arith, less) in e) ∙ thousands 1 w less)
+    omega (arith, less) in e) ∙ thousands 1 w less)
     (λ more. begins 10000 (1000 ∷ 100 ∷ 10 ∷ []) w (λ e. omega (arith, more, e)) ∙ ten_thousands_same w ∙ sym (five w more to))
     (cases_lt w 10000)

@@ -12,7 +12,7 @@ use Rattle.tb_reaching.specs.View.{Setup, Holds, Fits, Comes, view}
 use Rattle.tb_reaching.proofs.Comes.{after, ending, looser}
 use Rattle.tb_reaching.proofs.Calls.{under}
 use Rattle.tb_words.specs.Words.{is_negative, magnitude, negated, with_sign, quotient}
-use Rattle.tb_runtime16.specs.Places.{DIVIDE_AT, LEFT, RIGHT, RESULT}
+use Rattle.tb_runtime16.specs.Addresses.{DIVIDE_AT, LEFT, RIGHT, RESULT}
 use Rattle.tb_runtime16.specs.Block.{block_part}
 use Rattle.tb_runtime16.specs.Laws.{unsigned_at, negate_left_at, is_argument, WordAt, Back, Parts, DivideLaw, DivideByZeroLaw}
 use Rattle.tb_runtime16.proofs.InMemory.{IsWord, bytes_of, holds_word, of_word, same_place, value}
@@ -104,9 +104,9 @@ module _ (f : Setup) (fits : Fits f 4) (block : Holds block_part f.code) (lo hi 
       let size : word_in w RIGHT ≡ magnitude d = re ∙ negated_size d wide t in
       calls f (lo ∷ hi ∷ []) a x y n v i z c unsigned_at ((DIVIDE_AT + 48) % 256) ((DIVIDE_AT + 48) / 256) w text answers _ _ [] [] 268 10
       (unsigned_law (under f (lo ∷ hi ∷ [])) (omega (arith, fits)) block ((DIVIDE_AT + 48) % 256) ((DIVIDE_AT + 48) / 256) text answers w a x y n v i
-          z c l (magnitude d) (holds_word w LEFT l wl le) (holds_word w RIGHT (magnitude d) wr size) (omega (arith, size, least)) (omega (arith, size, most)))
+      z c l (magnitude d) (holds_word w LEFT l wl le) (holds_word w RIGHT (magnitude d) wr size) (omega (arith, size, least)) (omega (arith, size, most)))
       (λ a x y n v i z c u g. subst (λ q0. Comes f (view a x y n v i z c (DIVIDE_AT + 49) (lo ∷ hi ∷ []) u text answers)
-          (Back lo hi text answers (Parts is_argument m q0 (l % magnitude d))) [] 10) (sym (with_sign_negative d l small t))
+      (Back lo hi text answers (Parts is_argument m q0 (l % magnitude d))) [] 10) (sym (with_sign_negative d l small t))
       (after f 4 fits divide_part (divide_in f.code block) 0 (view a x y n v i z c (DIVIDE_AT + 49) (lo ∷ hi ∷ []) u text answers) _ _ 9 refl
       (negate_left f (omega (arith, fits)) block lo hi text answers a x y n v i z c u _ (divided_negated m u (l / magnitude d) (l % magnitude d)
       (record { left = g.parts.left; rest = g.parts.rest; others = frame_then m w u h g.parts.others })))))
@@ -131,9 +131,12 @@ module _ (f : Setup) (fits : Fits f 4) (block : Holds block_part f.code) (lo hi 
       looser f _ _ _ [] (2 + 268) 291 (omega arith) (λ w h. h)
       (after f 4 fits divide_part (divide_in f.code block) 1 (view a x y n v i z c (DIVIDE_AT + 37) (lo ∷ hi ∷ []) m text answers) _ _ 268 refl
       (rw b (back_looser f _ lo hi text answers _ _ [] 268 268 (omega arith) (unsigned_law f (omega (arith, fits)) block lo hi text answers m _ _ _ _
-          _ _ _ _ l d (holds_word m LEFT l p refl) (holds_word m RIGHT d q refl) some (omega (arith, below)))
-      (λ w h. record { left = subst (WordAt w LEFT) (sym (with_sign_positive d l small t)) h.parts.left;
-          rest = subst (WordAt w RESULT) (ap (λ r. l % r) (sym (magnitude_positive d t))) h.parts.rest; others = h.parts.others })))))
+      _ _ _ _ l d (holds_word m LEFT l p refl) (holds_word m RIGHT d q refl) some (omega (arith, below)))
+      (λ w h. record {
+        left = subst (WordAt w LEFT) (sym (with_sign_positive d l small t)) h.parts.left;
+        rest = subst (WordAt w RESULT) (ap (λ r. l % r) (sym (magnitude_positive d t))) h.parts.rest;
+        others = h.parts.others;
+      })))))
       (sign_case (is_negative d))
 
 -- ---- LEFT and RIGHT are words with signs
@@ -154,10 +157,10 @@ module _ (f : Setup) (fits : Fits f 6) (block : Holds block_part f.code) (lo hi 
       let few : negated l / magnitude d ≤ 32768 = let s = div-le_self (negated l) (magnitude d) in omega (arith, s, most) in
       calls f (lo ∷ hi ∷ []) a x y n v i z c (DIVIDE_AT + 37) ((DIVIDE_AT + 20) % 256) ((DIVIDE_AT + 20) / 256) w text answers _ _ [] [] 291 9
       (by (under f (lo ∷ hi ∷ [])) (omega (arith, fits)) block ((DIVIDE_AT + 20) % 256) ((DIVIDE_AT + 20) / 256) text answers w wl wr
-          (subst (λ r. r ≤ 32768) (sym le) most) (subst (λ r. 1 ≤ r) (sym re) some) a x y n v i z c)
+      (subst (λ r. r ≤ 32768) (sym le) most) (subst (λ r. 1 ≤ r) (sym re) some) a x y n v i z c)
       (λ a x y n v i z c u g. subst (λ q0. Comes f (view a x y n v i z c negate_left_at (lo ∷ hi ∷ []) u text answers)
-          (Back lo hi text answers (Parts is_argument m q0 (magnitude l % magnitude d))) [] 9)
-          (negated_sign (is_negative d) (negated l / magnitude d) few ∙ sym (quotient_negative l d wide t))
+      (Back lo hi text answers (Parts is_argument m q0 (magnitude l % magnitude d))) [] 9)
+      (negated_sign (is_negative d) (negated l / magnitude d) few ∙ sym (quotient_negative l d wide t))
       (negate_left f (omega (arith, fits)) block lo hi text answers a x y n v i z c u _ (divided_negated m u (with_sign (is_negative d) (negated l / magnitude d)) (magnitude l % magnitude d)
       (record {
         left = subst (WordAt u LEFT) (ap (λ r. with_sign (is_negative r) (word_in w LEFT / magnitude r)) re ∙ ap (λ r. with_sign (is_negative d) (r / magnitude d)) le) g.left;
@@ -185,8 +188,11 @@ module _ (f : Setup) (fits : Fits f 6) (block : Holds block_part f.code) (lo hi 
       looser f _ _ _ [] (2 + 291) 313 (omega arith) (λ w h. h)
       (after f 6 fits divide_part (divide_in f.code block) 1 (view a x y n v i z c (DIVIDE_AT + 11) (lo ∷ hi ∷ []) m text answers) _ _ 291 refl
       (rw b (back_looser f _ lo hi text answers _ _ [] 291 291 (omega arith) (by f (omega (arith, fits)) block lo hi text answers m p q (omega (arith, below)) some _ _ _ _ _ _ _ _)
-      (λ w h. record { left = subst (WordAt w LEFT) (sym (quotient_positive l d t)) h.left;
-          rest = subst (WordAt w RESULT) (ap (λ r. r % magnitude d) (sym (magnitude_positive l t))) h.rest; others = h.others })))))
+      (λ w h. record {
+        left = subst (WordAt w LEFT) (sym (quotient_positive l d t)) h.left;
+        rest = subst (WordAt w RESULT) (ap (λ r. r % magnitude d) (sym (magnitude_positive l t))) h.rest;
+        others = h.others;
+      })))))
       (sign_case (is_negative l))
 
   divide : (a x y : ℕ) (n v i z c : Bool) → Comes f (view a x y n v i z c DIVIDE_AT (lo ∷ hi ∷ []) m text answers) (Back lo hi text answers Goal) [] 316

@@ -11,7 +11,7 @@ use Rattle.tb_reaching.proofs.Calls.{calling, under, stacked_on}
 use Rattle.tb_reaching.proofs.StackPointer.{putting_s}
 use Rattle.tb_words.specs.Words.{digits_of}
 use Rattle.tb_meaning.specs.Control.{fault_text}
-use Rattle.tb_runtime16.specs.Places.{SEND_AT, FAULT_LINE_AT, FAULT_AT, NUMBER_AT, COLUMN, LINE, BYTE, LEFT}
+use Rattle.tb_runtime16.specs.Addresses.{SEND_AT, FAULT_LINE_AT, FAULT_AT, NUMBER_AT, COLUMN, LINE, BYTE, LEFT}
 use Rattle.tb_runtime16.specs.Block.{block_part}
 use Rattle.tb_runtime16.specs.Ends.{FaultLaw, FaultLineLaw}
 use Rattle.tb_runtime16.specs.Laws.{Sent, nowhere}
@@ -57,7 +57,7 @@ module _ (f : Setup) (fits : Fits f 13) (block : Holds block_part f.code) (hlo h
       (after f 13 fits fault_part (fault_in f.code block) 4 (view a x y n v i z c (FAULT_AT + 0x2E) own m text answers) _ _ (458 + 9) refl
       (calls f own _ _ _ _ _ _ _ _ NUMBER_AT ((FAULT_AT + 0x3A) % 256) ((FAULT_AT + 0x3A) / 256) _ text answers _ (IsHome f) (digits_of (m LINE + 256 * m (LINE + 1))) (13 ∷ []) 458 9
       (number_law (under f own) (omega (arith, fits)) block ((FAULT_AT + 0x3A) % 256) ((FAULT_AT + 0x3A) / 256) text answers _ _ _ _ _ _ _ _ _
-          (m LINE + 256 * m (LINE + 1)) (holds_word _ LEFT _ (omega (arith, k.low, is_word.0), omega (arith, k.high, is_word.1)) refl) small)
+      (m LINE + 256 * m (LINE + 1)) (holds_word _ LEFT _ (omega (arith, k.low, is_word.0), omega (arith, k.high, is_word.1)) refl) small)
       (λ a x y n v i z c w g. last a x y n v i z c w)))
 
   -- LDA, JSR SEND
@@ -70,20 +70,23 @@ module _ (f : Setup) (fits : Fits f 13) (block : Holds block_part f.code) (hlo h
       (calls f own b x y _ v i _ c SEND_AT lo hi m text answers (Sent nowhere m (b ∷ [])) (IsHome f) (b ∷ []) out 7 k
       (send_law (under f own) (omega (arith, fits)) block lo hi text answers m b x y _ v i _ c b_small)
       (λ a x y n v i z c m' s. next a x y n v i z c m'
-      (record { low = s.others LINE refl (λ e. omega (arith, e)) ∙ kept.low; high = s.others (LINE + 1) refl (λ e. omega (arith, e)) ∙ kept.high;
-          byte = s.others BYTE refl (λ e. omega (arith, e)) ∙ kept.byte }) (omega (arith, s.column))))
+      (record {
+        low = s.others LINE refl (λ e. omega (arith, e)) ∙ kept.low;
+        high = s.others (LINE + 1) refl (λ e. omega (arith, e)) ∙ kept.high;
+        byte = s.others BYTE refl (λ e. omega (arith, e)) ∙ kept.byte;
+      }) (omega (arith, s.column))))
 
   text_sent : From (FAULT_AT + 0xA) (13 ∷ 33 ∷ d ∷ 32 ∷ 65 ∷ 84 ∷ 32 ∷ (digits_of (l + 256 * h) ++ 13 ∷ []))
       (2 + (7 + (2 + (7 + (2 + (7 + (2 + (7 + (2 + (7 + (2 + (7 + (2 + (7 + (5 + (458 + 9))))))))))))))))
   text_sent =
       say (FAULT_AT + 0xA) 13 ((FAULT_AT + 0xE) % 256) ((FAULT_AT + 0xE) / 256) _
-          (2 + (7 + (2 + (7 + (2 + (7 + (2 + (7 + (2 + (7 + (2 + (7 + (5 + (458 + 9)))))))))))))) (omega arith) (λ a x y n v i z c m k. refl)
+      (2 + (7 + (2 + (7 + (2 + (7 + (2 + (7 + (2 + (7 + (2 + (7 + (5 + (458 + 9)))))))))))))) (omega arith) (λ a x y n v i z c m k. refl)
       (later _ _ _ (say (FAULT_AT + 0xF) 33 ((FAULT_AT + 0x13) % 256) ((FAULT_AT + 0x13) / 256) _
-          (2 + (7 + (2 + (7 + (2 + (7 + (2 + (7 + (2 + (7 + (5 + (458 + 9)))))))))))) (omega arith) (λ a x y n v i z c m k. refl)
+      (2 + (7 + (2 + (7 + (2 + (7 + (2 + (7 + (2 + (7 + (5 + (458 + 9)))))))))))) (omega arith) (λ a x y n v i z c m k. refl)
       (later _ _ _ (say (FAULT_AT + 0x14) d ((FAULT_AT + 0x19) % 256) ((FAULT_AT + 0x19) / 256) _
-          (2 + (7 + (2 + (7 + (2 + (7 + (2 + (7 + (5 + (458 + 9)))))))))) d_small
-          (λ a x y n v i z c m k. ap (λ b. Some (view b x y (eqb (b / 128 % 2) 1) v i (eqb b 0) c SEND_AT ((FAULT_AT + 0x19) % 256
-          ∷ (FAULT_AT + 0x19) / 256 ∷ own) m text answers)) k.byte)
+      (2 + (7 + (2 + (7 + (2 + (7 + (2 + (7 + (5 + (458 + 9)))))))))) d_small
+      (λ a x y n v i z c m k. ap (λ b. Some (view b x y (eqb (b / 128 % 2) 1) v i (eqb b 0) c SEND_AT ((FAULT_AT + 0x19) % 256
+      ∷ (FAULT_AT + 0x19) / 256 ∷ own) m text answers)) k.byte)
       (later _ _ _ (say (FAULT_AT + 0x1A) 32 ((FAULT_AT + 0x1E) % 256) ((FAULT_AT + 0x1E) / 256) _ (2 + (7 + (2 + (7 + (2 + (7 + (5 + (458 + 9)))))))) (omega arith) (λ a x y n v i z c m k. refl)
       (later _ _ _ (say (FAULT_AT + 0x1F) 65 ((FAULT_AT + 0x23) % 256) ((FAULT_AT + 0x23) / 256) _ (2 + (7 + (2 + (7 + (5 + (458 + 9)))))) (omega arith) (λ a x y n v i z c m k. refl)
       (later _ _ _ (say (FAULT_AT + 0x24) 84 ((FAULT_AT + 0x28) % 256) ((FAULT_AT + 0x28) / 256) _ (2 + (7 + (5 + (458 + 9)))) (omega arith) (λ a x y n v i z c m k. refl)
@@ -102,14 +105,14 @@ fault_law f room most fits block hlo hhi above deep text answers m e line is_lin
     (ending (under f own) 0 (omega (arith, fits, deep, length-append own f.rest, length-append above (hlo ∷ hhi ∷ []))) fault_part (fault_in f.code block) 3 start (λ w. w ≡ next) refl refl)
     (λ w same. subst (λ w. Comes f (stacked_on own w) (IsHome f) (fault_text k (word_in m LINE)) (1 + rest)) (sym same)
     (putting_s f room fits (stacked_on own next) above (hlo ∷ hhi ∷ []) (IsHome f) (fault_text k (word_in m LINE)) rest
-        (fault_in f.code block _ _ refl) (le-leb _ _ (omega (arith, deep, length-append above (hlo ∷ hhi ∷ [])))) refl (omega (arith, e.kept, e.homed.above))
+    (fault_in f.code block _ _ refl) (le-leb _ _ (omega (arith, deep, length-append above (hlo ∷ hhi ∷ [])))) refl (omega (arith, e.kept, e.homed.above))
     (text_sent f (omega (arith, most, fits)) block hlo hhi e.homed.home text answers (m LINE) (m (LINE + 1)) (48 + k) (bytes_of m LINE line is_line)
-        (omega (arith, small)) _ _ _ _ _ _ _ _ _ (record { low = refl; high = refl; byte = omega (arith, small) }))))))
+    (omega (arith, small)) _ _ _ _ _ _ _ _ _ (record { low = refl; high = refl; byte = omega (arith, small) }))))))
 
 pub fault_line_law : FaultLineLaw
 fault_line_law f room most fits block hlo hhi above deep text answers m e k x y n v i z c small low high =
     let own = above ++ hlo ∷ hhi ∷ [] in
     after_on f own 0 (omega (arith, fits, deep, length-append own f.rest, length-append above (hlo ∷ hhi ∷ []))) fault_line_part
-        (fault_line_in f.code block) 1 (view k x y n v i z c FAULT_LINE_AT [] m text answers) (IsHome f) (fault_text k (x + 256 * y)) 540 refl
+    (fault_line_in f.code block) 1 (view k x y n v i z c FAULT_LINE_AT [] m text answers) (IsHome f) (fault_text k (x + 256 * y)) 540 refl
     (fault_law f room most fits block hlo hhi above deep text answers (with_byte (with_byte m LINE x) (LINE + 1) y)
-        (record { homed = e.homed; kept = e.kept }) (x + 256 * y) (holds_word _ LINE (x + 256 * y) (low, high) refl) k x y n v i z c small)
+    (record { homed = e.homed; kept = e.kept }) (x + 256 * y) (holds_word _ LINE (x + 256 * y) (low, high) refl) k x y n v i z c small)

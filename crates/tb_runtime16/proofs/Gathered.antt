@@ -4,7 +4,7 @@ use Rattle.std.proofs.Common.{length, refl, sym, ap, ◌∙◌, subst, ⊎_elim,
 use Rattle.std.specs.Prelude.{if◌then◌else◌}
 use Rattle.std.proofs.lemmas.Bool.{ne_eqb, eq-eqb, cases_eq}
 use Rattle.tb_meaning.specs.Control.{fault_text, has_line}
-use Rattle.tb_runtime16.specs.Places.{HOME_S, LINE, FAULT_AT}
+use Rattle.tb_runtime16.specs.Addresses.{HOME_S, LINE, FAULT_AT}
 use Rattle.tb_reaching.specs.View.{View, Setup, Holds, Fits, Comes, view}
 use Rattle.tb_reaching.specs.Start.{IsHome}
 use Rattle.tb_reaching.proofs.Comes.{known, looser}
@@ -45,8 +45,14 @@ pub beside : (f : Setup) (own : List ℕ) (v : View) (at : ℕ) (text answers : 
     → Comes (under f own) v (Leaves at [] text answers p) t n → ((w : ℕ → ℕ) → p w → q w) → Comes f (stacked_on own v) (Leaves at own text answers q) t limit
 beside f own v at text answers p q t n limit le c go =
     looser f _ _ (Leaves at own text answers q) t n limit le
-    (λ w k. subst (Leaves at own text answers q) k.2 (record { pc = k.1.pc; stack_is = ap (λ s. s ++ own) k.1.stack_is; binary = k.1.binary;
-        same_text = k.1.same_text; same_answers = k.1.same_answers; memory = go k.0.mem k.1.memory }))
+    (λ w k. subst (Leaves at own text answers q) k.2 (record {
+      pc = k.1.pc;
+      stack_is = ap (λ s. s ++ own) k.1.stack_is;
+      binary = k.1.binary;
+      same_text = k.1.same_text;
+      same_answers = k.1.same_answers;
+      memory = go k.0.mem k.1.memory;
+    }))
     (framed f own v (Leaves at [] text answers p) t n c)
 
 -- ---- faults
@@ -69,12 +75,12 @@ faulting f lo hi fits block l h k small m text answers n line e v q j limit le c
     (calling f (lo ∷ hi ∷ []) v (Faults l h text answers k q) (IsHome f) [] (fault_text k n) j 540 c (λ u a.
     let s = go u.mem a.leaves.memory in
     known f (stacked_on (lo ∷ hi ∷ []) u) FAULT_AT (l ∷ h ∷ lo ∷ hi ∷ []) text answers (IsHome f) (fault_text k n) 540 a.leaves.pc
-        (ap (λ s. s ++ (lo ∷ hi ∷ [])) a.leaves.stack_is) a.leaves.binary a.leaves.same_text a.leaves.same_answers
+    (ap (λ s. s ++ (lo ∷ hi ∷ [])) a.leaves.stack_is) a.leaves.binary a.leaves.same_text a.leaves.same_answers
     (subst (λ r. Comes f (view r u.regs.x u.regs.y u.regs.flags.n u.regs.flags.v u.regs.flags.i u.regs.flags.z u.regs.flags.c FAULT_AT
-        (l ∷ h ∷ lo ∷ hi ∷ []) u.mem text answers) (IsHome f) (fault_text k n) 540) (sym a.number)
+    (l ∷ h ∷ lo ∷ hi ∷ []) u.mem text answers) (IsHome f) (fault_text k n) 540) (sym a.number)
     (fault_law f 14 (let le : 13 ≤ 14 = omega arith in le) (omega (arith, fits)) block lo hi (l ∷ h ∷ []) (let le : 4 ≤ 14 = omega arith in
-        le) text answers u.mem (record { homed = e.homed; kept = ap (λ s. s + 2) s.home_s ∙ e.kept }) n
-        (same_place m u.mem LINE n line s.line s.line_high) k _ _ _ _ _ _ _ small))))
+    le) text answers u.mem (record { homed = e.homed; kept = ap (λ s. s + 2) s.home_s ∙ e.kept }) n
+    (same_place m u.mem LINE n line s.line s.line_high) k _ _ _ _ _ _ _ small))))
 
 -- ---- the line table
 pub entries_length : (start : ℕ → ℕ) (ns : List ℕ) → length (entries start ns) ≡ length ns

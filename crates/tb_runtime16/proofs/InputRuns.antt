@@ -5,7 +5,7 @@ use Rattle.std.proofs.Common.{if◌then◌else◌, length-append}
 use Rattle.std.proofs.lemmas.Bool.{ne_eqb, eq-eqb, cases_eq, cases_lt, lt-leb, le-leb, false≢true, and_left, and_right}
 use Rattle.tb_cpu.specs.Operands.{word_in}
 use Rattle.tb_memmap.specs.Bytes.{with_byte}
-use Rattle.tb_kernal.specs.declared.places.Service.TheVariants.{Chrin}
+use Rattle.tb_kernal.specs.declared.rom.Service.TheVariants.{Chrin}
 use Rattle.tb_reaching.specs.View.{View, Setup, Holds, Fits, Comes, view, back_at}
 use Rattle.tb_reaching.specs.Start.{IsHome}
 use Rattle.tb_reaching.proofs.Comes.{looser}
@@ -13,7 +13,7 @@ use Rattle.tb_reaching.proofs.Services.{serving}
 use Rattle.tb_reaching.proofs.Calls.{framed, under}
 use Rattle.tb_meaning.specs.Control.{column_after, fault_text}
 use Rattle.tb_meaning.specs.Input.{Reading, Nothing, Sign, Digits, Turn, Got, Bad, with_digit, number_end, signed_turn, turn}
-use Rattle.tb_runtime16.specs.Places.{INPUT_AT, SEND_AT, COLUMN, LEFT, RESULT, HOME_S, LINE, BYTE, OPEN, SCRATCH}
+use Rattle.tb_runtime16.specs.Addresses.{INPUT_AT, SEND_AT, COLUMN, LEFT, RESULT, HOME_S, LINE, BYTE, OPEN, SCRATCH}
 use Rattle.tb_runtime16.specs.Block.{block_part}
 use Rattle.tb_runtime16.specs.Ends.{Entered}
 use Rattle.tb_runtime16.specs.Input.{MINUS, is_changed, turn_sends, Ended, InputLaw}
@@ -79,14 +79,14 @@ number_digit (Digits negative n) d = refl
 turn_digit : (r : Reading) (b : ℕ) (text : List ℕ) → 48 ≤ b → b ≤ 57 → turn (with_digit r (b - 48)) text ≡ turn r (b ∷ text)
 turn_digit r b text lo hi =
     let rest = λ (x y z : Bool). if x then turn r text else (if y && z then turn (with_digit r (b - 48)) text else
-        (if eqb b 43 || eqb b 45 then signed_turn r (turn (Sign (eqb b 45)) text) else (if eqb b 44 then number_end r true text else
-        (if eqb b 13 then number_end r false text else Bad)))) in
+    (if eqb b 43 || eqb b 45 then signed_turn r (turn (Sign (eqb b 45)) text) else (if eqb b 44 then number_end r true text else
+    (if eqb b 13 then number_end r false text else Bad)))) in
     sym (ap (λ x. rest x (leb 48 b) (leb b 57)) (ne_eqb b 32 (λ e. omega arith)) ∙ ap (λ x. rest false x (leb b 57)) (le-leb 48 b lo) ∙ ap (λ x. rest false true x) (le-leb b 57 hi))
 
 turn_bad : (r : Reading) (b : ℕ) (text : List ℕ) → b ≢ 32 → b ≢ 43 → b ≢ 45 → b ≢ 44 → b ≢ 13 → (leb 48 b && leb b 57) ≡ false → Bad ≡ turn r (b ∷ text)
 turn_bad r b text n32 n43 n45 n44 n13 out =
     let rest = λ (x y p q s t : Bool). if x then turn r text else (if y then turn (with_digit r (b - 48)) text else
-        (if p || q then signed_turn r (turn (Sign (eqb b 45)) text) else (if s then number_end r true text else (if t then number_end r false text else Bad)))) in
+    (if p || q then signed_turn r (turn (Sign (eqb b 45)) text) else (if s then number_end r true text else (if t then number_end r false text else Bad)))) in
     sym (ap (λ x. rest x (leb 48 b && leb b 57) (eqb b 43) (eqb b 45) (eqb b 44) (eqb b 13)) (ne_eqb b 32 n32)
     ∙ ap (λ x. rest false x (eqb b 43) (eqb b 45) (eqb b 44) (eqb b 13)) out
     ∙ ap (λ x. rest false false x (eqb b 45) (eqb b 44) (eqb b 13)) (ne_eqb b 43 n43)
@@ -136,7 +136,7 @@ module _ (f : Setup) (room : ℕ) (most : 13 ≤ room) (fits : Fits f room) (blo
       looser f _ _ _ (fault_text 6 line) (2 + (82 + 458)) (84 + 458) (omega arith) (λ w h. h)
       (after_on f own 4 free input_part st 1 (view a x y n v i z c (INPUT_AT + 0xA0) (lo ∷ hi ∷ []) m text answers) _ _ (82 + 458) refl
       (fault_law f room most fits block hlo hhi (lo ∷ hi ∷ above) (omega (arith, deep)) text answers m here line
-          (same_place m0 m LINE line is_line (k LINE refl) (k (LINE + 1) refl)) 6 _ _ _ _ _ _ _ (omega arith)))
+      (same_place m0 m LINE line is_line (k LINE refl) (k (LINE + 1) refl)) 6 _ _ _ _ _ _ _ (omega arith)))
 
   -- ---- the end
   record Read (value : ℕ) (m : ℕ → ℕ) : Type 0 where
@@ -226,8 +226,15 @@ module _ (f : Setup) (room : ℕ) (most : 13 ≤ room) (fits : Fits f room) (blo
       (after_on f own 4 free input_part st 1 (view a x y n v i z c (INPUT_AT + 0x8D) (lo ∷ hi ∷ []) m text answers) _ _ (5 + (45 * length text + (102 + 458))) refl
       (rw t (after_on f own 4 free input_part st 4 (view _ _ _ _ _ _ _ _ (INPUT_AT + 0x92) (lo ∷ hi ∷ []) m text answers) _ _ (45 * length text + (102 + 458)) refl
       (go (Sign negative) _ _ _ _ _ _ _ _ _
-      (record { seen = refl; minus = e; is_word = h.is_word; value = h.value; line_open = h.line_open; column = h.column;
-          others = changes_put _ _ _ SCRATCH _ refl (changes_put _ _ _ MINUS _ refl h.others) }) bs))))
+      (record {
+        seen = refl;
+        minus = e;
+        is_word = h.is_word;
+        value = h.value;
+        line_open = h.line_open;
+        column = h.column;
+        others = changes_put _ _ _ SCRATCH _ refl (changes_put _ _ _ MINUS _ refl h.others);
+      }) bs))))
   at_sign (Sign before) negative a x y n v i z c m text go h e bs =
       let t : eqb (m SCRATCH) 0 ≡ false = ne_eqb _ _ (λ e. omega (arith, h.seen, e)) in
       looser f _ _ _ (fault_text 6 line) (2 + (84 + 458)) (45 * length text + (109 + 458)) (omega arith) (λ w h. h)
@@ -349,7 +356,7 @@ module _ (f : Setup) (room : ℕ) (most : 13 ≤ room) (fits : Fits f room) (blo
   other_digit text go r b n32 n43 n45 n44 n13 from to x y n v i z c m h bs =
       looser f _ _ _ (sends (turn r (b ∷ text))) (3 + (2 + (2 + (2 + (2 + (5 + (27 + (45 * length text + (102 + 458))))))))) (45 * length text + (145 + 458)) (omega arith) (λ w h. h)
       (past text b (turn r (b ∷ text)) (5 + (27 + (45 * length text + (102 + 458)))) (omega (arith, to)) n32 n43 n45 n44 n13 x y n v i z c m
-          (λ n z c. digit text go r b from to x y n v i z c (with_byte m BYTE b) (held_byte r m b h) bs))
+      (λ n z c. digit text go r b from to x y n v i z c (with_byte m BYTE b) (held_byte r m b h) bs))
 
   any : (text : List ℕ) → Reads text → (r : Reading) (b : ℕ) → b < 256 → Byte b text r
   any text go r b small =
@@ -371,7 +378,7 @@ module _ (f : Setup) (room : ℕ) (most : 13 ≤ room) (fits : Fits f room) (blo
       looser f _ _ _ (sends (turn r (b ∷ text))) (1 + (1 + (45 * length text + (145 + 458)))) (45 * length (b ∷ text) + (102 + 458)) (omega arith) (λ w h. h)
       (after_on f own 4 free input_part st 0 (view a x y n v i z c (INPUT_AT + 0x22) (lo ∷ hi ∷ []) m (b ∷ text) answers) _ _ (1 + (45 * length text + (145 + 458))) refl
       (serving f room fits Chrin _ _ _ _ _ (sends (turn r (b ∷ text))) (45 * length text + (145 + 458))
-          (le-leb _ _ (omega (arith, deep, length-append above (hlo ∷ hhi ∷ [])))) refl refl refl (λ j.
+      (le-leb _ _ (omega (arith, deep, length-append above (hlo ∷ hhi ∷ [])))) refl refl refl (λ j.
       any text (reads_all text) r b bs.0 j.x j.y j.n j.v j.i j.z j.c m h bs.1)))
 
   start : (a x y : ℕ) (n v i z c : Bool) (m : ℕ → ℕ) (text : List ℕ) → AreBytes text → m OPEN ≡ 1 → m COLUMN ≡ column_after col before % 256
@@ -381,8 +388,15 @@ module _ (f : Setup) (room : ℕ) (most : 13 ≤ room) (fits : Fits f room) (blo
   start a x y n v i z c m text bs o e k =
       after_on f own 4 free input_part st 4 (view a x y n v i z c (INPUT_AT + 0x14) (lo ∷ hi ∷ []) m text answers) _ _ (45 * length text + (102 + 458)) refl
       (reads_all text Nothing _ _ _ _ _ _ _ _ _
-      (record { seen = refl; minus = refl; is_word = (small_byte 0, small_byte 0); value = refl; line_open = o; column = e;
-          others = changes_put _ _ _ MINUS _ refl (changes_put _ _ _ SCRATCH _ refl (changes_put _ _ _ (RESULT + 1) _ refl (changes_put _ _ _ RESULT _ refl k))) }) bs)
+      (record {
+        seen = refl;
+        minus = refl;
+        is_word = (small_byte 0, small_byte 0);
+        value = refl;
+        line_open = o;
+        column = e;
+        others = changes_put _ _ _ MINUS _ refl (changes_put _ _ _ SCRATCH _ refl (changes_put _ _ _ (RESULT + 1) _ refl (changes_put _ _ _ RESULT _ refl k)));
+      }) bs)
 
 pub input_law : InputLaw
 input_law f room most fits block hlo hhi above deep lo hi text answers m e line is_line bs true o col column a x y n v i z c =
@@ -405,7 +419,7 @@ input_law f room most fits block hlo hhi above deep lo hi text answers m e line 
     (after_on f own 4 free input_part st 1 (view a x y n v i z c INPUT_AT (lo ∷ hi ∷ []) m text answers) _ _ (2 + (7 + (2 + (7 + rest)))) refl
     (rw t (after_on f own 4 free input_part st 1 (view _ _ _ _ _ _ _ _ (INPUT_AT + 0x5) (lo ∷ hi ∷ []) m text answers) _ _ (7 + (2 + (7 + rest))) refl
     (saying f (lo ∷ hi ∷ own) inside block ((INPUT_AT + 0x9) % 256) ((INPUT_AT + 0x9) / 256) text answers m 63 _ _ _ _ _ _ _ (omega arith) _
-        (32 ∷ last) (2 + (7 + rest)) (λ a x y n v i z c m1 c1 k1.
+    (32 ∷ last) (2 + (7 + rest)) (λ a x y n v i z c m1 c1 k1.
     after_on f own 4 free input_part st 1 (view a x y n v i z c (INPUT_AT + 0xA) (lo ∷ hi ∷ []) m1 text answers) _ _ (7 + rest) refl
     (saying f (lo ∷ hi ∷ own) inside block ((INPUT_AT + 0xE) % 256) ((INPUT_AT + 0xE) / 256) text answers m1 32 _ _ _ _ _ _ _ (omega arith) _ last rest (λ a x y n v i z c m2 c2 k2.
     after_on f own 4 free input_part st 1 (view a x y n v i z c (INPUT_AT + 0xF) (lo ∷ hi ∷ []) m2 text answers) _ _ (5 + (45 * length text + (102 + 458))) refl

@@ -21,7 +21,7 @@ pub mod PollRuns
 pub mod Tens
 pub mod InputRuns
 pub mod Pointed
-pub mod NotesRuns
+pub mod ReturnsRuns
 pub mod Tables
 pub mod Through
 pub mod SearchRuns

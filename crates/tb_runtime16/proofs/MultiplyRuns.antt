@@ -8,7 +8,7 @@ use Rattle.tb_words.specs.Words.{word}
 use Rattle.tb_memmap.specs.Bytes.{with_byte}
 use Rattle.tb_reaching.specs.View.{Setup, Holds, Fits, Comes, view}
 use Rattle.tb_reaching.proofs.Comes.{after, ending, looser}
-use Rattle.tb_runtime16.specs.Places.{MULTIPLY_AT, LEFT, RIGHT, RESULT}
+use Rattle.tb_runtime16.specs.Addresses.{MULTIPLY_AT, LEFT, RIGHT, RESULT}
 use Rattle.tb_runtime16.specs.Block.{block_part}
 use Rattle.tb_runtime16.specs.Laws.{is_argument, Back, Gives, MultiplyLaw}
 use Rattle.tb_runtime16.proofs.InMemory.{IsWord, bytes_of, holds_word, of_word}
@@ -159,7 +159,7 @@ module _ (f : Setup) (fits : Fits f 2) (block : Holds block_part f.code) (lo hi 
       (after f 2 fits multiply_part (multiply_in f.code block) 2 (view a x y n v i z c (MULTIPLY_AT + 6) (lo ∷ hi ∷ []) m text answers) _ _ (7 + (rounds k + 8)) refl
       (rw b (sum k go _ _ _ _ _ _ _ _ _ product small shifted less
       (e ∙ sym (turn_odd (a + 256 * m (RESULT + 1)) (word_in m LEFT) (word_in m RIGHT) (omega arith))
-          ∙ ap (λ q. ((a + 256 * m (RESULT + 1) + word_in m LEFT) % 65536 + 2 * word_in m LEFT * q) % 65536) (sym half))))))
+      ∙ ap (λ q. ((a + 256 * m (RESULT + 1) + word_in m LEFT) % 65536 + 2 * word_in m LEFT * q) % 65536) (sym half))))))
       (λ even. let b : eqb (m RIGHT / 1 % 2) 1 ≡ false = ne_eqb _ _ (λ h. even (omega (arith, h))) in
       looser f _ _ _ [] (3 + (rounds k + 8)) (rounds k + 18) (omega arith) (λ w h. h)
       (after f 2 fits multiply_part (multiply_in f.code block) 2 (view a x y n v i z c (MULTIPLY_AT + 6) (lo ∷ hi ∷ []) m text answers) _ _ (rounds k + 8) refl

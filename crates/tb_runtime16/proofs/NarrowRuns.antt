@@ -11,7 +11,7 @@ use Rattle.tb_cpu.specs.Effects.{bit}
 use Rattle.tb_memmap.specs.Bytes.{with_byte}
 use Rattle.tb_reaching.specs.View.{Setup, Holds, Fits, Comes, view, View}
 use Rattle.tb_reaching.proofs.Comes.{after, ending, looser}
-use Rattle.tb_runtime16.specs.Places.{DIVIDE_AT, LEFT, RIGHT, RESULT}
+use Rattle.tb_runtime16.specs.Addresses.{DIVIDE_AT, LEFT, RIGHT, RESULT}
 use Rattle.tb_runtime16.specs.Block.{block_part}
 use Rattle.tb_runtime16.specs.Laws.{Back, Parted}
 use Rattle.tb_runtime16.proofs.InMemory.{IsWord, holds_word}
@@ -152,6 +152,16 @@ module _ (f : Setup) (fits : Fits f 2) (block : Holds block_part f.code) (lo hi 
   narrow x y n v i z c p less =
       after f 2 fits divide_part (divide_in f.code block) 3 (view (m0 (LEFT + 1)) x y n v i z c (DIVIDE_AT + 66) (lo ∷ hi ∷ []) m0 text answers) _ _ 66 refl
       (turn 7 (lesses 7) _ _ _ _ _ _ _ _ _ 0 0
-      (record { left = p.0; left_high = refl; rest_high = refl; low = refl; high = refl; others = frame_put _ _ (RESULT + 1) _ refl
-          (frame_put _ _ (LEFT + 1) _ refl (λ a e. refl)); less = less; few = omega arith; sum = omega arith })
+      (record {
+        left = p.0;
+        left_high = refl;
+        rest_high = refl;
+        low = refl;
+        high = refl;
+        others = frame_put _ _ (RESULT + 1) _ refl
+            (frame_put _ _ (LEFT + 1) _ refl (λ a e. refl));
+        less = less;
+        few = omega arith;
+        sum = omega arith;
+      })
       refl refl)

@@ -11,7 +11,7 @@ use Rattle.tb_reaching.proofs.Comes.{after, looser}
 use Rattle.tb_reaching.proofs.Calls.{under}
 use Rattle.tb_reaching.proofs.Memory.{put_other}
 use Rattle.tb_words.specs.Words.{is_negative, magnitude, negated, digits_before, digits_of}
-use Rattle.tb_runtime16.specs.Places.{SEND_AT, NUMBER_AT, COLUMN, LEFT, RIGHT}
+use Rattle.tb_runtime16.specs.Addresses.{SEND_AT, NUMBER_AT, COLUMN, LEFT, RIGHT}
 use Rattle.tb_runtime16.specs.Block.{block_part}
 use Rattle.tb_runtime16.specs.Laws.{is_argument, negate_left_at, Back, Sent, NumberLaw}
 use Rattle.tb_runtime16.proofs.InMemory.{IsWord, bytes_of, of_word}
@@ -172,7 +172,7 @@ module _ (f : Setup) (fits : Fits f 6) (block : Holds block_part f.code) (lo hi 
         after f 6 fits number_part (number_in f.code block) 0 (view (low_left m l) x ((y + 1) % 256) n v i (eqb ((y + 1) % 256) 0) c (NUMBER_AT + 48) own m1 text answers) _ _ (11 * d + (5 + k)) refl
         (rw nz (down d r less _ ((y + 1) % 256) _ _ _ _ _ m1 q t k (omega arith, omega arith) left (omega (arith, up, few))
         (λ a y' n v z c m' s g u away. stop a y' n v z c m' (s ∙ up) g u (λ a p1 p2. away a p1 p2 ∙ put_other (with_byte m (LEFT + 1) high) LEFT
-            (low_left m l) a p1 ∙ put_other m (LEFT + 1) high a p2)))))))))
+        (low_left m l) a p1 ∙ put_other m (LEFT + 1) high a p2)))))))))
 
     left_of : (begun : Bool) (m m' : ℕ → ℕ) (w r : ℕ) → Left begun w m → IsWord m' LEFT → word_in m' LEFT ≡ r → Away m m' → Left begun r m'
     unfolding Rest
@@ -193,7 +193,7 @@ module _ (f : Setup) (fits : Fits f 6) (block : Holds block_part f.code) (lo hi 
     counted true ps k go a y n v i z c m m' w col g e less small is_y is_word is away =
         let same : m' COLUMN ≡ m COLUMN = away COLUMN (λ q. omega (arith, q)) (λ q. omega (arith, q)) in
         digit true ps x p k (go true) (w / p) small a y n v i z c m' (w % p) col is_y (λ q. let start : y ≡ 48 + w / p = is_y in
-            omega (arith, q, start)) (left_of true m m' w (w % p) g is_word is away) less (ap (λ c. (c + length (sent (p ∷ ps) true w)) % 256) same ∙ e)
+        omega (arith, q, start)) (left_of true m m' w (w % p) g is_word is away) less (ap (λ c. (c + length (sent (p ∷ ps) true w)) % 256) same ∙ e)
     counted false ps k go a y n v i z c m m' w col g e less small is_y is_word is away =
         let same : m' COLUMN ≡ m COLUMN = away COLUMN (λ q. omega (arith, q)) (λ q. omega (arith, q)) in
         let held = left_of false m m' w (w % p) g is_word is away in
@@ -208,7 +208,7 @@ module _ (f : Setup) (fits : Fits f 6) (block : Holds block_part f.code) (lo hi 
         (λ some. let t : sent (p ∷ ps) false w ≡ (48 + w / p) ∷ sent ps true (w % p) = begins p ps w some in
         subst (λ s. Comes f (view a x y n v i z c (NUMBER_AT + 50) own m' text answers) (Back lo hi text answers (Done col)) s (2 + (5 + (7 + (1 + k))))) (sym t)
         (digit false ps x p k (go true) (w / p) small a y n v i z c m' (w % p) col is_y (λ q. some (let start : y ≡ 0 + w / p = is_y in
-            omega (arith, start, q))) held less (ap (λ c. (c + length ((48 + w / p) ∷ sent ps true (w % p))) % 256) same ∙ ap (λ s. (m COLUMN + length s) % 256) (sym t) ∙ e)))
+        omega (arith, start, q))) held less (ap (λ c. (c + length ((48 + w / p) ∷ sent ps true (w % p))) % 256) same ∙ ap (λ s. (m COLUMN + length s) % 256) (sym t) ∙ e)))
         (cases_eq (w / p) 0)
 
     -- the digit of the power, which is at most a number, and what comes behind it
@@ -249,7 +249,7 @@ module _ (f : Setup) (fits : Fits f 6) (block : Holds block_part f.code) (lo hi 
       (λ a y n v i z c m q t k next. after f 6 fits number_part (number_in f.code block) 3 (view a 3 y n v i z c (NUMBER_AT + 26) own m text answers) q t k refl (next _ _ _))
       (λ a y n v i z m q t k next. after f 6 fits number_part (number_in f.code block) 4 (view a 3 y n v i z true (NUMBER_AT + 38) own m text answers) q t k refl (next _ _ _))
       begun (1000 ∷ 100 ∷ 10 ∷ []) 40000 3 378 (omega arith) (λ w h. (omega (arith, h), omega arith, omega arith))
-          (λ s. on s (1000 ∷ 100 ∷ 10 ∷ []) 2 10000 376 (omega arith) (thousands_on s))
+      (λ s. on s (1000 ∷ 100 ∷ 10 ∷ []) 2 10000 376 (omega arith) (thousands_on s))
 
   -- ---- the whole
   -- from 100 on where the number is below 256
@@ -305,7 +305,7 @@ module _ (f : Setup) (fits : Fits f 6) (block : Holds block_part f.code) (lo hi 
       (calls f own a x y n v i z c negate_left_at ((NUMBER_AT + 11) % 256) ((NUMBER_AT + 11) / 256) m text answers _ _ [] _ 9 437
       (negate_left (under f own) (omega (arith, fits)) block ((NUMBER_AT + 11) % 256) ((NUMBER_AT + 11) / 256) text answers a x y n v i z c m (Turned m (negated w)) (turned m p))
       (λ a x y n v i z c u g. plain a x y n v i z c u (magnitude w) col g.is_word (g.value ∙ size) few (λ a b d. g.others a b ∙ r a b d)
-          (omega (arith, g.others COLUMN refl, q)) (ap (λ c. (c + length (digits_before 5 (magnitude w) [])) % 256) (g.others COLUMN refl) ∙ l)))
+      (omega (arith, g.others COLUMN refl, q)) (ap (λ c. (c + length (digits_before 5 (magnitude w) [])) % 256) (g.others COLUMN refl) ∙ l)))
 
   minus : (a x y : ℕ) (n v i z c : Bool) (m : ℕ → ℕ) (col : ℕ) → IsWord m LEFT → is_negative (word_in m LEFT) ≡ true → Rest m
       → (m COLUMN + length (45 ∷ digits_before 5 (magnitude (word_in m LEFT)) [])) % 256 ≡ col
@@ -323,8 +323,8 @@ module _ (f : Setup) (fits : Fits f 6) (block : Holds block_part f.code) (lo hi 
       let next : u COLUMN ≡ (m COLUMN + 1) % 256 = g.column in
       subst (λ w. Comes f (view a x y n v i z c (NUMBER_AT + 9) own u text answers) (Back lo hi text answers (Done col)) (digits_before 5 (magnitude w) []) (1 + (9 + 437))) same
       (negative a x y n v i z c u col (omega (arith, low, p), omega (arith, high, p)) (ap is_negative same ∙ t) (λ a b d. g.others a refl d ∙ r a b d)
-          (omega (arith, next)) (ap (λ w. (u COLUMN + length (digits_before 5 (magnitude w) [])) % 256) same
-          ∙ one_later (m COLUMN) (u COLUMN) (length (digits_before 5 (magnitude (word_in m LEFT)) [])) next ∙ l))))
+      (omega (arith, next)) (ap (λ w. (u COLUMN + length (digits_before 5 (magnitude w) [])) % 256) same
+      ∙ one_later (m COLUMN) (u COLUMN) (length (digits_before 5 (magnitude (word_in m LEFT)) [])) next ∙ l))))
 
   whole : (a x y : ℕ) (n v i z c : Bool) → IsWord m0 LEFT → m0 COLUMN < 256 → Comes f (view a x y n v i z c NUMBER_AT own m0 text answers)
       (Back lo hi text answers (Done ((m0 COLUMN + length (digits_of (word_in m0 LEFT))) % 256))) (digits_of (word_in m0 LEFT)) 458

@@ -11,7 +11,7 @@ use Rattle.tb_reaching.specs.View.{Setup, View, Holds, Fits, Comes, view}
 use Rattle.tb_reaching.proofs.Comes.{after, ending, looser}
 use Rattle.tb_reaching.proofs.Calls.{under}
 use Rattle.tb_words.specs.Words.{word, seed_after}
-use Rattle.tb_runtime16.specs.Places.{MULTIPLY_AT, RANDOM_AT, LEFT, RIGHT, RESULT, SEED, SEEDED, SCRATCH}
+use Rattle.tb_runtime16.specs.Addresses.{MULTIPLY_AT, RANDOM_AT, LEFT, RIGHT, RESULT, SEED, SEEDED, SCRATCH}
 use Rattle.tb_runtime16.specs.Block.{block_part}
 use Rattle.tb_runtime16.specs.Laws.{is_argument, is_seed, unsigned_at, Back, Faults, Drawn, seed_of, RandomLaw, RandomRangeLaw}
 use Rattle.tb_runtime16.proofs.InMemory.{IsWord, bytes_of, holds_word, of_word, same_place, value}
@@ -38,7 +38,7 @@ module _ (f : Setup) (fits : Fits f 6) (block : Holds block_part f.code) (lo hi 
       let same : word_in m RIGHT ≡ word_in m0 LEFT = omega (arith, low, high) in
       back_looser f _ lo hi text answers _ _ [] 268 268 (omega arith)
       (unsigned_law f (omega (arith, fits)) block lo hi text answers m a x y n v i z c (seed_after seed) (word_in m0 LEFT)
-          (holds_word m LEFT (seed_after seed) l le) (holds_word m RIGHT (word_in m0 LEFT) (omega (arith, low, p), omega (arith, high, p)) same) least (omega (arith, most)))
+      (holds_word m LEFT (seed_after seed) l le) (holds_word m RIGHT (word_in m0 LEFT) (omega (arith, low, p), omega (arith, high, p)) same) least (omega (arith, most)))
       (λ w g. record {
         result = g.parts.rest;
         seed_at = same_place m w SEED (seed_after seed) (holds_word m SEED (seed_after seed) s se) (g.parts.others SEED refl) (g.parts.others (SEED + 1) refl);
@@ -64,16 +64,20 @@ module _ (f : Setup) (fits : Fits f 6) (block : Holds block_part f.code) (lo hi 
       let s = added (w RESULT) (w (RESULT + 1)) 25 54 k.0 k.1 (omega arith) (omega arith) in
       let total : new_low (w RESULT) + 256 * new_high (w RESULT) (w (RESULT + 1)) ≡ seed_after seed = s ∙ ap (λ x. (x + 13849) % 65536) e ∙ mod-add-mod (25173 * seed) 65536 13849 in
       after f 6 fits random_part (random_in f.code block) 13 (view a x y n v i z c (RANDOM_AT + 52) (m0 (LEFT + 1) ∷ m0 LEFT ∷ lo ∷ hi ∷ []) w text answers) _ _ 268 refl
-      (draw _ _ _ _ _ _ _ _ (with_byte (with_byte (stored w) (RIGHT + 1) (m0 (LEFT + 1))) RIGHT (m0 LEFT)) seed (small_byte (w RESULT + 25 + 0),
-          small_byte (w (RESULT + 1) + 54 + bit (nat_lt 255 (w RESULT + 25 + 0)))) total refl refl (small_byte (w RESULT + 25 + 0),
-          small_byte (w (RESULT + 1) + 54 + bit (nat_lt 255 (w RESULT + 25 + 0)))) total set
+      (draw _ _ _ _ _ _ _ _ (with_byte (with_byte (stored w) (RIGHT + 1) (m0 (LEFT + 1))) RIGHT (m0 LEFT)) seed (
+        small_byte (w RESULT + 25 + 0),
+        small_byte (w (RESULT + 1) + 54 + bit (nat_lt 255 (w RESULT + 25 + 0))),
+      ) total refl refl (
+        small_byte (w RESULT + 25 + 0),
+        small_byte (w (RESULT + 1) + 54 + bit (nat_lt 255 (w RESULT + 25 + 0))),
+      ) total set
       (λ a b d e'. skip is_argument (with_byte (stored w) (RIGHT + 1) (m0 (LEFT + 1))) RIGHT (m0 LEFT) a refl b
-          ∙ skip is_argument (stored w) (RIGHT + 1) (m0 (LEFT + 1)) a refl b ∙ stored_skip w a b e' ∙ r a b d e'))
+      ∙ skip is_argument (stored w) (RIGHT + 1) (m0 (LEFT + 1)) a refl b ∙ stored_skip w a b e' ∙ r a b d e'))
     where
       stored_skip : (w : ℕ → ℕ) (a : ℕ) → is_argument a ≡ false → is_seed a ≡ false → stored w a ≡ w a
       stored_skip w a b e =
           skip is_argument (with_byte (with_byte (with_byte w SEED (new_low (w RESULT))) LEFT (new_low (w RESULT))) (SEED + 1)
-              (new_high (w RESULT) (w (RESULT + 1)))) (LEFT + 1) (new_high (w RESULT) (w (RESULT + 1))) a refl b
+          (new_high (w RESULT) (w (RESULT + 1)))) (LEFT + 1) (new_high (w RESULT) (w (RESULT + 1))) a refl b
           ∙ skip is_seed (with_byte (with_byte w SEED (new_low (w RESULT))) LEFT (new_low (w RESULT))) (SEED + 1) (new_high (w RESULT) (w (RESULT + 1))) a refl e
           ∙ skip is_argument (with_byte w SEED (new_low (w RESULT))) LEFT (new_low (w RESULT)) a refl b
           ∙ skip is_seed w SEED (new_low (w RESULT)) a refl e
@@ -87,12 +91,12 @@ module _ (f : Setup) (fits : Fits f 6) (block : Holds block_part f.code) (lo hi 
       after f 6 fits random_part (random_in f.code block) 10 (view a x y n v i z c (RANDOM_AT + 30) (lo ∷ hi ∷ []) m text answers) _ _ (245 + (14 + 268)) refl
       (calls f (m (LEFT + 1) ∷ m LEFT ∷ lo ∷ hi ∷ []) _ _ _ _ _ _ _ _ MULTIPLY_AT ((RANDOM_AT + 51) % 256) ((RANDOM_AT + 51) / 256) w text answers _ _ [] [] 245 (14 + 268)
       (multiply_law (under f (m (LEFT + 1) ∷ m LEFT ∷ lo ∷ hi ∷ [])) (omega (arith, fits)) block ((RANDOM_AT + 51) % 256) ((RANDOM_AT + 51) / 256)
-          text answers w _ _ _ _ _ _ _ _ 25173 seed (record { low = refl; high = refl; small = omega arith }) (holds_word w RIGHT seed k e))
+      text answers w _ _ _ _ _ _ _ _ 25173 seed (record { low = refl; high = refl; small = omega arith }) (holds_word w RIGHT seed k e))
       (λ a x y n v i z c u g. subst (λ s. Goal seed (view a x y n v i z c (RANDOM_AT + 52) s u text answers) (14 + 268))
-          (ap (λ h. h ∷ m0 LEFT ∷ lo ∷ hi ∷ []) (sym high) ∙ ap (λ l. m (LEFT + 1) ∷ l ∷ lo ∷ hi ∷ []) (sym low))
+      (ap (λ h. h ∷ m0 LEFT ∷ lo ∷ hi ∷ []) (sym high) ∙ ap (λ l. m (LEFT + 1) ∷ l ∷ lo ∷ hi ∷ []) (sym low))
       (store a x y n v i z c u seed (bytes_of u RESULT (word (25173 * seed)) g.result) (value u RESULT (word (25173 * seed)) g.result) (g.others SEEDED refl)
       (λ a b d e. g.others a b ∙ skip is_argument (with_byte (with_byte m SEEDED 1) LEFT 85) (LEFT + 1) 98 a refl b
-          ∙ skip is_argument (with_byte m SEEDED 1) LEFT 85 a refl b ∙ skip is_seed m SEEDED 1 a refl e ∙ r a b d e))))
+      ∙ skip is_argument (with_byte m SEEDED 1) LEFT 85 a refl b ∙ skip is_seed m SEEDED 1 a refl e ∙ r a b d e))))
 
   -- ---- which state
   seeding : (a x y : ℕ) (n v i z c : Bool) (seed : ℕ) → seed ≡ seed_of m0 (word_in m0 RIGHT) (word_in m0 SEED) → IsWord m0 RIGHT → IsWord m0 SEED
@@ -121,14 +125,14 @@ module _ (f : Setup) (fits : Fits f 6) (block : Holds block_part f.code) (lo hi 
       looser f _ _ _ [] (2 + (1 + (2 + (2 + (4 + (11 + (245 + (14 + 268)))))))) 549 (omega arith) (λ w h. h)
       (after f 6 fits random_part (random_in f.code block) 1 (view a x y n v i z c RANDOM_AT (lo ∷ hi ∷ []) m0 text answers) _ _ (1 + (2 + (2 + (4 + (11 + (245 + (14 + 268))))))) refl
       (rw sign (after f 6 fits random_part (random_in f.code block) 0 (view (m0 (LEFT + 1)) x y _ v i (eqb (m0 (LEFT + 1)) 0) c (RANDOM_AT + 4)
-          (lo ∷ hi ∷ []) m0 text answers) _ _ (2 + (2 + (4 + (11 + (245 + (14 + 268)))))) refl
+      (lo ∷ hi ∷ []) m0 text answers) _ _ (2 + (2 + (4 + (11 + (245 + (14 + 268)))))) refl
       (rw b (after f 6 fits random_part (random_in f.code block) 1 (view _ _ _ _ _ _ _ _ (RANDOM_AT + 6) (lo ∷ hi ∷ []) m0 text answers) _ _ (2 + (4 + (11 + (245 + (14 + 268))))) refl
       (rw b' (seeding _ _ _ _ _ _ _ _ (seed_of m0 (word_in m0 RIGHT) (word_in m0 SEED)) refl q s))))))))
       (λ some. let b : eqb (m0 (LEFT + 1)) 0 ≡ false = ne_eqb _ _ some in
       looser f _ _ _ [] (2 + (1 + (2 + (4 + (11 + (245 + (14 + 268))))))) 549 (omega arith) (λ w h. h)
       (after f 6 fits random_part (random_in f.code block) 1 (view a x y n v i z c RANDOM_AT (lo ∷ hi ∷ []) m0 text answers) _ _ (1 + (2 + (4 + (11 + (245 + (14 + 268)))))) refl
       (rw sign (after f 6 fits random_part (random_in f.code block) 0 (view (m0 (LEFT + 1)) x y _ v i (eqb (m0 (LEFT + 1)) 0) c (RANDOM_AT + 4)
-          (lo ∷ hi ∷ []) m0 text answers) _ _ (2 + (4 + (11 + (245 + (14 + 268))))) refl
+      (lo ∷ hi ∷ []) m0 text answers) _ _ (2 + (4 + (11 + (245 + (14 + 268))))) refl
       (rw b (seeding _ _ _ _ _ _ _ _ (seed_of m0 (word_in m0 RIGHT) (word_in m0 SEED)) refl q s))))))
       (cases_eq (m0 (LEFT + 1)) 0)
 
@@ -140,7 +144,7 @@ random_law f fits block lo hi text answers m a x y n v i z c bound option stored
     (of_word (λ o. Comes f start (Back lo hi text answers (Drawn m (word_in m LEFT) (seed_of m o stored))) [] 549) m RIGHT option q
     (of_word (λ t. Comes f start (Back lo hi text answers (Drawn m (word_in m LEFT) (seed_of m (word_in m RIGHT) t))) [] 549) m SEED stored s
     (whole f fits block lo hi text answers m (bytes_of m LEFT bound p) (omega (arith, same, least)) (omega (arith, same, most)) a x y n v i z c
-        (bytes_of m RIGHT option q) (bytes_of m SEED stored s))))
+    (bytes_of m RIGHT option q) (bytes_of m SEED stored s))))
 
 -- ---- the fault
 module _ (f : Setup) (fits : Fits f 2) (block : Holds block_part f.code) (lo hi : ℕ) (text answers : List ℕ) (m : ℕ → ℕ) where

@@ -11,7 +11,7 @@ use Rattle.tb_reaching.specs.View.{Setup, Holds, Fits, Comes, view, is_data, Byt
 use Rattle.tb_reaching.proofs.Memory.{program_not_data}
 use Rattle.tb_reaching.proofs.Start.{in_program}
 use Rattle.tb_reaching.proofs.Comes.{after, ending, looser}
-use Rattle.tb_runtime16.specs.Places.{SEARCH_AT, POINTER, WANTED, RESULT, TABLE, COUNT, SCRATCH}
+use Rattle.tb_runtime16.specs.Addresses.{SEARCH_AT, POINTER, WANTED, RESULT, TABLE, COUNT, SCRATCH}
 use Rattle.tb_runtime16.specs.Block.{block_part}
 use Rattle.tb_runtime16.specs.Laws.{Changes}
 use Rattle.tb_runtime16.specs.Search.{Line, table_bytes, AreRising, numbers_in, AllWords, address_of, search_changes, Searched, SearchLaw}
@@ -144,11 +144,15 @@ module _ (f : Setup) (fits : Fits f 2) (block : Holds block_part f.code) (lo hi 
       let m1 = with_byte m RESULT (e.1 % 256) in
       subst (λ o. Comes f (view a x y n v i z c (SEARCH_AT + 0xA8) (lo ∷ hi ∷ []) m text answers) (Searched lo hi m0 text answers o) [] 7) s
       (after f 2 fits search_part (search_in f.code block) 0 (view a x y n v i z c (SEARCH_AT + 0xA8) (lo ∷ hi ∷ []) m text answers) _ _ 6 refl
-      (loading f 2 fits TABLE (SEARCH_AT + 0xA9) (at + 2) (e.1 % 256) _ _ y1 _ _ _ _ _ _ m text answers _ _ 5 (search_in f.code block _ _ refl,
-          (search_in f.code block _ _ refl, tt)) refl refl refl p2 (program_place (at + 2) (omega arith) (omega arith)) b.2
+      (loading f 2 fits TABLE (SEARCH_AT + 0xA9) (at + 2) (e.1 % 256) _ _ y1 _ _ _ _ _ _ m text answers _ _ 5 (
+        search_in f.code block _ _ refl,
+        (search_in f.code block _ _ refl, tt),
+      ) refl refl refl p2 (program_place (at + 2) (omega arith) (omega arith)) b.2
       (after f 2 fits search_part (search_in f.code block) 1 (view (e.1 % 256) x y1 _ v i _ c (SEARCH_AT + 0xAB) (lo ∷ hi ∷ []) m text answers) _ _ 3 refl
-      (loading f 2 fits TABLE (SEARCH_AT + 0xAF) (at + 3) (e.1 / 256) _ _ y2 _ _ _ _ _ _ m1 text answers _ _ 2 (search_in f.code block _ _ refl,
-          (search_in f.code block _ _ refl, tt)) refl refl refl p3 (program_place (at + 3) (omega arith) (omega arith)) b.3
+      (loading f 2 fits TABLE (SEARCH_AT + 0xAF) (at + 3) (e.1 / 256) _ _ y2 _ _ _ _ _ _ m1 text answers _ _ 2 (
+        search_in f.code block _ _ refl,
+        (search_in f.code block _ _ refl, tt),
+      ) refl refl refl p3 (program_place (at + 3) (omega arith) (omega arith)) b.3
       (ending f 2 fits search_part (search_in f.code block) 1 (view (e.1 / 256) x y2 _ v i _ c (SEARCH_AT + 0xB1) (lo ∷ hi ∷ []) m1 text answers) _ refl
       (leaves_now refl (record { result = record { low = refl; high = refl; small = small }; others = changes_put _ _ _ (RESULT + 1) _ refl (changes_put _ _ _ RESULT _ refl h.others) })))))))
 
@@ -165,9 +169,11 @@ module _ (f : Setup) (fits : Fits f 2) (block : Holds block_part f.code) (lo hi 
       let next : y1 ≡ m POINTER + 1 = omega arith in
       let load = λ (N : ℕ). λ (k : (n z : Bool) → Comes f (view (e.0 / 256) x y1 n v i z c (SEARCH_AT + 0xA3) (lo ∷ hi ∷ []) m text answers) (Searched lo hi m0 text answers r) [] N).
       after f 2 fits search_part (search_in f.code block) 0 (view a x y n v i z c (SEARCH_AT + 0xA0) (lo ∷ hi ∷ []) m text answers) _ _ (1 + N) refl
-      (loading f 2 fits TABLE (SEARCH_AT + 0xA1) (at + 1) (e.0 / 256) _ _ y1 _ _ _ _ _ _ m text answers _ _ N (search_in f.code block _ _ refl,
-          (search_in f.code block _ _ refl, tt)) refl refl refl p1 (program_place (at + 1) (omega arith) (omega arith))
-          (entry_bytes f.code at e [] (omega arith) h.part.shown).1 (k _ _)) in
+      (loading f 2 fits TABLE (SEARCH_AT + 0xA1) (at + 1) (e.0 / 256) _ _ y1 _ _ _ _ _ _ m text answers _ _ N (
+        search_in f.code block _ _ refl,
+        (search_in f.code block _ _ refl, tt),
+      ) refl refl refl p1 (program_place (at + 1) (omega arith) (omega arith))
+      (entry_bytes f.code at e [] (omega arith) h.part.shown).1 (k _ _)) in
       ⊎_elim
       (λ yes. let t : eqb ((e.0 / 256 + 256 - m (WANTED + 1)) % 256) 0 ≡ true = eq-eqb _ _ (omega (arith, yes)) in
       let num : e.0 ≡ word_in m0 WANTED = same_bytes e.0 (m0 WANTED) (m0 (WANTED + 1)) (low ∙ asked.low) (yes ∙ asked.high) in
@@ -177,7 +183,7 @@ module _ (f : Setup) (fits : Fits f 2) (block : Holds block_part f.code) (lo hi 
       looser f _ _ _ [] (1 + (1 + (2 + 2))) 11 (omega arith) (λ w h. h)
       (load (2 + 2) (λ n z. after f 2 fits search_part (search_in f.code block) 1 (view (e.0 / 256) x y1 n v i z c (SEARCH_AT + 0xA3) (lo ∷ hi ∷ []) m text answers) _ _ 2 refl
       (rw t (none _ _ _ _ _ _ _ _ m h.others
-          (sym (other_line (word_in m0 WANTED) e [] (λ x. differs (high_byte e.0 (m0 WANTED) (m0 (WANTED + 1)) left.0 left.1 x ∙ sym asked.high))) ∙ h.part.same))))))
+      (sym (other_line (word_in m0 WANTED) e [] (λ x. differs (high_byte e.0 (m0 WANTED) (m0 (WANTED + 1)) left.0 left.1 x ∙ sym asked.high))) ∙ h.part.same))))))
       (cases_eq (e.0 / 256) (m (WANTED + 1)))
     where
       high_byte : (n l h : ℕ) → l < 256 → h < 256 → n ≡ l + 256 * h → n / 256 ≡ h
@@ -195,10 +201,12 @@ module _ (f : Setup) (fits : Fits f 2) (block : Holds block_part f.code) (lo hi 
       let asked = wanted m h.others in
       let p0 : (m TABLE + 256 * m (TABLE + 1) + m POINTER) % 65536 ≡ at = omega arith in
       let load = λ (N : ℕ). λ (k : (n z : Bool)
-          → Comes f (view (e.0 % 256) x (m POINTER) n v i z c (SEARCH_AT + 0x9B) (lo ∷ hi ∷ []) m text answers) (Searched lo hi m0 text answers r) [] N).
+      → Comes f (view (e.0 % 256) x (m POINTER) n v i z c (SEARCH_AT + 0x9B) (lo ∷ hi ∷ []) m text answers) (Searched lo hi m0 text answers r) [] N).
       after f 2 fits search_part (search_in f.code block) 0 (view a x y n v i z c (SEARCH_AT + 0x97) (lo ∷ hi ∷ []) m text answers) _ _ (1 + N) refl
-      (loading f 2 fits TABLE (SEARCH_AT + 0x99) at (e.0 % 256) _ _ (m POINTER) _ _ _ _ _ _ m text answers _ _ N (search_in f.code block _ _ refl,
-          (search_in f.code block _ _ refl, tt)) refl refl refl p0 (program_place at (omega arith) (omega arith)) h.part.shown.0 (k _ _)) in
+      (loading f 2 fits TABLE (SEARCH_AT + 0x99) at (e.0 % 256) _ _ (m POINTER) _ _ _ _ _ _ m text answers _ _ N (
+        search_in f.code block _ _ refl,
+        (search_in f.code block _ _ refl, tt),
+      ) refl refl refl p0 (program_place at (omega arith) (omega arith)) h.part.shown.0 (k _ _)) in
       ⊎_elim
       (λ yes. let t : eqb ((e.0 % 256 + 256 - m WANTED) % 256) 0 ≡ true = eq-eqb _ _ (omega (arith, yes)) in
       load (2 + 11) (λ n z. after f 2 fits search_part (search_in f.code block) 1 (view (e.0 % 256) x (m POINTER) n v i z c (SEARCH_AT + 0x9B) (lo ∷ hi ∷ []) m text answers) _ _ 11 refl
@@ -207,7 +215,7 @@ module _ (f : Setup) (fits : Fits f 2) (block : Holds block_part f.code) (lo hi 
       looser f _ _ _ [] (1 + (1 + (2 + 2))) 15 (omega arith) (λ w h. h)
       (load (2 + 2) (λ n z. after f 2 fits search_part (search_in f.code block) 1 (view (e.0 % 256) x (m POINTER) n v i z c (SEARCH_AT + 0x9B) (lo ∷ hi ∷ []) m text answers) _ _ 2 refl
       (rw t (none _ _ _ _ _ _ _ _ m h.others
-          (sym (other_line (word_in m0 WANTED) e [] (λ x. differs (low_byte e.0 (m0 WANTED) (m0 (WANTED + 1)) left.0 left.1 x ∙ sym asked.low))) ∙ h.part.same))))))
+      (sym (other_line (word_in m0 WANTED) e [] (λ x. differs (low_byte e.0 (m0 WANTED) (m0 (WANTED + 1)) left.0 left.1 x ∙ sym asked.low))) ∙ h.part.same))))))
       (cases_eq (e.0 % 256) (m WANTED))
     where
       low_byte : (n l h : ℕ) → l < 256 → h < 256 → n ≡ l + 256 * h → n % 256 ≡ l
@@ -278,26 +286,26 @@ module _ (f : Setup) (fits : Fits f 2) (block : Holds block_part f.code) (lo hi 
       let p1 : (m TABLE + 256 * m (TABLE + 1) + y1) % 65536 ≡ here + 1 = omega (arith, one.end, whole) in
       let next_index : y1 ≡ m POINTER + 4 * length front + 1 = omega (arith, whole) in
       let go_on = λ (N : ℕ). λ (next : (a : ℕ) (n v z : Bool)
-          → Comes f (view a x y1 n v i z (nat_le (e.0 / 256 + bit (not (nat_le (e.0 % 256) (m WANTED)))) (m (WANTED + 1))) (SEARCH_AT + 0x80)
-              (lo ∷ hi ∷ []) m text answers) (Searched lo hi m0 text answers r) [] N).
+      → Comes f (view a x y1 n v i z (nat_le (e.0 / 256 + bit (not (nat_le (e.0 % 256) (m WANTED)))) (m (WANTED + 1))) (SEARCH_AT + 0x80)
+      (lo ∷ hi ∷ []) m text answers) (Searched lo hi m0 text answers r) [] N).
       after f 2 fits search_part (search_in f.code block) 0 (view a x y n v i z c (SEARCH_AT + 0x75) (lo ∷ hi ∷ []) m text answers) _ _ (1 + (2 + (1 + N))) refl
       (comparing f 2 fits TABLE (SEARCH_AT + 0x78) here (e.0 % 256) (m WANTED) x y _ _ _ _ _ _ m text answers _ _ (2 + (1 + N))
-          (search_in f.code block _ _ refl, (search_in f.code block _ _ refl, tt)) refl refl refl p0 (program_place here one.start (omega arith)) one.low (λ n z.
+      (search_in f.code block _ _ refl, (search_in f.code block _ _ refl, tt)) refl refl refl p0 (program_place here one.start (omega arith)) one.low (λ n z.
       after f 2 fits search_part (search_in f.code block) 1 (view (m WANTED) x y n v i z _ (SEARCH_AT + 0x7A) (lo ∷ hi ∷ []) m text answers) _ _ (1 + N) refl
       (subtracting f 2 fits TABLE (SEARCH_AT + 0x7E) (here + 1) (e.0 / 256) (m (WANTED + 1)) x y1 _ _ _ _ _ _ m text answers _ _ N
-          (search_in f.code block _ _ refl, (search_in f.code block _ _ refl, tt)) refl refl refl p1 (program_place (here + 1) (omega arith) (omega arith)) one.high next))) in
+      (search_in f.code block _ _ refl, (search_in f.code block _ _ refl, tt)) refl refl refl p1 (program_place (here + 1) (omega arith) (omega arith)) one.high next))) in
       ⊎_elim
       (λ less. let t = carry_below (m WANTED) (m (WANTED + 1)) (e.0 % 256) (e.0 / 256) asked.low_small asked.high_small (omega arith) (omega arith) (omega arith) in
       looser f _ _ _ [] (1 + (1 + (2 + (1 + (1 + (3 + (21 * k + 17))))))) (6 + (7 + (21 * k + 17))) (omega arith) (λ w h. h)
       (go_on (1 + (3 + (21 * k + 17))) (λ a n v z. after f 2 fits search_part (search_in f.code block) 0
-          (view a x y1 n v i z (nat_le (e.0 / 256 + bit (not (nat_le (e.0 % 256) (m WANTED)))) (m (WANTED + 1))) (SEARCH_AT + 0x80)
-          (lo ∷ hi ∷ []) m text answers) _ _ (3 + (21 * k + 17)) refl
+      (view a x y1 n v i z (nat_le (e.0 / 256 + bit (not (nat_le (e.0 % 256) (m WANTED)))) (m (WANTED + 1))) (SEARCH_AT + 0x80)
+      (lo ∷ hi ∷ []) m text answers) _ _ (3 + (21 * k + 17)) refl
       (rw t (halve_front k go _ _ _ _ _ _ _ _ m front e back at h size some few_front less)))))
       (λ least. let t = carry_at_least (m WANTED) (m (WANTED + 1)) (e.0 % 256) (e.0 / 256) asked.low_small asked.high_small (omega arith) (omega arith) (omega arith) in
       looser f _ _ _ [] (1 + (1 + (2 + (1 + (1 + (7 + (21 * k + 17))))))) (6 + (7 + (21 * k + 17))) (omega arith) (λ w h. h)
       (go_on (1 + (7 + (21 * k + 17))) (λ a n v z. after f 2 fits search_part (search_in f.code block) 0
-          (view a x y1 n v i z (nat_le (e.0 / 256 + bit (not (nat_le (e.0 % 256) (m WANTED)))) (m (WANTED + 1))) (SEARCH_AT + 0x80)
-          (lo ∷ hi ∷ []) m text answers) _ _ (7 + (21 * k + 17)) refl
+      (view a x y1 n v i z (nat_le (e.0 / 256 + bit (not (nat_le (e.0 % 256) (m WANTED)))) (m (WANTED + 1))) (SEARCH_AT + 0x80)
+      (lo ∷ hi ∷ []) m text answers) _ _ (7 + (21 * k + 17)) refl
       (rw t (halve_back k go _ _ _ _ _ _ _ m front e back at h size next_index few_back least)))))
       (cases_lt (word_in m0 WANTED) e.0)
 
@@ -311,7 +319,7 @@ module _ (f : Setup) (fits : Fits f 2) (block : Holds block_part f.code) (lo hi 
       let near = h.near in
       after f 2 fits search_part (search_in f.code block) 5 (view a x y n v i z c (SEARCH_AT + 0x6E) (lo ∷ hi ∷ []) m text answers) _ _ (6 + (7 + (21 * k + 17))) refl
       (halve_by k go _ _ _ _ _ _ _ _ m part.front part.here part.back at (subst (λ l. Short m l at) part.whole h) (omega (arith, is, size))
-          (omega (arith, is, size, near, middle)) (omega (arith, size, some)) (omega (arith, size, middle, few)) (omega (arith, size, middle, few, total)))
+      (omega (arith, is, size, near, middle)) (omega (arith, size, some)) (omega (arith, size, middle, few)) (omega (arith, size, middle, few, total)))
 
   halves_all : (k : ℕ) → Halve k
   unfolding Halve
@@ -382,7 +390,7 @@ module _ (f : Setup) (fits : Fits f 2) (block : Holds block_part f.code) (lo hi 
       let whole = length-append front (e ∷ back) in
       let count = h.told.size in
       let d = difference (m COUNT) (m (COUNT + 1)) (m SCRATCH) (m (SCRATCH + 1)) (length (front ++ (e ∷ back))) (length front)
-          (suc (length back)) h.told.size_word.0 h.told.size_word.1 w.0 w.1 h.told.size size (omega (arith, whole)) in
+      (suc (length back)) h.told.size_word.0 h.told.size_word.1 w.0 w.1 h.told.size size (omega (arith, whole)) in
       let t = carry_at_least (m COUNT) (m (COUNT + 1)) (m SCRATCH + 0) (m (SCRATCH + 1)) h.told.size_word.0 h.told.size_word.1 (omega (arith, w.0)) w.1 (omega (arith, count, size, whole)) in
       after f 2 fits search_part (search_in f.code block) 10 (view a x y n v i z true (SEARCH_AT + 0x3C) (lo ∷ hi ∷ []) m text answers) _ _ (40 * k + 150) refl
       (rw t (go _ _ _ _ _ _ _ _ _ (e ∷ back) (at + 4 * length front)
@@ -407,26 +415,26 @@ module _ (f : Setup) (fits : Fits f 2) (block : Holds block_part f.code) (lo hi 
       let p0 : (m POINTER + 256 * m (POINTER + 1) + 0) % 65536 ≡ here = omega arith in
       let p1 : (m POINTER + 256 * m (POINTER + 1) + 1) % 65536 ≡ here + 1 = omega arith in
       let go_on = λ (N : ℕ). λ (next : (a : ℕ) (n v z : Bool)
-          → Comes f (view a x 1 n v i z (nat_le (e.0 / 256 + bit (not (nat_le (e.0 % 256) (m WANTED)))) (m (WANTED + 1))) (SEARCH_AT + 0x3A)
-              (lo ∷ hi ∷ []) m text answers) (Searched lo hi m0 text answers r) [] N).
+      → Comes f (view a x 1 n v i z (nat_le (e.0 / 256 + bit (not (nat_le (e.0 % 256) (m WANTED)))) (m (WANTED + 1))) (SEARCH_AT + 0x3A)
+      (lo ∷ hi ∷ []) m text answers) (Searched lo hi m0 text answers r) [] N).
       after f 2 fits search_part (search_in f.code block) 1 (view a x y n v i z c (SEARCH_AT + 0x2D) (lo ∷ hi ∷ []) m text answers) _ _ (1 + (2 + (1 + N))) refl
       (comparing f 2 fits POINTER (SEARCH_AT + 0x32) here (e.0 % 256) (m WANTED) x 0 _ _ _ _ _ _ m text answers _ _ (2 + (1 + N))
-          (search_in f.code block _ _ refl, (search_in f.code block _ _ refl, tt)) refl refl refl p0 (program_place here one.start (omega arith)) one.low (λ n z.
+      (search_in f.code block _ _ refl, (search_in f.code block _ _ refl, tt)) refl refl refl p0 (program_place here one.start (omega arith)) one.low (λ n z.
       after f 2 fits search_part (search_in f.code block) 1 (view (m WANTED) x 0 n v i z _ (SEARCH_AT + 0x34) (lo ∷ hi ∷ []) m text answers) _ _ (1 + N) refl
       (subtracting f 2 fits POINTER (SEARCH_AT + 0x38) (here + 1) (e.0 / 256) (m (WANTED + 1)) x 1 _ _ _ _ _ _ m text answers _ _ N
-          (search_in f.code block _ _ refl, (search_in f.code block _ _ refl, tt)) refl refl refl p1 (program_place (here + 1) (omega arith) (omega arith)) one.high next))) in
+      (search_in f.code block _ _ refl, (search_in f.code block _ _ refl, tt)) refl refl refl p1 (program_place (here + 1) (omega arith) (omega arith)) one.high next))) in
       ⊎_elim
       (λ less. let t = carry_below (m WANTED) (m (WANTED + 1)) (e.0 % 256) (e.0 / 256) asked.low_small asked.high_small (omega arith) (omega arith) (omega arith) in
       looser f _ _ _ [] (2 + (1 + (2 + (1 + (1 + (5 + (40 * k + 150))))))) (7 + (11 + (40 * k + 150))) (omega arith) (λ w h. h)
       (go_on (1 + (5 + (40 * k + 150))) (λ a n v z. after f 2 fits search_part (search_in f.code block) 0
-          (view a x 1 n v i z (nat_le (e.0 / 256 + bit (not (nat_le (e.0 % 256) (m WANTED)))) (m (WANTED + 1))) (SEARCH_AT + 0x3A)
-          (lo ∷ hi ∷ []) m text answers) _ _ (5 + (40 * k + 150)) refl
+      (view a x 1 n v i z (nat_le (e.0 / 256 + bit (not (nat_le (e.0 % 256) (m WANTED)))) (m (WANTED + 1))) (SEARCH_AT + 0x3A)
+      (lo ∷ hi ∷ []) m text answers) _ _ (5 + (40 * k + 150)) refl
       (rw t (lower k go _ _ _ _ _ _ _ _ m front e back at h w size some few_front less)))))
       (λ least. let t = carry_at_least (m WANTED) (m (WANTED + 1)) (e.0 % 256) (e.0 / 256) asked.low_small asked.high_small (omega arith) (omega arith) (omega arith) in
       looser f _ _ _ [] (2 + (1 + (2 + (1 + (1 + (11 + (40 * k + 150))))))) (7 + (11 + (40 * k + 150))) (omega arith) (λ w h. h)
       (go_on (1 + (11 + (40 * k + 150))) (λ a n v z. after f 2 fits search_part (search_in f.code block) 0
-          (view a x 1 n v i z (nat_le (e.0 / 256 + bit (not (nat_le (e.0 % 256) (m WANTED)))) (m (WANTED + 1))) (SEARCH_AT + 0x3A)
-          (lo ∷ hi ∷ []) m text answers) _ _ (11 + (40 * k + 150)) refl
+      (view a x 1 n v i z (nat_le (e.0 / 256 + bit (not (nat_le (e.0 % 256) (m WANTED)))) (m (WANTED + 1))) (SEARCH_AT + 0x3A)
+      (lo ∷ hi ∷ []) m text answers) _ _ (11 + (40 * k + 150)) refl
       (rw t (upper k go _ _ _ _ _ _ _ m front e back at h w size p place few_back least)))))
       (cases_lt (word_in m0 WANTED) e.0)
 
@@ -439,7 +447,7 @@ module _ (f : Setup) (fits : Fits f 2) (block : Holds block_part f.code) (lo hi 
   add k go a x y n v i z c m front e back at h w size low high four some few_front few_back =
       let to = h.part.to in
       let sum = summed a (m (POINTER + 1)) (m TABLE) (m (TABLE + 1)) (4 * length front) at low high h.told.table_word.0 h.told.table_word.1 four
-          h.told.table (omega (arith, length-append front (e ∷ back))) in
+      h.told.table (omega (arith, length-append front (e ∷ back))) in
       after f 2 fits search_part (search_in f.code block) 5 (view a x y n v i z c (SEARCH_AT + 0x22) (lo ∷ hi ∷ []) m text answers) _ _ (7 + (11 + (40 * k + 150))) refl
       (compare k go _ _ _ _ _ _ _ _ _ front e back at
       (record {
@@ -474,7 +482,7 @@ module _ (f : Setup) (fits : Fits f 2) (block : Holds block_part f.code) (lo hi 
       let length_front = part.size in
       let total : length es ≡ length part.front + suc (length part.back) = ap length part.whole ∙ length-append part.front (part.here ∷ part.back) in
       quadruple k go x y n v i z c m part.front part.here part.back at (subst (λ l. Range m l at) part.whole h) w (size ∙ sym length_front) copy
-          (omega arith) (omega (arith, few)) (omega (arith, few, total))
+      (omega arith) (omega (arith, few)) (omega (arith, few, total))
 
   -- SCRATCH
   abbrev halves : (ℕ → ℕ) → ℕ → ℕ
@@ -545,4 +553,4 @@ search_law f fits block lo hi text answers m a x y n v i z c number table lines 
     let place = value m TABLE table at in
     whole f fits block lo hi text answers m (bytes_of m WANTED number wanted) (address_of number lines) a x y n v i z c lines (bytes_of m TABLE table at) (bytes_of m COUNT (length lines) count)
     (subst (λ p. Bytes f.code p (table_bytes lines)) (sym place) shown) (omega (arith, place, from)) (omega (arith, place, to))
-        (value m COUNT (length lines) count) some rising words (ap (λ n. address_of n lines) (value m WANTED number wanted))
+    (value m COUNT (length lines) count) some rising words (ap (λ n. address_of n lines) (value m WANTED number wanted))

@@ -17,7 +17,7 @@ high_twice_small l h p = omega (arith, one_high l p)
 pub times_ten : (l h d : ℕ) → l < 256 → h < 256 → d < 256 →
     (2 * ((2 * (2 * l % 256) % 256 + l + 0) % 256) % 256 + d + 0) % 256
     + 256 * high_sum (2 * ((2 * (2 * l % 256) % 256 + l + 0) % 256) % 256) (high_twice ((2 * (2 * l % 256) % 256 + l + 0) % 256)
-        (high_sum (2 * (2 * l % 256) % 256) (high_twice (2 * l % 256) (high_twice l h)) l h)) d 0
+    (high_sum (2 * (2 * l % 256) % 256) (high_twice (2 * l % 256) (high_twice l h)) l h)) d 0
     ≡ (10 * (l + 256 * h) + d) % 65536
 times_ten l h d p q r =
     let a = 2 * l % 256 in

@@ -14,7 +14,7 @@ use Rattle.tb_reaching.proofs.Comes.{after, ending, looser}
 use Rattle.tb_reaching.proofs.Calls.{under}
 use Rattle.tb_reaching.proofs.Placed.{placing, takes_at, reads_code}
 use Rattle.tb_meaning.specs.Control.{column_after}
-use Rattle.tb_runtime16.specs.Places.{TEXT_AT, COLUMN, POINTER, LENGTH}
+use Rattle.tb_runtime16.specs.Addresses.{TEXT_AT, COLUMN, POINTER, LENGTH}
 use Rattle.tb_runtime16.specs.Block.{block_part}
 use Rattle.tb_runtime16.specs.Laws.{Back, Sent, Told, nowhere, TextLaw}
 use Rattle.tb_opcodes.specs.Bytes.{AreBytes}
@@ -81,8 +81,19 @@ module _ (f : Setup) (fits : Fits f 4) (block : Holds block_part f.code) (lo hi 
       looser f _ _ _ (b ∷ bs) (2 + (15 * length bs + 16)) (15 * length (b ∷ bs) + 3) (omega arith) (λ w h. h)
       (after f 4 fits text_part (text_in f.code block) 1 (view a x y n v i z c (TEXT_AT + 18) (lo ∷ hi ∷ []) m text answers) _ _ (15 * length bs + 16) refl
       (rw more (go _ _ _ _ _ _ _ _ _ b at
-      (record { word_is = h.word_is; low = h.low; high = h.high; shown = h.shown; from = h.from; to = h.to; few = h.few; small = h.small;
-          others = put_length m _ h.others; column = h.column; column_small = h.column_small })
+      (record {
+        word_is = h.word_is;
+        low = h.low;
+        high = h.high;
+        shown = h.shown;
+        from = h.from;
+        to = h.to;
+        few = h.few;
+        small = h.small;
+        others = put_length m _ h.others;
+        column = h.column;
+        column_small = h.column_small;
+      })
       less)))
 
   -- the pointer goes up; the byte before it was sent
@@ -106,17 +117,39 @@ module _ (f : Setup) (fits : Fits f 4) (block : Holds block_part f.code) (lo hi 
       looser f _ _ _ bs (2 + (1 + (15 * length bs + 3))) (3 + (15 * length bs + 3)) (omega arith) (λ w h. h)
       (after f 4 fits text_part (text_in f.code block) 1 (view a x y n v i z c (TEXT_AT + 12) (lo ∷ hi ∷ []) w text answers) _ _ (1 + (15 * length bs + 3)) refl
       (rw t (after f 4 fits text_part (text_in f.code block) 0 (view _ _ _ _ _ _ _ _ (TEXT_AT + 16) (lo ∷ hi ∷ [])
-          (with_byte w POINTER ((w POINTER + 1) % 256)) text answers) _ _ (15 * length bs + 3) refl
+      (with_byte w POINTER ((w POINTER + 1) % 256)) text answers) _ _ (15 * length bs + 3) refl
       (go _ _ _ _ _ _ _ _ _ (at + 1)
-      (record { word_is = omega arith; low = omega arith; high = omega arith; shown = shown; from = omega (arith, h.from); to = omega (arith, h.to);
-          few = omega (arith, h.few); small = h.small.1; others = put_high _ _ (put_pointer w _ others); column = column; column_small = λ p. omega (arith, k.column) })
+      (record {
+        word_is = omega arith;
+        low = omega arith;
+        high = omega arith;
+        shown = shown;
+        from = omega (arith, h.from);
+        to = omega (arith, h.to);
+        few = omega (arith, h.few);
+        small = h.small.1;
+        others = put_high _ _ (put_pointer w _ others);
+        column = column;
+        column_small = λ p. omega (arith, k.column);
+      })
       length_is)))))
       (λ under. let t : eqb ((w POINTER + 1) % 256) 0 ≡ false = ne_eqb _ _ under in
       looser f _ _ _ bs (2 + (15 * length bs + 3)) (3 + (15 * length bs + 3)) (omega arith) (λ w h. h)
       (after f 4 fits text_part (text_in f.code block) 1 (view a x y n v i z c (TEXT_AT + 12) (lo ∷ hi ∷ []) w text answers) _ _ (15 * length bs + 3) refl
       (rw t (go _ _ _ _ _ _ _ _ _ (at + 1)
-      (record { word_is = omega arith; low = omega arith; high = omega arith; shown = shown; from = omega (arith, h.from); to = omega (arith, h.to);
-          few = omega (arith, h.few); small = h.small.1; others = put_pointer w _ others; column = column; column_small = λ p. omega (arith, k.column) })
+      (record {
+        word_is = omega arith;
+        low = omega arith;
+        high = omega arith;
+        shown = shown;
+        from = omega (arith, h.from);
+        to = omega (arith, h.to);
+        few = omega (arith, h.few);
+        small = h.small.1;
+        others = put_pointer w _ others;
+        column = column;
+        column_small = λ p. omega (arith, k.column);
+      })
       length_is))))
       (cases_eq ((w POINTER + 1) % 256) 0)
 
@@ -162,5 +195,16 @@ module _ (f : Setup) (fits : Fits f 4) (block : Holds block_part f.code) (lo hi 
 pub text_law : TextLaw
 text_law f fits block lo hi text answers m a x y n v i z c at bytes p =
     let small = bytes_of m POINTER at p.pointer in
-    whole f fits block lo hi text answers m bytes a x y n v i z c m bytes at (record { word_is = value m POINTER at p.pointer; low = small.0;
-        high = small.1; shown = p.shown; from = p.from; to = p.to; few = p.few; small = p.bytes_small; others = λ a p q r s. refl; column = refl; column_small = λ p. p }) p.count
+    whole f fits block lo hi text answers m bytes a x y n v i z c m bytes at (record {
+      word_is = value m POINTER at p.pointer;
+      low = small.0;
+      high = small.1;
+      shown = p.shown;
+      from = p.from;
+      to = p.to;
+      few = p.few;
+      small = p.bytes_small;
+      others = λ a p q r s. refl;
+      column = refl;
+      column_small = λ p. p;
+    }) p.count

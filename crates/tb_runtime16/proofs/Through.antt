@@ -30,7 +30,7 @@ module _ (f : Setup) (room : ℕ) (fits : Fits f room) (o pc at b : ℕ) (a x y 
   loading here small l h e d s next =
       let w = view a x y n v i z c pc stack m text answers in
       placing f room fits (ins 0xb1 o) w _ q t k small here (takes_at f.code room (ins 0xb1 o) w Lda IndirectY at refl refl refl refl
-          (pointed f.code m w.regs o at l h e) b _ (reads_code f.code m at b d s) refl) next
+      (pointed f.code m w.regs o at l h e) b _ (reads_code f.code m at b d s) refl) next
 
   -- CMP (o),Y
   pub comparing : Bytes f.code pc (0xd1 ∷ o ∷ []) → leb (length stack) room ≡ true → is_data o ≡ true → is_data ((o + 1) % 256) ≡ true
@@ -40,7 +40,7 @@ module _ (f : Setup) (room : ℕ) (fits : Fits f room) (o pc at b : ℕ) (a x y 
   comparing here small l h e d s next =
       let w = view a x y n v i z c pc stack m text answers in
       placing f room fits (ins 0xd1 o) w _ q t k small here (takes_at f.code room (ins 0xd1 o) w Cmp IndirectY at refl refl refl refl
-          (pointed f.code m w.regs o at l h e) b _ (reads_code f.code m at b d s) refl) (next _ _)
+      (pointed f.code m w.regs o at l h e) b _ (reads_code f.code m at b d s) refl) (next _ _)
 
   -- SBC (o),Y: all but the carry is forgotten
   pub subtracting : Bytes f.code pc (0xf1 ∷ o ∷ []) → leb (length stack) room ≡ true → is_data o ≡ true → is_data ((o + 1) % 256) ≡ true
@@ -50,7 +50,7 @@ module _ (f : Setup) (room : ℕ) (fits : Fits f room) (o pc at b : ℕ) (a x y 
   subtracting here small l h e d s next =
       let w = view a x y n v i z c pc stack m text answers in
       placing f room fits (ins 0xf1 o) w _ q t k small here (takes_at f.code room (ins 0xf1 o) w Sbc IndirectY at refl refl refl refl
-          (pointed f.code m w.regs o at l h e) b _ (reads_code f.code m at b d s) refl) (next _ _ _ _)
+      (pointed f.code m w.regs o at l h e) b _ (reads_code f.code m at b d s) refl) (next _ _ _ _)
 
 -- ---- sums
 -- four times a word, after ASL, ROL, ASL, ROL
@@ -81,7 +81,7 @@ summed a f b0 b1 n at p q r s e g small = (omega arith, omega arith, omega (arit
 -- a difference
 pub difference : (l h k j n u d : ℕ) → l < 256 → h < 256 → k < 256 → j < 256 → l + 256 * h ≡ n → k + 256 * j ≡ u → u + d ≡ n →
     ((l + 256 - (k + 0)) % 256 < 256) × ((h + 256 - (j + bit (not (nat_le (k + 0) l)))) % 256 < 256)
-        × ((l + 256 - (k + 0)) % 256 + 256 * ((h + 256 - (j + bit (not (nat_le (k + 0) l)))) % 256) ≡ d)
+    × ((l + 256 - (k + 0)) % 256 + 256 * ((h + 256 - (j + bit (not (nat_le (k + 0) l)))) % 256) ≡ d)
 difference l h k j n u d p q r s e g t =
     let less = borrow (k + 0) l (omega arith) p in
     (omega arith, omega arith, omega (arith, less))

@@ -5,7 +5,7 @@ use Rattle.std.proofs.lemmas.Bool.{ne_eqb, eq-eqb, le-leb, lt-leb, cases_eq, cas
 use Rattle.tb_cpu.specs.Operands.{word_in}
 use Rattle.tb_reaching.specs.View.{Setup, Holds, Fits, Comes, view, View}
 use Rattle.tb_reaching.proofs.Comes.{after, looser}
-use Rattle.tb_runtime16.specs.Places.{DIVIDE_AT, LEFT, RIGHT}
+use Rattle.tb_runtime16.specs.Addresses.{DIVIDE_AT, LEFT, RIGHT}
 use Rattle.tb_runtime16.specs.Block.{block_part}
 use Rattle.tb_runtime16.specs.Laws.{unsigned_at, Back, Parted, UnsignedLaw}
 use Rattle.tb_runtime16.proofs.InMemory.{IsWord, bytes_of, of_word, value}

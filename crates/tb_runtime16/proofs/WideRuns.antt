@@ -9,7 +9,7 @@ use Rattle.tb_cpu.specs.Effects.{bit}
 use Rattle.tb_memmap.specs.Bytes.{with_byte}
 use Rattle.tb_reaching.specs.View.{Setup, Holds, Fits, Comes, view, View}
 use Rattle.tb_reaching.proofs.Comes.{after, ending, looser}
-use Rattle.tb_runtime16.specs.Places.{DIVIDE_AT, LEFT, RIGHT, RESULT}
+use Rattle.tb_runtime16.specs.Addresses.{DIVIDE_AT, LEFT, RIGHT, RESULT}
 use Rattle.tb_runtime16.specs.Block.{block_part}
 use Rattle.tb_runtime16.specs.Laws.{Back, Parted}
 use Rattle.tb_runtime16.proofs.InMemory.{IsWord, holds_word}
@@ -125,8 +125,14 @@ module _ (f : Setup) (fits : Fits f 2) (block : Holds block_part f.code) (lo hi 
       let r1 = 2 * m (RESULT + 1) % 256 + bit (eqb (m RESULT / 128 % 2) 1) in
       let top = carried (m LEFT) (m (LEFT + 1)) h.left.0 h.left.1 in
       let left = doubled (m LEFT) (m (LEFT + 1)) h.left.0 h.left.1 in
-      let rest : r0 + 256 * r1 ≡ 2 * word_in m RESULT + word_in m LEFT / 32768 = omega (arith, top, h.left, h.less, most,
-          doubled_in (m RESULT) (m (RESULT + 1)) (bit (eqb (m (LEFT + 1) / 128 % 2) 1)) h.rest.0 h.rest.1 (omega (arith, top, h.left))) in
+      let rest : r0 + 256 * r1 ≡ 2 * word_in m RESULT + word_in m LEFT / 32768 = omega (
+        arith,
+        top,
+        h.left,
+        h.less,
+        most,
+        doubled_in (m RESULT) (m (RESULT + 1)) (bit (eqb (m (LEFT + 1) / 128 % 2) 1)) h.rest.0 h.rest.1 (omega (arith, top, h.left)),
+      ) in
       let small0 : r0 < 256 = omega (arith, top, h.left) in
       let small1 : r1 < 256 = omega (arith, rest, h.left, h.less, most) in
       let right : IsWord m RIGHT = (omega (arith, h.low, d), omega (arith, h.high, d)) in
@@ -152,7 +158,7 @@ module _ (f : Setup) (fits : Fits f 2) (block : Holds block_part f.code) (lo hi 
       }) e s))))
       (λ more. let t = compared r0 r1 (m RIGHT) (m (RIGHT + 1)) small0 small1 right.0 right.1 more in
       let rest' = taken_from (r0 + 256 * r1) (word_in m0 RIGHT) _ wide (subst (λ d. d ≤ r0 + 256 * r1) same more)
-          (subtracted r0 r1 (m RIGHT) (m (RIGHT + 1)) small0 small1 right.0 right.1 ∙ ap (λ d. (r0 + 256 * r1 + (65536 - d)) % 65536) same) in
+      (subtracted r0 r1 (m RIGHT) (m (RIGHT + 1)) small0 small1 right.0 right.1 ∙ ap (λ d. (r0 + 256 * r1 + (65536 - d)) % 65536) same) in
       looser f _ _ _ [] (11 + (3 + (16 * k + 3))) (16 * k + 17) (omega arith) (λ w h. h)
       (after f 2 fits divide_part (divide_in f.code block) 10 (view a x y n v i z c (DIVIDE_AT + 103) (lo ∷ hi ∷ []) m text answers) _ _ (3 + (16 * k + 3)) refl
       (rw t (keep k go _ _ _ _ _ _ _ _ _ (suc j) (q + q + 1)
@@ -180,6 +186,15 @@ module _ (f : Setup) (fits : Fits f 2) (block : Holds block_part f.code) (lo hi 
       looser f _ _ _ [] (4 + 257) 261 (omega arith) (λ w h. h)
       (after f 2 fits divide_part (divide_in f.code block) 3 (view a x y n v i z c (DIVIDE_AT + 93) (lo ∷ hi ∷ []) m0 text answers) _ _ 257 refl
       (turn 15 (lesses 15) _ _ _ _ _ _ _ _ _ 0 0
-      (record { left = p; rest = (omega arith, omega arith); low = refl; high = refl; others = frame_put _ _ (RESULT + 1) _ refl
-          (frame_put _ _ RESULT _ refl (λ a e. refl)); less = omega (arith, some); few = omega arith; sum = omega arith })
+      (record {
+        left = p;
+        rest = (omega arith, omega arith);
+        low = refl;
+        high = refl;
+        others = frame_put _ _ (RESULT + 1) _ refl
+            (frame_put _ _ RESULT _ refl (λ a e. refl));
+        less = omega (arith, some);
+        few = omega arith;
+        sum = omega arith;
+      })
       refl refl))

@@ -2,7 +2,7 @@
 use Rattle.std.proofs.Common.{ℕ, List, ◌++◌}
 use Rattle.tb_reaching.specs.View.{Part, Holds, part_at}
 use Rattle.tb_reaching.proofs.Parts.{holds_itself, holds_then, part_front, part_back}
-use Rattle.tb_runtime16.specs.Places.{PROLOGUE_AT, SEND_AT, MULTIPLY_AT, DIVIDE_AT, RANDOM_AT, NUMBER_AT, TEXT_AT, ZONE_AT, INPUT_AT, SEARCH_AT, PUSH_AT, POP_AT, FAULT_LINE_AT, FAULT_AT, POLL_AT}
+use Rattle.tb_runtime16.specs.Addresses.{PROLOGUE_AT, SEND_AT, MULTIPLY_AT, DIVIDE_AT, RANDOM_AT, NUMBER_AT, TEXT_AT, ZONE_AT, INPUT_AT, SEARCH_AT, PUSH_AT, POP_AT, FAULT_LINE_AT, FAULT_AT, POLL_AT}
 use Rattle.tb_runtime16.specs.declared.code.TheConstants.{PROLOGUE_BYTES, SEND_BYTES, MULTIPLY_BYTES, DIVIDE_BYTES, RANDOM_BYTES, NUMBER_BYTES, TEXT_BYTES}
 use Rattle.tb_runtime16.specs.declared.code.TheConstants.{ZONE_BYTES, INPUT_BYTES, SEARCH_BYTES, PUSH_BYTES, POP_BYTES, FAULT_LINE_BYTES, FAULT_BYTES}
 use Rattle.tb_runtime16.specs.declared.code.TheConstants.{POLL_BYTES}
@@ -49,8 +49,8 @@ abbrev pub poll_part : Part
 poll_part = part_at POLL_AT POLL_BYTES
 
 -- Push, the place of a note, and Pop, one behind the other
-abbrev pub notes_part : Part
-notes_part = part_at PUSH_AT (PUSH_BYTES ++ POP_BYTES)
+abbrev pub returns_part : Part
+returns_part = part_at PUSH_AT (PUSH_BYTES ++ POP_BYTES)
 
 -- ---- the block from each routine on
 abbrev poll_on : List ℕ
@@ -186,5 +186,6 @@ fault_in code block = holds_then fault_part block_part code (holds_then fault_pa
 pub poll_in : (code : Part) → Holds block_part code → Holds poll_part code
 poll_in code block = holds_then poll_part block_part code from_poll block
 
-pub notes_in : (code : Part) → Holds block_part code → Holds notes_part code
-notes_in code block = holds_then notes_part block_part code (holds_then notes_part (part_at PUSH_AT push_on) block_part (part_front PUSH_AT (PUSH_BYTES ++ POP_BYTES) fault_line_on) from_push) block
+pub returns_in : (code : Part) → Holds block_part code → Holds returns_part code
+returns_in code block = holds_then returns_part block_part code (holds_then returns_part (part_at PUSH_AT push_on) block_part
+    (part_front PUSH_AT (PUSH_BYTES ++ POP_BYTES) fault_line_on) from_push) block

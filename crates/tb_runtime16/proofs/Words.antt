@@ -103,7 +103,7 @@ pub quotient_negative : (n d : ℕ) → n < 65536 → is_negative n ≡ true →
 quotient_negative n d p e =
     let h = sign_small n e in
     ap (λ b. with_sign (differ b (is_negative d)) ((if b then 65536 - n else n) / magnitude d)) e
-        ∙ ap (λ x. with_sign (not (is_negative d)) (x / magnitude d)) (let t : 65536 - n ≡ negated n = omega (arith, h) in t)
+    ∙ ap (λ x. with_sign (not (is_negative d)) (x / magnitude d)) (let t : 65536 - n ≡ negated n = omega (arith, h) in t)
 
 -- a word that is read as negative, turned round
 pub negated_size : (d : ℕ) → d < 65536 → is_negative d ≡ true → negated d ≡ magnitude d

@@ -5,7 +5,7 @@ use Rattle.std.proofs.lemmas.Grind.{and_numeral}
 use Rattle.tb_reaching.specs.View.{Setup, Holds, Fits, Comes, view}
 use Rattle.tb_reaching.proofs.Comes.{after, ending, looser}
 use Rattle.tb_reaching.proofs.Calls.{under}
-use Rattle.tb_runtime16.specs.Places.{ZONE_AT, COLUMN}
+use Rattle.tb_runtime16.specs.Addresses.{ZONE_AT, COLUMN}
 use Rattle.tb_runtime16.specs.Block.{block_part}
 use Rattle.tb_runtime16.specs.Laws.{Back, Sent, nowhere, ZoneLaw}
 use Rattle.tb_runtime16.proofs.Within.{zone_part, zone_in}
@@ -45,8 +45,14 @@ module _ (f : Setup) (fits : Fits f 4) (block : Holds block_part f.code) (lo hi 
       looser f _ _ _ (replicate (suc k) 32) (3 + (12 * suc k + 1)) (12 * suc k + 4) (omega arith) (λ w h. h)
       (after f 4 fits zone_part (zone_in f.code block) 2 (view a x y n v i z c (ZONE_AT + 5) (lo ∷ hi ∷ []) m text answers) _ _ (12 * suc k + 1) refl
       (rw on (looser f _ _ _ (replicate (suc k) 32) (12 * suc k + 1) (12 * suc k + 1) (omega arith)
-      (λ w b. record { pc = b.pc; stack_is = b.stack_is; binary = b.binary; same_text = b.same_text; same_answers = b.same_answers;
-          memory = sent_then nowhere m0 m w.mem (32 ∷ []) (replicate (suc k) 32) h b.memory })
+      (λ w b. record {
+        pc = b.pc;
+        stack_is = b.stack_is;
+        binary = b.binary;
+        same_text = b.same_text;
+        same_answers = b.same_answers;
+        memory = sent_then nowhere m0 m w.mem (32 ∷ []) (replicate (suc k) 32) h b.memory;
+      })
       (go _ _ _ _ _ _ _ _ m (omega (arith, h.column)) (omega (arith, h.column, e))))))
 
   turn : (k : ℕ) → Test k → Loop k

@@ -1,9 +1,9 @@
 -- The routine block, as the code of this crate has it.
 use Rattle.std.specs.Prelude.{◌≡◌, ℕ, ◌-◌, List, ◌++◌, length, take, drop}
 use Rattle.tb_reaching.specs.View.{Part, part_at}
-use Rattle.tb_runtime16.specs.Places.{PROLOGUE_AT}
-use Rattle.tb_runtime16.specs.declared.places.Routine.{Routine}
-use Rattle.tb_runtime16.specs.declared.places.Routine.TheVariants.{Multiply, Divide, Random, Number, Text, Zone, Input, Search, Push, Pop, FaultLine, Fault, Poll}
+use Rattle.tb_runtime16.specs.Addresses.{PROLOGUE_AT}
+use Rattle.tb_runtime16.specs.declared.addresses.Routine.{Routine}
+use Rattle.tb_runtime16.specs.declared.addresses.Routine.TheVariants.{Multiply, Divide, Random, Number, Text, Zone, Input, Search, Push, Pop, FaultLine, Fault, Poll}
 use Rattle.tb_runtime16.specs.declared.code.TheConstants.{PROLOGUE_BYTES, SEND_BYTES, MULTIPLY_BYTES, DIVIDE_BYTES, RANDOM_BYTES, NUMBER_BYTES, TEXT_BYTES}
 use Rattle.tb_runtime16.specs.declared.code.TheConstants.{ZONE_BYTES, INPUT_BYTES, SEARCH_BYTES, PUSH_BYTES, POP_BYTES, FAULT_LINE_BYTES, FAULT_BYTES}
 use Rattle.tb_runtime16.specs.declared.code.TheConstants.{POLL_BYTES}
@@ -12,7 +12,7 @@ use Rattle.tb_runtime16.specs.declared.code.TheConstants.{POLL_BYTES}
 abbrev pub block_bytes : List ℕ
 block_bytes =
     PROLOGUE_BYTES ++ SEND_BYTES ++ MULTIPLY_BYTES ++ DIVIDE_BYTES ++ RANDOM_BYTES ++ NUMBER_BYTES ++ TEXT_BYTES ++ ZONE_BYTES ++ INPUT_BYTES
-        ++ SEARCH_BYTES ++ PUSH_BYTES ++ POP_BYTES ++ FAULT_LINE_BYTES ++ FAULT_BYTES ++ POLL_BYTES
+    ++ SEARCH_BYTES ++ PUSH_BYTES ++ POP_BYTES ++ FAULT_LINE_BYTES ++ FAULT_BYTES ++ POLL_BYTES
 
 -- the bytes of the block at their addresses
 abbrev pub block_part : Part

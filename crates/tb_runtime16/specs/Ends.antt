@@ -6,7 +6,7 @@ use Rattle.tb_kernal.specs.Starts.{IsStart}
 use Rattle.tb_reaching.specs.View.{View, Setup, Part, Holds, Fits, Comes, view, back_at, part_at}
 use Rattle.tb_reaching.specs.Start.{setup_of, view_of, home_low, home_high, IsHome, Homed}
 use Rattle.tb_meaning.specs.Control.{fault_text}
-use Rattle.tb_runtime16.specs.Places.{VARS, SEEDED, HOME_S, SEED, LINE, NOTES, LINES_AT, FAULT_AT, FAULT_LINE_AT, POLL_AT}
+use Rattle.tb_runtime16.specs.Addresses.{VARS, SEEDED, HOME_S, SEED, LINE, NOTES, LINES_AT, FAULT_AT, FAULT_LINE_AT, POLL_AT}
 use Rattle.tb_runtime16.specs.Block.{block_part}
 use Rattle.tb_runtime16.specs.Laws.{WordAt, Leaves}
 
@@ -19,24 +19,24 @@ pub record Entered (f : Setup) (lo hi : ℕ) (m : ℕ → ℕ) : Type 0 where
 abbrev pub FaultLaw : Type 0
 FaultLaw =
     (f : Setup) (room : ℕ) → 13 ≤ room → Fits f room → Holds block_part f.code → (hlo hhi : ℕ) (above : List ℕ) → length above + 2 ≤ room
-        → (text answers : List ℕ) (m : ℕ → ℕ) → Entered f hlo hhi m → (line : ℕ) → WordAt m LINE line → (k x y : ℕ) (n v i z c : Bool) → k < 10 →
+    → (text answers : List ℕ) (m : ℕ → ℕ) → Entered f hlo hhi m → (line : ℕ) → WordAt m LINE line → (k x y : ℕ) (n v i z c : Bool) → k < 10 →
     Comes f (view k x y n v i z c FAULT_AT (above ++ hlo ∷ hhi ∷ []) m text answers) (IsHome f) (fault_text k line) 540
 
 -- the entry that takes the line's number too: k in A, the number in X and Y, low byte first
 abbrev pub FaultLineLaw : Type 0
 FaultLineLaw =
     (f : Setup) (room : ℕ) → 13 ≤ room → Fits f room → Holds block_part f.code → (hlo hhi : ℕ) (above : List ℕ) → length above + 2 ≤ room
-        → (text answers : List ℕ) (m : ℕ → ℕ) → Entered f hlo hhi m → (k x y : ℕ) (n v i z c : Bool) → k < 10 → x < 256 → y < 256 →
+    → (text answers : List ℕ) (m : ℕ → ℕ) → Entered f hlo hhi m → (k x y : ℕ) (n v i z c : Bool) → k < 10 → x < 256 → y < 256 →
     Comes f (view k x y n v i z c FAULT_LINE_AT (above ++ hlo ∷ hhi ∷ []) m text answers) (IsHome f) (fault_text k (x + 256 * y)) 542
 
 -- Poll: an answer is taken, and 3 stops the program, from any depth
 abbrev pub PollLaw : Type 0
 PollLaw =
     (f : Setup) (room : ℕ) → 13 ≤ room → Fits f room → Holds block_part f.code → (hlo hhi : ℕ) (above : List ℕ) → length above + 6 ≤ room
-        → (lo hi : ℕ) (text answers : List ℕ) (m : ℕ → ℕ) → Entered f hlo hhi m → (line : ℕ) → WordAt m LINE line → first_or_zero answers < 256
-        → (a x y : ℕ) (n v i z c : Bool) →
+    → (lo hi : ℕ) (text answers : List ℕ) (m : ℕ → ℕ) → Entered f hlo hhi m → (line : ℕ) → WordAt m LINE line → first_or_zero answers < 256
+    → (a x y : ℕ) (n v i z c : Bool) →
     (first_or_zero answers ≢ 3 → Comes f (view a x y n v i z c POLL_AT (lo ∷ hi ∷ above ++ hlo ∷ hhi ∷ []) m text answers)
-        (Leaves (back_at lo hi) (above ++ hlo ∷ hhi ∷ []) text (drop 1 answers) (λ w. w ≡ m)) [] 5)
+    (Leaves (back_at lo hi) (above ++ hlo ∷ hhi ∷ []) text (drop 1 answers) (λ w. w ≡ m)) [] 5)
     × (first_or_zero answers ≡ 3 → Comes f (view a x y n v i z c POLL_AT (lo ∷ hi ∷ above ++ hlo ∷ hhi ∷ []) m text answers) (IsHome f) (fault_text 0 line) 546)
 
 -- places that the prologue clears
@@ -58,5 +58,5 @@ pub record Begun (f : Setup) (s : State) (w : View) : Type 0 where
 abbrev pub PrologueLaw : Type 0
 PrologueLaw =
     (place : ℕ) (bytes : List ℕ) → 0x0800 ≤ place → place + length bytes ≤ 0xa000 → (inner : Part) → Holds inner (part_at place bytes)
-        → Holds block_part inner → (s : State) → IsStart place bytes s →
+    → Holds block_part inner → (s : State) → IsStart place bytes s →
     Comes (setup_of inner (part_at place bytes) s) (view_of s) (Begun (setup_of inner (part_at place bytes) s) s) [] 192

@@ -6,7 +6,7 @@ use Rattle.tb_reaching.specs.View.{View, Setup, Holds, Fits, Comes, view, back_a
 use Rattle.tb_reaching.specs.Start.{IsHome, IsWaiting}
 use Rattle.tb_meaning.specs.Control.{column_after, fault_text}
 use Rattle.tb_meaning.specs.Input.{Nothing, Turn, Got, Bad, Dry, turn}
-use Rattle.tb_runtime16.specs.Places.{INPUT_AT, COLUMN, LEFT, RESULT, LINE, BYTE, OPEN, SCRATCH}
+use Rattle.tb_runtime16.specs.Addresses.{INPUT_AT, COLUMN, LEFT, RESULT, LINE, BYTE, OPEN, SCRATCH}
 use Rattle.tb_runtime16.specs.Block.{block_part}
 use Rattle.tb_runtime16.specs.Ends.{Entered}
 use Rattle.tb_runtime16.specs.Laws.{WordAt, Leaves, Gives}
@@ -51,7 +51,7 @@ Ended f lo hi own m replies c before Dry w = IsWaiting w × (length w.stack ≤ 
 abbrev pub InputLaw : Type 0
 InputLaw =
     (f : Setup) (room : ℕ) → 13 ≤ room → Fits f room → Holds block_part f.code → (hlo hhi : ℕ) (above : List ℕ) → length above + 6 ≤ room
-        → (lo hi : ℕ) (text answers : List ℕ) (m : ℕ → ℕ) → Entered f hlo hhi m → (line : ℕ) → WordAt m LINE line → AreBytes text → (is_open : Bool)
-        → m OPEN ≡ bit is_open → (c : ℕ) → m COLUMN ≡ c % 256 → (a x y : ℕ) (n v i z carry : Bool) →
+    → (lo hi : ℕ) (text answers : List ℕ) (m : ℕ → ℕ) → Entered f hlo hhi m → (line : ℕ) → WordAt m LINE line → AreBytes text → (is_open : Bool)
+    → m OPEN ≡ bit is_open → (c : ℕ) → m COLUMN ≡ c % 256 → (a x y : ℕ) (n v i z carry : Bool) →
     Comes f (view a x y n v i z carry INPUT_AT (lo ∷ hi ∷ above ++ hlo ∷ hhi ∷ []) m text answers)
-        (Ended f lo hi (above ++ hlo ∷ hhi ∷ []) m answers c (prompt is_open) (turn Nothing text)) (prompt is_open ++ turn_sends line (turn Nothing text)) (45 * length text + 587)
+    (Ended f lo hi (above ++ hlo ∷ hhi ∷ []) m answers c (prompt is_open) (turn Nothing text)) (prompt is_open ++ turn_sends line (turn Nothing text)) (45 * length text + 587)

@@ -6,7 +6,7 @@ use Rattle.tb_memmap.specs.Regions.{within}
 use Rattle.tb_reaching.specs.View.{View, Setup, Holds, Fits, Comes, view, back_at, Bytes}
 use Rattle.tb_words.specs.Words.{word, magnitude, quotient, seed_after, digits_of}
 use Rattle.tb_meaning.specs.Control.{zone, column_after}
-use Rattle.tb_runtime16.specs.Places.{SEND_AT, MULTIPLY_AT, DIVIDE_AT, RANDOM_AT, NUMBER_AT, TEXT_AT, ZONE_AT, FAULT_AT, COLUMN, SEEDED, SEED, LEFT, RIGHT, RESULT, LENGTH, SCRATCH, POINTER}
+use Rattle.tb_runtime16.specs.Addresses.{SEND_AT, MULTIPLY_AT, DIVIDE_AT, RANDOM_AT, NUMBER_AT, TEXT_AT, ZONE_AT, FAULT_AT, COLUMN, SEEDED, SEED, LEFT, RIGHT, RESULT, LENGTH, SCRATCH, POINTER}
 use Rattle.tb_runtime16.specs.Block.{block_part}
 
 -- a word, low byte first
@@ -93,7 +93,7 @@ pub record Told (m0 : ℕ → ℕ) (sent : List ℕ) (m : ℕ → ℕ) : Type 0 
 abbrev pub TextLaw : Type 0
 TextLaw =
     (f : Setup) → Fits f 4 → Holds block_part f.code → (lo hi : ℕ) (text answers : List ℕ) (m : ℕ → ℕ) (a x y : ℕ) (n v i z c : Bool) (at : ℕ)
-        (bytes : List ℕ) → Points f m at bytes →
+    (bytes : List ℕ) → Points f m at bytes →
     Comes f (view a x y n v i z c TEXT_AT (lo ∷ hi ∷ []) m text answers) (Back lo hi text answers (Told m bytes)) bytes (15 * length bytes + 3)
 
 -- ---- Zone
@@ -110,7 +110,7 @@ ZoneLaw =
 abbrev pub MultiplyLaw : Type 0
 MultiplyLaw =
     (f : Setup) → Fits f 2 → Holds block_part f.code → (lo hi : ℕ) (text answers : List ℕ) (m : ℕ → ℕ) (a x y : ℕ) (n v i z c : Bool) (left right : ℕ)
-        → WordAt m LEFT left → WordAt m RIGHT right →
+    → WordAt m LEFT left → WordAt m RIGHT right →
     Comes f (view a x y n v i z c MULTIPLY_AT (lo ∷ hi ∷ []) m text answers) (Back lo hi text answers (Gives is_argument m (word (left * right)))) [] 245
 
 -- ---- division without signs, inside Divide
@@ -129,7 +129,7 @@ pub record Parted (m0 : ℕ → ℕ) (q r : ℕ) (m : ℕ → ℕ) : Type 0 wher
 abbrev pub UnsignedLaw : Type 0
 UnsignedLaw =
     (f : Setup) → Fits f 2 → Holds block_part f.code → (lo hi : ℕ) (text answers : List ℕ) (m : ℕ → ℕ) (a x y : ℕ) (n v i z c : Bool) (left right : ℕ)
-        → WordAt m LEFT left → WordAt m RIGHT right → 1 ≤ right → right ≤ 32768 →
+    → WordAt m LEFT left → WordAt m RIGHT right → 1 ≤ right → right ≤ 32768 →
     Comes f (view a x y n v i z c unsigned_at (lo ∷ hi ∷ []) m text answers) (Back lo hi text answers (Parted m (left / right) (left % right))) [] 268
 
 -- ---- Divide
@@ -142,7 +142,7 @@ negate_left_at = DIVIDE_AT + 21
 abbrev pub DivideLaw : Type 0
 DivideLaw =
     (f : Setup) → Fits f 6 → Holds block_part f.code → (lo hi : ℕ) (text answers : List ℕ) (m : ℕ → ℕ) (a x y : ℕ) (n v i z c : Bool) (left right : ℕ)
-        → WordAt m LEFT left → WordAt m RIGHT right → 1 ≤ right →
+    → WordAt m LEFT left → WordAt m RIGHT right → 1 ≤ right →
     Comes f (view a x y n v i z c DIVIDE_AT (lo ∷ hi ∷ []) m text answers) (Back lo hi text answers (Parts is_argument m (quotient left right) (magnitude left % magnitude right))) [] 316
 
 -- by 0, Divide comes to Fault with 2, with memory as it was
@@ -157,7 +157,7 @@ DivideByZeroLaw =
 abbrev pub NumberLaw : Type 0
 NumberLaw =
     (f : Setup) → Fits f 6 → Holds block_part f.code → (lo hi : ℕ) (text answers : List ℕ) (m : ℕ → ℕ) (a x y : ℕ) (n v i z c : Bool) (number : ℕ)
-        → WordAt m LEFT number → m COLUMN < 256 →
+    → WordAt m LEFT number → m COLUMN < 256 →
     Comes f (view a x y n v i z c NUMBER_AT (lo ∷ hi ∷ []) m text answers) (Back lo hi text answers (Sent is_argument m (digits_of number))) (digits_of number) 458
 
 -- ---- Random
@@ -181,12 +181,12 @@ pub record Drawn (m0 : ℕ → ℕ) (bound seed : ℕ) (m : ℕ → ℕ) : Type 
 abbrev pub RandomLaw : Type 0
 RandomLaw =
     (f : Setup) → Fits f 6 → Holds block_part f.code → (lo hi : ℕ) (text answers : List ℕ) (m : ℕ → ℕ) (a x y : ℕ) (n v i z c : Bool)
-        (bound option stored : ℕ) → WordAt m LEFT bound → WordAt m RIGHT option → WordAt m SEED stored → 1 ≤ bound → bound < 32768 →
+    (bound option stored : ℕ) → WordAt m LEFT bound → WordAt m RIGHT option → WordAt m SEED stored → 1 ≤ bound → bound < 32768 →
     Comes f (view a x y n v i z c RANDOM_AT (lo ∷ hi ∷ []) m text answers) (Back lo hi text answers (Drawn m bound (seed_of m option stored))) [] 549
 
 -- for a bound below 1, Random comes to Fault with 3, with memory as it was
 abbrev pub RandomRangeLaw : Type 0
 RandomRangeLaw =
     (f : Setup) → Fits f 2 → Holds block_part f.code → (lo hi : ℕ) (text answers : List ℕ) (m : ℕ → ℕ) (a x y : ℕ) (n v i z c : Bool) (bound : ℕ)
-        → WordAt m LEFT bound → (bound ≡ 0) ⊎ (32768 ≤ bound) →
+    → WordAt m LEFT bound → (bound ≡ 0) ⊎ (32768 ≤ bound) →
     Comes f (view a x y n v i z c RANDOM_AT (lo ∷ hi ∷ []) m text answers) (Faults lo hi text answers 3 (λ w. w ≡ m)) [] 7

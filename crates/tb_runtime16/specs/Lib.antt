@@ -1,9 +1,9 @@
-pub mod Places
+pub mod Addresses
 pub mod Pinned
 pub mod Block
 pub mod Laws
 pub mod Ends
 pub mod Input
-pub mod Notes
+pub mod Returns
 pub mod Search
 pub mod Routines

@@ -3,10 +3,10 @@
 //! makes the block and each routine by itself.
 //! Addresses inside the block are those of `targets`, which follow from the routines' lengths.
 ghost use Rattle.std.specs.Prelude.{◌≡◌, ◌≤◌, ◌+◌, length};
-ghost use Rattle.tb_runtime16.specs.Places.{PROLOGUE_AT, LINES_AT};
+ghost use Rattle.tb_runtime16.specs.Addresses.{PROLOGUE_AT, LINES_AT};
 ghost use Rattle.tb_runtime16.specs.Block.{block_bytes};
 
-use crate::places::{
+use crate::addresses::{
     BLOCK_LENGTH, DIVIDE_LENGTH, FAULT_LENGTH, FAULT_LINE_LENGTH, INPUT_LENGTH, MULTIPLY_LENGTH,
     NUMBER_LENGTH, POLL_LENGTH, POP_LENGTH, PROLOGUE_LENGTH, PUSH_LENGTH, RANDOM_LENGTH,
     SEARCH_LENGTH, SEND_LENGTH, TEXT_LENGTH, ZONE_LENGTH,
@@ -475,9 +475,9 @@ macro_rules! push {
         0xad, 0x3d, 0xc0, // 3: LDA NOTES+1
         0xd0, 0x13, // 6: BNE PUSH_FAR
         0xa5, 0xfb, // 8: LDA LEFT
-        0x9d, 0x00, 0xc1, // 10: STA NOTE_LOW,X
+        0x9d, 0x00, 0xc1, // 10: STA RETURN_LOW,X
         0xa5, 0xfc, // 13: LDA LEFT+1
-        0x9d, 0x00, 0xc3, // 15: STA NOTE_HIGH,X
+        0x9d, 0x00, 0xc3, // 15: STA RETURN_HIGH,X
         0xee, 0x3c, 0xc0, // 18 PUSH_COUNT: INC NOTES
         0xd0, 0x03, // 21: BNE PUSH_END
         0xee, 0x3d, 0xc0, // 23: INC NOTES+1
@@ -485,9 +485,9 @@ macro_rules! push {
         0xe0, 0xf4, // 27 PUSH_FAR: CPX #$F4
         0xb0, 0x0c, // 29: BCS PUSH_FULL
         0xa5, 0xfb, // 31: LDA LEFT
-        0x9d, 0x00, 0xc2, // 33: STA NOTE_LOW+256,X
+        0x9d, 0x00, 0xc2, // 33: STA RETURN_LOW+256,X
         0xa5, 0xfc, // 36: LDA LEFT+1
-        0x9d, 0x00, 0xc4, // 38: STA NOTE_HIGH+256,X
+        0x9d, 0x00, 0xc4, // 38: STA RETURN_HIGH+256,X
         0x90, 0xe7, // 41: BCC PUSH_COUNT
         0xa9, 0x04, // 43 PUSH_FULL: LDA #$04
         0x4c, FAULT.0, FAULT.1, // 45: JMP FAULT
@@ -508,13 +508,13 @@ macro_rules! pop {
         0x8e, 0x3c, 0xc0, // 14: STX NOTES
         0xad, 0x3d, 0xc0, // 17: LDA NOTES+1
         0xd0, 0x0d, // 20: BNE POP_FAR
-        0xbc, 0x00, 0xc3, // 22: LDY NOTE_HIGH,X
-        0xbd, 0x00, 0xc1, // 25: LDA NOTE_LOW,X
+        0xbc, 0x00, 0xc3, // 22: LDY RETURN_HIGH,X
+        0xbd, 0x00, 0xc1, // 25: LDA RETURN_LOW,X
         0x8d, 0x66, 0xc0, // 28 POP_STORE: STA RESULT
         0x8c, 0x67, 0xc0, // 31: STY RESULT+1
         0x60, // 34: RTS
-        0xbc, 0x00, 0xc4, // 35 POP_FAR: LDY NOTE_HIGH+256,X
-        0xbd, 0x00, 0xc2, // 38: LDA NOTE_LOW+256,X
+        0xbc, 0x00, 0xc4, // 35 POP_FAR: LDY RETURN_HIGH+256,X
+        0xbd, 0x00, 0xc2, // 38: LDA RETURN_LOW+256,X
         0x4c, STORE.0, STORE.1, // 41: JMP POP_STORE
         0xa9, 0x05, // 44 POP_NONE: LDA #$05
         0x4c, FAULT.0, FAULT.1, // 46: JMP FAULT

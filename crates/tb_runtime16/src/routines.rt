@@ -2,7 +2,7 @@
 ghost use Rattle.tb_runtime16.specs.Laws.{SendLaw, TextLaw, ZoneLaw, MultiplyLaw, UnsignedLaw, DivideLaw, DivideByZeroLaw, NumberLaw, RandomLaw, RandomRangeLaw};
 ghost use Rattle.tb_runtime16.specs.Ends.{FaultLaw, FaultLineLaw, PollLaw, PrologueLaw};
 ghost use Rattle.tb_runtime16.specs.Input.{InputLaw};
-ghost use Rattle.tb_runtime16.specs.Notes.{PushLaw, PushFullLaw, PopLaw, PopNoneLaw};
+ghost use Rattle.tb_runtime16.specs.Returns.{PushLaw, PushFullLaw, PopLaw, PopNoneLaw};
 ghost use Rattle.tb_runtime16.specs.Search.{SearchLaw};
 ghost use Rattle.tb_runtime16.specs.Routines.{AllLaws};
 

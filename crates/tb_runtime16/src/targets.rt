@@ -1,5 +1,5 @@
 //! The places of the block that its own code jumps to or calls, each as its two bytes, low byte first.
-use crate::places::{
+use crate::addresses::{
     DIVIDE_AT, FAULT_AT, INPUT_AT, LINES_AT, MULTIPLY_AT, NUMBER_AT, POP_AT, SEARCH_AT, SEND_AT,
 };
 

@@ -111,7 +111,7 @@ calculated_is : (op : Operator) (k : ℕ) (g : Group) → IsThis (Compute op k �
 calculated_is op k (Move InSlot home) = at_slot (nat_eq k 0) (Calculate op InSlot InSlot (IntoHome home)) _ (λ e. ap (λ j. Compute op j ∷ keep home ∷ []) (sym (eqb-true k 0 e)))
 calculated_is op k (Calculate by InSlot (Constant w) (IntoHome (IntoVariable x))) =
     at_slot (nat_eq k 0 && goes_on by w) (Stepped op InSlot InSlot by w x) _ (λ e. ap (λ j. Compute op j ∷ Put 1 w ∷ Compute by 0 ∷ Store x ∷ [])
-        (sym (eqb-true k 0 (and_parts (nat_eq k 0) (goes_on by w) e).0)))
+    (sym (eqb-true k 0 (and_parts (nat_eq k 0) (goes_on by w) e).0)))
 calculated_is op k _ = tt
 
 converted_is : (what : Conversion) (k : ℕ) (g : Group) → IsThis (convert what k ∷ expand g) (converted what k g)

@@ -179,7 +179,7 @@ module _ (code : SlotCode) where
           far k' e =
               let r = advance (slot_step code) (GoesOn c o) in
               let there : advance_by (slot_step code) k' (joined o (group_step code c)) ≡ advance_by (slot_step code) k r =
-                  ap (λ r. advance_by (slot_step code) k' r) (sym g.leads) ∙ sym (advance_sum (slot_step code) g.more k' r) ∙ ap (λ n. advance_by (slot_step code) n r) e in
+              ap (λ r. advance_by (slot_step code) k' r) (sym g.leads) ∙ sym (advance_sum (slot_step code) g.more k' r) ∙ ap (λ n. advance_by (slot_step code) n r) e in
               let h = next k' (omega (arith, e)) (λ i. out (subst IsInside there i)) in
               let sum = beginnings_sum code g.more k' r in
               let at = ap (λ r. beginnings code k' r) g.leads in

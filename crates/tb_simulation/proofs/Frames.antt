@@ -4,14 +4,14 @@ use Rattle.std.proofs.Common.{refl, sym, ap, ◌∙◌, subst, arith, eqb, if◌
 use Rattle.std.proofs.lemmas.List.{length-map}
 use Rattle.std.specs.Prelude.{slice_index}
 use Rattle.tb_cpu.specs.Effects.{bit}
-use Rattle.tb_simulation.proofs.Mirrors.{HoldsState, notes_of}
+use Rattle.tb_simulation.proofs.Mirrors.{HoldsState, return_addresses}
 use Rattle.tb_simulation.proofs.Pieces.{put_word}
-use Rattle.tb_simulation.specs.Layout.{Layout, place_at}
-use Rattle.tb_runtime16.specs.Routines.{Noted, SeedAt, WordAt, first, is_state, stored}
+use Rattle.tb_simulation.specs.Layout.{Layout, place_address}
+use Rattle.tb_runtime16.specs.Routines.{AreReturns, SeedAt, WordAt, first, is_state, stored}
 use Rattle.tb_meaning.specs.Control.{Place, State, column_after}
 use Rattle.tb_memmap.specs.Bytes.{with_byte}
 use Rattle.tb_reaching.proofs.Memory.{put_other, put_same}
-use Rattle.tb_runtime16.specs.Places.{COLUMN, LINE, NOTES, OPEN, SEED, SEEDED}
+use Rattle.tb_runtime16.specs.Addresses.{COLUMN, LINE, NOTES, OPEN, SEED, SEEDED}
 use Rattle.tb_templates.specs.Templates.{var_at}
 use Rattle.std.proofs.lemmas.Bool.Decides.{nat_tests}
 
@@ -38,8 +38,8 @@ word_away m at lo hi a w n n' n'' h = word_kept m (put_word m at lo hi) a w (put
 pub low_is_state : (a : ℕ) → 0xC000 ≤ a → a ≤ 0xC061 → is_state a ≡ true
 low_is_state a lo hi = grind (arith, nat_tests)
 
-pub note_is_state : (a : ℕ) → 0xC100 ≤ a → a ≤ 0xC4F3 → is_state a ≡ true
-note_is_state a lo hi = grind (arith, nat_tests)
+pub return_is_state : (a : ℕ) → 0xC100 ≤ a → a ≤ 0xC4F3 → is_state a ≡ true
+return_is_state a lo hi = grind (arith, nat_tests)
 
 -- ---- parts of the state
 -- two memories agree on the single bytes but for the line's number
@@ -50,15 +50,16 @@ SameSingles m m' = (a : ℕ) → 0xC035 ≤ a → a ≤ 0xC03F → a ≢ LINE �
 abbrev pub Same : (ℕ → ℕ) → (ℕ → ℕ) → ℕ → ℕ → Type 0
 Same m m' lo hi = (a : ℕ) → lo ≤ a → a ≤ hi → m' a ≡ m a
 
-pub noted_kept : (m m' : ℕ → ℕ) (ns : List ℕ) → length ns ≤ 500 → Same m m' 0xC100 0xC4F3 → Noted m ns → Noted m' ns
-noted_kept m m' [] few s h = tt
-noted_kept m m' (n ∷ ns) few s h = (
+pub returns_are_kept : (m m' : ℕ → ℕ) (ns : List ℕ) → length ns ≤ 500 → Same m m' 0xC100 0xC4F3 → AreReturns m ns → AreReturns m' ns
+returns_are_kept m m' [] few s h = tt
+returns_are_kept m m' (n ∷ ns) few s h = (
   record { low = s _ (omega arith) (omega (arith, few)) ∙ h.0.low; high = s _ (omega arith) (omega (arith, few)) ∙ h.0.high; small = h.0.small },
-  noted_kept m m' ns (omega (arith, few)) s h.1,
+  returns_are_kept m m' ns (omega (arith, few)) s h.1,
 )
 
-pub notes_kept : (ly : Layout) (m m' : ℕ → ℕ) (ps : List Place) → length ps ≤ 500 → Same m m' 0xC100 0xC4F3 → Noted m (notes_of ly ps) → Noted m' (notes_of ly ps)
-notes_kept ly m m' ps few s h = noted_kept m m' (notes_of ly ps) (omega (arith, few, length-map ps (place_at ly))) s h
+pub returns_kept : (ly : Layout) (m m' : ℕ → ℕ) (ps : List Place) → length ps ≤ 500 → Same m m' 0xC100 0xC4F3 → AreReturns m (return_addresses ly ps)
+    → AreReturns m' (return_addresses ly ps)
+returns_kept ly m m' ps few s h = returns_are_kept m m' (return_addresses ly ps) (omega (arith, few, length-map ps (place_address ly))) s h
 
 -- the column behind bytes that are sent
 pub column_mod : (c : ℕ) (t : List ℕ) → column_after (c % 256) t % 256 ≡ column_after c t % 256
@@ -91,15 +92,15 @@ module _ (ly : Layout) (s : State) (m m' : ℕ → ℕ) (h : HoldsState ly s m) 
         seeded = seed_over m m' (low SEEDED (omega arith) (omega arith) (λ e. omega (arith, e))) (low SEED (omega arith) (omega arith)
             (λ e. omega (arith, e))) (low (SEED + 1) (omega arith) (omega arith) (λ e. omega (arith, e))) h.seeded;
         count = word_kept m m' NOTES _ (low NOTES (omega arith) (omega arith) (λ e. omega (arith, e))) (low (NOTES + 1) (omega arith) (omega arith) (λ e. omega (arith, e))) h.count;
-        notes = notes_kept ly m m' s.returns h.few (λ a lo hi. e a (note_is_state a lo hi) (λ e. omega (arith, e, lo))) h.notes;
+        returns = returns_kept ly m m' s.returns h.few (λ a lo hi. e a (return_is_state a lo hi) (λ e. omega (arith, e, lo))) h.returns;
         few = h.few;
         all_vars = h.all_vars;
       }
 
   -- the list of notes is another one
-  state_noted : (place : Place) (ps : List Place) → length ps ≤ 500 → WordAt m' NOTES (length ps) → Noted m' (notes_of ly ps)
+  state_with_return : (place : Place) (ps : List Place) → length ps ≤ 500 → WordAt m' NOTES (length ps) → AreReturns m' (return_addresses ly ps)
       → ((a : ℕ) → 0xC000 ≤ a → a ≤ 0xC061 → a ≢ NOTES → a ≢ NOTES + 1 → m' a ≡ m a) → HoldsState ly (record s { place = place; returns = ps }) m'
-  state_noted place ps few count notes low =
+  state_with_return place ps few count returns low =
       record {
         vars = vars_kept (λ a lo hi. low a lo (omega (arith, hi)) (λ e. omega (arith, e, hi)) (λ e. omega (arith, e, hi)));
         column = low COLUMN (omega arith) (omega arith) (λ e. omega (arith, e)) (λ e. omega (arith, e)) ∙ h.column;
@@ -108,7 +109,7 @@ module _ (ly : Layout) (s : State) (m m' : ℕ → ℕ) (h : HoldsState ly s m) 
             (low SEED (omega arith) (omega arith) (λ e. omega (arith, e)) (λ e. omega (arith, e))) (low (SEED + 1) (omega arith) (omega arith)
             (λ e. omega (arith, e)) (λ e. omega (arith, e))) h.seeded;
         count = count;
-        notes = notes;
+        returns = returns;
         few = few;
         all_vars = h.all_vars;
       }
@@ -118,9 +119,9 @@ module _ (ly : Layout) (s : State) (m m' : ℕ → ℕ) (h : HoldsState ly s m) 
       → a ≢ NOTES + 1 → m' a ≡ m a) → HoldsState ly (record s { place = p; returns = ps }) m'
   state_popped p ps q count e =
       let few : suc (length ps) ≤ 500 = subst (λ l. length l ≤ 500) q h.few in
-      let notes : Noted m (notes_of ly (p ∷ ps)) = subst (λ l. Noted m (notes_of ly l)) q h.notes in
-      state_noted p ps (omega (arith, few)) count (notes_kept ly m m' ps (omega (arith, few)) (λ a lo hi. e a (note_is_state a lo hi)
-          (λ e. omega (arith, e, lo)) (λ e. omega (arith, e, lo))) notes.1) (λ a lo hi. e a (low_is_state a lo hi))
+      let returns : AreReturns m (return_addresses ly (p ∷ ps)) = subst (λ l. AreReturns m (return_addresses ly l)) q h.returns in
+      state_with_return p ps (omega (arith, few)) count (returns_kept ly m m' ps (omega (arith, few)) (λ a lo hi. e a (return_is_state a lo hi)
+      (λ e. omega (arith, e, lo)) (λ e. omega (arith, e, lo))) returns.1) (λ a lo hi. e a (low_is_state a lo hi))
 
   -- the RND state is stored
   pub state_drawn : (seed : ℕ) → m' SEEDED ≡ 1 → WordAt m' SEED seed → ((a : ℕ) → is_state a ≡ true → a ≢ SEEDED → a ≢ SEED → a ≢ SEED + 1
@@ -134,7 +135,7 @@ module _ (ly : Layout) (s : State) (m m' : ℕ → ℕ) (h : HoldsState ly s m) 
         seeded = stored one word;
         count = word_kept m m' NOTES _ (low NOTES (omega arith) (omega arith) (λ e. omega (arith, e)) (λ e. omega (arith, e)) (λ e. omega (arith, e)))
             (low (NOTES + 1) (omega arith) (omega arith) (λ e. omega (arith, e)) (λ e. omega (arith, e)) (λ e. omega (arith, e))) h.count;
-        notes = notes_kept ly m m' s.returns h.few (λ a lo hi. e a (note_is_state a lo hi) (λ e. omega (arith, e, lo)) (λ e. omega (arith, e, lo)) (λ e. omega (arith, e, lo))) h.notes;
+        returns = returns_kept ly m m' s.returns h.few (λ a lo hi. e a (return_is_state a lo hi) (λ e. omega (arith, e, lo)) (λ e. omega (arith, e, lo)) (λ e. omega (arith, e, lo))) h.returns;
         few = h.few;
         all_vars = h.all_vars;
       }
@@ -153,12 +154,12 @@ module _ (ly : Layout) (s : State) (m m' : ℕ → ℕ) (h : HoldsState ly s m) 
             (λ e. omega (arith, e)) (λ e. omega (arith, e))) h.seeded;
         count = word_kept m m' NOTES _ (low NOTES (omega arith) (omega arith) (λ e. omega (arith, e)) (λ e. omega (arith, e)))
             (low (NOTES + 1) (omega arith) (omega arith) (λ e. omega (arith, e)) (λ e. omega (arith, e))) h.count;
-        notes = notes_kept ly m m' s.returns h.few (λ a lo hi. e a (note_is_state a lo hi) (λ e. omega (arith, e, lo)) (λ e. omega (arith, e, lo))) h.notes;
+        returns = returns_kept ly m m' s.returns h.few (λ a lo hi. e a (return_is_state a lo hi) (λ e. omega (arith, e, lo)) (λ e. omega (arith, e, lo))) h.returns;
         few = h.few;
         all_vars = h.all_vars;
       }
 
   -- a note more
-  pub state_pushed : (to p : Place) → length s.returns < 500 → WordAt m' NOTES (suc (length s.returns)) → Noted m' (notes_of ly (p ∷ s.returns))
+  pub state_pushed : (to p : Place) → length s.returns < 500 → WordAt m' NOTES (suc (length s.returns)) → AreReturns m' (return_addresses ly (p ∷ s.returns))
       → ((a : ℕ) → 0xC000 ≤ a → a ≤ 0xC061 → a ≢ NOTES → a ≢ NOTES + 1 → m' a ≡ m a) → HoldsState ly (record s { place = to; returns = p ∷ s.returns }) m'
-  state_pushed to p few count note low = state_noted to (p ∷ s.returns) few count note low
+  state_pushed to p few count return_address low = state_with_return to (p ∷ s.returns) few count return_address low

@@ -114,8 +114,10 @@ module _ (place : ℕ) (bytes : List ℕ) (from : 0x0800 ≤ place) (to : place 
       bounds : (why : End) (t : machine.State) → Ends why t → (s.regs.s ≤ t.regs.s + 16) × (t.regs.s ≤ s.regs.s + 16)
       bounds Ended t e = home_bounds t e.0 e.1 e.2.stack
       bounds Faulted t e = home_bounds t e.0 e.1 e.2.stack
-      bounds steps.Waits t e = (omega (arith, e.1.depth, length-append e.0.stack f.rest, e.2.deep, rest_length s, h.start.s_to),
-          omega (arith, e.1.depth, length-append e.0.stack f.rest, rest_length s, h.start.s_to))
+      bounds steps.Waits t e = (
+        omega (arith, e.1.depth, length-append e.0.stack f.rest, e.2.deep, rest_length s, h.start.s_to),
+        omega (arith, e.1.depth, length-append e.0.stack f.rest, rest_length s, h.start.s_to),
+      )
 
       is_over : (t : machine.State) (m : ℕ) (why : End) → source_run program seed s.text s.answers m ≡ Over why t.sent → Ends why t → IsSound program seed s t
       is_over t m why e end =
@@ -131,8 +133,11 @@ module _ (place : ℕ) (bytes : List ℕ) (from : 0x0800 ≤ place) (to : place 
 
       -- in the prologue
       early : (es : List Event) → OnTheWay (UnderWay f) [] n s es → IsSound program seed s (run es s)
-      early es a = is_fine (run es s) 0 (under_way_runs f (run es s) a.kept) (a.to_come, ap (λ l. l ++ a.to_come) a.sent
-          ∙ append_assoc s.sent a.so_far a.to_come ∙ ap (λ l. s.sent ++ l) (sym a.whole) ∙ append-nil s.sent ∙ h.start.nothing_sent)
+      early es a = is_fine (run es s) 0 (under_way_runs f (run es s) a.kept) (
+        a.to_come,
+        ap (λ l. l ++ a.to_come) a.sent
+            ∙ append_assoc s.sent a.so_far a.to_come ∙ ap (λ l. s.sent ++ l) (sym a.whole) ∙ append-nil s.sent ∙ h.start.nothing_sent,
+      )
 
       -- behind it
       module _ (es : List Event) (l : all_lawful es s ≡ true) (a : Arrived (Among f (Opened M sc s)) [] n s es) where
@@ -149,10 +154,12 @@ module _ (place : ℕ) (bytes : List ℕ) (from : 0x0800 ≤ place) (to : place 
             (reaches f (above_so s h) (M s) step (limit k) (laws s h)) (source_run program seed s.text s.answers m) (run es s)
         kept =
             let r = keeps.kept Ends (end_stays f (above_so s h)) program sc follows step stride Related (UnderWay f) (limit k) (positive k)
-                (reaches f (above_so s h) (M s) step (limit k) (laws s h)) seed s.text s.answers a.there.2.0 a.there.2.1 (run a.before s) silent
-                (a.there.0, a.there.1, a.there.2.2) a.after lawful_rest in
-            (r.0, subst (keeps.IsKept Ends (end_stays f (above_so s h)) program sc follows step stride Related (UnderWay f) (limit k) (positive k)
-                (reaches f (above_so s h) (M s) step (limit k) (laws s h)) (source_run program seed s.text s.answers r.0)) same_end r.1)
+            (reaches f (above_so s h) (M s) step (limit k) (laws s h)) seed s.text s.answers a.there.2.0 a.there.2.1 (run a.before s) silent
+            (a.there.0, a.there.1, a.there.2.2) a.after lawful_rest in (
+              r.0,
+              subst (keeps.IsKept Ends (end_stays f (above_so s h)) program sc follows step stride Related (UnderWay f) (limit k) (positive k)
+                  (reaches f (above_so s h) (M s) step (limit k) (laws s h)) (source_run program seed s.text s.answers r.0)) same_end r.1,
+            )
 
         late : IsSound program seed s (run es s)
         late = ⊎_elim
@@ -164,8 +171,8 @@ module _ (place : ℕ) (bytes : List ℕ) (from : 0x0800 ≤ place) (to : place 
         passed m le =
             let more : m * (longest sc + 1) * limit k ≤ goes a.after = omega (arith, le, a.few, goes_back a.before a.after es (sym a.split)) in
             to_done (source_run program seed s.text s.answers m) (keeps.paced Ends (end_stays f (above_so s h)) program sc follows step stride Related
-                (UnderWay f) (limit k) (positive k) (reaches f (above_so s h) (M s) step (limit k) (laws s h)) seed s.text s.answers a.there.2.0
-                a.there.2.1 (run a.before s) silent (a.there.0, a.there.1, a.there.2.2) a.after lawful_rest m more)
+            (UnderWay f) (limit k) (positive k) (reaches f (above_so s h) (M s) step (limit k) (laws s h)) seed s.text s.answers a.there.2.0
+            a.there.2.1 (run a.before s) silent (a.there.0, a.there.1, a.there.2.2) a.after lawful_rest m more)
           where
             to_done : (r : Run State) → keeps.HasPassed Ends (end_stays f (above_so s h)) program sc follows step stride Related (UnderWay f)
                 (limit k) (positive k) (reaches f (above_so s h) (M s) step (limit k) (laws s h)) seed s.text s.answers a.there.2.0 a.there.2.1

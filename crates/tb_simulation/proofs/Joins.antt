@@ -51,7 +51,7 @@ module _ (f : Setup) (v : View) (q : View → Type 0) (t : List ℕ) (n : ℕ) w
   law_runs Whole (inl c) s at = under_way_runs f s (begins f v q t n c s at)
   law_runs Whole (inr l) s at =
       ⊎_elim (λ a. absurd (let no : ⊥ = omega (arith, a.some, ap goes a.split, goes_append a.before a.after) in no)) (λ a. let k = a.kept in
-          record { runs = k.runs; not_below = k.not_below; not_above = k.not_above })
+      record { runs = k.runs; not_below = k.not_below; not_above = k.not_above })
       (l.one.reaches.leads s (open_up f v q t n v s at) [] refl)
 
   law_leads : (r : Rest) → LawAt r f v q t n → (s : machine.State) → At f v s → (es : List Event) → all_lawful es s ≡ true

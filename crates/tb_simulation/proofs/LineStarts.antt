@@ -6,9 +6,9 @@ use Rattle.std.proofs.lemmas.Bool.{ne_eqb, eq-eqb, eqb-true, cases_lt}
 use Rattle.std.proofs.Math.Bool.{or-true}
 use Rattle.tb_kernal.specs.declared.events.Event.{Event}
 use Rattle.tb_kernal.specs.declared.events.Event.TheVariants.{Go, Interrupt}
-use Rattle.tb_kernal.specs.declared.places.Service.{Service}
-use Rattle.tb_kernal.specs.declared.places.Service.TheVariants.{Chrout, Chrin, Getin}
-use Rattle.tb_kernal.specs.Places.{service_at}
+use Rattle.tb_kernal.specs.declared.rom.Service.{Service}
+use Rattle.tb_kernal.specs.declared.rom.Service.TheVariants.{Chrout, Chrin, Getin}
+use Rattle.tb_kernal.specs.Rom.{service_at}
 use Rattle.tb_kernal.specs.Machine as machine
 use Rattle.tb_kernal.specs.Machine.{happens, is_lawful}
 use Rattle.tb_kernal.specs.Runs.{all_lawful, goes, is_own, run}
@@ -25,19 +25,19 @@ use Rattle.tb_meaning.specs.Control as control
 use Rattle.tb_meaning.specs.Meaning.{source_run}
 use Rattle.tb_lower.specs.Follows.{Follows, longest}
 use Rattle.tb_lower.specs.Slots.{Instr, SlotCode, SlotState, Rest, Whole, Left}
-use Rattle.tb_runtime16.specs.Places.{NOTES}
+use Rattle.tb_runtime16.specs.Addresses.{NOTES}
 use Rattle.tb_templates.specs.Templates.{var_at}
 use Rattle.tb_simulation.specs.Kept.{Starts}
-use Rattle.tb_simulation.specs.Layout.{Layout, is_start, inner, place_at}
-use Rattle.tb_runtime16.specs.Routines.{Noted, WordAt}
+use Rattle.tb_simulation.specs.Layout.{Layout, is_start, inner, place_address}
+use Rattle.tb_runtime16.specs.Routines.{AreReturns, WordAt}
 use Rattle.tb_simulation.proofs.Inductions as keeps
 use Rattle.tb_simulation.proofs.Inductions.{lawful_back, on_way, run_back, there}
 use Rattle.tb_simulation.proofs.Starts as lines
 use Rattle.tb_simulation.proofs.Starts.{count, before, between, behind}
 use Rattle.tb_simulation.proofs.Strides.{IsStride, found_line, lines_at}
-use Rattle.tb_simulation.proofs.Mirrors.{Leads, notes_of}
+use Rattle.tb_simulation.proofs.Mirrors.{Leads, return_addresses}
 use Rattle.tb_simulation.proofs.Pieces.{word_in_data}
-use Rattle.tb_simulation.proofs.Frames.{notes_kept, word_kept}
+use Rattle.tb_simulation.proofs.Frames.{returns_kept, word_kept}
 use Rattle.tb_simulation.proofs.Joins.{IsEnd, end_stays, R, LawAt, reaches, sent_in}
 use Rattle.tb_simulation.proofs.Headline.{setup, begins_so, above_so, Opened, OpeningLaw, StepLaws}
 
@@ -95,16 +95,16 @@ pub record AreApart (ly : Layout) (sc : SlotCode) : Type 0 where
 
 -- what stands in a view where a run is between lines
 pub record Known (ly : Layout) (s : State) (w : View) : Type 0 where
-  pub pc : w.regs.pc ≡ place_at ly s.place
+  pub pc : w.regs.pc ≡ place_address ly s.place
   pub vars : (x : ℕ) → x < 26 → WordAt w.mem (var_at x) (slice_index s.vars x)
   pub count : WordAt w.mem NOTES (length s.returns)
-  pub noted : Noted w.mem (notes_of ly s.returns)
+  pub held : AreReturns w.mem (return_addresses ly s.returns)
   pub few : length s.returns ≤ 500
 
 module _ (place : ℕ) (bytes : List ℕ) (from : 0x0800 ≤ place) (to : place + length bytes ≤ 0xa000) (ly : Layout) (program : Program) (sc : SlotCode)
     (follows : Follows program sc) (apart : AreApart ly sc)
     (step : SlotState → Step SlotState) (stride : IsStride sc step) (M : machine.State → SlotState → View → Type 0)
-        (known : (s : machine.State) (c : SlotState) (w : View) → M s c w → c.rest ≡ Whole → Known ly c.state w)
+    (known : (s : machine.State) (c : SlotState) (w : View) → M s c w → c.rest ≡ Whole → Known ly c.state w)
     (limit : ℕ → ℕ) (positive : (k : ℕ) → 1 ≤ limit k) (n : ℕ) (prologue : OpeningLaw place bytes from to ly M sc n) (laws : StepLaws place bytes from to ly M step limit)
     (s : machine.State) (h : Starts place bytes s) where
   abbrev f : Setup
@@ -148,7 +148,7 @@ module _ (place : ℕ) (bytes : List ℕ) (from : 0x0800 ≤ place) (to : place 
           ∙ ap (λ ns. count 1 (is_start ly.start ns (ly.start m))) (sym apart.numbered) ∙ ap (count 1) (found_start ly.start sc m is e)
       at_number m None e p = ap (λ a. count 1 (is_start ly.start ly.numbers a)) (pc_here f r.0 t r.1 ∙ p ∙ apart.absent m e) ∙ ap (count 1) apart.past
 
-      at_place : (p : Place) → r.0.regs.pc ≡ place_at ly p → starts ly t ≡ lines_at sc Whole p
+      at_place : (p : Place) → r.0.regs.pc ≡ place_address ly p → starts ly t ≡ lines_at sc Whole p
       at_place Past at = ap (λ a. count 1 (is_start ly.start ly.numbers a)) (pc_here f r.0 t r.1 ∙ at) ∙ ap (count 1) apart.past
       at_place (control.At m) at = at_number m (content_at sc m) refl at
 
@@ -186,8 +186,8 @@ module _ (place : ℕ) (bytes : List ℕ) (from : 0x0800 ≤ place) (to : place 
     pub at_place : state.place ≡ control.At number
     pub pc : t.regs.pc ≡ ly.start number
     pub vars : (x : ℕ) → x < 26 → WordAt t.mem (var_at x) (slice_index state.vars x)
-    pub notes : WordAt t.mem NOTES (length state.returns)
-    pub noted : Noted t.mem (notes_of ly state.returns)
+    pub depth : WordAt t.mem NOTES (length state.returns)
+    pub held : AreReturns t.mem (return_addresses ly state.returns)
     pub few : length state.returns ≤ 500
 
   line_begun : (m : ℕ) (t : machine.State) → lines.AtLine Ends (end_stays f (above_so place bytes from to ly s h)) program sc follows step stride
@@ -203,12 +203,12 @@ module _ (place : ℕ) (bytes : List ℕ) (from : 0x0800 ≤ place) (to : place 
         number = a.number;
         done = a.done;
         at_place = a.place;
-        pc = pc_here f w t at ∙ there.pc ∙ ap (place_at ly) a.place;
+        pc = pc_here f w t at ∙ there.pc ∙ ap (place_address ly) a.place;
         vars = λ x lt. word_kept w.mem t.mem (var_at x) (slice_index a.state.vars x)
             (fixed (var_at x) (word_in_data (var_at x) (omega arith) (omega (arith, lt))).0)
             (fixed (var_at x + 1) (word_in_data (var_at x) (omega arith) (omega (arith, lt))).1) (there.vars x lt);
-        notes = word_kept w.mem t.mem NOTES (length a.state.returns) (fixed NOTES refl) (fixed (NOTES + 1) refl) there.count;
-        noted = notes_kept ly w.mem t.mem a.state.returns there.few (λ p lo hi. fixed p (word_in_data p (omega (arith, lo)) (omega (arith, hi))).0) there.noted;
+        depth = word_kept w.mem t.mem NOTES (length a.state.returns) (fixed NOTES refl) (fixed (NOTES + 1) refl) there.count;
+        held = returns_kept ly w.mem t.mem a.state.returns there.few (λ p lo hi. fixed p (word_in_data p (omega (arith, lo)) (omega (arith, hi))).0) there.held;
         few = there.few;
       }
 
@@ -223,8 +223,8 @@ module _ (place : ℕ) (bytes : List ℕ) (from : 0x0800 ≤ place) (to : place 
           let join : run back y ≡ run es s = run_back front back es s eq in
           let lb = lawful_back front back es s eq l in
           let a = lines.at_line Ends (end_stays f (above_so place bytes from to ly s h)) program sc follows step stride Related (UnderWay f) (limit k)
-              (positive k) (reaches f (above_so place bytes from to ly s h) (M s) step (limit k) (laws s h)) (starts ly) others_keep no_start
-              no_start_at_end entry seed s.text s.answers b.2.0 b.2.1 y (all ∙ append-nil s.sent ∙ h.start.nothing_sent) (b.0, b.1, b.2.2) back lb (ap (starts ly) join ∙ one) in
+          (positive k) (reaches f (above_so place bytes from to ly s h) (M s) step (limit k) (laws s h)) (starts ly) others_keep no_start
+          no_start_at_end entry seed s.text s.answers b.2.0 b.2.1 y (all ∙ append-nil s.sent ∙ h.start.nothing_sent) (b.0, b.1, b.2.2) back lb (ap (starts ly) join ∙ one) in
           let sum : lines.met (starts ly) back y ≡ met es = omega (arith, v, ap met (sym eq), lines.met_append (starts ly) front back s) in
           subst (λ m. LineBegun m (run es s)) sum (subst (λ t. LineBegun (lines.met (starts ly) back y) t) join (line_begun (lines.met (starts ly) back y) (run back y) a))
 
@@ -252,9 +252,9 @@ module _ (place : ℕ) (bytes : List ℕ) (from : 0x0800 ≤ place) (to : place 
           let lb = lawful_back front back es s eq l in
           let g = goes_append front back in
           let a = lines.line_comes Ends (end_stays f (above_so place bytes from to ly s h)) program sc follows step stride Related (UnderWay f)
-              (limit k) (positive k) (reaches f (above_so place bytes from to ly s h) (M s) step (limit k) (laws s h))
-              (starts ly) others_keep no_start no_start_at_end entry seed s.text s.answers b.2.0 b.2.1 y (all ∙ append-nil s.sent
-              ∙ h.start.nothing_sent) (b.0, b.1, b.2.2) m state out number is done here found back lb (omega (arith, le, few, g, ap goes eq)) in
+          (limit k) (positive k) (reaches f (above_so place bytes from to ly s h) (M s) step (limit k) (laws s h))
+          (starts ly) others_keep no_start no_start_at_end entry seed s.text s.answers b.2.0 b.2.1 y (all ∙ append-nil s.sent
+          ∙ h.start.nothing_sent) (b.0, b.1, b.2.2) m state out number is done here found back lb (omega (arith, le, few, g, ap goes eq)) in
           let join : run (front ++ a.front) s ≡ run a.front y = run_append front a.front s in
           record {
             front = front ++ a.front;

@@ -15,11 +15,11 @@ use Rattle.tb_meaning.specs.Meaning.{source_run}
 use Rattle.tb_lower.specs.Follows.{Follows, longest}
 use Rattle.tb_lower.specs.Slots.{Instr, SlotCode, SlotState, Whole}
 use Rattle.tb_simulation.specs.Kept.{Starts}
-use Rattle.tb_simulation.specs.Layout.{Layout, is_start, place_at}
-use Rattle.tb_simulation.specs.LineStarts.{begun, BeginsLine, HoldsReturns, LineComes, MarksLines, StandsFor, note_at}
-use Rattle.tb_runtime16.specs.Notes.{NoteAt, Noted}
-use Rattle.tb_runtime16.specs.Places.{NOTE_HIGH, NOTE_LOW}
-use Rattle.tb_simulation.proofs.Mirrors.{notes_of}
+use Rattle.tb_simulation.specs.Layout.{Layout, is_start, place_address}
+use Rattle.tb_simulation.specs.LineStarts.{begun, BeginsLine, HoldsReturns, LineComes, MarksLines, StandsFor, return_at}
+use Rattle.tb_runtime16.specs.Returns.{ReturnAt, AreReturns}
+use Rattle.tb_runtime16.specs.Addresses.{RETURN_HIGH, RETURN_LOW}
+use Rattle.tb_simulation.proofs.Mirrors.{return_addresses}
 use Rattle.tb_runtime16.proofs.InMemory.{value}
 use Rattle.tb_simulation.proofs.Starts as lines
 use Rattle.tb_simulation.proofs.Starts.{count}
@@ -44,25 +44,25 @@ at_one false e = absurd (let no : ⊥ = omega (arith, e) in no)
 
 -- the places to return to, by the notes in memory
 returns_held : (ly : Layout) (m : ℕ → ℕ) (ps : List Place) → is_start ly.start ly.numbers ly.past ≡ false → AllHave ly.numbers ps
-    → Noted m (notes_of ly ps) → HoldsReturns ly.start ly.numbers m ps
-returns_held ly m [] past have noted = tt
-returns_held ly m (p ∷ ps) past have noted = (place_held p have.0 (note_is ps noted.0), returns_held ly m ps past have.1 noted.1)
+    → AreReturns m (return_addresses ly ps) → HoldsReturns ly.start ly.numbers m ps
+returns_held ly m [] past have held = tt
+returns_held ly m (p ∷ ps) past have held = (place_held p have.0 (return_is ps held.0), returns_held ly m ps past have.1 held.1)
   where
-    note_is : (ps : List Place) → NoteAt m (length (notes_of ly ps)) (place_at ly p) → note_at m (length ps) ≡ place_at ly p
-    note_is ps h =
-        let many : length (notes_of ly ps) ≡ length ps = length-map ps (place_at ly) in
-        let low = ap (λ k. m (NOTE_LOW + k)) (sym many) ∙ h.low in
-        let high = ap (λ k. m (NOTE_HIGH + k)) (sym many) ∙ h.high in
+    return_is : (ps : List Place) → ReturnAt m (length (return_addresses ly ps)) (place_address ly p) → return_at m (length ps) ≡ place_address ly p
+    return_is ps h =
+        let many : length (return_addresses ly ps) ≡ length ps = length-map ps (place_address ly) in
+        let low = ap (λ k. m (RETURN_LOW + k)) (sym many) ∙ h.low in
+        let high = ap (λ k. m (RETURN_HIGH + k)) (sym many) ∙ h.high in
         omega (arith, low, high)
 
-    place_held : (q : Place) → HasLine ly.numbers q → note_at m (length ps) ≡ place_at ly q → StandsFor ly.start ly.numbers q (note_at m (length ps))
+    place_held : (q : Place) → HasLine ly.numbers q → return_at m (length ps) ≡ place_address ly q → StandsFor ly.start ly.numbers q (return_at m (length ps))
     place_held (At n) has is = (has, is)
     place_held Past has is = ap (is_start ly.start ly.numbers) is ∙ past
 
 module _ (place : ℕ) (bytes : List ℕ) (from : 0x0800 ≤ place) (to : place + length bytes ≤ 0xa000) (ly : Layout) (program : Program) (sc : SlotCode)
     (follows : Follows program sc) (apart : AreApart ly sc)
     (step : SlotState → Step SlotState) (stride : IsStride sc step) (M : machine.State → SlotState → View → Type 0)
-        (known : (s : machine.State) (c : SlotState) (w : View) → M s c w → c.rest ≡ Whole → Known ly c.state w)
+    (known : (s : machine.State) (c : SlotState) (w : View) → M s c w → c.rest ≡ Whole → Known ly c.state w)
     (limit : ℕ → ℕ) (positive : (k : ℕ) → 1 ≤ limit k) (n : ℕ) (prologue : OpeningLaw place bytes from to ly M sc n) (laws : StepLaws place bytes from to ly M step limit) where
   abbrev bound : ℕ → ℕ → ℕ
   bound k m = n + (m * (longest sc + 1) * limit k + 1)
@@ -78,7 +78,7 @@ module _ (place : ℕ) (bytes : List ℕ) (from : 0x0800 ≤ place) (to : place 
       let list = lined number has in
       let same_numbers : ly.numbers ≡ numbers program = sym apart.numbered ∙ follows.same_numbers in
       let here : is_start ly.start ly.numbers (run es s).regs.pc ≡ true = ap (is_start ly.start ly.numbers) pc
-          ∙ ap (λ ns. is_start ly.start ns (ly.start number)) (sym apart.numbered) ∙ found_start ly.start sc number list.0 list.1 in
+      ∙ ap (λ ns. is_start ly.start ns (ly.start number)) (sym apart.numbered) ∙ found_start ly.start sc number list.0 list.1 in
       let y = run es s in
       let now : starts ly y ≡ 1 = one_at (is_start ly.start ly.numbers (run es s).regs.pc) here in
       let b = one.at_line place bytes from to ly program sc follows apart step stride M known limit positive n prologue laws s h es l now in
@@ -87,17 +87,17 @@ module _ (place : ℕ) (bytes : List ℕ) (from : 0x0800 ≤ place) (to : place 
       let led = at_lines program ly.seed s.text s.answers met b.state y.sent b.done in
       let there : has_line (numbers program) b.number ≡ true = subst (HasLine (numbers program)) b.at_place led.here in
       let which : b.number ≡ number = apart.distinct b.number number (ap (λ ns. has_line ns b.number) same_numbers ∙ there)
-          (ap (λ ns. has_line ns number) same_numbers ∙ has) (sym b.pc ∙ pc) in
+      (ap (λ ns. has_line ns number) same_numbers ∙ has) (sym b.pc ∙ pc) in
       subst (λ m. BeginsLine program ly.seed ly.start s m number (run es s)) counted
       (record {
         state = b.state;
         done = b.done;
         place = b.at_place ∙ ap At which;
         vars = λ x lt. value y.mem _ _ (b.vars x lt);
-        notes = value y.mem _ _ b.notes;
+        depth = value y.mem _ _ b.depth;
         few = b.few;
         returns = subst (λ ns. HoldsReturns ly.start ns y.mem b.state.returns) same_numbers
-            (returns_held ly y.mem b.state.returns apart.past (subst (λ ns. AllHave ns b.state.returns) (sym same_numbers) led.notes) b.noted);
+            (returns_held ly y.mem b.state.returns apart.past (subst (λ ns. AllHave ns b.state.returns) (sym same_numbers) led.returns) b.held);
       })
 
   pub comes : (s : machine.State) (h : Starts place bytes s) (m : ℕ) (state : State) (out : List ℕ) (number : ℕ)

@@ -6,15 +6,15 @@ use Rattle.tb_reaching.specs.Start.{IsHome}
 use Rattle.tb_meaning.specs.Steps.{Step, Goes, Stops, Ended, Faulted, Waits}
 use Rattle.tb_meaning.specs.Control.{Place, State}
 use Rattle.tb_lower.specs.Slots.{SlotState}
-use Rattle.tb_runtime16.specs.Places.{COLUMN, OPEN, NOTES}
+use Rattle.tb_runtime16.specs.Addresses.{COLUMN, OPEN, NOTES}
 use Rattle.tb_templates.specs.Templates.{var_at}
 use Rattle.tb_opcodes.specs.Bytes.{AreBytes}
-use Rattle.tb_simulation.specs.Layout.{Layout, place_at}
-use Rattle.tb_runtime16.specs.Routines.{WordAt, SeedAt, Noted, Entered, Here, Waiting}
+use Rattle.tb_simulation.specs.Layout.{Layout, place_address}
+use Rattle.tb_runtime16.specs.Routines.{WordAt, SeedAt, AreReturns, Entered, Here, Waiting}
 
 -- the addresses of the places to return to
-abbrev pub notes_of : Layout → List Place → List ℕ
-notes_of ly ps = map (place_at ly) ps
+abbrev pub return_addresses : Layout → List Place → List ℕ
+return_addresses ly ps = map (place_address ly) ps
 
 -- the memory holds the state
 pub record HoldsState (ly : Layout) (s : State) (m : ℕ → ℕ) : Type 0 where
@@ -23,7 +23,7 @@ pub record HoldsState (ly : Layout) (s : State) (m : ℕ → ℕ) : Type 0 where
   pub opened : m OPEN ≡ bit s.open_line
   pub seeded : SeedAt m ly.seed s.seed
   pub count : WordAt m NOTES (length s.returns)
-  pub notes : Noted m (notes_of ly s.returns)
+  pub returns : AreReturns m (return_addresses ly s.returns)
   pub few : length s.returns ≤ 500
   pub all_vars : length s.vars ≡ 26
 
@@ -44,7 +44,7 @@ pub record Typable (keys : ℕ) (text answers : List ℕ) : Type 0 where
 
 -- a run stands at the beginning of a place, the memory holding its state
 pub record Opens (ly : Layout) (f : Setup) (lo hi : ℕ) (keys : ℕ) (s : State) (w : View) : Type 0 where
-  pub pc : w.regs.pc ≡ place_at ly s.place
+  pub pc : w.regs.pc ≡ place_address ly s.place
   pub stack : w.stack ≡ lo ∷ hi ∷ []
   pub binary : w.regs.flags.d ≡ false
   pub text : w.text ≡ s.text

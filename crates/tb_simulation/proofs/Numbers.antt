@@ -13,13 +13,13 @@ use Rattle.std.proofs.Math.Bool.{or-true}
 use Rattle.tb_asm.proofs.Laws.{bytes_append}
 use Rattle.tb_reaching.proofs.Instr.{flat, ins, instr_bytes}
 use Rattle.tb_meaning.specs.Control.{Place, At, Past, next_after, has_line}
-use Rattle.tb_runtime16.specs.Places.{FAULT_LINE_AT}
+use Rattle.tb_runtime16.specs.Addresses.{FAULT_LINE_AT}
 use Rattle.tb_templates.specs.declared.labels.Target.{Target}
 use Rattle.tb_templates.specs.declared.labels.Target.TheVariants as target
 use Rattle.tb_templates.specs.Labels.{label_of}
 use Rattle.tb_templates.specs.Templates as product
 use Rattle.tb_templates.specs.Templates.{target_of, next_line}
-use Rattle.tb_simulation.specs.Layout.{Layout, place_of, layout_of, place_at, next_at}
+use Rattle.tb_simulation.specs.Layout.{Layout, label_address, layout_of, place_address, next_at}
 use Rattle.tb_simulation.proofs.Resolved.{lda_at, sta_at, copied, constant, pointed, faulting, jump}
 
 -- ---- labels
@@ -59,13 +59,13 @@ module _ (labels : List (Name × ℕ)) (ns : List ℕ) (seed : ℕ) where
       go None = refl
       go (Some a) = refl
 
-  pub start_of_line : (n : ℕ) → has_line ns n ≡ true → place_of labels (target.Line n) ≡ ly.start n
-  start_of_line n e = ap (λ t. if t then place_of labels (target.Line n) else place_of labels target.Past) (sym e)
+  pub start_of_line : (n : ℕ) → has_line ns n ≡ true → label_address labels (target.Line n) ≡ ly.start n
+  start_of_line n e = ap (λ t. if t then label_address labels (target.Line n) else label_address labels target.Past) (sym e)
 
-  pub next_same : (n : ℕ) → place_of labels (next_line ns n) ≡ next_at ly n
+  pub next_same : (n : ℕ) → label_address labels (next_line ns n) ≡ next_at ly n
   next_same n = go (next_after ns n) refl
     where
-      go : (p : Place) → next_after ns n ≡ p → place_of labels (target_of p) ≡ place_at ly p
+      go : (p : Place) → next_after ns n ≡ p → label_address labels (target_of p) ≡ place_address ly p
       go (At m) e = start_of_line m (next_has ns n m e)
       go Past e = refl
 
@@ -109,7 +109,7 @@ module _ (labels : List (Name × ℕ)) (ns : List ℕ) (seed : ℕ) where
       let number : k % 256 ≡ k = omega (arith, few) in
       λ i. 0xa2 ∷ low_byte n i ∷ 0xa0 ∷ high_byte n h i ∷ 0xa9 ∷ number i ∷ 0x4c ∷ FAULT_LINE_AT % 256 ∷ FAULT_LINE_AT / 256 ∷ []
 
-  pub address_bytes : (at : ℕ) (of : Target) (p to : ℕ) → place_of labels of ≡ p → p < 65536 → to + 1 < 256 → bytes_from labels at (product.address of to) ≡ flat (pointed p to)
+  pub address_bytes : (at : ℕ) (of : Target) (p to : ℕ) → label_address labels of ≡ p → p < 65536 → to + 1 < 256 → bytes_from labels at (product.address of to) ≡ flat (pointed p to)
   unfolding opcodes.encoded
   address_bytes at of p to e h k =
       let low_place : to % 256 ≡ to = omega (arith, k) in
@@ -118,6 +118,6 @@ module _ (labels : List (Name × ℕ)) (ns : List ℕ) (seed : ℕ) where
       let r : number_in labels (HighOf (label_of of)) % 256 ≡ p / 256 = omega (arith, high_of (label_of of), e, h) in
       λ i. 0xa9 ∷ l i ∷ 0x85 ∷ low_place i ∷ 0xa9 ∷ r i ∷ 0x85 ∷ high_place i ∷ []
 
-  pub jump_bytes : (at : ℕ) (of : Target) (p : ℕ) → place_of labels of ≡ p → bytes_from labels at (product.jump of ∷ []) ≡ flat (jump p)
+  pub jump_bytes : (at : ℕ) (of : Target) (p : ℕ) → label_address labels of ≡ p → bytes_from labels at (product.jump of ∷ []) ≡ flat (jump p)
   unfolding opcodes.encoded
   jump_bytes at of p e = ap (λ q. 0x4c ∷ q % 256 ∷ q / 256 ∷ []) e

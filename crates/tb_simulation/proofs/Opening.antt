@@ -10,10 +10,10 @@ use Rattle.tb_syntax.specs.Source.{numbers}
 use Rattle.tb_meaning.specs.Control.{first_place}
 use Rattle.tb_meaning.specs.Meaning.{start}
 use Rattle.tb_lower.specs.Slots.{SlotCode, Slots}
-use Rattle.tb_runtime16.specs.Places.{VARS, COLUMN, OPEN, SEEDED, SEED, NOTES, LINES_AT}
+use Rattle.tb_runtime16.specs.Addresses.{VARS, COLUMN, OPEN, SEEDED, SEED, NOTES, LINES_AT}
 use Rattle.tb_templates.specs.Templates.{var_at}
 use Rattle.tb_opcodes.specs.Bytes.{AreBytes}
-use Rattle.tb_simulation.specs.Layout.{Layout, place_at}
+use Rattle.tb_simulation.specs.Layout.{Layout, place_address}
 use Rattle.tb_runtime16.specs.Routines.{WordAt, first}
 use Rattle.tb_runtime16.specs.Ends.{Begun, is_cleared}
 use Rattle.tb_simulation.proofs.Mirrors.{Opens}
@@ -28,7 +28,7 @@ cleared_low a lo hi = grind (arith, nat_tests)
 zero_word : (m : ℕ → ℕ) (at : ℕ) → m at ≡ 0 → m (at + 1) ≡ 0 → WordAt m at 0
 zero_word m at l h = record { low = l; high = h; small = omega arith }
 
-module _ (ly : Layout) (f : Setup) (sc : SlotCode) (numbered : numbers sc ≡ ly.numbers) (first_at : place_at ly (first_place (numbers sc)) ≡ LINES_AT)
+module _ (ly : Layout) (f : Setup) (sc : SlotCode) (numbered : numbers sc ≡ ly.numbers) (first_at : place_address ly (first_place (numbers sc)) ≡ LINES_AT)
     (seed_small : ly.seed < 65536) (s : machine.State) (text : AreBytes s.text) (answers : AreBytes s.answers) (w : View) (b : Begun f s w) where
   pub opened : Opens ly f (home_low s) (home_high s) (length s.text) (start (numbers sc) ly.seed s.text s.answers) w
   opened = record {
@@ -45,7 +45,7 @@ module _ (ly : Layout) (f : Setup) (sc : SlotCode) (numbered : numbers sc ≡ ly
       opened = b.cleared OPEN refl;
       seeded = first (b.cleared SEEDED refl) refl seed_small 0 (zero_word w.mem SEED (b.cleared SEED refl) (b.cleared (SEED + 1) refl));
       count = zero_word w.mem NOTES (b.cleared NOTES refl) (b.cleared (NOTES + 1) refl);
-      notes = tt;
+      returns = tt;
       few = omega arith;
       all_vars = refl;
     };

@@ -12,7 +12,7 @@ use Rattle.tb_reaching.proofs.Placed.{changes_at, placing, reads_data, stores_at
 use Rattle.tb_reaching.specs.View.{Bytes}
 use Rattle.tb_reaching.proofs.Instr.{Stands, ins, instr_bytes}
 use Rattle.tb_reaching.specs.View.{Comes, Fits, Setup, View, is_data, view, with_s}
-use Rattle.tb_runtime16.specs.Places.{RESULT}
+use Rattle.tb_runtime16.specs.Addresses.{RESULT}
 use Rattle.std.specs.Prelude.{◌==◌, if◌then◌else◌}
 use Rattle.std.proofs.lemmas.Bool.Decides.{nat_tests}
 use Rattle.tb_opcodes.specs.Opcodes.{find_row, rows}
@@ -78,14 +78,14 @@ module _ (f : Setup) (room : ℕ) (fits : Fits f room) where
       → Comes f (record v { regs = advanced v.regs Absolute; mem = with_byte v.mem p v.regs.a }) q t n → Comes f v q t (1 + n)
   stores p v q t n small b dp next =
       placing f room fits (ins 0x8D p) v (record v { regs = advanced v.regs Absolute; mem = with_byte v.mem p v.regs.a }) q t n small b
-          (stores_at f.code room (ins 0x8D p) v Sta Absolute p refl refl refl refl refl v.regs.a dp refl) next
+      (stores_at f.code room (ins 0x8D p) v Sta Absolute p refl refl refl refl refl v.regs.a dp refl) next
 
   pub stores_short : (p : ℕ) (v : View) (q : View → Type 0) (t : List ℕ) (n : ℕ) → leb (length v.stack) room ≡ true
       → Bytes f.code v.regs.pc (instr_bytes (ins 0x85 p)) → is_data p ≡ true
       → Comes f (record v { regs = advanced v.regs ZeroPage; mem = with_byte v.mem p v.regs.a }) q t n → Comes f v q t (1 + n)
   stores_short p v q t n small b dp next =
       placing f room fits (ins 0x85 p) v (record v { regs = advanced v.regs ZeroPage; mem = with_byte v.mem p v.regs.a }) q t n small b
-          (stores_at f.code room (ins 0x85 p) v Sta ZeroPage p refl refl refl refl refl v.regs.a dp refl) next
+      (stores_at f.code room (ins 0x85 p) v Sta ZeroPage p refl refl refl refl refl v.regs.a dp refl) next
 
   -- a byte of data is changed where it stands, as the last of a piece
   pub changes_last : (k p c : ℕ) (mn : Mnemonic) (v : View) (r : Regs) (q : View → Type 0) → find_row rows k ≡ Some (mn, Absolute) → (k == 0) ≡ false
@@ -101,20 +101,26 @@ module _ (f : Setup) (room : ℕ) (fits : Fits f room) where
       → with_byte v.mem p v.regs.a ≡ m → v.text ≡ text → v.answers ≡ answers → Comes f v (Here at bs m text answers) [] 1
   ends p at v m bs text answers small b dp e s d e' k g =
       placed_last f room fits (ins 0x8D p) v (record v { regs = advanced v.regs Absolute; mem = with_byte v.mem p v.regs.a }) _ small b
-          (stores_at f.code room (ins 0x8D p) v Sta Absolute p refl refl refl refl refl v.regs.a dp refl) (record { pc = e; stack = s; binary = d;
-          mem = e'; text = k; answers = g })
+      (stores_at f.code room (ins 0x8D p) v Sta Absolute p refl refl refl refl refl v.regs.a dp refl) (record {
+        pc = e;
+        stack = s;
+        binary = d;
+        mem = e';
+        text = k;
+        answers = g;
+      })
 
   pub stores_last : (p : ℕ) (v : View) (q : View → Type 0) → leb (length v.stack) room ≡ true → Bytes f.code v.regs.pc (instr_bytes (ins 0x8D p))
       → is_data p ≡ true → q (record v { regs = advanced v.regs Absolute; mem = with_byte v.mem p v.regs.a }) → Comes f v q [] 1
   stores_last p v q small b dp x =
       placed_last f room fits (ins 0x8D p) v (record v { regs = advanced v.regs Absolute; mem = with_byte v.mem p v.regs.a }) q small b
-          (stores_at f.code room (ins 0x8D p) v Sta Absolute p refl refl refl refl refl v.regs.a dp refl) x
+      (stores_at f.code room (ins 0x8D p) v Sta Absolute p refl refl refl refl refl v.regs.a dp refl) x
 
   pub stores_short_last : (p : ℕ) (v : View) (q : View → Type 0) → leb (length v.stack) room ≡ true
       → Bytes f.code v.regs.pc (instr_bytes (ins 0x85 p)) → is_data p ≡ true → q (record v { regs = advanced v.regs ZeroPage; mem = with_byte v.mem p v.regs.a }) → Comes f v q [] 1
   stores_short_last p v q small b dp x =
       placed_last f room fits (ins 0x85 p) v (record v { regs = advanced v.regs ZeroPage; mem = with_byte v.mem p v.regs.a }) q small b
-          (stores_at f.code room (ins 0x85 p) v Sta ZeroPage p refl refl refl refl refl v.regs.a dp refl) x
+      (stores_at f.code room (ins 0x85 p) v Sta ZeroPage p refl refl refl refl refl v.regs.a dp refl) x
 
   -- whatever the registers and flags
   pub whatever : (at : ℕ) (bs : List ℕ) (m : ℕ → ℕ) (text answers : List ℕ) (q : View → Type 0) (t : List ℕ) (k : ℕ)
@@ -147,7 +153,7 @@ module _ (f : Setup) (room : ℕ) (fits : Fits f room) where
         (stores to (view _ x y _ v i _ c ((at + 2) % 65536) bs m text answers) _ [] 2 small st.1.0 dt.0
         (placing f room fits (ins 0xA9 (k / 256)) (view _ x y _ v i _ c ((((at + 2) % 65536) + 3) % 65536) bs _ text answers) _ _ [] 1 small st.1.1.0 refl
         (ends (to + 1) (at + 10) (view _ x y _ v i _ c ((((((at + 2) % 65536) + 3) % 65536) + 2) % 65536) bs _ text answers) _ bs text answers small
-            st.1.1.1.0 dt.1 (omega arith) refl refl refl refl refl))))
+        st.1.1.1.0 dt.1 (omega arith) refl refl refl refl refl))))
 
     -- the same in page zero
     pub points : (k to : ℕ) → at + 8 ≤ highest_code → InData to → Stands f.code at (pointed k to) → Moves f (Here at bs m text answers)
@@ -163,17 +169,17 @@ module _ (f : Setup) (room : ℕ) (fits : Fits f room) where
     pub jumps : (to : ℕ) → Stands f.code at (jump to) → Moves f (Here at bs m text answers) (Here to bs m text answers) [] 1
     jumps to st = whatever at bs m text answers _ [] 1 (λ a x y n v i z c.
         placed_last f room fits (ins 0x4C to) (view a x y n v i z c at bs m text answers) _ _ small st.0 refl
-            (record { pc = refl; stack = refl; binary = refl; mem = refl; text = refl; answers = refl }))
+        (record { pc = refl; stack = refl; binary = refl; mem = refl; text = refl; answers = refl }))
 
     pub jumps_through : (to : ℕ) → WordAt m RESULT to → Stands f.code at jump_through → Moves f (Here at bs m text answers) (Here to bs m text answers) [] 1
     jumps_through to is st = whatever at bs m text answers _ [] 1 (λ a x y n v i z c.
         placed_last f room fits (ins 0x6C RESULT) (view a x y n v i z c at bs m text answers) _ _ small st.0 refl
-            (record { pc = omega (arith, is.low, is.high); stack = refl; binary = refl; mem = refl; text = refl; answers = refl }))
+        (record { pc = omega (arith, is.low, is.high); stack = refl; binary = refl; mem = refl; text = refl; answers = refl }))
 
     -- a call, which returns behind it
     pub calls : (to : ℕ) → leb (length (0 ∷ 0 ∷ bs)) room ≡ true → at + 3 ≤ highest_code → Stands f.code at (call to)
         → Moves f (Here at bs m text answers) (Here to ((at + 2) % 256 ∷ (at + 2) / 256 ∷ bs) m text answers) [] 1
     calls to deep r st = whatever at bs m text answers _ [] 1 (λ a x y n v i z c.
         placed_last f room fits (ins 0x20 to) (view a x y n v i z c at bs m text answers) _ _ small st.0
-            (ap (λ t. if t then (Some (view a x y n v i z c to (((at + 3) % 65536 + 65535) % 65536 % 256 ∷ ((at + 3) % 65536 + 65535) % 65536 / 256
-            ∷ bs) m text answers)) else None) deep) (record { pc = refl; stack = called at bs r; binary = refl; mem = refl; text = refl; answers = refl }))
+        (ap (λ t. if t then (Some (view a x y n v i z c to (((at + 3) % 65536 + 65535) % 65536 % 256 ∷ ((at + 3) % 65536 + 65535) % 65536 / 256
+        ∷ bs) m text answers)) else None) deep) (record { pc = refl; stack = called at bs r; binary = refl; mem = refl; text = refl; answers = refl }))

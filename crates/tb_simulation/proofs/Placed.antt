@@ -24,7 +24,7 @@ module _ (ns : List ℕ) where
 
   pub record IsPlaced (s : State) : Type 0 where
     pub here : HasLine s.place
-    pub notes : AllHave s.returns
+    pub returns : AllHave s.returns
 
   -- so is where a step leads
   abbrev Leads : Step State → Type 0
@@ -54,10 +54,10 @@ module _ (ns : List ℕ) where
       go Past e = tt
 
   fall_led : (n : ℕ) (s : State) → IsPlaced s → Led (fall ns n s)
-  fall_led n s h = record { led = record { here = next_led n; notes = h.notes } }
+  fall_led n s h = record { led = record { here = next_led n; returns = h.returns } }
 
   value_led : (n : ℕ) (v : Valued) (s : State) (g : ℕ → State → Step State) → IsPlaced s → ((v : ℕ) (s : State) → IsPlaced s → Led (g v s)) → Led (with_value n v s g)
-  value_led n (Gives v seed) s g h k = k v (record s { seed = seed }) (record { here = h.here; notes = h.notes })
+  value_led n (Gives v seed) s g h k = k v (record s { seed = seed }) (record { here = h.here; returns = h.returns })
   value_led n (Fails k') s g h k = record { led = tt }
 
   if_led : (b : Bool) (x y : Step State) → Led x → Led y → Led (if b then x else y)
@@ -68,7 +68,7 @@ module _ (ns : List ℕ) where
   to_led n to s h = go (has_line ns to) refl
     where
       go : (t : Bool) → has_line ns to ≡ t → Led (if t then Goes (record s { place = At to }) [] else fault 1 n)
-      go true e = record { led = record { here = e; notes = h.notes } }
+      go true e = record { led = record { here = e; returns = h.returns } }
       go false e = record { led = tt }
 
   sub_led : (n to : ℕ) (s : State) → IsPlaced s → Led (go_sub ns n to s)
@@ -76,40 +76,40 @@ module _ (ns : List ℕ) where
     where
       go : (t : Bool) → has_line ns to ≡ t
           → Led (if t then (if nat_lt (length s.returns) deepest then Goes (record s { place = At to; returns = next_after ns n ∷ s.returns }) [] else fault 4 n) else fault 1 n)
-      go true e = if_led (nat_lt (length s.returns) deepest) _ _ (record { led = record { here = e; notes = (next_led n, h.notes) } }) (record { led = tt })
+      go true e = if_led (nat_lt (length s.returns) deepest) _ _ (record { led = record { here = e; returns = (next_led n, h.returns) } }) (record { led = tt })
       go false e = record { led = tt }
 
   back_led : (n : ℕ) (ps : List Place) (s : State) → AllHave ps → Led (return_to n ps s)
   back_led n [] s h = record { led = tt }
-  back_led n (p ∷ ps) s h = record { led = record { here = h.0; notes = h.1 } }
+  back_led n (p ∷ ps) s h = record { led = record { here = h.0; returns = h.1 } }
 
   turn_led : (n x : ℕ) (t : Turn) (s : State) → IsPlaced s → Led (take_turn n x t s)
-  turn_led n x (Got v true rest) s h = record { led = record { here = h.here; notes = h.notes } }
-  turn_led n x (Got v false rest) s h = record { led = record { here = h.here; notes = h.notes } }
+  turn_led n x (Got v true rest) s h = record { led = record { here = h.here; returns = h.returns } }
+  turn_led n x (Got v false rest) s h = record { led = record { here = h.here; returns = h.returns } }
   turn_led n x Bad s h = record { led = tt }
   turn_led n x Dry s h = record { led = tt }
 
   input_led : (n x : ℕ) (s : State) → IsPlaced s → Led (input.input n x s)
   input_led n x s h =
       if_led s.open_line _ _ (turn_led n x (turn Nothing s.text) s h)
-      (sent_led (63 ∷ 32 ∷ []) _ (turn_led n x (turn Nothing s.text) (record s { column = column_after s.column (63 ∷ 32 ∷ []) }) (record { here = h.here; notes = h.notes })))
+      (sent_led (63 ∷ 32 ∷ []) _ (turn_led n x (turn Nothing s.text) (record s { column = column_after s.column (63 ∷ 32 ∷ []) }) (record { here = h.here; returns = h.returns })))
 
   inputs_led : (n : ℕ) (xs : List ℕ) (s : State) → IsPlaced s → Led (inputs n xs s)
   inputs_led n [] s h = record { led = h }
   inputs_led n (x ∷ xs) s h = then_led (input.input n x s) (inputs n xs) (input_led n x s h) (inputs_led n xs)
 
   item_led : (n : ℕ) (i : Item) (s : State) → IsPlaced s → Led (print_item n i s)
-  item_led n (Text t) s h = record { led = record { here = h.here; notes = h.notes } }
-  item_led n (Value e) s h = value_led n (value e s.vars s.seed) s _ h (λ v s' h'. record { led = record { here = h'.here; notes = h'.notes } })
-  item_led n Zone s h = record { led = record { here = h.here; notes = h.notes } }
+  item_led n (Text t) s h = record { led = record { here = h.here; returns = h.returns } }
+  item_led n (Value e) s h = value_led n (value e s.vars s.seed) s _ h (λ v s' h'. record { led = record { here = h'.here; returns = h'.returns } })
+  item_led n Zone s h = record { led = record { here = h.here; returns = h.returns } }
 
   items_led : (n : ℕ) (is : List Item) (s : State) → IsPlaced s → Led (print_items n is s)
   items_led n [] s h = record { led = h }
   items_led n (i ∷ is) s h = then_led (print_item n i s) (print_items n is) (item_led n i s h) (items_led n is)
 
   does_led : (n : ℕ) (c : Statement) (s : State) → IsPlaced s → Led (does ns n c s)
-  does_led n (Let x e) s h = value_led n (value e s.vars s.seed) s _ h (λ v s' h'. record { led = record { here = next_led n; notes = h'.notes } })
-  does_led n (Print items true) s h = then_led (print_items n items s) _ (items_led n items s h) (λ s' h'. record { led = record { here = next_led n; notes = h'.notes } })
+  does_led n (Let x e) s h = value_led n (value e s.vars s.seed) s _ h (λ v s' h'. record { led = record { here = next_led n; returns = h'.returns } })
+  does_led n (Print items true) s h = then_led (print_items n items s) _ (items_led n items s h) (λ s' h'. record { led = record { here = next_led n; returns = h'.returns } })
   does_led n (Print items false) s h = then_led (print_items n items s) _ (items_led n items s h) (fall_led n)
   does_led n (Input xs) s h = then_led (inputs n xs s) _ (inputs_led n xs s h) (fall_led n)
   does_led n (If l rel r c) s h =
@@ -118,13 +118,13 @@ module _ (ns : List ℕ) where
       if_led (holds rel a b) _ _ (does_led n c s'' h'') (fall_led n s'' h'')))
   does_led n (Goto e) s h = value_led n (value e s.vars s.seed) s _ h (λ v s' h'. to_led n v s' h')
   does_led n (Gosub e) s h = value_led n (value e s.vars s.seed) s _ h (λ v s' h'. sub_led n v s' h')
-  does_led n Return s h = back_led n s.returns s h.notes
+  does_led n Return s h = back_led n s.returns s h.returns
   does_led n End s h = record { led = tt }
   does_led n Remark s h = fall_led n s h
 
   poll_led : (n : ℕ) (l : List ℕ) (s : State) → IsPlaced s → Led (answered n l s)
   poll_led n [] s h = record { led = h }
-  poll_led n (a ∷ l) s h = if_led (nat_eq a 3) _ _ (record { led = tt }) (record { led = record { here = h.here; notes = h.notes } })
+  poll_led n (a ∷ l) s h = if_led (nat_eq a 3) _ _ (record { led = tt }) (record { led = record { here = h.here; returns = h.returns } })
 
   found_led : (n : ℕ) (o : Option Statement) (s : State) → IsPlaced s → Led (does_found ns n o s)
   found_led n (Some c) s h = then_led (poll n s) (does ns n c) (poll_led n s.answers s h) (does_led n c)
@@ -160,4 +160,5 @@ module _ (program : Program) where
   first_led (n ∷ ns) = ap (λ b. b || has_line ns n) (eq-eqb n n refl)
 
   pub at_lines : (seed : ℕ) (text answers : List ℕ) (m : ℕ) (s : State) (out : List ℕ) → source_run program seed text answers m ≡ GoesOn s out → IsPlaced (numbers program) s
-  at_lines seed text answers m s out e = (subst Ran e (runs m (GoesOn (start (numbers program) seed text answers) []) (record { ran = record { here = first_led (numbers program); notes = tt } }))).ran
+  at_lines seed text answers m s out e =
+      (subst Ran e (runs m (GoesOn (start (numbers program) seed text answers) []) (record { ran = record { here = first_led (numbers program); returns = tt } }))).ran

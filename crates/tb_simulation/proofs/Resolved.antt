@@ -6,7 +6,8 @@ use Rattle.tb_reaching.proofs.Instr.{Instr, ins, Stands, instr_bytes}
 use Rattle.tb_words.specs.Words.{word}
 use Rattle.tb_meaning.specs.Control.{has_line, highest}
 use Rattle.tb_lower.specs.Slots as slots
-use Rattle.tb_runtime16.specs.Places.{POINTER, RESULT, TABLE, COUNT, LENGTH, COLUMN, CHROUT, TEXT_AT, ZONE_AT, INPUT_AT, SEARCH_AT, FAULT_LINE_AT, POLL_AT}
+use Rattle.tb_kernal.specs.declared.rom.TheConstants.{CHROUT}
+use Rattle.tb_runtime16.specs.Addresses.{POINTER, RESULT, TABLE, COUNT, LENGTH, COLUMN, TEXT_AT, ZONE_AT, INPUT_AT, SEARCH_AT, FAULT_LINE_AT, POLL_AT}
 use Rattle.tb_templates.specs.Templates.{var_at, slot_at}
 use Rattle.tb_opcodes.specs.Bytes.{AreBytes}
 use Rattle.tb_simulation.specs.Layout.{Layout}

@@ -11,7 +11,7 @@ use Rattle.tb_kernal.specs.Runs.{run}
 use Rattle.tb_meaning.specs.Control.{At, Past, Place, has_line}
 use Rattle.tb_syntax.specs.Source.{Program, numbers}
 use Rattle.tb_simulation.specs.Layout.{is_start}
-use Rattle.tb_simulation.specs.LineStarts.{begun, BeginsLine, HoldsReturns, MarksLines, StandsFor, note_at}
+use Rattle.tb_simulation.specs.LineStarts.{begun, BeginsLine, HoldsReturns, MarksLines, StandsFor, return_at}
 
 module _ (start other : ℕ → ℕ) where
   abbrev pub Agree : List ℕ → Type 0
@@ -39,7 +39,7 @@ module _ (start other : ℕ → ℕ) where
 
   returns_held : (ns : List ℕ) → Agree ns → (m : ℕ → ℕ) (ps : List Place) → HoldsReturns start ns m ps → HoldsReturns other ns m ps
   returns_held ns h m [] held = tt
-  returns_held ns h m (p ∷ ps) held = (stands_for ns h p (note_at m (length ps)) held.0, returns_held ns h m ps held.1)
+  returns_held ns h m (p ∷ ps) held = (stands_for ns h p (return_at m (length ps)) held.0, returns_held ns h m ps held.1)
 
   begins_so : (p : Program) (seed : ℕ) (s : machine.State) (m n : ℕ) (t : machine.State) → Agree (numbers p)
       → BeginsLine p seed start s m n t → BeginsLine p seed other s m n t
@@ -48,7 +48,7 @@ module _ (start other : ℕ → ℕ) where
     done = b.done;
     place = b.place;
     vars = b.vars;
-    notes = b.notes;
+    depth = b.depth;
     few = b.few;
     returns = returns_held (numbers p) h t.mem b.state.returns b.returns;
   }

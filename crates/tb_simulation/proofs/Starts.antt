@@ -110,7 +110,7 @@ module _ (starts : machine.State → ℕ) where
     shift e es x not_go same (behind front back q some few b all v) =
         let g = ap (count 1) not_go in let s = ap (count (starts x)) not_go in
         behind (e ∷ front) back (ap (λ l. e ∷ l) q) (omega (arith, g, some, first_counts e front)) (omega (arith, g, few, first_counts e front)) b
-            (all ∙ ap (λ l. l ++ t) same) (omega (arith, s, v))
+        (all ∙ ap (λ l. l ++ t) same) (omega (arith, s, v))
 
     pub counted : (es : List Event) (x : machine.State) → A x → all_lawful es x ≡ true → Counted A B W t first n x es
     counted [] x a l = before refl a refl refl
@@ -143,7 +143,7 @@ module _ (starts : machine.State → ℕ) where
             (λ fs lf. way fs go (reaches x a (e ∷ fs) (λ i. ok.0 i && lf i)))
             (λ w few q. between w (omega (arith, s, q, entry x a)) (omega (arith, g, few, first_counts e es)))
             (λ front back same le b q. behind (e ∷ front) back (ap (λ l. e ∷ l) same) (omega (arith, g, first_counts e front))
-                (omega (arith, g, le, first_counts e front)) b.0 b.1 (omega (arith, s, q, entry x a)))
+            (omega (arith, g, le, first_counts e front)) b.0 b.1 (omega (arith, s, q, entry x a)))
 
 -- ── the slot code's runs ──
 
@@ -194,7 +194,7 @@ module _ (code : SlotCode) (m : ℕ) (r : Run SlotState) (k : ℕ) (c : SlotStat
   same_line (Over why o) j h =
       ⊎_elim (λ lt. absurd (let no : ⊥ = omega (arith, too_late j lt, h.1) in no))
       (λ le. absurd (let d : k ≡ j + (k - j) = omega (arith, le) in ended_before (slot_step code) (k - j) (advance_by (slot_step code) j r) why o c
-          out h.0 (sym (advance_sum (slot_step code) j (k - j) r) ∙ ap (λ n. advance_by (slot_step code) n r) (sym d) ∙ now)))
+      out h.0 (sym (advance_sum (slot_step code) j (k - j) r) ∙ ap (λ n. advance_by (slot_step code) n r) (sym d) ∙ now)))
       (cases_lt k j)
   same_line (GoesOn s o) j h =
       ⊎_elim (λ lt. absurd (let no : ⊥ = omega (arith, too_late j lt, h.3) in no))
@@ -254,7 +254,7 @@ module _ (IsEnd : End → machine.State → Type 0)
           let j = run_back front back es x eq in
           let s = next c' (run front x) back (omega (arith, lt, some, goes_back front back es eq)) goal (lawful_back front back es x eq l) (ap starts j ∙ one) in
           let b : passed step s.k (joined x.sent (step c)) ≡ met starts back (run front x) = ap (λ st. passed step s.k (joined x.sent st)) e
-              ∙ ap (λ o. passed step s.k (GoesOn c' o)) (sym same) ∙ s.begun in
+          ∙ ap (λ o. passed step s.k (GoesOn c' o)) (sym same) ∙ s.begun in
           let g = stride.begins_line c c' t e in
           record {
             k = suc s.k;
@@ -282,8 +282,15 @@ module _ (IsEnd : End → machine.State → Type 0)
 
   comes : (k : ℕ) (c : SlotState) (x : machine.State) (es : List Event) → R c x → all_lawful es x ≡ true → k * limit ≤ goes es
       → (c' : SlotState) (out : List ℕ) → advance_by step k (GoesOn c x.sent) ≡ GoesOn c' out → Come (GoesOn c x.sent) c' out k x es
-  comes zero c x es r l le c' out e = let a : c ≡ c' = cc in let o : x.sent ≡ out = cc in record { front = []; back = es; split = refl;
-      few = omega arith; related = subst (λ c. R c x) a r; all = o; begun = refl }
+  comes zero c x es r l le c' out e = let a : c ≡ c' = cc in let o : x.sent ≡ out = cc in record {
+    front = [];
+    back = es;
+    split = refl;
+    few = omega arith;
+    related = subst (λ c. R c x) a r;
+    all = o;
+    begun = refl;
+  }
   comes (suc k) c x es r l le c' out e = by (step_law c es x r l) (λ d y back r' l' le' e'. comes k d y back r' l' le' c' out e')
     where
       past_goal : (st : Step SlotState) → step c ≡ st → (front back : List Event) → front ++ back ≡ es → goes front ≤ limit → Goal st (run front x)
@@ -296,7 +303,7 @@ module _ (IsEnd : End → machine.State → Type 0)
           let s = next d (run front x) back goal (lawful_back front back es x eq l) (omega (arith, le, few, goes_back front back es eq))
           (ap (λ o. advance_by step k (GoesOn d o)) same ∙ ap (λ st. advance_by step k (joined x.sent st)) (sym q) ∙ e) in
           let b : passed step k (joined x.sent (step c)) ≡ met starts s.front (run front x) = ap (λ st. passed step k (joined x.sent st)) q
-              ∙ ap (λ o. passed step k (GoesOn d o)) (sym same) ∙ sym s.begun in
+          ∙ ap (λ o. passed step k (GoesOn d o)) (sym same) ∙ sym s.begun in
           let g = stride.begins_line c d t q in
           let j = run_back front s.front (front ++ s.front) x refl in
           record {
@@ -341,8 +348,17 @@ module _ (IsEnd : End → machine.State → Type 0)
           let g = ap (count 1) not_go in
           let s = ap (count (starts x)) not_go in
           let n = next k.0 (omega (arith, some, g, first_counts e es)) in
-          record { front = e ∷ n.front; event = n.event; back = n.back; split = ap (λ l. e ∷ l) n.split; own = n.own;
-              none = omega (arith, g, n.none, first_counts e n.front); related = n.related; all = n.all ∙ k.1; begun = omega (arith, s, n.begun) }
+          record {
+            front = e ∷ n.front;
+            event = n.event;
+            back = n.back;
+            split = ap (λ l. e ∷ l) n.split;
+            own = n.own;
+            none = omega (arith, g, n.none, first_counts e n.front);
+            related = n.related;
+            all = n.all ∙ k.1;
+            begun = omega (arith, s, n.begun);
+          }
 
   -- ── against the source ──
   -- the source has done m lines and goes on at a line, and so does the machine
@@ -401,7 +417,7 @@ module _ (IsEnd : End → machine.State → Type 0)
     line_comes m s out n is e here found es l le =
         let f = follows.reaches seed text answers slots size m in
         let h : Meets m (GoesOn s out) (slot_run code seed text answers slots f.0) (beginnings code f.0 (slot_start code seed text answers slots)) =
-            subst (λ q. Meets m q (slot_run code seed text answers slots f.0) (beginnings code f.0 (slot_start code seed text answers slots))) e f.2 in
+        subst (λ q. Meets m q (slot_run code seed text answers slots f.0) (beginnings code f.0 (slot_start code seed text answers slots))) e f.2 in
         let c : SlotState = record { state = s; rest = Whole; slots = h.0 } in
         let k = stride.found f.0 (GoesOn first []) (subst IsOutside (sym h.2) refl) in
         let small : k.count * limit ≤ m * (longest code + 1) * limit = mul-le-mul_right limit (le_trans k.few f.1) in

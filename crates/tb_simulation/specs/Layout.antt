@@ -32,32 +32,32 @@ pub record Layout : Type 0 where
   pub seed : ℕ
 
 -- what a label stands for
-abbrev pub place_of : List (Name × ℕ) → Target → ℕ
-place_of labels t = number_in labels (Label (label_of t))
+abbrev pub label_address : List (Name × ℕ) → Target → ℕ
+label_address labels t = number_in labels (Label (label_of t))
 
 -- a number without a line stands for the place of fault 7
 abbrev pub start_at : List (Name × ℕ) → List ℕ → ℕ → ℕ
-start_at labels ns n = if has_line ns n then place_of labels (target.Line n) else place_of labels target.Past
+start_at labels ns n = if has_line ns n then label_address labels (target.Line n) else label_address labels target.Past
 
 -- the places of a program with these line numbers by the addresses of its labels, with the option's RND state
 abbrev pub layout_of : List (Name × ℕ) → List ℕ → ℕ → Layout
 layout_of labels ns seed = record {
   numbers = ns;
   start = start_at labels ns;
-  past = place_of labels target.Past;
-  find = place_of labels target.Find;
-  table = place_of labels target.Table;
+  past = label_address labels target.Past;
+  find = label_address labels target.Find;
+  table = label_address labels target.Table;
   seed = seed;
 }
 
 -- where a place of a run begins
-abbrev pub place_at : Layout → Place → ℕ
-place_at ly (At n) = ly.start n
-place_at ly Past = ly.past
+abbrev pub place_address : Layout → Place → ℕ
+place_address ly (At n) = ly.start n
+place_address ly Past = ly.past
 
 -- where the first line above n begins, or fault 7 where there is none
 abbrev pub next_at : Layout → ℕ → ℕ
-next_at ly n = place_at ly (next_after ly.numbers n)
+next_at ly n = place_address ly (next_after ly.numbers n)
 
 -- whether a line begins at an address
 abbrev pub is_start : (ℕ → ℕ) → List ℕ → ℕ → Bool

@@ -9,9 +9,9 @@ use Rattle.tb_kernal.specs.Machine.{happens}
 use Rattle.tb_kernal.specs.Runs.{run, all_lawful, goes}
 use Rattle.tb_syntax.specs.Source.{Program, numbers}
 use Rattle.tb_meaning.specs.Steps.{GoesOn}
-use Rattle.tb_meaning.specs.Control.{At, Past, Place, State, has_line}
+use Rattle.tb_meaning.specs.Control.{At, Past, Place, State, deepest, has_line}
 use Rattle.tb_meaning.specs.Meaning.{source_run}
-use Rattle.tb_runtime16.specs.Places.{NOTES, NOTE_HIGH, NOTE_LOW}
+use Rattle.tb_runtime16.specs.Addresses.{NOTES, RETURN_HIGH, RETURN_LOW}
 use Rattle.tb_templates.specs.Templates.{var_at}
 use Rattle.tb_simulation.specs.Kept.{Starts}
 use Rattle.tb_simulation.specs.Layout.{is_start}
@@ -28,13 +28,13 @@ StandsFor start ns (At n) a = (has_line ns n ≡ true) × (a ≡ start n)
 StandsFor start ns Past a = is_start start ns a ≡ false
 
 -- the address that the return list holds behind so many others
-abbrev pub note_at : (ℕ → ℕ) → ℕ → ℕ
-note_at m k = word_from (m (NOTE_LOW + k)) (m (NOTE_HIGH + k))
+abbrev pub return_at : (ℕ → ℕ) → ℕ → ℕ
+return_at m k = word_from (m (RETURN_LOW + k)) (m (RETURN_HIGH + k))
 
 -- the return list holds these places, the newest first
 abbrev pub HoldsReturns : (ℕ → ℕ) → List ℕ → (ℕ → ℕ) → List Place → Type 0
 HoldsReturns start ns m [] = Unit {0}
-HoldsReturns start ns m (p ∷ ps) = StandsFor start ns p (note_at m (length ps)) × HoldsReturns start ns m ps
+HoldsReturns start ns m (p ∷ ps) = StandsFor start ns p (return_at m (length ps)) × HoldsReturns start ns m ps
 
 -- In a machine t, started as s, the source goes on at this line after m lines: just its output was sent, and its variables
 -- and the places to return to stand in memory. The code of a line begins where `start` says.
@@ -43,8 +43,8 @@ pub record BeginsLine (program : Program) (seed : ℕ) (start : ℕ → ℕ) (s 
   pub done : source_run program seed s.text s.answers m ≡ GoesOn state t.sent
   pub place : state.place ≡ At number
   pub vars : (x : ℕ) → x < 26 → word_in t.mem (var_at x) ≡ slice_index state.vars x
-  pub notes : word_in t.mem NOTES ≡ length state.returns
-  pub few : length state.returns ≤ 500
+  pub depth : word_in t.mem NOTES ≡ length state.returns
+  pub few : length state.returns ≤ deepest
   pub returns : HoldsReturns start (numbers program) t.mem state.returns
 
 -- among some events a Go at a line's start, m such having come before it, and fewer than so many Go events

@@ -132,7 +132,7 @@ kept_fit m ready n e t u us r noted h f =
 -- an event that happened, with its undo, adds a machine
 pub added : {O : Type 0} (gives : O → Content → Event → O → Type 0) (h k : Holds O) (ready : Content) (e : Event) (t : Status) (u : Former) →
     ready ≡ record h.machine { room = ready.room } → gives h.outside ready e k.outside → IsFormer u ready e → Happened ready e (Ok t) k.machine
-        → k.undos ≡ keep_last 1000 (h.undos ++ u ∷ []) → k.program ≡ h.program →
+    → k.undos ≡ keep_last 1000 (h.undos ++ u ∷ []) → k.program ≡ h.program →
     Added gives h k
 added gives h k ready e t u r given noted happened undos program =
     let same : state_of ready ≡ state_of h.machine = ap state_of r in

@@ -3,7 +3,7 @@ use Rattle.std.specs.Prelude.{ℕ, ◌≡◌, ◌++◌, Bool, true, ◌&&◌, na
 use Rattle.tb_kernal.specs.declared.events.Event.{Event}
 use Rattle.tb_kernal.specs.Former.{Former}
 use Rattle.tb_codegen.specs.declared.compiled.Compiled.{Compiled}
-use Rattle.tb_kernal.specs.Places.{written_open}
+use Rattle.tb_kernal.specs.Rom.{written_open}
 use Rattle.tb_kernal.specs.Machine.{State, Content, state_of, is_lawful, happens}
 
 -- what a stepper holds: the present machine, the outside, an undo of each step that can be taken back, the oldest first, and the program

@@ -2,7 +2,7 @@
 use Rattle.std.specs.Prelude.{ℕ, ◌+◌, ◌*◌, List, map}
 use Rattle.std.specs.List.{range_with_len}
 use Rattle.tb_cpu.specs.Operands.{word_in}
-use Rattle.tb_runtime16.specs.Places.{VARS}
+use Rattle.tb_runtime16.specs.Addresses.{VARS}
 
 -- the variable at a place of the alphabet
 abbrev pub variable_in : (ℕ → ℕ) → ℕ → ℕ

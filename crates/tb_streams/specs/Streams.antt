@@ -1,10 +1,11 @@
 -- What an engine says of the reader that it read and of the writer that it wrote.
+use Rattle.tb_streams.specs.declared.stream.TheConstants.{MOST_INPUT}
 use Rattle.std.specs.Prelude.{ℕ, Bool, ◌≡◌, ◌≤◌, ◌<◌, ◌+◌, ◌%◌, ◌^◌, List, take, length, ⊤, Option, None, Some, if◌then◌else◌}
 use Rattle.std.specs.Io.KnownBytes.{Appends, Consumes}
 
 -- the most bytes that an engine takes from a reader
 abbrev pub most_input : ℕ
-most_input = 1048576
+most_input = MOST_INPUT
 
 -- the count of failures after a call that may have failed
 abbrev pub counted : ℕ → Bool → ℕ

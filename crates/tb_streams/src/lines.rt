@@ -2,6 +2,7 @@
 ghost use Rattle.std.specs.Prelude.{◌≡◌, ◌≤◌};
 ghost use Rattle.tb_streams.specs.Failures.{failures_of};
 ghost use Rattle.tb_streams.specs.Lines.{without_return, ReadsLine};
+ghost use Rattle.tb_streams.specs.Streams.{most_input};
 
 use crate::stream::InputError;
 use crate::tracked::Tracked;
@@ -25,7 +26,7 @@ pub fn read_line<R: Read>(
     reader: &mut Tracked<R>,
     most: usize,
 ) -> Result<Option<Vec<u8>>, InputError>
-    requires { most ≤ 1048576 }
+    requires { most ≤ most_input }
     ensures { ReadsLine result most (R.remaining reader.old.stream) (R.remaining reader.new.stream)
         (failures_of reader.old) (failures_of reader.new) }
 {

@@ -19,12 +19,12 @@ use Rattle.tb_selection.specs.Groups.{Conversion, Negated, Drawn, Usage, AsNumbe
 use Rattle.tb_selection.specs.Groups.{Indivisible, Group, Calculate, Stepped, Convert, Move, Use, Test, TestGo, Divides, Remains, Single, contrary, denied}
 use Rattle.tb_selection.specs.Groups.{slot_of}
 use Rattle.tb_selection.specs.Select.{select}
-use Rattle.tb_runtime16.specs.Places.{LEFT, RIGHT, RESULT, LINE, MULTIPLY_AT, DIVIDE_AT, RANDOM_AT}
+use Rattle.tb_runtime16.specs.Addresses.{LEFT, RIGHT, RESULT, LINE, MULTIPLY_AT, DIVIDE_AT, RANDOM_AT}
 use Rattle.tb_templates.specs.declared.labels.Inner.TheVariants.{Behind, Skip}
 use Rattle.tb_templates.specs.declared.labels.Target.{Target}
 use Rattle.tb_templates.specs.declared.labels.Target.TheVariants.{Inside, Line}
 use Rattle.tb_templates.specs.Templates.{branch, slot_at, var_at, on, template, faulted, jump_to, call_to, next_line, call, copied, constant}
-use Rattle.tb_templates.specs.Sources.{Source, FixedWord, AtPlace, source_of, tested_source, home_at, destination_at}
+use Rattle.tb_templates.specs.Sources.{Source, FixedWord, AtAddress, source_of, tested_source, home_at, destination_at}
 use Rattle.tb_templates.specs.GroupTemplates.{brought, summed, taken, handed, multiplied, divided, calculated, computed, changed_or, converted, used, equal}
 use Rattle.tb_templates.specs.GroupTemplates.{unequal, tested, gone, may_fault, group_template, lined, may_be_zero, may_have_none, left_over, unless}
 use Rattle.tb_templates.specs.GroupTemplates.{divided_by, divided_gone, divides, asked_rest, signed_rest, remains}
@@ -57,7 +57,7 @@ has_form_mode : (e : Entry) → has_form e ≡ true → has_mode e ≡ true
 has_form_mode (instr n m o) h =
     let rest = right_true (is_some (find_opcode rows n m)) (suits m o && may_move (instr n m o)) h in
     and_from (is_some (encoded n m)) (suits m o) (ap is_some (encoded_by n m) ∙ left_true (is_some (find_opcode rows n m))
-        (suits m o && may_move (instr n m o)) h) (left_true (suits m o) (may_move (instr n m o)) rest)
+    (suits m o && may_move (instr n m o)) h) (left_true (suits m o) (may_move (instr n m o)) rest)
 has_form_mode (label n) h = refl
 has_form_mode (bytes bs) h = refl
 has_form_mode (word o) h = h
@@ -112,24 +112,24 @@ single_forms false ns n i c = template_forms ns n i c
 -- ── groups ──
 brought_forms : (a : Source) (to : ℕ) → list_all has_form (brought a to) ≡ true
 brought_forms (FixedWord v) to = λ i. on_form Sta to refl refl i && (on_form Sta (to + 1) refl refl i && true)
-brought_forms (AtPlace p) to = λ i. on_form Sta to refl refl i && (on_form Sta (to + 1) refl refl i && true)
+brought_forms (AtAddress p) to = λ i. on_form Sta to refl refl i && (on_form Sta (to + 1) refl refl i && true)
 
 summed_forms : (a b : Source) (to : ℕ) → list_all has_form (summed a b to) ≡ true
 summed_forms (FixedWord v) (FixedWord w) to = refl
-summed_forms (FixedWord v) (AtPlace q) to = refl
-summed_forms (AtPlace p) (FixedWord w) to = refl
-summed_forms (AtPlace p) (AtPlace q) to = refl
+summed_forms (FixedWord v) (AtAddress q) to = refl
+summed_forms (AtAddress p) (FixedWord w) to = refl
+summed_forms (AtAddress p) (AtAddress q) to = refl
 
 taken_forms : (a b : Source) (to : ℕ) → list_all has_form (taken a b to) ≡ true
 taken_forms (FixedWord v) (FixedWord w) to = refl
-taken_forms (FixedWord v) (AtPlace q) to = refl
-taken_forms (AtPlace p) (FixedWord w) to = refl
-taken_forms (AtPlace p) (AtPlace q) to = refl
+taken_forms (FixedWord v) (AtAddress q) to = refl
+taken_forms (AtAddress p) (FixedWord w) to = refl
+taken_forms (AtAddress p) (AtAddress q) to = refl
 
 handed_forms : (routine from : ℕ) (a b : Source) (to : ℕ) → list_all has_form (handed routine from a b to) ≡ true
 handed_forms routine from a b to =
     forms_append (brought a LEFT) (brought b RIGHT ++ (call routine ∷ copied from to)) (brought_forms a LEFT)
-        (forms_append (brought b RIGHT) (call routine ∷ copied from to) (brought_forms b RIGHT) (copied_forms from to))
+    (forms_append (brought b RIGHT) (call routine ∷ copied from to) (brought_forms b RIGHT) (copied_forms from to))
 
 lined_forms : (t : Bool) (n : ℕ) (es : List Entry) → list_all has_form es ≡ true → list_all has_form (lined t n es) ≡ true
 lined_forms true n es h = h
@@ -167,23 +167,23 @@ converted_forms n seed Drawn a to = lined_forms (may_have_none a) n (handed RAND
 
 used_forms : (n : ℕ) (next : Target) (how : Usage) (a : Source) → list_all has_form (used n next how a) ≡ true
 used_forms n next AsNumber (FixedWord w) = refl
-used_forms n next AsNumber (AtPlace p) = refl
+used_forms n next AsNumber (AtAddress p) = refl
 used_forms n next AsLine (FixedWord w) = refl
-used_forms n next AsLine (AtPlace p) = refl
+used_forms n next AsLine (AtAddress p) = refl
 used_forms n next AsSubroutine (FixedWord w) = refl
-used_forms n next AsSubroutine (AtPlace p) = refl
+used_forms n next AsSubroutine (AtAddress p) = refl
 
 equal_forms : (a b : Source) (next : Target) → list_all has_form (equal a b next) ≡ true
 equal_forms (FixedWord v) (FixedWord w) next = refl
-equal_forms (FixedWord v) (AtPlace q) next = refl
-equal_forms (AtPlace p) (FixedWord w) next = refl
-equal_forms (AtPlace p) (AtPlace q) next = refl
+equal_forms (FixedWord v) (AtAddress q) next = refl
+equal_forms (AtAddress p) (FixedWord w) next = refl
+equal_forms (AtAddress p) (AtAddress q) next = refl
 
 unequal_forms : (a b : Source) (stays next : Target) → list_all has_form (unequal a b stays next) ≡ true
 unequal_forms (FixedWord v) (FixedWord w) stays next = refl
-unequal_forms (FixedWord v) (AtPlace q) stays next = refl
-unequal_forms (AtPlace p) (FixedWord w) stays next = refl
-unequal_forms (AtPlace p) (AtPlace q) stays next = refl
+unequal_forms (FixedWord v) (AtAddress q) stays next = refl
+unequal_forms (AtAddress p) (FixedWord w) stays next = refl
+unequal_forms (AtAddress p) (AtAddress q) stays next = refl
 
 negative_forms : (side : Side) → is_some (find_opcode rows (unless_negative side) Relative) ≡ true
 negative_forms Below = refl
@@ -195,13 +195,13 @@ carry_forms NotBelow next = refl
 
 signed_forms : (side : Side) (a : Source) (next : Target) → list_all has_form (signed side a next) ≡ true
 signed_forms side (FixedWord v) next = rw (negative_forms side) refl
-signed_forms side (AtPlace p) next = rw (negative_forms side) refl
+signed_forms side (AtAddress p) next = rw (negative_forms side) refl
 
 weighed_forms : (side : Side) (a b : Source) (skip next : Target) → list_all has_form (weighed side a b skip next) ≡ true
 weighed_forms side (FixedWord v) (FixedWord w) skip next = rw (negative_forms side) refl
-weighed_forms side (FixedWord v) (AtPlace q) skip next = rw (negative_forms side) refl
-weighed_forms side (AtPlace p) (FixedWord w) skip next = rw (negative_forms side) refl
-weighed_forms side (AtPlace p) (AtPlace q) skip next = rw (negative_forms side) refl
+weighed_forms side (FixedWord v) (AtAddress q) skip next = rw (negative_forms side) refl
+weighed_forms side (AtAddress p) (FixedWord w) skip next = rw (negative_forms side) refl
+weighed_forms side (AtAddress p) (AtAddress q) skip next = rw (negative_forms side) refl
 
 ordered_forms : (order : Order) (wanted : Side) (skip next : Target) → list_all has_form (ordered_by order wanted skip next) ≡ true
 ordered_forms (BySign side a) wanted skip next = signed_forms (wanted_side wanted side) a next
@@ -240,7 +240,7 @@ remains_forms n skip a b to =
   where
     by : (a : Source) → list_all has_form (signed_rest skip a to) ≡ true
     by (FixedWord w) = copied_forms RESULT to
-    by (AtPlace p) = copied_forms RESULT to
+    by (AtAddress p) = copied_forms RESULT to
 
 group_forms : (ns : List ℕ) (seed n i : ℕ) (g : Group) → list_all has_form (group_template ns seed n i g) ≡ true
 group_forms ns seed n i (Calculate op a b d) =
@@ -248,16 +248,16 @@ group_forms ns seed n i (Calculate op a b d) =
     computed_forms (change_of op x y to) n (Inside Skip n i) op x y to
 group_forms ns seed n i (Stepped op a b by w x) =
     let to = var_at x in
-    forms_append (computed n (Inside Skip n i) op (source_of 0 a) (source_of 1 b) to) (computed n (Inside Behind n i) by (AtPlace to) (source_of 1 (Constant w)) to)
+    forms_append (computed n (Inside Skip n i) op (source_of 0 a) (source_of 1 b) to) (computed n (Inside Behind n i) by (AtAddress to) (source_of 1 (Constant w)) to)
     (computed_forms (change_of op (source_of 0 a) (source_of 1 b) to) n (Inside Skip n i) op (source_of 0 a) (source_of 1 b) to)
-    (computed_forms (change_of by (AtPlace to) (source_of 1 (Constant w)) to) n (Inside Behind n i) by (AtPlace to) (source_of 1 (Constant w)) to)
+    (computed_forms (change_of by (AtAddress to) (source_of 1 (Constant w)) to) n (Inside Behind n i) by (AtAddress to) (source_of 1 (Constant w)) to)
 group_forms ns seed n i (Convert what a d) = converted_forms n seed what (source_of (slot_of d) a) (destination_at d)
 group_forms ns seed n i (Move a home) = brought_forms (source_of 0 a) (home_at home)
 group_forms ns seed n i (Use how a) = used_forms n (next_line ns n) how (source_of 0 a)
 group_forms ns seed n i (Test rel a b) = tested_forms rel (tested_source a) (source_of 0 b) (Inside Skip n i) (next_line ns n)
 group_forms ns seed n i (TestGo rel a b to) =
     gone_forms n rel (tested_source a) (source_of 0 b) (Inside Skip n i) (next_line ns n) (has_line ns to) to
-group_forms ns seed n i (Remains x d to) = remains_forms n (Inside Skip n i) (AtPlace (var_at x)) (source_of (slot_of to + 2) d) (destination_at to)
+group_forms ns seed n i (Remains x d to) = remains_forms n (Inside Skip n i) (AtAddress (var_at x)) (source_of (slot_of to + 2) d) (destination_at to)
 group_forms ns seed n i (Divides how x d side to) = divides_forms ns n how (source_of 0 (Variable x)) (source_of 1 d) to
 group_forms ns seed n i (Single c) = single_forms (may_fault c) ns n i c
 
@@ -269,7 +269,7 @@ rest_forms ns seed n i (g ∷ gs) = forms_append (group_template ns seed n i g) 
 line_forms : (ns : List ℕ) (seed n : ℕ) (is : List Instr) → list_all has_form (list_code ns seed n is) ≡ true
 line_forms ns seed n is =
     by_poll (λ es. list_all has_form es ≡ true) ns seed n is (λ js e. forms_append (polled n) (rest_code ns seed n 1 (select js)) refl
-        (rest_forms ns seed n 1 (select js))) (rest_forms ns seed n 1 (select is))
+    (rest_forms ns seed n 1 (select js))) (rest_forms ns seed n 1 (select is))
 
 broken_forms : (ns : List ℕ) → list_all has_form (all_broken ns) ≡ true
 broken_forms [] = refl

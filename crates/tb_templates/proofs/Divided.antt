@@ -6,9 +6,9 @@ use Rattle.tb_opcodes.specs.declared.Mnemonic.TheVariants.{And, Jsr, Lda, Ora, S
 use Rattle.tb_opcodes.specs.declared.Mode.TheVariants.{Absolute, ZeroPage}
 use Rattle.tb_asm.specs.declared.items.Operand.TheVariants.{Byte, Word}
 use Rattle.tb_asm.specs.Layout.{Entry, instr}
-use Rattle.tb_runtime16.specs.Places.{LEFT, LINE, RESULT, RIGHT, DIVIDE_AT}
+use Rattle.tb_runtime16.specs.Addresses.{LEFT, LINE, RESULT, RIGHT, DIVIDE_AT}
 use Rattle.tb_templates.specs.Templates.{call, constant, copied, on}
-use Rattle.tb_templates.specs.Sources.{Source, FixedWord, AtPlace}
+use Rattle.tb_templates.specs.Sources.{Source, FixedWord, AtAddress}
 use Rattle.tb_templates.specs.GroupTemplates.{asked_rest, brought, left_over, lined, may_be_zero, remainder, told}
 use Rattle.tb_templates.specs.Masks.{mask}
 use Rattle.tb_templates.proofs.Factors.{one_of}
@@ -67,4 +67,4 @@ masking_is (FixedWord w) =
     (one_of P w 64 63 _ (by_bits w 5 refl (omega arith))
     (one_of P w 128 127 _ (by_bits w 6 refl (omega arith))
     (one_of P w 256 255 _ (by_bits w 7 refl (omega arith)) by_division)))))))
-masking_is (AtPlace p) = by_division
+masking_is (AtAddress p) = by_division

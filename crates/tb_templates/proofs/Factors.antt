@@ -2,7 +2,7 @@
 use Rattle.std.proofs.Common.{◌≡◌, ℕ, ◌+◌, ◌^◌, ◌<◌, Bool, true, false, refl, arith, Option, Some, None}
 use Rattle.std.specs.Prelude.{if◌then◌else◌, nat_eq}
 use Rattle.std.proofs.lemmas.Bool.{eqb-true}
-use Rattle.tb_templates.specs.Sources.{Source, FixedWord, AtPlace}
+use Rattle.tb_templates.specs.Sources.{Source, FixedWord, AtAddress}
 use Rattle.tb_templates.specs.Scaled.{is_factor, scaling, shifts}
 
 -- a constant of a product, and the other word
@@ -17,12 +17,12 @@ scaling_is a (FixedWord w) = by (is_factor w) refl
     by : (t : Bool) → is_factor w ≡ t → IsScaling a (FixedWord w) (if t then Some (w, a) else None)
     by true e = by_right w refl e
     by false e = by_routine
-scaling_is (FixedWord v) (AtPlace q) = by (is_factor v) refl
+scaling_is (FixedWord v) (AtAddress q) = by (is_factor v) refl
   where
-    by : (t : Bool) → is_factor v ≡ t → IsScaling (FixedWord v) (AtPlace q) (if t then Some (v, AtPlace q) else None)
+    by : (t : Bool) → is_factor v ≡ t → IsScaling (FixedWord v) (AtAddress q) (if t then Some (v, AtAddress q) else None)
     by true e = by_left v refl e
     by false e = by_routine
-scaling_is (AtPlace p) (AtPlace q) = by_routine
+scaling_is (AtAddress p) (AtAddress q) = by_routine
 
 -- a divisor that is 2^(k + 1)
 pub data IsShifting (b : Source) : Option ℕ → Type 0 where
@@ -46,4 +46,4 @@ shifting_is (FixedWord w) =
     (one_of P w 16 3 _ (by_shifts w 3 refl (omega arith))
     (one_of P w 32 4 _ (by_shifts w 4 refl (omega arith))
     (one_of P w 64 5 _ (by_shifts w 5 refl (omega arith)) by_call)))))
-shifting_is (AtPlace p) = by_call
+shifting_is (AtAddress p) = by_call

@@ -26,12 +26,12 @@ use Rattle.tb_selection.specs.Groups.{compared, contrary, multiple, onward, Home
 use Rattle.tb_selection.specs.Groups.{denied, expand, expand_all}
 use Rattle.tb_selection.specs.Select.{select}
 use Rattle.tb_selection.proofs.Bracketed.{brackets}
-use Rattle.tb_runtime16.specs.Places.{LEFT, RIGHT, RESULT, MULTIPLY_AT, DIVIDE_AT, RANDOM_AT}
+use Rattle.tb_runtime16.specs.Addresses.{LEFT, RIGHT, RESULT, MULTIPLY_AT, DIVIDE_AT, RANDOM_AT}
 use Rattle.tb_templates.specs.declared.labels.Inner.TheVariants.{Behind, Skip}
 use Rattle.tb_templates.specs.declared.labels.Target.{Target}
 use Rattle.tb_templates.specs.declared.labels.Target.TheVariants.{Inside, Line}
 use Rattle.tb_templates.specs.Templates.{branch, const, next_line, call, copied, faulted, slot_at, var_at, on}
-use Rattle.tb_templates.specs.Sources.{Source, FixedWord, AtPlace, source_of, tested_source, home_at, destination_at}
+use Rattle.tb_templates.specs.Sources.{Source, FixedWord, AtAddress, source_of, tested_source, home_at, destination_at}
 use Rattle.tb_templates.specs.GroupTemplates.{low_of, high_of, brought, joined, handed, multiplied, divided, calculated, computed, changed_or, converted, used}
 use Rattle.tb_templates.specs.GroupTemplates.{equal, unequal, tested, gone, group_template, lined, may_be_zero, may_have_none, told, remainder}
 use Rattle.tb_templates.specs.GroupTemplates.{left_over as beyond, unless, divided_by, divided_gone, divides, asked_rest, signed_rest, remains}
@@ -80,11 +80,11 @@ single_fits ns seed n i _ = omega arith
 -- ── a group ──
 low_most : (m : Mnemonic) (a : Source) → most_of (low_of m a) ≤ 3
 low_most m (FixedWord w) = omega arith
-low_most m (AtPlace p) = omega arith
+low_most m (AtAddress p) = omega arith
 
 high_most : (m : Mnemonic) (a : Source) → most_of (high_of m a) ≤ 3
 high_most m (FixedWord w) = omega arith
-high_most m (AtPlace p) = omega arith
+high_most m (AtAddress p) = omega arith
 
 brought_fits : (a : Source) (to : ℕ) → most (brought a to) ≤ 12
 brought_fits a to =
@@ -265,8 +265,8 @@ group_fits ns seed n i (Calculate op a b d) =
 group_fits ns seed n i (Stepped op a b by w x) =
     let to = var_at x in let y = source_of 0 a in let z = source_of 1 b in
     let h = computed_fits (change_of op y z to) n (Inside Skip n i) op y z to in
-    let k = computed_fits (change_of by (AtPlace to) (source_of 1 (Constant w)) to) n (Inside Behind n i) by (AtPlace to) (source_of 1 (Constant w)) to in
-    let j = most_append (computed n (Inside Skip n i) op y z to) (computed n (Inside Behind n i) by (AtPlace to) (source_of 1 (Constant w)) to) in
+    let k = computed_fits (change_of by (AtAddress to) (source_of 1 (Constant w)) to) n (Inside Behind n i) by (AtAddress to) (source_of 1 (Constant w)) to in
+    let j = most_append (computed n (Inside Skip n i) op y z to) (computed n (Inside Behind n i) by (AtAddress to) (source_of 1 (Constant w)) to) in
     let e = list_append (fetch 0 a) (fetch 1 b ++ Compute op 0 ∷ Put 1 w ∷ Compute by 0 ∷ Store x ∷ []) in
     let f = list_append (fetch 1 b) (Compute op 0 ∷ Put 1 w ∷ Compute by 0 ∷ Store x ∷ []) in
     omega (arith, h, k, j, e, f)
@@ -294,7 +294,7 @@ group_fits ns seed n i (Divides how x d OnLeft to) =
 group_fits ns seed n i (Divides how x d OnRight to) =
     let h = divides_fits ns n how (source_of 0 (OfVariable x)) (source_of 1 d) to in let m = multiple_room 0 x d (LeaveUnless (compared how) ∷ onward to) in omega (arith, h, m)
 group_fits ns seed n i (Remains x d to) =
-    let h = remains_fits n (Inside Skip n i) (AtPlace (var_at x)) (source_of (slot_of to + 2) d) (destination_at to) in
+    let h = remains_fits n (Inside Skip n i) (AtAddress (var_at x)) (source_of (slot_of to + 2) d) (destination_at to) in
     let m = multiple_room (slot_of to + 1) x d (Compute Subtract (slot_of to) ∷ kept to) in
     omega (arith, h, m)
 group_fits ns seed n i (Single c) = let h = single_fits ns seed n i c in omega (arith, h)

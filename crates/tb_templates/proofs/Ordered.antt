@@ -15,14 +15,14 @@ use Rattle.tb_lower.specs.Slots.{Instr, SendText, JumpTo, CallTo, Return, SlotCo
 use Rattle.tb_selection.specs.Groups.{Conversion, Negated, Drawn, Usage, AsNumber, AsLine, AsSubroutine, Constant, Variable, Divisibility, Group, Calculate}
 use Rattle.tb_selection.specs.Groups.{Stepped, Convert, Move, Use, Test, TestGo, Divides, Remains, Single, contrary, denied, slot_of}
 use Rattle.tb_selection.specs.Select.{select}
-use Rattle.tb_runtime16.specs.Places.{LEFT, RIGHT, RESULT, LINE, MULTIPLY_AT, DIVIDE_AT, RANDOM_AT}
+use Rattle.tb_runtime16.specs.Addresses.{LEFT, RIGHT, RESULT, LINE, MULTIPLY_AT, DIVIDE_AT, RANDOM_AT}
 use Rattle.tb_templates.specs.declared.labels.Inner.{Inner}
 use Rattle.tb_templates.specs.declared.labels.Inner.TheVariants as inner
 use Rattle.tb_templates.specs.Labels.{label_of, letter_of}
 use Rattle.tb_templates.specs.declared.labels.Target.{Target}
 use Rattle.tb_templates.specs.declared.labels.Target.TheVariants.{Line, Inside, Table, Past}
 use Rattle.tb_templates.specs.Templates.{branch, var_at, template, faulted, called, jump_to, next_line, target_of, call, copied, constant}
-use Rattle.tb_templates.specs.Sources.{Source, FixedWord, AtPlace, source_of, tested_source, home_at, destination_at}
+use Rattle.tb_templates.specs.Sources.{Source, FixedWord, AtAddress, source_of, tested_source, home_at, destination_at}
 use Rattle.tb_templates.specs.GroupTemplates.{brought, joined, handed, multiplied, divided, calculated, computed, changed_or, converted, used, equal, unequal}
 use Rattle.tb_templates.specs.GroupTemplates.{tested, gone, may_fault, group_template, lined, may_be_zero, may_have_none, left_over, unless, divided_by}
 use Rattle.tb_templates.specs.GroupTemplates.{divided_gone, divides, asked_rest, signed_rest, remains}
@@ -49,37 +49,37 @@ jump_rises ns n to low high false e h = rw e h
 module _ (low high : ℕ) (up : low ≤ high) where
   brought_rises : (a : Source) (to : ℕ) → Rising low (brought a to) high
   brought_rises (FixedWord w) to = up
-  brought_rises (AtPlace p) to = up
+  brought_rises (AtAddress p) to = up
 
   joined_rises : (m : Mnemonic) (a b : Source) (to : ℕ) → Rising low (joined m a b to) high
   joined_rises m (FixedWord v) (FixedWord w) to = up
-  joined_rises m (FixedWord v) (AtPlace q) to = up
-  joined_rises m (AtPlace p) (FixedWord w) to = up
-  joined_rises m (AtPlace p) (AtPlace q) to = up
+  joined_rises m (FixedWord v) (AtAddress q) to = up
+  joined_rises m (AtAddress p) (FixedWord w) to = up
+  joined_rises m (AtAddress p) (AtAddress q) to = up
 
   equal_rises : (a b : Source) (next : Target) → Rising low (equal a b next) high
   equal_rises (FixedWord v) (FixedWord w) next = up
-  equal_rises (FixedWord v) (AtPlace q) next = up
-  equal_rises (AtPlace p) (FixedWord w) next = up
-  equal_rises (AtPlace p) (AtPlace q) next = up
+  equal_rises (FixedWord v) (AtAddress q) next = up
+  equal_rises (AtAddress p) (FixedWord w) next = up
+  equal_rises (AtAddress p) (AtAddress q) next = up
 
 -- code with no label but one
 module _ (low high : ℕ) (skip : Target) (above : low ≤ key_of (label_of skip)) (below : key_of (label_of skip) + 1 ≤ high) where
   unequal_rises : (a b : Source) (next : Target) → Rising low (unequal a b skip next) high
   unequal_rises (FixedWord v) (FixedWord w) next = (above, below)
-  unequal_rises (FixedWord v) (AtPlace q) next = (above, below)
-  unequal_rises (AtPlace p) (FixedWord w) next = (above, below)
-  unequal_rises (AtPlace p) (AtPlace q) next = (above, below)
+  unequal_rises (FixedWord v) (AtAddress q) next = (above, below)
+  unequal_rises (AtAddress p) (FixedWord w) next = (above, below)
+  unequal_rises (AtAddress p) (AtAddress q) next = (above, below)
 
   signed_rises : (side : Side) (a : Source) (next : Target) → Rising low (signed side a next) high
   signed_rises side (FixedWord v) next = omega (arith, above, below)
-  signed_rises side (AtPlace p) next = omega (arith, above, below)
+  signed_rises side (AtAddress p) next = omega (arith, above, below)
 
   weighed_rises : (side : Side) (a b : Source) (next : Target) → Rising low (weighed side a b skip next) high
   weighed_rises side (FixedWord v) (FixedWord w) next = (above, below)
-  weighed_rises side (FixedWord v) (AtPlace q) next = (above, below)
-  weighed_rises side (AtPlace p) (FixedWord w) next = (above, below)
-  weighed_rises side (AtPlace p) (AtPlace q) next = (above, below)
+  weighed_rises side (FixedWord v) (AtAddress q) next = (above, below)
+  weighed_rises side (AtAddress p) (FixedWord w) next = (above, below)
+  weighed_rises side (AtAddress p) (AtAddress q) next = (above, below)
 
   changed_rises : (up : low ≤ high) (c : Change) (p : ℕ) → Rising low (changed c p skip) high
   changed_rises up Increment p = (above, below)
@@ -130,11 +130,11 @@ converted_rises low high n seed Drawn a to up = lined_rises low high (may_have_n
 
 used_rises : (low high n : ℕ) (next : Target) (how : Usage) (a : Source) → low ≤ high → Rising low (used n next how a) high
 used_rises low high n next AsNumber (FixedWord w) up = up
-used_rises low high n next AsNumber (AtPlace p) up = up
+used_rises low high n next AsNumber (AtAddress p) up = up
 used_rises low high n next AsLine (FixedWord w) up = up
-used_rises low high n next AsLine (AtPlace p) up = up
+used_rises low high n next AsLine (AtAddress p) up = up
 used_rises low high n next AsSubroutine (FixedWord w) up = up
-used_rises low high n next AsSubroutine (AtPlace p) up = up
+used_rises low high n next AsSubroutine (AtAddress p) up = up
 
 divided_by_rises : (low high n : ℕ) (how : Divisibility) (a b : Source) (next : Target) → low ≤ high → Rising low (divided_by n how a b next) high
 divided_by_rises low high n how a b next up =
@@ -161,8 +161,14 @@ module _ (ns : List ℕ) (seed n i : ℕ) (small : n < 65536) (index : i < 65536
   call_rises to false = up
 
   template_rises : (c : Instr) → Rising (base n i) (template ns n i c) (base n (i + 1))
-  template_rises (SendText bs) = (let t = keyed inner.Text in omega (arith, t), (let t = keyed inner.Text in let u = keyed inner.Behind in
-      omega (arith, t, u), let u = keyed inner.Behind in omega (arith, u)))
+  template_rises (SendText bs) = (
+    let t = keyed inner.Text in omega (arith, t),
+    (
+      let t = keyed inner.Text in let u = keyed inner.Behind in
+          omega (arith, t, u),
+      let u = keyed inner.Behind in omega (arith, u),
+    ),
+  )
   template_rises (JumpTo to) = jump_rises ns n to (base n i) (base n (i + 1)) (has_line ns to) refl up
   template_rises (CallTo to) = call_rises to (has_line ns to)
   template_rises Return = (let u = keyed inner.Behind in omega (arith, u), let u = keyed inner.Behind in omega (arith, u))
@@ -182,13 +188,19 @@ module _ (ns : List ℕ) (seed n i : ℕ) (small : n < 65536) (index : i < 65536
   remains_rise : (a b : Source) (to : ℕ) → Rising (base n i) (remains n (Inside inner.Skip n i) a b to) (base n (i + 1))
   remains_rise a b to =
       rising_append (base n i) (base n i) (base n (i + 1)) (asked_rest n a b) (signed_rest (Inside inner.Skip n i) a to)
-          (plain_rises (base n i) (base n i) (asked_rest n a b) (omega arith) (asked_rest_plain n a b)) (by a)
+      (plain_rises (base n i) (base n i) (asked_rest n a b) (omega arith) (asked_rest_plain n a b)) (by a)
     where
       by : (a : Source) → Rising (base n i) (signed_rest (Inside inner.Skip n i) a to) (base n (i + 1))
-      by (FixedWord w) = let s = keyed inner.Skip in (omega (arith, s), plain_rises (key_of (label_of (Inside inner.Skip n i)) + 1) (base n (i + 1))
-          (copied RESULT to) (omega (arith, s)) (copied_plain RESULT to))
-      by (AtPlace p) = let s = keyed inner.Skip in (omega (arith, s), plain_rises (key_of (label_of (Inside inner.Skip n i)) + 1) (base n (i + 1))
-          (copied RESULT to) (omega (arith, s)) (copied_plain RESULT to))
+      by (FixedWord w) = let s = keyed inner.Skip in (
+        omega (arith, s),
+        plain_rises (key_of (label_of (Inside inner.Skip n i)) + 1) (base n (i + 1))
+            (copied RESULT to) (omega (arith, s)) (copied_plain RESULT to),
+      )
+      by (AtAddress p) = let s = keyed inner.Skip in (
+        omega (arith, s),
+        plain_rises (key_of (label_of (Inside inner.Skip n i)) + 1) (base n (i + 1))
+            (copied RESULT to) (omega (arith, s)) (copied_plain RESULT to),
+      )
 
   -- the label of a change in place in its code
   computed_rises : (o : Option Change) (op : Operator) (a b : Source) (to : ℕ) → Rising (base n i) (changed_or o n (Inside inner.Skip n i) op a b to) (base n (i + 1))
@@ -215,18 +227,18 @@ module _ (ns : List ℕ) (seed n i : ℕ) (small : n < 65536) (index : i < 65536
   group_rises (Stepped op a b by w x) =
       let to = var_at x in
       rising_append (base n i) (key_of (label_of (Inside inner.Skip n i)) + 1) (base n (i + 1)) (computed n (Inside inner.Skip n i) op (source_of 0 a)
-          (source_of 1 b) to) (computed n (Inside inner.Behind n i) by (AtPlace to) (source_of 1 (Constant w)) to)
+      (source_of 1 b) to) (computed n (Inside inner.Behind n i) by (AtAddress to) (source_of 1 (Constant w)) to)
       (changes_rise (base n i) (key_of (label_of (Inside inner.Skip n i)) + 1) (Inside inner.Skip n i) (let s = keyed inner.Skip in omega (arith, s))
-          (omega arith) (change_of op (source_of 0 a) (source_of 1 b) to) op (source_of 0 a) (source_of 1 b) to)
+      (omega arith) (change_of op (source_of 0 a) (source_of 1 b) to) op (source_of 0 a) (source_of 1 b) to)
       (changes_rise (key_of (label_of (Inside inner.Skip n i)) + 1) (base n (i + 1)) (Inside inner.Behind n i) (let s = keyed inner.Skip in
-          let u = keyed inner.Behind in omega (arith, s, u)) (let u = keyed inner.Behind in omega (arith, u))
-          (change_of by (AtPlace to) (source_of 1 (Constant w)) to) by (AtPlace to) (source_of 1 (Constant w)) to)
+      let u = keyed inner.Behind in omega (arith, s, u)) (let u = keyed inner.Behind in omega (arith, u))
+      (change_of by (AtAddress to) (source_of 1 (Constant w)) to) by (AtAddress to) (source_of 1 (Constant w)) to)
   group_rises (Convert what a d) = converted_rises (base n i) (base n (i + 1)) n seed what (source_of (slot_of d) a) (destination_at d) up
   group_rises (Move a home) = brought_rises (base n i) (base n (i + 1)) up (source_of 0 a) (home_at home)
   group_rises (Use how a) = used_rises (base n i) (base n (i + 1)) n (next_line ns n) how (source_of 0 a) up
   group_rises (Test rel a b) = test_rises rel (tested_source a) (source_of 0 b) (next_line ns n)
   group_rises (TestGo rel a b to) = gone_rises rel (tested_source a) (source_of 0 b) (has_line ns to) to
-  group_rises (Remains x d to) = remains_rise (AtPlace (var_at x)) (source_of (slot_of to + 2) d) (destination_at to)
+  group_rises (Remains x d to) = remains_rise (AtAddress (var_at x)) (source_of (slot_of to + 2) d) (destination_at to)
   group_rises (Divides how x d side to) = divides_rises (base n i) (base n (i + 1)) ns n how (source_of 0 (Variable x)) (source_of 1 d) to up
   group_rises (Single c) = single_rises (may_fault c) c
 
@@ -243,7 +255,7 @@ polled_rises n = omega arith
 list_rises : (ns : List ℕ) (seed n : ℕ) (is : List Instr) → n < 65536 → length is < 65536 → Rising (base n 0 + 1) (list_code ns seed n is) (base (n + 1) 0)
 list_rises ns seed n is h l =
     by_poll (λ es. Rising (base n 0 + 1) es (base (n + 1) 0)) ns seed n is (λ js e. rising_append (base n 0 + 1) (base n 1) (base (n + 1) 0)
-        (polled n) (rest_code ns seed n 1 (select js)) (polled_rises n) (groups js (let s = ap length e in omega (arith, s, l))))
+    (polled n) (rest_code ns seed n 1 (select js)) (polled_rises n) (groups js (let s = ap length e in omega (arith, s, l))))
     (rising_lower (base n 0 + 1) (base n 1) (base (n + 1) 0) (rest_code ns seed n 1 (select is)) (omega arith) (groups is l))
   where
     groups : (js : List Instr) → length js < 65536 → Rising (base n 1) (rest_code ns seed n 1 (select js)) (base (n + 1) 0)

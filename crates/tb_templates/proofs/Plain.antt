@@ -9,13 +9,13 @@ use Rattle.tb_opcodes.specs.declared.Mode.{Mode}
 use Rattle.tb_opcodes.specs.declared.Mode.TheVariants.{Absolute, Accumulator, Immediate, Implied, ZeroPage}
 use Rattle.tb_opcodes.specs.Opcodes.{rows, find_opcode}
 use Rattle.tb_asm.specs.declared.names.Name.{Name}
-use Rattle.tb_asm.specs.Layout.{Entry, instr, label, bytes, word, suits, is_place}
+use Rattle.tb_asm.specs.Layout.{Entry, instr, label, bytes, word, suits, is_address}
 use Rattle.tb_asm.specs.Settle.{unknown_fault}
 use Rattle.tb_settling.specs.Settled.{AllKnown, may_move}
 use Rattle.tb_settling.proofs.Forms.{is_straight}
-use Rattle.tb_runtime16.specs.Places.{LEFT}
+use Rattle.tb_runtime16.specs.Addresses.{LEFT}
 use Rattle.tb_templates.specs.Templates.{alone, at, const}
-use Rattle.tb_templates.specs.Sources.{Source, FixedWord, AtPlace, low_of, high_of}
+use Rattle.tb_templates.specs.Sources.{Source, FixedWord, AtAddress, low_of, high_of}
 use Rattle.tb_templates.specs.Scaled.{on_a, at_zero, all_but_lowest, rounded, raised, halved, halvings, high_first, shifted, doubled, increased, by_bit, by_bits, low_first, times}
 use Rattle.tb_templates.specs.Orders.{lifted}
 use Rattle.tb_templates.proofs.Rising.{Rising}
@@ -25,7 +25,7 @@ abbrev pub has_form : Entry → Bool
 has_form (instr n m o) = is_some (find_opcode rows n m) && (suits m o && may_move (instr n m o))
 has_form (label n) = true
 has_form (bytes bs) = true
-has_form (word o) = is_place o
+has_form (word o) = is_address o
 
 -- ── plain items ──
 pub record IsPlain (e : Entry) : Type 0 where
@@ -83,11 +83,11 @@ absolute n p h = record { form = formed (is_some (find_opcode rows n Absolute)) 
 
 pub low_byte : (n : Mnemonic) (a : Source) → Is n Immediate → Is n Absolute → IsPlain (low_of n a)
 low_byte n (FixedWord w) h k = immediate n (w % 256) h
-low_byte n (AtPlace p) h k = absolute n p k
+low_byte n (AtAddress p) h k = absolute n p k
 
 pub high_byte : (n : Mnemonic) (a : Source) → Is n Immediate → Is n Absolute → IsPlain (high_of n a)
 high_byte n (FixedWord w) h k = immediate n (w / 256) h
-high_byte n (AtPlace p) h k = absolute n (p + 1) k
+high_byte n (AtAddress p) h k = absolute n (p + 1) k
 
 -- one item and those behind it
 infixr 5 ◌▹◌

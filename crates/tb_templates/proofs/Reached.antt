@@ -21,14 +21,14 @@ use Rattle.tb_selection.specs.Groups.{Conversion, Negated, Drawn, Usage, AsNumbe
 use Rattle.tb_selection.specs.Groups.{Stepped, Convert, Move, Use, Test, TestGo, Divides, Remains, Single, contrary, denied, slot_of}
 use Rattle.tb_selection.specs.Select.{select}
 use Rattle.tb_syntax.specs.Source.{numbers}
-use Rattle.tb_runtime16.specs.Places.{LEFT, RIGHT, RESULT, LINE, WANTED, MULTIPLY_AT, DIVIDE_AT, RANDOM_AT, NUMBER_AT}
+use Rattle.tb_runtime16.specs.Addresses.{LEFT, RIGHT, RESULT, LINE, WANTED, MULTIPLY_AT, DIVIDE_AT, RANDOM_AT, NUMBER_AT}
 use Rattle.tb_templates.specs.declared.labels.Inner.TheVariants as inner
 use Rattle.tb_templates.specs.declared.labels.Target.{Target}
 use Rattle.tb_templates.specs.declared.labels.Target.TheVariants as target
 use Rattle.tb_templates.specs.Labels.{label_of}
 use Rattle.tb_templates.specs.Layout.{LabelsAt}
-use Rattle.tb_templates.specs.Templates.{branch, slot_at, var_at, on, template, jump, faulted, called, returned, find, note, jump_through, target_of, next_line, call, copied, constant}
-use Rattle.tb_templates.specs.Sources.{Source, FixedWord, AtPlace, source_of, tested_source, home_at, destination_at}
+use Rattle.tb_templates.specs.Templates.{branch, slot_at, var_at, on, template, jump, faulted, called, returned, find, return_address, jump_through, target_of, next_line, call, copied, constant}
+use Rattle.tb_templates.specs.Sources.{Source, FixedWord, AtAddress, source_of, tested_source, home_at, destination_at}
 use Rattle.tb_templates.specs.GroupTemplates.{low_of, high_of, brought, joined, handed, multiplied, divided, calculated, computed, changed_or, converted}
 use Rattle.tb_templates.specs.GroupTemplates.{searched, used, equal, unequal, tested, gone, may_fault, group_template, lined, may_be_zero, may_have_none}
 use Rattle.tb_templates.specs.GroupTemplates.{left_over, unless, divided_by, divided_gone, divides, asked_rest, signed_rest, remains}
@@ -115,9 +115,9 @@ module _ (labels : List (Name × ℕ)) (ns : List ℕ) (known : Known labels ns)
       → AllKnown labels (if t then called n to next skip over else faulted n 1)
   call_known n a to next skip over true e s h =
       let line = to_label (target.Line to) (known.lines to e) in
-      let noted : Stands labels skip = ap is_some h.1.1.1.1.1.1.1.1.1.1.0 in
+      let held : Stands labels skip = ap is_some h.1.1.1.1.1.1.1.1.1.1.0 in
       let behind : Stands labels over = ap is_some h.1.1.1.1.1.1.1.1.1.1.1.1.0 in
-      (refl ▹ to_label over behind ▹ refl ▹ low_label next s ▹ refl ▹ high_label next s ▹ refl ▹ refl ▹ to_label skip noted ▹ refl ▹ refl ▹ line ▹ refl ▹
+      (refl ▹ to_label over behind ▹ refl ▹ low_label next s ▹ refl ▹ high_label next s ▹ refl ▹ refl ▹ to_label skip held ▹ refl ▹ refl ▹ line ▹ refl ▹
       refl ▹ refl ▹ refl ▹ refl ▹ low_label next s ▹ refl ▹ high_label next s ▹ refl ▹ refl ▹ line ▹ tt)
   call_known n a to next skip over false e s h = (refl ▹ refl ▹ refl ▹ refl ▹ tt)
 
@@ -167,11 +167,11 @@ module _ (labels : List (Name × ℕ)) (ns : List ℕ) (known : Known labels ns)
   -- ── words and tests ──
   low_known : (m : Mnemonic) (a : Source) → unknown_fault labels (low_of m a) ≡ None
   low_known m (FixedWord w) = refl
-  low_known m (AtPlace p) = refl
+  low_known m (AtAddress p) = refl
 
   high_known : (m : Mnemonic) (a : Source) → unknown_fault labels (high_of m a) ≡ None
   high_known m (FixedWord w) = refl
-  high_known m (AtPlace p) = refl
+  high_known m (AtAddress p) = refl
 
   brought_known : (a : Source) (to : ℕ) → AllKnown labels (brought a to)
   brought_known a to = (low_known Lda a ▹ on_known Sta to ▹ high_known Lda a ▹ on_known Sta (to + 1) ▹ tt)
@@ -229,7 +229,7 @@ module _ (labels : List (Name × ℕ)) (ns : List ℕ) (known : Known labels ns)
   used_known n next AsNumber a h = known_append labels (brought a LEFT) (call NUMBER_AT ∷ []) (brought_known a LEFT) (refl ▹ tt)
   used_known n next AsLine a h = known_append labels (searched n a) jump_through (searched_known n a) (refl ▹ tt)
   used_known n next AsSubroutine a h =
-      known_append labels (searched n a) (note next ++ jump_through) (searched_known n a) (low_label next h ▹ refl ▹ high_label next h ▹ refl ▹ refl ▹ refl ▹ tt)
+      known_append labels (searched n a) (return_address next ++ jump_through) (searched_known n a) (low_label next h ▹ refl ▹ high_label next h ▹ refl ▹ refl ▹ refl ▹ tt)
 
   weighed_known : (side : Side) (a b : Source) (skip next : Target) → Stands labels skip → Stands labels next → AllKnown labels (weighed side a b skip next)
   weighed_known side a b skip next s t =
@@ -244,15 +244,15 @@ module _ (labels : List (Name × ℕ)) (ns : List ℕ) (known : Known labels ns)
   -- the label of a test, where it has one, stands in its code
   unequal_skip : (a : ℕ) (l r : Source) (skip next : Target) → LabelsAt labels a (unequal l r skip next) → Stands labels skip
   unequal_skip a (FixedWord v) (FixedWord w) skip next h = ap is_some h.1.1.1.1.1.1.0
-  unequal_skip a (FixedWord v) (AtPlace q) skip next h = ap is_some h.1.1.1.1.1.1.0
-  unequal_skip a (AtPlace p) (FixedWord w) skip next h = ap is_some h.1.1.1.1.1.1.0
-  unequal_skip a (AtPlace p) (AtPlace q) skip next h = ap is_some h.1.1.1.1.1.1.0
+  unequal_skip a (FixedWord v) (AtAddress q) skip next h = ap is_some h.1.1.1.1.1.1.0
+  unequal_skip a (AtAddress p) (FixedWord w) skip next h = ap is_some h.1.1.1.1.1.1.0
+  unequal_skip a (AtAddress p) (AtAddress q) skip next h = ap is_some h.1.1.1.1.1.1.0
 
   weighed_skip : (a : ℕ) (side : Side) (l r : Source) (skip next : Target) → LabelsAt labels a (weighed side l r skip next) → Stands labels skip
   weighed_skip a side (FixedWord v) (FixedWord w) skip next h = ap is_some h.1.1.1.1.1.1.0
-  weighed_skip a side (FixedWord v) (AtPlace q) skip next h = ap is_some h.1.1.1.1.1.1.0
-  weighed_skip a side (AtPlace p) (FixedWord w) skip next h = ap is_some h.1.1.1.1.1.1.0
-  weighed_skip a side (AtPlace p) (AtPlace q) skip next h = ap is_some h.1.1.1.1.1.1.0
+  weighed_skip a side (FixedWord v) (AtAddress q) skip next h = ap is_some h.1.1.1.1.1.1.0
+  weighed_skip a side (AtAddress p) (FixedWord w) skip next h = ap is_some h.1.1.1.1.1.1.0
+  weighed_skip a side (AtAddress p) (AtAddress q) skip next h = ap is_some h.1.1.1.1.1.1.0
 
   ordered_known : (at : ℕ) (order : Order) (wanted : Side) (skip next : Target) → Stands labels next
       → LabelsAt labels at (ordered_by order wanted skip next) → AllKnown labels (ordered_by order wanted skip next)
@@ -289,7 +289,7 @@ module _ (labels : List (Name × ℕ)) (ns : List ℕ) (known : Known labels ns)
   remains_known : (n at : ℕ) (skip : Target) (a b : Source) (to : ℕ) → LabelsAt labels at (remains n skip a b to) → AllKnown labels (remains n skip a b to)
   remains_known n at skip a b to h =
       known_append labels (asked_rest n a b) (signed_rest skip a to) (plain_known labels (asked_rest n a b) (asked_rest_plain n a b))
-          (by a (labels_split labels at (asked_rest n a b) (signed_rest skip a to) h).1)
+      (by a (labels_split labels at (asked_rest n a b) (signed_rest skip a to) h).1)
     where
       by : (a : Source) → LabelsAt labels (at + size (asked_rest n a b)) (signed_rest skip a to) → AllKnown labels (signed_rest skip a to)
       by a h = (high_known Lda a ▹ to_label skip (ap is_some h.1.1.1.1.1.1.1.1.1.0) ▹ refl ▹ refl ▹ refl ▹ refl ▹ refl ▹ refl ▹ refl ▹ refl ▹ copied_known RESULT to)
@@ -302,18 +302,18 @@ module _ (labels : List (Name × ℕ)) (ns : List ℕ) (known : Known labels ns)
   group_known seed n i at (Stepped op a b by w x) h =
       let to = var_at x in
       let front = computed n (target.Inside inner.Skip n i) op (source_of 0 a) (source_of 1 b) to in
-      let back = computed n (target.Inside inner.Behind n i) by (AtPlace to) (source_of 1 (Constant w)) to in
+      let back = computed n (target.Inside inner.Behind n i) by (AtAddress to) (source_of 1 (Constant w)) to in
       let s = labels_split labels at front back h in
       known_append labels front back
       (computed_known n at (change_of op (source_of 0 a) (source_of 1 b) to) (target.Inside inner.Skip n i) op (source_of 0 a) (source_of 1 b) to s.0)
-      (computed_known n (at + size front) (change_of by (AtPlace to) (source_of 1 (Constant w)) to) (target.Inside inner.Behind n i) by (AtPlace to) (source_of 1 (Constant w)) to s.1)
+      (computed_known n (at + size front) (change_of by (AtAddress to) (source_of 1 (Constant w)) to) (target.Inside inner.Behind n i) by (AtAddress to) (source_of 1 (Constant w)) to s.1)
   group_known seed n i at (Convert what a d) h = converted_known n seed what (source_of (slot_of d) a) (destination_at d)
   group_known seed n i at (Move a home) h = brought_known (source_of 0 a) (home_at home)
   group_known seed n i at (Use how a) h = used_known n (next_line ns n) how (source_of 0 a) (next_known n)
   group_known seed n i at (Test rel a b) h = tested_known at rel (tested_source a) (source_of 0 b) (target.Inside inner.Skip n i) (next_line ns n) (next_known n) h
   group_known seed n i at (TestGo rel a b to) h =
       gone_known n at rel (tested_source a) (source_of 0 b) (target.Inside inner.Skip n i) (next_line ns n) (has_line ns to) to refl (next_known n) h
-  group_known seed n i at (Remains x d to) h = remains_known n at (target.Inside inner.Skip n i) (AtPlace (var_at x)) (source_of (slot_of to + 2) d) (destination_at to) h
+  group_known seed n i at (Remains x d to) h = remains_known n at (target.Inside inner.Skip n i) (AtAddress (var_at x)) (source_of (slot_of to + 2) d) (destination_at to) h
   group_known seed n i at (Divides how x d side to) h = divides_known n how (source_of 0 (Variable x)) (source_of 1 d) to
   group_known seed n i at (Single c) h = single_known n i at (may_fault c) c h
 

@@ -6,7 +6,7 @@ use Rattle.tb_syntax.specs.declared.expressions.Operator.TheVariants.{Add, Subtr
 use Rattle.tb_syntax.specs.Source.{Number, Variable, Negate, Random, Value, Binary, Statement, Let, Print, If, Goto, Gosub, End}
 use Rattle.tb_lower.specs.Lowered as lowered
 use Rattle.tb_asm.specs.Layout.{Entry}
-use Rattle.tb_runtime16.specs.Places.{LEFT, DIVIDE_AT, RANDOM_AT, NUMBER_AT, PUSH_AT, FAULT_LINE_AT}
+use Rattle.tb_runtime16.specs.Addresses.{LEFT, DIVIDE_AT, RANDOM_AT, NUMBER_AT, PUSH_AT, FAULT_LINE_AT}
 use Rattle.tb_templates.specs.declared.labels.Inner.TheVariants.{Behind, Skip}
 use Rattle.tb_templates.specs.declared.labels.Target.TheVariants.{Break, Line, Inside}
 use Rattle.tb_templates.specs.Templates.{at, const, alone, branch, here, call, address, find, jump_through}

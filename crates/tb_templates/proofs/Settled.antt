@@ -8,7 +8,7 @@ use Rattle.tb_asm.specs.Settle.{Form, kept, long, items_from}
 use Rattle.tb_asm.proofs.Settled.{items_kept}
 use Rattle.tb_syntax.specs.Source.{Numbered, numbers}
 use Rattle.tb_lower.specs.Slots.{Instr, Poll, SlotCode}
-use Rattle.tb_runtime16.specs.Places.{PROLOGUE_AT, LINES_AT}
+use Rattle.tb_runtime16.specs.Addresses.{PROLOGUE_AT, LINES_AT}
 use Rattle.tb_settling.specs.Settled.{AreFormsOf, IsSettled}
 use Rattle.tb_settling.proofs.Forms.{forms_size, items_append, items_size, size_append, split, is_straight, straight_forms}
 use Rattle.tb_templates.specs.declared.labels.Target.TheVariants.{Line, Past, Table}
@@ -127,15 +127,15 @@ sections seed code lists rises items settled =
     let here = LINES_AT + forms_size t.front in
     let last_items : items_from here t.back ≡ tail = straight_items here tail t.back (straight_both last (search ++ table) (broken_straight (still_asking [] code)) (rows_straight ns)) t.of_back in
     let rest : items_from (PROLOGUE_AT + forms_size s.front) s.back ≡ items_from LINES_AT t.front ++ tail = ap (λ a. items_from a s.back) start
-        ∙ joined_items LINES_AT s.back t.front t.back t.are ∙ ap (λ es. items_from LINES_AT t.front ++ es) last_items in
+    ∙ joined_items LINES_AT s.back t.front t.back t.are ∙ ap (λ es. items_from LINES_AT t.front ++ es) last_items in
     let are : items ≡ block_code ++ (items_from LINES_AT t.front ++ tail) = settled.are ∙ joined_items PROLOGUE_AT settled.forms s.front s.back s.are ∙ (λ i. block i ++ rest i) in
     let hold : LabelsAt labels PROLOGUE_AT items = labels_hold PROLOGUE_AT lowest 0 [] items tt (subst (λ es. Woven lowest 0 es) (sym settled.are)
-        (woven_settled PROLOGUE_AT lowest 0 (program_code seed code) settled.forms settled.of (program_woven seed code rises lists))) in
+    (woven_settled PROLOGUE_AT lowest 0 (program_code seed code) settled.forms settled.of (program_woven seed code rises lists))) in
     let own = items_from LINES_AT t.front in
     let long : size own ≡ forms_size t.front = items_size LINES_AT t.front in
     let after_block = labels_split labels PROLOGUE_AT block_code (own ++ tail) (subst (LabelsAt labels PROLOGUE_AT) are hold) in
     let at_lines : LabelsAt labels LINES_AT (own ++ tail) = subst (λ a. LabelsAt labels a (own ++ tail)) (let b = block_size in
-        let e : PROLOGUE_AT + size block_code ≡ LINES_AT = omega (arith, b) in e) after_block.1 in
+    let e : PROLOGUE_AT + size block_code ≡ LINES_AT = omega (arith, b) in e) after_block.1 in
     let after_lines = labels_split labels LINES_AT own tail at_lines in
     let at_past : LabelsAt labels here tail = subst (λ a. LabelsAt labels a tail) (let e : LINES_AT + size own ≡ here = omega (arith, long) in e) after_lines.1 in
     let after_past = labels_split labels here past (last ++ (search ++ table)) at_past in

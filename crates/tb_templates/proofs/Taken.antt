@@ -3,7 +3,7 @@ use Rattle.std.proofs.Common.{◌≡◌, ℕ, ◌+◌, ◌*◌, ◌<◌, ◌≤�
 use Rattle.tb_asm.specs.Layout.{size, labels_from}
 use Rattle.tb_lower.specs.Slots.{SlotCode}
 use Rattle.tb_syntax.specs.Source.{numbers}
-use Rattle.tb_runtime16.specs.Places.{PROLOGUE_AT}
+use Rattle.tb_runtime16.specs.Addresses.{PROLOGUE_AT}
 use Rattle.tb_templates.specs.Layout.{LabelsAt}
 use Rattle.tb_templates.specs.Breaks.{all_broken, ends_away, done_behind, left_behind}
 use Rattle.tb_templates.specs.Program.{still_asking, line_code, lines_code, past_code, find_code, rows_code, table_code, block_code, program_code, AreCodable, RisingFrom}

@@ -5,7 +5,7 @@ use Rattle.tb_asm.specs.Layout.{Entry}
 use Rattle.tb_lower.specs.Slots.{Instr, Poll, JumpTo, CallTo, Return, End}
 use Rattle.tb_selection.specs.Groups.{Usage, AsNumber, AsLine, AsSubroutine, Group, Use, Single}
 use Rattle.tb_selection.specs.Select.{select}
-use Rattle.tb_runtime16.specs.Places.{GETIN}
+use Rattle.tb_kernal.specs.declared.rom.TheConstants.{GETIN}
 use Rattle.tb_templates.specs.declared.labels.Target.TheVariants.{Break}
 use Rattle.tb_templates.specs.Templates.{at, const, branch, here, faulted}
 

@@ -12,12 +12,12 @@ use Rattle.tb_lower.specs.Slots.{Instr, Input, Poll}
 use Rattle.tb_selection.specs.Groups.{Conversion, Negated, Drawn, Usage, AsNumber, AsLine, AsSubroutine, Constant, Variable, Divisibility, Divisible}
 use Rattle.tb_selection.specs.Groups.{Indivisible, Group, Calculate, Stepped, Convert, Move, Use, Test, TestGo, Divides, Remains, Single, contrary, denied}
 use Rattle.tb_selection.specs.Groups.{slot_of}
-use Rattle.tb_runtime16.specs.Places.{LEFT, RIGHT, RESULT, WANTED, LINE, MULTIPLY_AT, DIVIDE_AT, RANDOM_AT, NUMBER_AT}
+use Rattle.tb_runtime16.specs.Addresses.{LEFT, RIGHT, RESULT, WANTED, LINE, MULTIPLY_AT, DIVIDE_AT, RANDOM_AT, NUMBER_AT}
 use Rattle.tb_templates.specs.declared.labels.Inner.TheVariants.{Behind, Skip}
 use Rattle.tb_templates.specs.declared.labels.Target.{Target}
 use Rattle.tb_templates.specs.declared.labels.Target.TheVariants.{Inside, Line}
-use Rattle.tb_templates.specs.Templates.{at, var_at, on, alone, branch, here, call, copied, constant, faulted, find, note, jump_through, next_line, template}
-use Rattle.tb_templates.specs.Sources.{Source, FixedWord, AtPlace, source_of, tested_source, home_at, destination_at}
+use Rattle.tb_templates.specs.Templates.{at, var_at, on, alone, branch, here, call, copied, constant, faulted, find, return_address, jump_through, next_line, template}
+use Rattle.tb_templates.specs.Sources.{Source, FixedWord, AtAddress, source_of, tested_source, home_at, destination_at}
 pub use Rattle.tb_templates.specs.Sources.{low_of, high_of}
 use Rattle.tb_templates.specs.Scaled.{scaling, times, shifts, shifted}
 use Rattle.tb_templates.specs.Orders.{Below, NotBelow, ordered}
@@ -53,11 +53,11 @@ lined false n es = es
 -- whether a division by this word may fault, and whether a draw below it may: of a constant that is known
 abbrev pub may_be_zero : Source → Bool
 may_be_zero (FixedWord w) = nat_eq w 0
-may_be_zero (AtPlace p) = true
+may_be_zero (AtAddress p) = true
 
 abbrev pub may_have_none : Source → Bool
 may_have_none (FixedWord w) = nat_eq w 0 || nat_le 32768 w
-may_have_none (AtPlace p) = true
+may_have_none (AtAddress p) = true
 
 -- a product: of a constant and a word by the constant's bits, where they are few, and else by the routine
 abbrev pub multiplied : Option (ℕ × Source) → Source → Source → ℕ → List Entry
@@ -86,7 +86,7 @@ computed n skip op a b to = changed_or (change_of op a b to) n skip op a b to
 
 -- a calculation whose result goes to a place, and goes on there by a constant
 abbrev pub stepped : ℕ → (skip behind : Target) → Operator → Source → Source → Operator → Source → ℕ → List Entry
-stepped n skip behind op a b by c to = computed n skip op a b to ++ computed n behind by (AtPlace to) c to
+stepped n skip behind op a b by c to = computed n skip op a b to ++ computed n behind by (AtAddress to) c to
 
 -- a word made of one in line n: 0 minus it, or a random number below it, where the first state is the seed
 abbrev pub converted : ℕ → ℕ → Conversion → Source → ℕ → List Entry
@@ -101,7 +101,7 @@ searched n a = constant n LINE ++ (brought a WANTED ++ (find ∷ []))
 abbrev pub used : ℕ → Target → Usage → Source → List Entry
 used n next AsNumber a = brought a LEFT ++ (call NUMBER_AT ∷ [])
 used n next AsLine a = searched n a ++ jump_through
-used n next AsSubroutine a = searched n a ++ (note next ++ jump_through)
+used n next AsSubroutine a = searched n a ++ (return_address next ++ jump_through)
 
 -- ── tests ──
 -- stays where both bytes are equal
@@ -167,7 +167,7 @@ asked_rest n a b = lined (may_be_zero b) n (brought a LEFT ++ (brought b RIGHT +
 
 -- it goes to a place with the sign of the word that was divided
 abbrev pub signed_rest : Target → Source → ℕ → List Entry
-signed_rest skip a to = high_of Lda a ∷ branch Bpl skip ∷ (taken (FixedWord 0) (AtPlace RESULT) RESULT ++ (here skip ∷ copied RESULT to))
+signed_rest skip a to = high_of Lda a ∷ branch Bpl skip ∷ (taken (FixedWord 0) (AtAddress RESULT) RESULT ++ (here skip ∷ copied RESULT to))
 
 abbrev pub remains : ℕ → Target → Source → Source → ℕ → List Entry
 remains n skip a b to = asked_rest n a b ++ signed_rest skip a to
@@ -193,6 +193,6 @@ group_template numbers seed n i (Use how a) = used n (next_line numbers n) how (
 group_template numbers seed n i (Test rel a b) = tested rel (tested_source a) (source_of 0 b) (Inside Skip n i) (next_line numbers n)
 group_template numbers seed n i (TestGo rel a b to) =
     gone n rel (tested_source a) (source_of 0 b) (Inside Skip n i) (next_line numbers n) (has_line numbers to) to
-group_template numbers seed n i (Remains x d to) = remains n (Inside Skip n i) (AtPlace (var_at x)) (source_of (slot_of to + 2) d) (destination_at to)
+group_template numbers seed n i (Remains x d to) = remains n (Inside Skip n i) (AtAddress (var_at x)) (source_of (slot_of to + 2) d) (destination_at to)
 group_template numbers seed n i (Divides how x d side to) = divides numbers n how (source_of 0 (Variable x)) (source_of 1 d) to
 group_template numbers seed n i (Single c) = single numbers n i c

@@ -7,7 +7,7 @@ use Rattle.tb_syntax.specs.declared.expressions.Operator.{Operator}
 use Rattle.tb_syntax.specs.declared.expressions.Operator.TheVariants.{Add, Subtract, Multiply, Divide}
 use Rattle.tb_templates.specs.declared.labels.Target.{Target}
 use Rattle.tb_templates.specs.Templates.{at, const, alone, branch, here}
-use Rattle.tb_templates.specs.Sources.{Source, FixedWord, AtPlace}
+use Rattle.tb_templates.specs.Sources.{Source, FixedWord, AtAddress}
 use Rattle.tb_templates.specs.Scaled.{on_a}
 pub use Rattle.tb_templates.specs.declared.in_place.Change.{Change}
 pub use Rattle.tb_templates.specs.declared.in_place.Change.TheVariants.{Increment, Decrement, Raise, Lower, Halve, Double}
@@ -37,10 +37,10 @@ with_left Divide v = None
 
 -- of a word at a place with a constant, where the result goes to that place
 abbrev pub change_of : Operator → Source → Source → ℕ → Option Change
-change_of op (AtPlace p) (FixedWord w) to = if nat_eq p to then with_right op w else None
-change_of op (FixedWord v) (AtPlace q) to = if nat_eq q to then with_left op v else None
+change_of op (AtAddress p) (FixedWord w) to = if nat_eq p to then with_right op w else None
+change_of op (FixedWord v) (AtAddress q) to = if nat_eq q to then with_left op v else None
 change_of op (FixedWord v) (FixedWord w) to = None
-change_of op (AtPlace p) (AtPlace q) to = None
+change_of op (AtAddress p) (AtAddress q) to = None
 
 -- ── its code ──
 -- the high byte of a word is counted up or down, but where the branch is taken

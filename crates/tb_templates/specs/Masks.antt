@@ -3,7 +3,7 @@ use Rattle.std.specs.Prelude.{ℕ, List, [], ◌∷◌, if◌then◌else◌, nat
 use Rattle.tb_opcodes.specs.declared.Mnemonic.TheVariants.{And, Lda}
 use Rattle.tb_asm.specs.Layout.{Entry}
 use Rattle.tb_templates.specs.Templates.{const}
-use Rattle.tb_templates.specs.Sources.{Source, FixedWord, AtPlace, low_of}
+use Rattle.tb_templates.specs.Sources.{Source, FixedWord, AtAddress, low_of}
 
 -- for a power of two from 2 to 256 the one less
 abbrev pub mask_of : ℕ → Option ℕ
@@ -13,7 +13,7 @@ mask_of w = if nat_eq w 2 then Some 1 else if nat_eq w 4 then Some 3 else if nat
 -- so for a divisor
 abbrev pub mask : Source → Option ℕ
 mask (FixedWord w) = mask_of w
-mask (AtPlace p) = None
+mask (AtAddress p) = None
 
 -- these bits of a word, and in Z whether they are 0
 abbrev pub lowest_bits : ℕ → Source → List Entry

@@ -5,7 +5,7 @@ use Rattle.tb_opcodes.specs.declared.Mnemonic.TheVariants.{Bcc, Bcs, Bmi, Bpl, B
 use Rattle.tb_asm.specs.Layout.{Entry}
 use Rattle.tb_templates.specs.declared.labels.Target.{Target}
 use Rattle.tb_templates.specs.Templates.{const, branch, here}
-use Rattle.tb_templates.specs.Sources.{Source, FixedWord, AtPlace, IsWhole, low_of, high_of}
+use Rattle.tb_templates.specs.Sources.{Source, FixedWord, AtAddress, IsWhole, low_of, high_of}
 pub use Rattle.tb_templates.specs.declared.orders.Side.{Side}
 pub use Rattle.tb_templates.specs.declared.orders.Side.TheVariants.{Below, NotBelow}
 pub use Rattle.tb_templates.specs.declared.orders.Order.{Order}
@@ -17,14 +17,14 @@ abbrev pub against : Side → Source → ℕ → Order
 against side a w = if nat_eq w 0 then BySign side a else ByConstant side a w
 
 -- whether a word is below the one at a place: a constant is where that is not below the constant's next one
-abbrev pub before_place : Source → ℕ → Order
-before_place (FixedWord v) q = if nat_eq v 32767 then ByDifference (FixedWord v) (AtPlace q) else against NotBelow (AtPlace q) ((v + 1) % 65536)
-before_place (AtPlace p) q = ByDifference (AtPlace p) (AtPlace q)
+abbrev pub before_word : Source → ℕ → Order
+before_word (FixedWord v) q = if nat_eq v 32767 then ByDifference (FixedWord v) (AtAddress q) else against NotBelow (AtAddress q) ((v + 1) % 65536)
+before_word (AtAddress p) q = ByDifference (AtAddress p) (AtAddress q)
 
 -- whether a word is below another one
 abbrev pub order_of : Source → Source → Order
 order_of a (FixedWord w) = against Below a w
-order_of a (AtPlace q) = before_place a q
+order_of a (AtAddress q) = before_word a q
 
 -- its words stand at places whose next ones are addresses too
 abbrev pub AreWhole : Order → Type 0

@@ -10,7 +10,7 @@ use Rattle.tb_lower.specs.Ranges.{AreInRange}
 use Rattle.tb_selection.specs.Groups.{Group}
 use Rattle.tb_selection.specs.Select.{select}
 use Rattle.tb_runtime16.specs.Block.{block_bytes}
-use Rattle.tb_runtime16.specs.Places.{PROLOGUE_AT, LINES_AT, TABLE, COUNT, SEARCH_AT}
+use Rattle.tb_runtime16.specs.Addresses.{PROLOGUE_AT, LINES_AT, TABLE, COUNT, SEARCH_AT}
 use Rattle.tb_templates.specs.declared.labels.Target.{Target}
 use Rattle.tb_templates.specs.declared.labels.Target.TheVariants.{Line, Past, Find, Table}
 use Rattle.tb_templates.specs.Labels.{label_of}

@@ -6,9 +6,9 @@ use Rattle.tb_opcodes.specs.declared.Mnemonic.TheVariants.{Adc, And, Asl, Clc, C
 use Rattle.tb_opcodes.specs.declared.Mode.TheVariants.{Accumulator, ZeroPage}
 use Rattle.tb_asm.specs.declared.items.Operand.TheVariants.{Nothing, Byte}
 use Rattle.tb_asm.specs.Layout.{Entry, instr}
-use Rattle.tb_runtime16.specs.Places.{LEFT}
+use Rattle.tb_runtime16.specs.Addresses.{LEFT}
 use Rattle.tb_templates.specs.Templates.{at, const, alone}
-use Rattle.tb_templates.specs.Sources.{Source, FixedWord, AtPlace, low_of, high_of}
+use Rattle.tb_templates.specs.Sources.{Source, FixedWord, AtAddress, low_of, high_of}
 
 -- an instruction on A
 abbrev pub on_a : Mnemonic → Entry
@@ -29,7 +29,7 @@ shifts_of w = if nat_eq w 2 then Some 0 else if nat_eq w 4 then Some 1 else if n
 -- so for a divisor
 abbrev pub shifts : Source → Option ℕ
 shifts (FixedWord w) = shifts_of w
-shifts (AtPlace p) = None
+shifts (AtAddress p) = None
 
 -- 2^(k + 1) - 2
 abbrev pub all_but_lowest : ℕ → ℕ
@@ -97,8 +97,8 @@ with_factor factor a = if is_factor factor then Some (factor, a) else None
 
 abbrev pub scaling : Source → Source → Option (ℕ × Source)
 scaling a (FixedWord w) = with_factor w a
-scaling (FixedWord v) (AtPlace q) = with_factor v (AtPlace q)
-scaling (AtPlace p) (AtPlace q) = None
+scaling (FixedWord v) (AtAddress q) = with_factor v (AtAddress q)
+scaling (AtAddress p) (AtAddress q) = None
 
 -- to its place
 abbrev pub low_first : ℕ → List Entry

@@ -4,21 +4,21 @@ use Rattle.tb_opcodes.specs.declared.Mnemonic.{Mnemonic}
 use Rattle.tb_asm.specs.Layout.{Entry}
 use Rattle.tb_words.specs.Words.{word}
 use Rattle.tb_selection.specs.Groups.{Operand, Constant, Variable, InSlot, Home, IntoVariable, IntoHeld, Destination, IntoSlot, IntoHome, Tested, HeldBefore, HeldNow}
-use Rattle.tb_runtime16.specs.Places.{HELD}
+use Rattle.tb_runtime16.specs.Addresses.{HELD}
 use Rattle.tb_templates.specs.Templates.{at, const, var_at, slot_at}
 pub use Rattle.tb_templates.specs.declared.sources.Source.{Source}
 pub use Rattle.tb_templates.specs.declared.sources.Words.{Words}
-pub use Rattle.tb_templates.specs.declared.sources.Source.TheVariants.{FixedWord, AtPlace}
+pub use Rattle.tb_templates.specs.declared.sources.Source.TheVariants.{FixedWord, AtAddress}
 
 -- where an operand comes from that belongs into slot k
 abbrev pub source_of : ℕ → Operand → Source
 source_of k (Constant w) = FixedWord (word w)
-source_of k (Variable x) = AtPlace (var_at x)
-source_of k InSlot = AtPlace (slot_at k)
+source_of k (Variable x) = AtAddress (var_at x)
+source_of k InSlot = AtAddress (slot_at k)
 
 -- where the left word of a test comes from
 abbrev pub tested_source : Tested → Source
-tested_source HeldBefore = AtPlace HELD
+tested_source HeldBefore = AtAddress HELD
 tested_source (HeldNow a) = source_of 0 a
 
 -- where slot 0 goes
@@ -34,7 +34,7 @@ destination_at (IntoHome home) = home_at home
 -- the place of a word's high byte is an address too
 abbrev pub IsWhole : Source → Type 0
 IsWhole (FixedWord w) = Unit {0}
-IsWhole (AtPlace p) = p + 1 < 65536
+IsWhole (AtAddress p) = p + 1 < 65536
 
 -- and so it is with two words
 abbrev pub AreWhole : Words → Type 0
@@ -43,9 +43,9 @@ AreWhole words = IsWhole words.left × IsWhole words.right
 -- an instruction on the low byte of a word
 abbrev pub low_of : Mnemonic → Source → Entry
 low_of mnemonic (FixedWord w) = const mnemonic (w % 256)
-low_of mnemonic (AtPlace p) = at mnemonic p
+low_of mnemonic (AtAddress p) = at mnemonic p
 
 -- an instruction on the high byte of a word
 abbrev pub high_of : Mnemonic → Source → Entry
 high_of mnemonic (FixedWord w) = const mnemonic (w / 256)
-high_of mnemonic (AtPlace p) = at mnemonic (p + 1)
+high_of mnemonic (AtAddress p) = at mnemonic (p + 1)

@@ -10,7 +10,8 @@ use Rattle.tb_asm.specs.Layout.{Entry, instr, label, bytes}
 use Rattle.tb_words.specs.Words.{word}
 use Rattle.tb_meaning.specs.Control.{Place, At, Past, next_after, has_line}
 use Rattle.tb_lower.specs.Slots.{Instr, Put, Load, Store, Negate, Compute, Random, SendText, SendNumber, SendZone, SendNewline, Input, Poll, Hold, LeaveUnless, Jump, Call, JumpTo, CallTo, Return, End}
-use Rattle.tb_runtime16.specs.Places.{POINTER, LENGTH, LEFT, RESULT, LINE, NOTES, NOTE_LOW, NOTE_HIGH, VARS, SLOTS, COLUMN, CHROUT, TEXT_AT, ZONE_AT, INPUT_AT, PUSH_AT, POP_AT, FAULT_LINE_AT, POLL_AT}
+use Rattle.tb_kernal.specs.declared.rom.TheConstants.{CHROUT}
+use Rattle.tb_runtime16.specs.Addresses.{POINTER, LENGTH, LEFT, RESULT, LINE, NOTES, RETURN_LOW, RETURN_HIGH, VARS, SLOTS, COLUMN, TEXT_AT, ZONE_AT, INPUT_AT, PUSH_AT, POP_AT, FAULT_LINE_AT, POLL_AT}
 use Rattle.tb_templates.specs.declared.labels.Inner.TheVariants as inner
 use Rattle.tb_templates.specs.declared.labels.Target.{Target}
 use Rattle.tb_templates.specs.declared.labels.Target.TheVariants as target
@@ -101,32 +102,32 @@ abbrev pub find : Entry
 find = instr Jsr Absolute (Label (label_of target.Find))
 
 -- notes the next line on the return list
-abbrev pub note : Target → List Entry
-note next = address next LEFT ++ (call PUSH_AT ∷ [])
+abbrev pub return_address : Target → List Entry
+return_address next = address next LEFT ++ (call PUSH_AT ∷ [])
 
 -- a branch by whether a byte is 0, which stays in X
 abbrev pub by_zero : Mnemonic → ℕ → Target → List Entry
 by_zero mnemonic place to = at Ldx place ∷ branch mnemonic to ∷ []
 
 -- a note's two bytes go behind the others, and the low byte of their count goes up
-abbrev pub note_stored : Target → List Entry
-note_stored next = at Ldx NOTES ∷ low_part next ∷ by_x Sta NOTE_LOW ∷ high_part next ∷ by_x Sta NOTE_HIGH ∷ at Inc NOTES ∷ []
+abbrev pub return_stored : Target → List Entry
+return_stored next = at Ldx NOTES ∷ low_part next ∷ by_x Sta RETURN_LOW ∷ high_part next ∷ by_x Sta RETURN_HIGH ∷ at Inc NOTES ∷ []
 
 -- a carry goes to the count's high byte
 abbrev pub carried : Target → List Entry
 carried skip = branch Bne skip ∷ at Inc (NOTES + 1) ∷ here skip ∷ []
 
 -- notes the next line in line where the count of notes has a low byte alone; else it goes to `over`
-abbrev pub noted : (next skip over : Target) → List Entry
-noted next skip over = by_zero Bne (NOTES + 1) over ++ (note_stored next ++ carried skip)
+abbrev pub held : (next skip over : Target) → List Entry
+held next skip over = by_zero Bne (NOTES + 1) over ++ (return_stored next ++ carried skip)
 
 -- X is the low byte of the count of notes: it goes down, and the newest note's two bytes go to the result
-abbrev pub note_taken : List Entry
-note_taken = alone Dex ∷ at Stx NOTES ∷ by_x Lda NOTE_LOW ∷ at Sta RESULT ∷ by_x Lda NOTE_HIGH ∷ at Sta (RESULT + 1) ∷ []
+abbrev pub return_taken : List Entry
+return_taken = alone Dex ∷ at Stx NOTES ∷ by_x Lda RETURN_LOW ∷ at Sta RESULT ∷ by_x Lda RETURN_HIGH ∷ at Sta (RESULT + 1) ∷ []
 
 -- takes the newest note in line and goes on there, where it is one of the first 255; else it goes to `over`
 abbrev pub taken_back : Target → List Entry
-taken_back over = by_zero Bne (NOTES + 1) over ++ (by_zero Beq NOTES over ++ (note_taken ++ jump_through))
+taken_back over = by_zero Bne (NOTES + 1) over ++ (by_zero Beq NOTES over ++ (return_taken ++ jump_through))
 
 -- the call that sends a text of that length
 abbrev pub text_call : ℕ → List Entry
@@ -157,7 +158,7 @@ jump_to numbers n to = if has_line numbers to then jump (target.Line to) ∷ [] 
 -- notes the next line and goes from line n to another; the routine may fault, and so the line's number is set before it
 abbrev pub called : ℕ → ℕ → (next skip over : Target) → List Entry
 called n to next skip over =
-    noted next skip over ++ (jump (target.Line to) ∷ here over ∷ (constant n LINE ++ (note next ++ (jump (target.Line to) ∷ []))))
+    held next skip over ++ (jump (target.Line to) ∷ here over ∷ (constant n LINE ++ (return_address next ++ (jump (target.Line to) ∷ []))))
 
 -- the same in group i, to a constant line; fault 1 where the program has no such line
 abbrev pub call_to : List ℕ → ℕ → ℕ → ℕ → Target → List Entry

@@ -9,12 +9,10 @@ use crate::labels::Target;
 use crate::pieces::{put_at, put_branch, put_const, put_faulted, put_here};
 use std::alloc::AllocError;
 use tb_asm::Item;
+use tb_kernal::GETIN;
 use tb_lower::SlotInstr;
 use tb_opcodes::Mnemonic;
 use tb_selection::{Group, Usage};
-
-// The service that gives the keyboard's next answer, 0 where there is none.
-const GETIN: u16 = 0xffe4;
 
 // What GETIN gives for the STOP key.
 const STOP: u8 = 3;

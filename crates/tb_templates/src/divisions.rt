@@ -9,7 +9,7 @@ ghost use Rattle.tb_templates.specs.declared.labels.Inner.TheVariants.{Skip};
 ghost use Rattle.tb_templates.specs.declared.labels.Target.TheVariants.{Inside};
 ghost use Rattle.tb_templates.specs.Sources as sources;
 ghost use Rattle.tb_templates.specs.Sources.{AreWhole, IsWhole};
-ghost use Rattle.tb_runtime16.specs.Places as places;
+ghost use Rattle.tb_runtime16.specs.Addresses as places;
 ghost use Rattle.tb_templates.specs.GroupTemplates as groups;
 ghost use Rattle.tb_templates.specs.Masks as masks;
 ghost use Rattle.tb_templates.specs.Program.{RisingFrom};
@@ -48,7 +48,7 @@ fn mask(divisor: Source) -> Option<u8>
 {
     match divisor {
         Source::FixedWord(word) => mask_of(word),
-        Source::AtPlace(_) => None,
+        Source::AtAddress(_) => None,
     }
 }
 
@@ -216,9 +216,9 @@ fn put_asked_rest(items: &mut Vec<Item>, line: u16, words: Words) -> Result<(), 
 
 // The remainder is below 0 where the word that was divided is.
 fn put_rest_taken(items: &mut Vec<Item>) -> Result<(), AllocError>
-    ensures { OnOk result (map entry_of items.new.items ≡ map entry_of items.old.items ++ groups.taken (sources.FixedWord 0) (sources.AtPlace places.RESULT) places.RESULT) }
+    ensures { OnOk result (map entry_of items.new.items ≡ map entry_of items.old.items ++ groups.taken (sources.FixedWord 0) (sources.AtAddress places.RESULT) places.RESULT) }
 {
-    put_taken(items, against_none(Source::AtPlace(RESULT)), RESULT)
+    put_taken(items, against_none(Source::AtAddress(RESULT)), RESULT)
 }
 
 // A remainder's size goes to a place with the sign of the word that was divided.

@@ -7,7 +7,7 @@ ghost use Rattle.tb_lower.specs.PlainData.{instr_of};
 ghost use Rattle.tb_selection.specs.Groups as selection;
 ghost use Rattle.tb_selection.specs.Groups.{expand};
 ghost use Rattle.tb_selection.specs.PlainData.{conversion_of, usage_of, group_of};
-ghost use Rattle.tb_runtime16.specs.Places as places;
+ghost use Rattle.tb_runtime16.specs.Addresses as places;
 ghost use Rattle.tb_templates.specs.declared.labels.Inner.TheVariants.{Behind, Skip};
 ghost use Rattle.tb_templates.specs.declared.labels.Target.TheVariants.{Inside};
 ghost use Rattle.tb_templates.specs.Templates as templates;
@@ -23,7 +23,7 @@ use crate::labels::{Inner, Target};
 use crate::orders::{Side, put_ordered};
 use crate::pieces::{
     put_alone, put_at, put_branch, put_call, put_const, put_constant, put_copied, put_faulted,
-    put_find, put_here, put_jump_through, put_note, put_on,
+    put_find, put_here, put_jump_through, put_on, put_return,
 };
 use crate::scaled::{put_shifted, put_times, scaling, shifts};
 use crate::sources::{
@@ -122,7 +122,7 @@ pub fn may_be_zero(word: Source) -> bool
 {
     match word {
         Source::FixedWord(word) => word == 0,
-        Source::AtPlace(_) => true,
+        Source::AtAddress(_) => true,
     }
 }
 
@@ -132,7 +132,7 @@ fn may_have_none(word: Source) -> bool
 {
     match word {
         Source::FixedWord(word) => word == 0 || 32768 <= word,
-        Source::AtPlace(_) => true,
+        Source::AtAddress(_) => true,
     }
 }
 
@@ -234,10 +234,10 @@ fn put_going_on(
     to: u16,
 ) -> Result<(), AllocError>
     requires { IsWhole constant × (to < 65535) }
-    ensures { OnOk result (map entry_of items.new.items ≡ map entry_of items.old.items ++ groups.computed spot.line (Inside Behind spot.line spot.index) operator (sources.AtPlace to) constant to) }
+    ensures { OnOk result (map entry_of items.new.items ≡ map entry_of items.old.items ++ groups.computed spot.line (Inside Behind spot.line spot.index) operator (sources.AtAddress to) constant to) }
 {
     let words = Words {
-        left: Source::AtPlace(to),
+        left: Source::AtAddress(to),
         right: constant,
     };
     put_computed(items, spot.line, spot.behind(), operator, words, to)
@@ -317,10 +317,10 @@ fn put_called(
     word: Source,
 ) -> Result<(), AllocError>
     requires { IsWhole word }
-    ensures { OnOk result (map entry_of items.new.items ≡ map entry_of items.old.items ++ (groups.searched line word ++ (templates.note next ++ templates.jump_through))) }
+    ensures { OnOk result (map entry_of items.new.items ≡ map entry_of items.old.items ++ (groups.searched line word ++ (templates.return_address next ++ templates.jump_through))) }
 {
     put_searched(items, line, word)?;
-    put_note(items, next)?;
+    put_return(items, next)?;
     put_jump_through(items)?;
     Ok(())
 }
@@ -508,7 +508,7 @@ pub fn put_group(
         }
         Group::Remains(letter, divisor, destination) => {
             let words = Words {
-                left: Source::AtPlace(variable_at(letter)),
+                left: Source::AtAddress(variable_at(letter)),
                 right: source_of(slot_of(destination) + 2, divisor),
             };
             put_remains(items, spot, words, destination_at(destination))

@@ -91,10 +91,10 @@ pub fn change_of(operator: Operator, left: Source, right: Source, to: u16) -> Op
     ensures { result ≡ in_place.change_of operator left right to }
 {
     match (left, right) {
-        (Source::AtPlace(place), Source::FixedWord(constant)) if place == to => {
+        (Source::AtAddress(address), Source::FixedWord(constant)) if address == to => {
             with_right(operator, constant)
         }
-        (Source::FixedWord(constant), Source::AtPlace(place)) if place == to => {
+        (Source::FixedWord(constant), Source::AtAddress(address)) if address == to => {
             with_left(operator, constant)
         }
         _ => None,
@@ -107,112 +107,122 @@ fn put_counted(
     leaves: Mnemonic,
     skip: Target,
     counts: Mnemonic,
-    place: u16,
+    address: u16,
 ) -> Result<(), AllocError>
-    requires { place < 65535 }
-    ensures { OnOk result (map entry_of items.new.items ≡ map entry_of items.old.items ++ in_place.counted leaves skip counts place) }
+    requires { address < 65535 }
+    ensures { OnOk result (map entry_of items.new.items ≡ map entry_of items.old.items ++ in_place.counted leaves skip counts address) }
 {
     put_branch(items, leaves, skip)?;
-    put_at(items, counts, place + 1)?;
+    put_at(items, counts, address + 1)?;
     put_here(items, skip)
 }
 
 // One more.
-fn put_incremented(items: &mut Vec<Item>, place: u16, skip: Target) -> Result<(), AllocError>
-    requires { place < 65535 }
-    ensures { OnOk result (map entry_of items.new.items ≡ map entry_of items.old.items ++ in_place.changed in_place.Increment place skip) }
+fn put_incremented(items: &mut Vec<Item>, address: u16, skip: Target) -> Result<(), AllocError>
+    requires { address < 65535 }
+    ensures { OnOk result (map entry_of items.new.items ≡ map entry_of items.old.items ++ in_place.changed in_place.Increment address skip) }
 {
-    put_at(items, Mnemonic::Inc, place)?;
-    put_counted(items, Mnemonic::Bne, skip, Mnemonic::Inc, place)
+    put_at(items, Mnemonic::Inc, address)?;
+    put_counted(items, Mnemonic::Bne, skip, Mnemonic::Inc, address)
 }
 
 // One less.
-fn put_decremented(items: &mut Vec<Item>, place: u16, skip: Target) -> Result<(), AllocError>
-    requires { place < 65535 }
-    ensures { OnOk result (map entry_of items.new.items ≡ map entry_of items.old.items ++ in_place.changed in_place.Decrement place skip) }
+fn put_decremented(items: &mut Vec<Item>, address: u16, skip: Target) -> Result<(), AllocError>
+    requires { address < 65535 }
+    ensures { OnOk result (map entry_of items.new.items ≡ map entry_of items.old.items ++ in_place.changed in_place.Decrement address skip) }
 {
-    put_at(items, Mnemonic::Lda, place)?;
-    put_counted(items, Mnemonic::Bne, skip, Mnemonic::Dec, place)?;
-    put_at(items, Mnemonic::Dec, place)
+    put_at(items, Mnemonic::Lda, address)?;
+    put_counted(items, Mnemonic::Bne, skip, Mnemonic::Dec, address)?;
+    put_at(items, Mnemonic::Dec, address)
 }
 
 // So much more.
-fn put_raised_by(items: &mut Vec<Item>, by: u8, place: u16, skip: Target) -> Result<(), AllocError>
-    requires { place < 65535 }
-    ensures { OnOk result (map entry_of items.new.items ≡ map entry_of items.old.items ++ in_place.changed (in_place.Raise by) place skip) }
+fn put_raised_by(
+    items: &mut Vec<Item>,
+    by: u8,
+    address: u16,
+    skip: Target,
+) -> Result<(), AllocError>
+    requires { address < 65535 }
+    ensures { OnOk result (map entry_of items.new.items ≡ map entry_of items.old.items ++ in_place.changed (in_place.Raise by) address skip) }
 {
     put_alone(items, Mnemonic::Clc)?;
-    put_at(items, Mnemonic::Lda, place)?;
+    put_at(items, Mnemonic::Lda, address)?;
     put_const(items, Mnemonic::Adc, by)?;
-    put_at(items, Mnemonic::Sta, place)?;
-    put_counted(items, Mnemonic::Bcc, skip, Mnemonic::Inc, place)
+    put_at(items, Mnemonic::Sta, address)?;
+    put_counted(items, Mnemonic::Bcc, skip, Mnemonic::Inc, address)
 }
 
 // So much less.
-fn put_lowered_by(items: &mut Vec<Item>, by: u8, place: u16, skip: Target) -> Result<(), AllocError>
-    requires { place < 65535 }
-    ensures { OnOk result (map entry_of items.new.items ≡ map entry_of items.old.items ++ in_place.changed (in_place.Lower by) place skip) }
+fn put_lowered_by(
+    items: &mut Vec<Item>,
+    by: u8,
+    address: u16,
+    skip: Target,
+) -> Result<(), AllocError>
+    requires { address < 65535 }
+    ensures { OnOk result (map entry_of items.new.items ≡ map entry_of items.old.items ++ in_place.changed (in_place.Lower by) address skip) }
 {
     put_alone(items, Mnemonic::Sec)?;
-    put_at(items, Mnemonic::Lda, place)?;
+    put_at(items, Mnemonic::Lda, address)?;
     put_const(items, Mnemonic::Sbc, by)?;
-    put_at(items, Mnemonic::Sta, place)?;
-    put_counted(items, Mnemonic::Bcs, skip, Mnemonic::Dec, place)
+    put_at(items, Mnemonic::Sta, address)?;
+    put_counted(items, Mnemonic::Bcs, skip, Mnemonic::Dec, address)
 }
 
 // One more, where C is set.
-fn put_one_more(items: &mut Vec<Item>, place: u16) -> Result<(), AllocError>
-    requires { place < 65535 }
-    ensures { OnOk result (map entry_of items.new.items ≡ map entry_of items.old.items ++ in_place.one_more place) }
+fn put_one_more(items: &mut Vec<Item>, address: u16) -> Result<(), AllocError>
+    requires { address < 65535 }
+    ensures { OnOk result (map entry_of items.new.items ≡ map entry_of items.old.items ++ in_place.one_more address) }
 {
-    put_at(items, Mnemonic::Lda, place)?;
+    put_at(items, Mnemonic::Lda, address)?;
     put_const(items, Mnemonic::Adc, 0)?;
-    put_at(items, Mnemonic::Sta, place)?;
-    put_at(items, Mnemonic::Lda, place + 1)?;
+    put_at(items, Mnemonic::Sta, address)?;
+    put_at(items, Mnemonic::Lda, address + 1)?;
     put_const(items, Mnemonic::Adc, 0)?;
-    put_at(items, Mnemonic::Sta, place + 1)
+    put_at(items, Mnemonic::Sta, address + 1)
 }
 
 // Half as much, rounded toward zero.
-fn put_half_in_place(items: &mut Vec<Item>, place: u16, skip: Target) -> Result<(), AllocError>
-    requires { place < 65535 }
-    ensures { OnOk result (map entry_of items.new.items ≡ map entry_of items.old.items ++ in_place.half_in_place place skip) }
+fn put_half_in_place(items: &mut Vec<Item>, address: u16, skip: Target) -> Result<(), AllocError>
+    requires { address < 65535 }
+    ensures { OnOk result (map entry_of items.new.items ≡ map entry_of items.old.items ++ in_place.half_in_place address skip) }
 {
-    put_at(items, Mnemonic::Lda, place + 1)?;
+    put_at(items, Mnemonic::Lda, address + 1)?;
     put_on_a(items, Mnemonic::Asl)?;
     put_branch(items, Mnemonic::Bcc, skip)?;
-    put_one_more(items, place)?;
+    put_one_more(items, address)?;
     put_on_a(items, Mnemonic::Asl)?;
     put_here(items, skip)?;
-    put_at(items, Mnemonic::Ror, place + 1)?;
-    put_at(items, Mnemonic::Ror, place)
+    put_at(items, Mnemonic::Ror, address + 1)?;
+    put_at(items, Mnemonic::Ror, address)
 }
 
 // Twice as much.
-fn put_doubled_in_place(items: &mut Vec<Item>, place: u16) -> Result<(), AllocError>
-    requires { place < 65535 }
-    ensures { OnOk result (map entry_of items.new.items ≡ map entry_of items.old.items ++ in_place.doubled_in_place place) }
+fn put_doubled_in_place(items: &mut Vec<Item>, address: u16) -> Result<(), AllocError>
+    requires { address < 65535 }
+    ensures { OnOk result (map entry_of items.new.items ≡ map entry_of items.old.items ++ in_place.doubled_in_place address) }
 {
-    put_at(items, Mnemonic::Asl, place)?;
-    put_at(items, Mnemonic::Rol, place + 1)
+    put_at(items, Mnemonic::Asl, address)?;
+    put_at(items, Mnemonic::Rol, address + 1)
 }
 
 /// The word at a place is changed; where a change has a branch, it skips to this label.
 pub fn put_changed(
     items: &mut Vec<Item>,
     change: Change,
-    place: u16,
+    address: u16,
     skip: Target,
 ) -> Result<(), AllocError>
-    requires { place < 65535 }
-    ensures { OnOk result (map entry_of items.new.items ≡ map entry_of items.old.items ++ in_place.changed change place skip) }
+    requires { address < 65535 }
+    ensures { OnOk result (map entry_of items.new.items ≡ map entry_of items.old.items ++ in_place.changed change address skip) }
 {
     match change {
-        Change::Increment => put_incremented(items, place, skip),
-        Change::Decrement => put_decremented(items, place, skip),
-        Change::Raise(by) => put_raised_by(items, by, place, skip),
-        Change::Lower(by) => put_lowered_by(items, by, place, skip),
-        Change::Halve => put_half_in_place(items, place, skip),
-        Change::Double => put_doubled_in_place(items, place),
+        Change::Increment => put_incremented(items, address, skip),
+        Change::Decrement => put_decremented(items, address, skip),
+        Change::Raise(by) => put_raised_by(items, by, address, skip),
+        Change::Lower(by) => put_lowered_by(items, by, address, skip),
+        Change::Halve => put_half_in_place(items, address, skip),
+        Change::Double => put_doubled_in_place(items, address),
     }
 }

@@ -50,13 +50,13 @@ fn against(side: Side, word: Source, constant: u16) -> Order
 }
 
 // Whether a word is below the one at a place.
-fn before_place(left: Source, place: u16) -> Order
+fn before_word(left: Source, place: u16) -> Order
     requires whole { IsWhole left }
     requires below { place + 1 < 65536 }
-    ensures order { result ≡ orders.before_place left place }
+    ensures order { result ≡ orders.before_word left place }
     ensures whole { orders.AreWhole result }
 {
-    let right = Source::AtPlace(place);
+    let right = Source::AtAddress(place);
     match left {
         Source::FixedWord(word) if word != GREATEST => {
             against(Side::NotBelow, right, word.wrapping_add(1))
@@ -73,7 +73,7 @@ fn order_of(left: Source, right: Source) -> Order
 {
     match right {
         Source::FixedWord(word) => against(Side::Below, left, word),
-        Source::AtPlace(place) => before_place(left, place),
+        Source::AtAddress(place) => before_word(left, place),
     }
 }
 

@@ -2,7 +2,7 @@
 ghost use Rattle.std.specs.Prelude.{◌≡◌, ◌+◌, ◌<◌, ◌≤◌, OnOk, [], ◌∷◌, ◌++◌, map};
 ghost use Rattle.tb_asm.specs.Layout.{entry_of};
 ghost use Rattle.tb_templates.specs.Templates as templates;
-ghost use Rattle.tb_runtime16.specs.Places as places;
+ghost use Rattle.tb_runtime16.specs.Addresses as places;
 
 use crate::labels::{Target, label};
 use std::alloc::AllocError;
@@ -164,8 +164,8 @@ pub fn put_address(items: &mut Vec<Item>, of: Target, to: u8) -> Result<(), Allo
 }
 
 /// Notes the next line on the return list.
-pub fn put_note(items: &mut Vec<Item>, next: Target) -> Result<(), AllocError>
-    ensures { OnOk result (map entry_of items.new.items ≡ map entry_of items.old.items ++ templates.note next) }
+pub fn put_return(items: &mut Vec<Item>, next: Target) -> Result<(), AllocError>
+    ensures { OnOk result (map entry_of items.new.items ≡ map entry_of items.old.items ++ templates.return_address next) }
 {
     put_address(items, next, LEFT as u8)?;
     put_call(items, Routine::Push)

@@ -4,7 +4,7 @@ ghost use Rattle.tb_opcodes.specs.declared.Mnemonic.TheVariants.{Jmp};
 ghost use Rattle.tb_asm.specs.Layout.{word};
 ghost use Rattle.tb_asm.specs.declared.items.Operand.TheVariants as operand;
 ghost use Rattle.tb_templates.specs.Labels.{label_of};
-ghost use Rattle.tb_runtime16.specs.Places as places;
+ghost use Rattle.tb_runtime16.specs.Addresses as places;
 ghost use Rattle.tb_asm.specs.Layout.{entry_of};
 ghost use Rattle.tb_syntax.specs.Source.{numbers};
 ghost use Rattle.tb_meaning.specs.Control.{highest};

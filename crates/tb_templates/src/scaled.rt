@@ -1,7 +1,7 @@
 //! Products with a constant and quotients over a power of two, by shifts and sums.
 ghost use Rattle.std.specs.Prelude.{◌≡◌, ◌+◌, ◌<◌, IfSome, OnOk, [], ◌∷◌, ◌++◌, map};
 ghost use Rattle.tb_asm.specs.Layout.{entry_of};
-ghost use Rattle.tb_runtime16.specs.Places as places;
+ghost use Rattle.tb_runtime16.specs.Addresses as places;
 ghost use Rattle.tb_templates.specs.Sources.{IsWhole};
 ghost use Rattle.tb_templates.specs.Scaled as scaled;
 
@@ -61,7 +61,7 @@ pub fn shifts(divisor: Source) -> Option<u8>
 {
     match divisor {
         Source::FixedWord(word) => shifts_of(word),
-        Source::AtPlace(_) => None,
+        Source::AtAddress(_) => None,
     }
 }
 
@@ -206,7 +206,7 @@ pub fn scaling(left: Source, right: Source) -> Option<(u16, Source)>
 {
     match (left, right) {
         (_, Source::FixedWord(factor)) => with_factor(factor, left),
-        (Source::FixedWord(factor), Source::AtPlace(_)) => with_factor(factor, right),
+        (Source::FixedWord(factor), Source::AtAddress(_)) => with_factor(factor, right),
         _ => None,
     }
 }

@@ -22,7 +22,7 @@ pub enum Source {
     /// It is this constant.
     FixedWord(u16),
     /// It stands here, low byte first.
-    AtPlace(u16),
+    AtAddress(u16),
 }
 
 /// Where two words come from.
@@ -79,8 +79,8 @@ pub fn source_of(slot: u8, operand: Operand) -> Source
 {
     match operand {
         Operand::Constant(word) => Source::FixedWord(word),
-        Operand::Variable(letter) => Source::AtPlace(variable_at(letter)),
-        Operand::InSlot => Source::AtPlace(slot_address(slot)),
+        Operand::Variable(letter) => Source::AtAddress(variable_at(letter)),
+        Operand::InSlot => Source::AtAddress(slot_address(slot)),
     }
 }
 
@@ -90,7 +90,7 @@ fn tested_source(tested: Tested) -> Source
     ensures whole { IsWhole result }
 {
     match tested {
-        Tested::HeldBefore => Source::AtPlace(HELD),
+        Tested::HeldBefore => Source::AtAddress(HELD),
         Tested::HeldNow(operand) => source_of(0, operand),
     }
 }
@@ -159,7 +159,7 @@ pub fn put_low(items: &mut Vec<Item>, mnemonic: Mnemonic, word: Source) -> Resul
 {
     match word {
         Source::FixedWord(word) => put_const(items, mnemonic, (word % 256) as u8),
-        Source::AtPlace(place) => put_at(items, mnemonic, place),
+        Source::AtAddress(address) => put_at(items, mnemonic, address),
     }
 }
 
@@ -170,6 +170,6 @@ pub fn put_high(items: &mut Vec<Item>, mnemonic: Mnemonic, word: Source) -> Resu
 {
     match word {
         Source::FixedWord(word) => put_const(items, mnemonic, (word / 256) as u8),
-        Source::AtPlace(place) => put_at(items, mnemonic, place + 1),
+        Source::AtAddress(address) => put_at(items, mnemonic, address + 1),
     }
 }

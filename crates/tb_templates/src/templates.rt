@@ -9,27 +9,27 @@ ghost use Rattle.tb_templates.specs.declared.labels.Inner.TheVariants as inner;
 ghost use Rattle.tb_templates.specs.declared.labels.Target.TheVariants as target;
 ghost use Rattle.tb_templates.specs.Templates as templates;
 ghost use Rattle.tb_templates.specs.Templates.{template};
-ghost use Rattle.tb_runtime16.specs.Places as places;
+ghost use Rattle.tb_runtime16.specs.Addresses as places;
 ghost use Rattle.tb_templates.specs.Program.{RisingFrom};
 
 use crate::labels::{Inner, Target};
 use crate::pieces::{
     put, put_address, put_alone, put_at, put_branch, put_by_x, put_call, put_const, put_constant,
     put_copied, put_faulted, put_here, put_high_part, put_jump, put_jump_through, put_low_part,
-    put_note,
+    put_return,
 };
 use crate::sources::{slot_address, variable_at};
 use std::alloc::AllocError;
 use tb_asm::Item;
+use tb_kernal::CHROUT;
 use tb_lower::SlotInstr;
 use tb_opcodes::Mnemonic;
-use tb_runtime16::{COLUMN, LENGTH, LINE, NOTE_HIGH, NOTE_LOW, NOTES, POINTER, RESULT, Routine};
+use tb_runtime16::{
+    COLUMN, LENGTH, LINE, NOTES, POINTER, RESULT, RETURN_HIGH, RETURN_LOW, Routine,
+};
 
 /// The fault of a line that is not there.
 pub const NO_LINE: u8 = 1;
-
-// The service that sends the byte in A.
-const CHROUT: u16 = 0xffd2;
 
 /// Where a group stands: its line, its index in the line, from 1 on, and the place of the line behind.
 #[derive(Clone, Copy, Debug, Drop)]
@@ -145,14 +145,14 @@ fn put_by_zero(
 }
 
 // A note's two bytes go behind the others, and the low byte of their count goes up.
-fn put_note_stored(items: &mut Vec<Item>, next: Target) -> Result<(), AllocError>
-    ensures { OnOk result (map entry_of items.new.items ≡ map entry_of items.old.items ++ templates.note_stored next) }
+fn put_return_stored(items: &mut Vec<Item>, next: Target) -> Result<(), AllocError>
+    ensures { OnOk result (map entry_of items.new.items ≡ map entry_of items.old.items ++ templates.return_stored next) }
 {
     put_at(items, Mnemonic::Ldx, NOTES)?;
     put_low_part(items, next)?;
-    put_by_x(items, Mnemonic::Sta, NOTE_LOW)?;
+    put_by_x(items, Mnemonic::Sta, RETURN_LOW)?;
     put_high_part(items, next)?;
-    put_by_x(items, Mnemonic::Sta, NOTE_HIGH)?;
+    put_by_x(items, Mnemonic::Sta, RETURN_HIGH)?;
     put_at(items, Mnemonic::Inc, NOTES)
 }
 
@@ -166,29 +166,29 @@ fn put_carried(items: &mut Vec<Item>, skip: Target) -> Result<(), AllocError>
 }
 
 // Notes the next line in line where the count of notes has a low byte alone.
-fn put_noted(
+fn put_returned_to(
     items: &mut Vec<Item>,
     next: Target,
     skip: Target,
     over: Target,
 ) -> Result<(), AllocError>
-    ensures { OnOk result (map entry_of items.new.items ≡ map entry_of items.old.items ++ templates.noted next skip over) }
+    ensures { OnOk result (map entry_of items.new.items ≡ map entry_of items.old.items ++ templates.held next skip over) }
 {
     put_by_zero(items, Mnemonic::Bne, NOTES + 1, over)?;
-    put_note_stored(items, next)?;
+    put_return_stored(items, next)?;
     put_carried(items, skip)?;
     Ok(())
 }
 
 // X is the low byte of the count of notes: it goes down, and the newest note's two bytes go to the result.
-fn put_note_taken(items: &mut Vec<Item>) -> Result<(), AllocError>
-    ensures { OnOk result (map entry_of items.new.items ≡ map entry_of items.old.items ++ templates.note_taken) }
+fn put_return_taken(items: &mut Vec<Item>) -> Result<(), AllocError>
+    ensures { OnOk result (map entry_of items.new.items ≡ map entry_of items.old.items ++ templates.return_taken) }
 {
     put_alone(items, Mnemonic::Dex)?;
     put_at(items, Mnemonic::Stx, NOTES)?;
-    put_by_x(items, Mnemonic::Lda, NOTE_LOW)?;
+    put_by_x(items, Mnemonic::Lda, RETURN_LOW)?;
     put_at(items, Mnemonic::Sta, RESULT)?;
-    put_by_x(items, Mnemonic::Lda, NOTE_HIGH)?;
+    put_by_x(items, Mnemonic::Lda, RETURN_HIGH)?;
     put_at(items, Mnemonic::Sta, RESULT + 1)
 }
 
@@ -198,7 +198,7 @@ fn put_taken_back(items: &mut Vec<Item>, over: Target) -> Result<(), AllocError>
 {
     put_by_zero(items, Mnemonic::Bne, NOTES + 1, over)?;
     put_by_zero(items, Mnemonic::Beq, NOTES, over)?;
-    put_note_taken(items)?;
+    put_return_taken(items)?;
     put_jump_through(items)?;
     Ok(())
 }
@@ -210,10 +210,10 @@ fn put_line_called_by_routine(
     to: u16,
     next: Target,
 ) -> Result<(), AllocError>
-    ensures { OnOk result (map entry_of items.new.items ≡ map entry_of items.old.items ++ (templates.constant line places.LINE ++ (templates.note next ++ (templates.jump (target.Line to) ∷ [])))) }
+    ensures { OnOk result (map entry_of items.new.items ≡ map entry_of items.old.items ++ (templates.constant line places.LINE ++ (templates.return_address next ++ (templates.jump (target.Line to) ∷ [])))) }
 {
     put_constant(items, line, LINE)?;
-    put_note(items, next)?;
+    put_return(items, next)?;
     put_jump(items, Target::Line(to))?;
     Ok(())
 }
@@ -229,7 +229,7 @@ fn put_line_called(
 ) -> Result<(), AllocError>
     ensures { OnOk result (map entry_of items.new.items ≡ map entry_of items.old.items ++ templates.called line to next skip over) }
 {
-    put_noted(items, next, skip, over)?;
+    put_returned_to(items, next, skip, over)?;
     put_jump(items, Target::Line(to))?;
     put_here(items, over)?;
     put_line_called_by_routine(items, line, to, next)?;

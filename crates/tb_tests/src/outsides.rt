@@ -36,7 +36,7 @@ impl Contrary {
 
 impl Outside for Contrary {
     ghost use Rattle.std.specs.Prelude.{◌≡◌, true};
-    ghost use Rattle.tb_kernal.specs.Places.{all_writable};
+    ghost use Rattle.tb_kernal.specs.Rom.{all_writable};
     ghost use Rattle.tb_kernal.specs.LawfulEvents.{writes_of, lawful_by};
 
     ghost gives = { λ _ m e _. all_writable m.regs.s (writes_of e) ≡ true };

@@ -21,7 +21,7 @@
 ;   $C037  HOME_S     byte: the stack pointer as at the start
 ;   $C038  SEED       word: the RND state
 ;   $C03A  LINE       word: the number of the line that is executed
-;   $C03C  NOTES      word: how many notes the return list holds, 0 to 500
+;   $C03C  NOTES      word: how many returns the return list holds, 0 to 500
 ;   $C040  SLOTS      16 words, of the lines' code
 ;   $C060  HELD       word, of the lines' code
 ;   $C066  RESULT     word: result
@@ -30,8 +30,8 @@
 ;   $C06C  LENGTH     byte: a text's length
 ;   $C06D  BYTE       byte: the byte that is sent or was read
 ;   $C06E  SCRATCH    18 bytes, up to $C07F
-;   $C100  NOTE_LOW   500 bytes, the notes' low bytes
-;   $C300  NOTE_HIGH  500 bytes, their high bytes
+;   $C100  RETURN_LOW   500 bytes, the returns' low bytes
+;   $C300  RETURN_HIGH  500 bytes, their high bytes
 ;
 ;
 ; ---- Rules
@@ -595,23 +595,23 @@ SEARCH_NONE:
         LDA #$01
         JMP FAULT
 
-; ---- Push: one more note on the return list
+; ---- Push: one more return on the return list
 ;
-; In:      LEFT: the note, a code address; it stands.
-; Changes: NOTES, one more; NOTE_LOW, NOTE_HIGH. RESULT stands: GOSUB keeps its target there.
+; In:      LEFT: the return, a code address; it stands.
+; Changes: NOTES, one more; RETURN_LOW, RETURN_HIGH. RESULT stands: GOSUB keeps its target there.
 ; Fault:   4 where NOTES is 500 already.
 ; Stack:   0.  Time: 13, and 7 up to the fault.
 ;
-; The low byte of NOTES is the note's place on a page: on the first pages of NOTE_LOW and NOTE_HIGH where the high
+; The low byte of NOTES is the return's place on a page: on the first pages of RETURN_LOW and RETURN_HIGH where the high
 ; byte is 0, else on the second ones.
 PUSH:
         LDX $C03C               ; NOTES
         LDA $C03D
         BNE PUSH_FAR
         LDA $FB                 ; LEFT
-        STA $C100,X             ; NOTE_LOW
+        STA $C100,X             ; RETURN_LOW
         LDA $FC
-        STA $C300,X             ; NOTE_HIGH
+        STA $C300,X             ; RETURN_HIGH
 PUSH_COUNT:
         INC $C03C               ; NOTES = NOTES + 1
         BNE PUSH_END
@@ -630,7 +630,7 @@ PUSH_FULL:
         LDA #$04
         JMP FAULT
 
-; ---- Pop: RESULT = the newest note, which leaves the return list
+; ---- Pop: RESULT = the newest return, which leaves the return list
 ;
 ; Out:     RESULT.
 ; Changes: NOTES, one less.
@@ -647,8 +647,8 @@ POP_LOW:
         STX $C03C
         LDA $C03D
         BNE POP_FAR
-        LDY $C300,X             ; NOTE_HIGH
-        LDA $C100,X             ; NOTE_LOW
+        LDY $C300,X             ; RETURN_HIGH
+        LDA $C100,X             ; RETURN_LOW
 POP_STORE:
         STA $C066               ; RESULT
         STY $C067

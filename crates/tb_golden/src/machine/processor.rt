@@ -4,7 +4,7 @@ use crate::machine::setting::first_regs;
 use crate::machine::writing::{put_registers, put_wrong};
 use crate::notation::hex_byte;
 use crate::page::Page;
-use tb_cpu::{Flags, operand_place, step};
+use tb_cpu::{Flags, operand_address, step};
 
 pub fn put_answer(page: &mut Page, bench: &mut Bench, name: &str, rest: &str) {
     match name {
@@ -48,7 +48,7 @@ fn put_operand(page: &mut Page, bench: &mut Bench, rest: &str) {
     bench.restart(page);
     bench.setting.read(page, first_regs(), rest);
     bench.setting.put(page, &mut bench.memory);
-    let place = operand_place(&bench.regs, &bench.memory);
+    let place = operand_address(&bench.regs, &bench.memory);
     page.put(" ");
     page.put_low_word(place);
 }

@@ -3,12 +3,12 @@ ghost use Rattle.std.specs.Prelude.{◌≡◌, ◌≢◌, ◌<◌, ◌+◌, true
 ghost use Rattle.tb_memmap.specs.Bytes.{at, written};
 ghost use Rattle.tb_cpu.specs.Instructions.{next};
 ghost use Rattle.tb_kernal.specs.Machine.{state_of, SameKeyboard, text_left, is_lawful_go, waits_for, gone_at, stepped, served, after_service};
-ghost use Rattle.tb_kernal.specs.Places.{all_writable, service_at};
-ghost use Rattle.tb_kernal.specs.declared.places.Service.TheVariants.{Chrout, Chrin, Getin};
+ghost use Rattle.tb_kernal.specs.Rom.{all_writable, service_at};
+ghost use Rattle.tb_kernal.specs.declared.rom.Service.TheVariants.{Chrout, Chrin, Getin};
 
 use crate::events::{Clobber, Writes};
 use crate::machine::Machine;
-use crate::places::{Service, service_of, write_all};
+use crate::rom::{Service, service_of, write_all};
 use crate::services::{clobber_registers, return_to_program};
 use tb_cpu::step;
 

@@ -1,15 +1,15 @@
 //! Undoing the newest event.
 ghost use Rattle.std.specs.Prelude.{◌≡◌, ◌+◌, take, length};
 ghost use Rattle.tb_memmap.specs.Bytes.{at};
-ghost use Rattle.tb_kernal.specs.Places.{old_of};
-ghost use Rattle.tb_kernal.specs.Undoing.{Undone, IsFormer, TakesBack, back_to, places_of, places_of_step};
+ghost use Rattle.tb_kernal.specs.Rom.{old_of};
+ghost use Rattle.tb_kernal.specs.Undoing.{Undone, IsFormer, TakesBack, back_to, addresses_of, addresses_of_step};
 
 use crate::events::{Event, Writes};
 use crate::machine::Machine;
-use crate::places::{old_bytes, put_back, service_of};
+use crate::rom::{old_bytes, put_back, service_of};
 use arrayvec::ArrayVec;
 use std::marker::Model;
-use tb_cpu::{Regs, Wrong, operand_place};
+use tb_cpu::{Regs, Wrong, operand_address};
 
 /// What an event may change, as it was before the event.
 #[derive(Drop)]
@@ -55,7 +55,7 @@ impl Machine {
 
     // The bytes at the places that an event may write.
     fn bytes_before(&self, event: &Event) -> Writes
-        ensures { result.items ≡ old_of (at self.now.memory) (places_of event.now self.now) }
+        ensures { result.items ≡ old_of (at self.now.memory) (addresses_of event.now self.now) }
     {
         match event {
             Event::Interrupt(writes) => old_bytes(&self.memory, writes),
@@ -70,10 +70,10 @@ impl Machine {
     }
 
     fn bytes_before_step(&self) -> Writes
-        ensures { result.items ≡ old_of (at self.now.memory) (places_of_step self.now) }
+        ensures { result.items ≡ old_of (at self.now.memory) (addresses_of_step self.now) }
     {
         let mut places = ArrayVec::new();
-        places.push((operand_place(&self.regs, &self.memory), 0));
+        places.push((operand_address(&self.regs, &self.memory), 0));
         places.push((0x0100 + u16::from(self.regs.s), 0));
         places.push((0x0100 + u16::from(self.regs.s.wrapping_sub(1)), 0));
         old_bytes(&self.memory, &places)

@@ -2,7 +2,7 @@
 use crate::routines::setup::{Call, Called, ROMS, plain};
 use std::alloc::Global;
 use std::test::Fail;
-use tb_runtime16::{LEFT, LINE, NOTE_HIGH, NOTE_LOW, NOTES, Routine};
+use tb_runtime16::{LEFT, LINE, NOTES, RETURN_HIGH, RETURN_LOW, Routine};
 use tb_words::next_seed;
 
 // The most notes.
@@ -16,7 +16,7 @@ fn note_of(number: u16) -> u16 {
 // What stands from the first note's low byte to the last one's high byte, where the list is full.
 fn full_list(alloc: Global) -> Result<Vec<u8>, Fail> {
     let mut bytes = Vec::new(alloc);
-    for place in 0..NOTE_HIGH - NOTE_LOW {
+    for place in 0..RETURN_HIGH - RETURN_LOW {
         bytes.push(note_of(place).to_le_bytes()[0])?;
     }
     for number in 0..MOST {
@@ -36,7 +36,7 @@ fn call_with(
     Call {
         words: &[(LEFT, 0x1234), (NOTES, count), (LINE, 10)],
         loaded: list,
-        at: NOTE_LOW,
+        at: RETURN_LOW,
         ..plain(routine)
     }
     .run(alloc, rom)
@@ -45,13 +45,13 @@ fn call_with(
 // Whether all notes of the full list but one stand as they were, and that one is this.
 fn holds_list(called: &Called, but: Option<(u16, u16)>) -> bool {
     for number in 0..MOST {
-        let note = match but {
-            Some((at, note)) if at == number => note,
+        let return_address = match but {
+            Some((at, return_address)) if at == number => return_address,
             _ => note_of(number),
         };
-        let [low, high] = note.to_le_bytes();
-        if called.byte(NOTE_LOW.saturating_add(number)) != Some(low)
-            || called.byte(NOTE_HIGH.saturating_add(number)) != Some(high)
+        let [low, high] = return_address.to_le_bytes();
+        if called.byte(RETURN_LOW.saturating_add(number)) != Some(low)
+            || called.byte(RETURN_HIGH.saturating_add(number)) != Some(high)
         {
             return false;
         }

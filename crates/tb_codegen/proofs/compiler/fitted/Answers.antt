@@ -2,7 +2,7 @@
 use Rattle.std.proofs.Common.{ap, refl, subst, ◌∙◌, arith, map}
 use Rattle.tb_asm.specs.Layout.{entry_of}
 use Rattle.tb_lower.specs.PlainData.{code_of}
-use Rattle.tb_runtime16.specs.Places.{PROLOGUE_AT}
+use Rattle.tb_runtime16.specs.Addresses.{PROLOGUE_AT}
 use Rattle.tb_settling.specs.Settled.{MayRefuse}
 use Rattle.tb_templates.specs.Program.{program_code}
 use Rattle.tb_codegen.specs.Roomy.{EndsFrom}

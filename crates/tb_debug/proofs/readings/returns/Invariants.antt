@@ -2,9 +2,9 @@
 use Rattle.std.proofs.Common.{◌≡◌, ◌-◌, ◌++◌}
 use Rattle.tb_memmap.specs.Bytes.{at}
 use Rattle.tb_codegen.specs.Compiled.{starts_of}
-use Rattle.tb_debug.specs.Readings.{lines_of_notes}
+use Rattle.tb_debug.specs.Readings.{lines_of_returns}
 use Rattle.tb_debug.proofs.readings.returns.Given as goal
 
 abbrev pub invariant-loop-told : goal.invariant-loop-told
 invariant-loop-told l =
-    l.lines.items ++ lines_of_notes (starts_of l.program) (at l.memory) (l.count - l.told) ≡ lines_of_notes (starts_of l.program) (at l.memory) l.count
+    l.lines.items ++ lines_of_returns (starts_of l.program) (at l.memory) (l.count - l.told) ≡ lines_of_returns (starts_of l.program) (at l.memory) l.count

@@ -1,12 +1,12 @@
 -- The goals of `all_of` in src/build.rt.
 use Rattle.std.proofs.Common.{◌∙◌}
-use Rattle.tb_listing.specs.Labels.{places, labels_text}
+use Rattle.tb_listing.specs.Labels.{all_labels, labels_text}
 use Rattle.tb_listing.proofs.build.all_of.Goals as goal
 
 pub returns : goal.returns
 returns c = record {
   prg = c.in_ok-from_slice.ensures.items ∙ c.prg.ensures;
-  labels = c.in_ok-labels.ensures ∙ (λ i. labels_text (places (c.starts.ensures i) (c.table.ensures i)));
+  labels = c.in_ok-labels.ensures ∙ (λ i. labels_text (all_labels (c.starts.ensures i) (c.table.ensures i)));
   listing = c.in_ok-list.ensures.back;
   readable = c.in_ok-list.ensures.readable;
   shows = c.in_ok-list.ensures.shows;

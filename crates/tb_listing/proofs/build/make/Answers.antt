@@ -4,7 +4,7 @@ use Rattle.tb_syntax.specs.PlainData.{lines_of}
 use Rattle.tb_codegen.specs.Compiled.{IsCompiled, starts_of, table_of}
 use Rattle.tb_listing.specs.Builds.{image_size}
 use Rattle.tb_listing.proofs.Laid.{are_laid}
-use Rattle.tb_listing.proofs.Sorted.{places_rise}
+use Rattle.tb_listing.proofs.Sorted.{labels_rise}
 use Rattle.tb_listing.proofs.Sums.{bytes_add_up, prices_add_up}
 use Rattle.tb_listing.proofs.build.make.Goals as goal
 
@@ -21,7 +21,7 @@ returns-clause-made c =
       compiled = compiled;
       answered = c.in_ok-compiled.ensures.found;
       only = c.in_ok-compiled.ensures.only;
-      sorted = places_rise (starts_of compiled) (table_of compiled) (image_size compiled) laid;
+      sorted = labels_rise (starts_of compiled) (table_of compiled) (image_size compiled) laid;
       program = lines_of c.in-Ok.program;
       makes = c.in-Ok.ensures.found;
       tells = c.in_ok-all_of.ensures;

@@ -1,6 +1,6 @@
 -- The goals of `without_names` in src/listing.rt.
 use Rattle.std.proofs.Common.{map}
-use Rattle.tb_runtime16.specs.Places.{PROLOGUE_AT}
+use Rattle.tb_runtime16.specs.Addresses.{PROLOGUE_AT}
 use Rattle.tb_disasm.specs.Lines.{shown}
 use Rattle.tb_listing.proofs.Short.{listing_readable}
 use Rattle.tb_listing.proofs.listing.without_names.Goals as goal

@@ -24,7 +24,7 @@ returns-then-not-is_running g c =
 pub take_event-requires-clause-few : goal.take_event-requires-clause-few
 take_event-requires-clause-few g c =
     let i = c.loop.invariant in
-    let few = few_steps c.args.places.now 0 i.0 (state_of c.args.machine.now) in
+    let few = few_steps c.args.starts.now 0 i.0 (state_of c.args.machine.now) in
     omega (arith, i.3.taken, few, i.1)
 
 pub loop-preserved : goal.loop-preserved
@@ -37,7 +37,7 @@ loop-preserved g c =
       i.0 ++ took.event ∷ [],
       omega (arith, length-append i.0 (took.event ∷ []), i.1),
       gave_more g.O.Outside.gives i.0 _ _ _ _ took.event _ took.ready _ i.2 now took.same took.given took.happened,
-      event_more c.args.places.now i.0 _ _ took.event _ _ same i.3 took.counted,
+      event_more c.args.starts.now i.0 _ _ took.event _ _ same i.3 took.counted,
     )
 
 pub returns : goal.returns

@@ -10,4 +10,4 @@ use Rattle.tb_profile.proofs.run.run_counted.Given as goal
 abbrev pub invariant-loop : goal.invariant-loop
 invariant-loop g l =
     (es : List Event) × (length es ≡ l.counter) × Gave g.O.Outside.gives l.fn.outside l.fn.machine es l.outside l.machine
-    × IsTally l.places (steps l.places 0 es (state_of l.fn.machine)) l.tally
+    × IsTally l.starts (steps l.starts 0 es (state_of l.fn.machine)) l.tally

@@ -2,4 +2,4 @@
 use Rattle.tb_profile_table.proofs.rows.are_addresses.Goals as goal
 
 pub returns : goal.returns
-returns c = λ k. (c.type_inv.places k).fits
+returns c = λ k. (c.type_inv.addresses k).fits

@@ -4,4 +4,4 @@ use Rattle.tb_profile_table.specs.Rows.{row_in}
 use Rattle.tb_profile_table.proofs.rows.rows_of.Given as goal
 
 abbrev pub invariant-loop-start : goal.invariant-loop-start
-invariant-loop-start l = l.rows.items ≡ map (λ s. row_in l.tally s.line s.place) (take l.start-index l.starts)
+invariant-loop-start l = l.rows.items ≡ map (λ s. row_in l.tally s.line s.address) (take l.start-index l.starts)

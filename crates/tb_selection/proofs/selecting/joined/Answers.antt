@@ -7,4 +7,4 @@ use Rattle.tb_selection.proofs.selecting.joined.Goals as goal
 pub returns-in-Some-allowed : goal.returns-in-Some-allowed
 returns-in-Some-allowed c =
     three_joined (group_of c.args.first) c.args.groups.now _ _ c.in-Some.ensures.cases.0 _ _ c.in-Some-split_last.ensures.cases.0 _ _ c.requires
-        c.three_as_one-whole.ensures c.in-Some-allowed.ensures refl
+    c.three_as_one-whole.ensures c.in-Some-allowed.ensures refl

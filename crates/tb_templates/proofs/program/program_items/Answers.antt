@@ -19,10 +19,10 @@ returns c =
     let code = code_of c.args.code.now in
     let listed = c.in_ok-numbers.ensures ∙ ap (λ k. numbers (code_of k)) c.lines.ensures in
     let lines = c.in_ok-asking.ensures.lines ∙ ap (λ es. map entry_of c.put_block.new.items.items ++ es)
-        (λ i. lines_code ((c.deref.ensures.value ∙ listed) i) c.args.seed [] (code_of (c.lines-2.ensures i))) in
+    (λ i. lines_code ((c.deref.ensures.value ∙ listed) i) c.args.seed [] (code_of (c.lines-2.ensures i))) in
     let past = c.in_ok-put_past.ensures ∙ ap (λ ns. map entry_of c.put_lines.new.items.items ++ past_code ns) (c.deref-2.ensures.value ∙ listed) in
     let broken = c.in_ok-put_all_broken.ensures ∙ ap (λ ns. map entry_of c.put_past.new.items.items ++ all_broken ns) (c.deref-3.ensures.value
-        ∙ c.in_ok-asking.ensures.asking ∙ ap (λ k. still_asking [] (code_of k)) c.lines-2.ensures) in
+    ∙ c.in_ok-asking.ensures.asking ∙ ap (λ k. still_asking [] (code_of k)) c.lines-2.ensures) in
     let find = c.in_ok-put_find.ensures ∙ ap (λ ns. map entry_of c.put_all_broken.new.items.items ++ find_code ns) (c.deref-4.ensures.value ∙ listed) in
     let table = c.in_ok-put_table.ensures ∙ ap (λ ns. map entry_of c.put_find.new.items.items ++ table_code ns) (c.deref-5.ensures.value ∙ listed) in
     three _ _ _ _ _ _ _ c.in_ok-put_block.ensures lines (four _ _ _ _ _ _ _ _ _ past broken find table)

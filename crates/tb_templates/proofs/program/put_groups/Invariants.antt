@@ -14,4 +14,4 @@ invariant-loop-group l =
     × (length l.group-items < 65536)
     × (l.index ≡ l.group-index)
     × (map entry_of l.items.items ++ rest_code l.numbers l.seed l.line (l.index + 1) (map group_of (drop l.group-index l.group-items))
-        ≡ map entry_of l.initial.items.items ++ rest_code l.numbers l.seed l.line 1 (select (map instr_of l.list)))
+    ≡ map entry_of l.initial.items.items ++ rest_code l.numbers l.seed l.line 1 (select (map instr_of l.list)))

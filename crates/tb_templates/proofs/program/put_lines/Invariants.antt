@@ -10,7 +10,7 @@ invariant-loop-rest l =
     AreCodable (code_of l.rest)
     × AreInTurn l.numbers (code_of l.rest)
     × (map entry_of l.items.items ++ lines_code l.numbers l.seed l.asking.items (code_of l.rest) ≡ map entry_of l.initial.items.items
-        ++ lines_code l.numbers l.seed l.initial.asking.items (code_of l.fn.lines))
+    ++ lines_code l.numbers l.seed l.initial.asking.items (code_of l.fn.lines))
     × (still_asking l.asking.items (code_of l.rest) ≡ still_asking l.initial.asking.items (code_of l.fn.lines))
 
 abbrev pub decreases-loop-rest : goal.decreases-loop-rest

@@ -15,8 +15,10 @@ returns-clause-run c =
       record {
         marked = c.in_ok-starts.ensures;
         of_run = c.in_ok-to_next_start.ensures.run.on start first;
-        of_first = subst (IsFirst marks start) (sym c.new-history.ensures.first) (c.in_ok-first.ensures.kept marks start first,
-            omega (arith, c.in_ok-first.ensures.events, c.first-present.ensures.events));
+        of_first = subst (IsFirst marks start) (sym c.new-history.ensures.first) (
+          c.in_ok-first.ensures.kept marks start first,
+          omega (arith, c.in_ok-first.ensures.events, c.first-present.ensures.events),
+        );
         of_past = subst (AreKept marks start now.events) (sym c.new-history.ensures.later)
             (All-nil (λ k. IsKept marks start k × (k.moment.events ≤ now.events)));
         few = omega (arith, ap length c.new-history.ensures.later);

@@ -17,7 +17,7 @@ returns-clause-run c = (
         of_run = typed_moment marks start more _ _ now h.of_run;
         of_first =
             let first = typed_kept marks start more c.args.self.now.present.events c.args.self.now.history.first c.type_text-2.new.self.first
-                h.of_run.ran c.in_ok-type_text-2.ensures.first c.in_ok-type_text-2.ensures.sent (h.of_first.0, omega (arith, h.of_first.1)) in
+            h.of_run.ran c.in_ok-type_text-2.ensures.first c.in_ok-type_text-2.ensures.sent (h.of_first.0, omega (arith, h.of_first.1)) in
             (first.0, c.in_ok-type_text-2.ensures.first.events ∙ h.of_first.1);
         of_past = subst (λ n. AreKept marks (typed more start) n c.type_text-2.new.self.later.items) (sym now.events)
             (typed_all marks start more c.args.self.now.present.events c.args.self.now.history.later.items c.type_text-2.new.self.later.items h.of_run.ran c.in_ok-type_text-2.ensures.later h.of_past);

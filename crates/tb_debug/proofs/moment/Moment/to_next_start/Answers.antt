@@ -11,7 +11,7 @@ returns-then-both-clause-ends c = λ start h.
     let taken = c.in_ok-own.ensures in
     let was = c.loop-self.invariant.run.on start h in
     let comes = comes_by marks start before now c.in_ok-own.own c.begins-marked.result c.both.result (taken.run.on start was) taken.one
-        (taken.own start was) c.begins-marked.ensures c.both.ensures in (
+    (taken.own start was) c.begins-marked.ensures c.both.ensures in (
       omega (arith, taken.one, c.loop-self.invariant.run.later),
       comes ∙ c.if-both.true,
       none_before marks start _ before.events now.events taken.one (c.loop-self.invariant.none start h),
@@ -34,7 +34,7 @@ loop-self-preserved c =
       none = λ start h.
           let was = c.loop-self.invariant.run.on start h in
           let comes = comes_by marks start before now c.in_ok-own.own c.begins-marked.result c.both.result (taken.run.on start was) taken.one
-              (taken.own start was) c.begins-marked.ensures c.both.ensures in
+          (taken.own start was) c.begins-marked.ensures c.both.ensures in
           none_more marks start _ before.events now.events taken.one (c.loop-self.invariant.none start h) (comes ∙ c.if-both.false);
     }
 

@@ -16,10 +16,13 @@ invariant_of-self g c =
     let keyboard = c.undo.ensures.restored.keyboard in
     let before : Holds g.row.O.Denot = record { machine = m; outside = c.self.inside.outside; undos = c.self.inside.undos.items; program = c.self.inside.program.now } in
     let after : Holds g.row.O.Denot = record { machine = c.undo.new.self; outside = c.self.inside.outside; undos = c.pop_back.new.self.items; program = c.self.inside.program.now } in
-    let each : EachFollows (machines after ++ state_of m ∷ []) = subst EachFollows (taken_off before after c.in-Some.undo less c.undo.ensures.restored c.self.invariant.1) c.self.invariant.2 in
-    (rw c.pop_back.ensures.items c.self.invariant.0, (λ i. all_fit (keyboard.0 i) (keyboard.1 i) c.pop_back.new.self.items)
-        ∙ (fits_less m.all_text m.all_answers _ _ all).0, follows_less _ _ _ each,
-        omega (arith, length-append c.pop_back.new.self.items (c.in-Some.undo ∷ []), ap length less, c.self.invariant.3))
+    let each : EachFollows (machines after ++ state_of m ∷ []) = subst EachFollows (taken_off before after c.in-Some.undo less c.undo.ensures.restored c.self.invariant.1) c.self.invariant.2 in (
+      rw c.pop_back.ensures.items c.self.invariant.0,
+      (λ i. all_fit (keyboard.0 i) (keyboard.1 i) c.pop_back.new.self.items)
+          ∙ (fits_less m.all_text m.all_answers _ _ all).0,
+      follows_less _ _ _ each,
+      omega (arith, length-append c.pop_back.new.self.items (c.in-Some.undo ∷ []), ap length less, c.self.invariant.3),
+    )
 
 pub invariant_of-self-in-None : goal.invariant_of-self-in-None
 invariant_of-self-in-None g c =
@@ -31,9 +34,17 @@ pub returns-in-Some-clause-restored : goal.returns-in-Some-clause-restored
 returns-in-Some-clause-restored g c =
     let h = pops_last c.self.inside.undos.items in
     let less : c.self.inside.undos.items ≡ c.pop_back.new.self.items ++ c.in-Some.undo ∷ [] = search rules in
-    rw (← c.self.view_is) (taken_off (record { machine = c.self.inside.machine; outside = c.self.inside.outside; undos = c.self.inside.undos.items;
-        program = c.self.inside.program.now }) (record { machine = c.undo.new.self; outside = c.self.inside.outside;
-        undos = c.pop_back.new.self.items; program = c.self.inside.program.now }) c.in-Some.undo less c.undo.ensures.restored c.self.invariant.1)
+    rw (← c.self.view_is) (taken_off (record {
+      machine = c.self.inside.machine;
+      outside = c.self.inside.outside;
+      undos = c.self.inside.undos.items;
+      program = c.self.inside.program.now;
+    }) (record {
+      machine = c.undo.new.self;
+      outside = c.self.inside.outside;
+      undos = c.pop_back.new.self.items;
+      program = c.self.inside.program.now;
+    }) c.in-Some.undo less c.undo.ensures.restored c.self.invariant.1)
 
 pub returns-in-None-clause-refused : goal.returns-in-None-clause-refused
 returns-in-None-clause-refused g c =

@@ -20,10 +20,14 @@ invariant_of-self-in-Ok g c =
     let before : Holds g.row.O.Denot = record { machine = c.self.inside.machine; outside = c.self.inside.outside; undos = c.self.inside.undos.items; program = c.self.inside.program.now } in
     let after : Holds g.row.O.Denot = record { machine = c.event.new.self; outside = c.next-event.new.self; undos = c.push_back.new.self.items; program = c.self.inside.program.now } in
     let more : Added g.O.Outside.gives before after =
-    added g.O.Outside.gives before after c.reserve.new.self c.next-event.result c.in-Ok.status c.note-undo.result c.reserve.ensures.rest c.next-event.ensures c.note-undo.ensures happened undos refl in
-    (ap (λ (b : Buffer Former). b.capacity) c.push_back.ensures.items ∙ c.self.invariant.0,
-        ap (all_fit c.event.new.self.all_text c.event.new.self.all_answers) undos ∙ fit, added_follows g.O.Outside.gives g.met.O.Outside.gives_lawful
-        before after more c.self.invariant.2, subst (λ us. length us ≤ 1000) (sym undos) (few_kept (c.self.inside.undos.items ++ c.note-undo.result ∷ [])))
+    added g.O.Outside.gives before after c.reserve.new.self c.next-event.result c.in-Ok.status c.note-undo.result c.reserve.ensures.rest
+    c.next-event.ensures c.note-undo.ensures happened undos refl in (
+      ap (λ (b : Buffer Former). b.capacity) c.push_back.ensures.items ∙ c.self.invariant.0,
+      ap (all_fit c.event.new.self.all_text c.event.new.self.all_answers) undos ∙ fit,
+      added_follows g.O.Outside.gives g.met.O.Outside.gives_lawful
+          before after more c.self.invariant.2,
+      subst (λ us. length us ≤ 1000) (sym undos) (few_kept (c.self.inside.undos.items ++ c.note-undo.result ∷ [])),
+    )
 
 pub returns : goal.returns
 returns g c =
@@ -31,9 +35,17 @@ returns g c =
     let undos : c.push_back.new.self.items ≡ keep_last 1000 (c.self.inside.undos.items ++ c.note-undo.result ∷ []) =
     ap (λ (b : Buffer Former). b.items) c.push_back.ensures.items ∙ ap (λ n. keep_last n (c.self.inside.undos.items ++ c.note-undo.result ∷ [])) c.self.invariant.0 in
     rw (← c.self.view_is) (
-      added g.O.Outside.gives (record { machine = c.self.inside.machine; outside = c.self.inside.outside; undos = c.self.inside.undos.items;
-          program = c.self.inside.program.now }) (record { machine = c.event.new.self; outside = c.next-event.new.self;
-          undos = c.push_back.new.self.items; program = c.self.inside.program.now }) c.reserve.new.self c.next-event.result c.in-Ok.status c.note-undo.result
+      added g.O.Outside.gives (record {
+        machine = c.self.inside.machine;
+        outside = c.self.inside.outside;
+        undos = c.self.inside.undos.items;
+        program = c.self.inside.program.now;
+      }) (record {
+        machine = c.event.new.self;
+        outside = c.next-event.new.self;
+        undos = c.push_back.new.self.items;
+        program = c.self.inside.program.now;
+      }) c.reserve.new.self c.next-event.result c.in-Ok.status c.note-undo.result
           c.reserve.ensures.rest c.next-event.ensures c.note-undo.ensures happened undos refl,
       happened.2,
     )

@@ -13,7 +13,7 @@ returns-in_err-step g c =
     let answer : c.from_residual.result ≡ Err c.in_err-step.field-0.0 = search rules in
     let few : c.loop-taken.taken < c.args.limit = search rules in
     let reaches = refused g.O.Outside.gives c.args.address c.args.limit c.loop-taken.taken c.args.self.now c.loop-taken.self c.step.new.self
-        c.in_err-step.field-0.0 c.loop-taken.invariant none few stepped in
+    c.in_err-step.field-0.0 c.loop-taken.invariant none few stepped in
     rw answer reaches
 
 pub loop-taken-preserved : goal.loop-taken-preserved

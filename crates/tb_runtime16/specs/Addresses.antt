@@ -1,9 +1,9 @@
 -- Where the code of a program keeps its data, and where its routines begin. A word stands low byte first.
 use Rattle.std.specs.Prelude.{ℕ}
 use Rattle.tb_memmap.specs.Regions.{CODE_START}
-use Rattle.tb_runtime16.specs.declared.places.TheConstants as place
-use Rattle.tb_runtime16.specs.declared.places.Routine.{Routine}
-use Rattle.tb_runtime16.specs.declared.places.Routine.TheVariants.{Multiply, Divide, Random, Number, Text, Zone, Input, Search, Push, Pop, FaultLine, Fault, Poll}
+use Rattle.tb_runtime16.specs.declared.addresses.TheConstants as address
+use Rattle.tb_runtime16.specs.declared.addresses.Routine.{Routine}
+use Rattle.tb_runtime16.specs.declared.addresses.Routine.TheVariants.{Multiply, Divide, Random, Number, Text, Zone, Input, Search, Push, Pop, FaultLine, Fault, Poll}
 
 -- ── page zero: arguments, and pointers in the same places ──
 -- a routine's first argument
@@ -88,25 +88,12 @@ abbrev pub SCRATCH : ℕ
 SCRATCH = 0xC06E
 
 -- the low bytes of 500 notes, which are code addresses
-abbrev pub NOTE_LOW : ℕ
-NOTE_LOW = 0xC100
+abbrev pub RETURN_LOW : ℕ
+RETURN_LOW = 0xC100
 
 -- their high bytes
-abbrev pub NOTE_HIGH : ℕ
-NOTE_HIGH = 0xC300
-
--- ── services ──
--- the service that sends the byte in A
-abbrev pub CHROUT : ℕ
-CHROUT = 0xFFD2
-
--- the service that gives the next byte of the keyboard's text, and waits where there is none
-abbrev pub CHRIN : ℕ
-CHRIN = 0xFFCF
-
--- the service that gives the keyboard's next answer, 0 where there is none
-abbrev pub GETIN : ℕ
-GETIN = 0xFFE4
+abbrev pub RETURN_HIGH : ℕ
+RETURN_HIGH = 0xC300
 
 -- ── the lines' code ──
 -- where the lines' code begins, behind the block
@@ -120,59 +107,59 @@ PROLOGUE_AT = CODE_START
 
 -- the entry of Send
 abbrev pub SEND_AT : ℕ
-SEND_AT = place.SEND_AT
+SEND_AT = address.SEND_AT
 
 -- the entry of Multiply
 abbrev pub MULTIPLY_AT : ℕ
-MULTIPLY_AT = place.MULTIPLY_AT
+MULTIPLY_AT = address.MULTIPLY_AT
 
 -- the entry of Divide
 abbrev pub DIVIDE_AT : ℕ
-DIVIDE_AT = place.DIVIDE_AT
+DIVIDE_AT = address.DIVIDE_AT
 
 -- the entry of Random
 abbrev pub RANDOM_AT : ℕ
-RANDOM_AT = place.RANDOM_AT
+RANDOM_AT = address.RANDOM_AT
 
 -- the entry of Number
 abbrev pub NUMBER_AT : ℕ
-NUMBER_AT = place.NUMBER_AT
+NUMBER_AT = address.NUMBER_AT
 
 -- the entry of Text
 abbrev pub TEXT_AT : ℕ
-TEXT_AT = place.TEXT_AT
+TEXT_AT = address.TEXT_AT
 
 -- the entry of Zone
 abbrev pub ZONE_AT : ℕ
-ZONE_AT = place.ZONE_AT
+ZONE_AT = address.ZONE_AT
 
 -- the entry of Input
 abbrev pub INPUT_AT : ℕ
-INPUT_AT = place.INPUT_AT
+INPUT_AT = address.INPUT_AT
 
 -- the entry of Search
 abbrev pub SEARCH_AT : ℕ
-SEARCH_AT = place.SEARCH_AT
+SEARCH_AT = address.SEARCH_AT
 
 -- the entry of Push
 abbrev pub PUSH_AT : ℕ
-PUSH_AT = place.PUSH_AT
+PUSH_AT = address.PUSH_AT
 
 -- the entry of Pop
 abbrev pub POP_AT : ℕ
-POP_AT = place.POP_AT
+POP_AT = address.POP_AT
 
 -- the entry of Fault that takes the line's number in X and Y
 abbrev pub FAULT_LINE_AT : ℕ
-FAULT_LINE_AT = place.FAULT_LINE_AT
+FAULT_LINE_AT = address.FAULT_LINE_AT
 
 -- the entry of Fault
 abbrev pub FAULT_AT : ℕ
-FAULT_AT = place.FAULT_AT
+FAULT_AT = address.FAULT_AT
 
 -- the entry of Poll
 abbrev pub POLL_AT : ℕ
-POLL_AT = place.POLL_AT
+POLL_AT = address.POLL_AT
 
 -- where a routine is called
 abbrev pub entry_of : Routine → ℕ

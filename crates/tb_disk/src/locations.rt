@@ -1,7 +1,7 @@
 //! Where the sectors of a disk lie.
 ghost use Rattle.std.specs.Prelude.{◌≡◌, ◌<◌, ◌≤◌};
-ghost use Rattle.tb_disk.specs.D64.{place, sectors_on};
-ghost use Rattle.tb_disk.specs.Layout.{place_of, track_at, sector_at};
+ghost use Rattle.tb_disk.specs.D64.{block_index, sectors_on};
+ghost use Rattle.tb_disk.specs.Layout.{file_block, track_at, sector_at};
 
 /// The number of tracks.
 pub const TRACKS: u8 = 35;
@@ -38,9 +38,9 @@ pub fn sectors(track: u8) -> u8
 }
 
 /// The number of sectors before this one, from 0 to 682.
-pub fn place(at: Location) -> usize
+pub fn block_index(at: Location) -> usize
     requires from_one { 1 ≤ at.track }
-    ensures { result ≡ place at.track at.sector }
+    ensures { result ≡ block_index at.track at.sector }
 {
     let track = usize::from(at.track);
     let sector = usize::from(at.sector);
@@ -55,19 +55,19 @@ pub fn place(at: Location) -> usize
 /// The track and the sector of the k-th block for files, from 0 to 663.
 pub fn locate(k: usize) -> Location
     requires { k < 664 }
-    ensures track { result.track ≡ track_at (place_of k) }
-    ensures sector { result.sector ≡ sector_at (place_of k) }
+    ensures track { result.track ≡ track_at (file_block k) }
+    ensures sector { result.sector ≡ sector_at (file_block k) }
 {
-    let place = if k < BELOW_DIRECTORY {
+    let block_index = if k < BELOW_DIRECTORY {
         k
     } else {
         k + DIRECTORY_SECTORS
     };
-    let (first_track, sectors, from_first) = match place {
-        0..357 => (1, 21, place),
-        357..490 => (18, 19, place - 357),
-        490..598 => (25, 18, place - 490),
-        _ => (31, 17, place - 598),
+    let (first_track, sectors, from_first) = match block_index {
+        0..357 => (1, 21, block_index),
+        357..490 => (18, 19, block_index - 357),
+        490..598 => (25, 18, block_index - 490),
+        _ => (31, 17, block_index - 598),
     };
     Location {
         track: (from_first / sectors + first_track) as u8,

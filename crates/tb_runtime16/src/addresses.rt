@@ -1,7 +1,7 @@
 //! Where a program's data and the block's routines stand. All data places are owned: no ROM writes them. A word stands low byte first.
 ghost use Rattle.std.specs.Prelude.{◌≡◌};
 ghost use Rattle.tb_runtime16.specs.Block.{StandAt, bytes_of};
-ghost use Rattle.tb_runtime16.specs.Places.{entry_of};
+ghost use Rattle.tb_runtime16.specs.Addresses.{entry_of};
 
 use tb_memmap::CODE_START;
 
@@ -48,9 +48,9 @@ pub const BYTE: u16 = 0xc06d;
 /// Scratch places of the routines, up to $C07F.
 pub const SCRATCH: u16 = 0xc06e;
 /// The low bytes of 500 notes, which are code addresses.
-pub const NOTE_LOW: u16 = 0xc100;
+pub const RETURN_LOW: u16 = 0xc100;
 /// Their high bytes.
-pub const NOTE_HIGH: u16 = 0xc300;
+pub const RETURN_HIGH: u16 = 0xc300;
 
 // How many bytes each part of the block has, in the order in which they lie: the entries follow.
 /// Bytes of the prologue.

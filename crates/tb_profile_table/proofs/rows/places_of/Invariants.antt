@@ -1,6 +1,0 @@
--- What holds at each turn of the loop of `places_of` in src/rows.rt.
-use Rattle.std.proofs.Common.{◌≡◌, map, take}
-use Rattle.tb_profile_table.proofs.rows.places_of.Given as goal
-
-abbrev pub invariant-loop-start : goal.invariant-loop-start
-invariant-loop-start l = l.places.items ≡ map (λ s. s.place) (take l.start-index l.starts)
