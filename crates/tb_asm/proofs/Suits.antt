@@ -22,7 +22,7 @@ use Rattle.tb_asm.specs.Suited.{BytesStand, Decodes, LabelsStand, name_at, names
 use Rattle.tb_asm.proofs.Faults.{first_none, none_first, size_push, taken}
 use Rattle.tb_asm.proofs.Laws.{none_of, stands, label_stands, bytes_append, all_size}
 
--- if nothing is refused, no item has a fault in its place
+-- if nothing is refused, no item has a fault at its address
 fault_none : (fault : List Entry → Entry → Option AsmErrorKind) (front before after : List Entry) (e : Entry)
     → first_fault fault front (before ++ e ∷ after) ≡ None → fault (front ++ before) e ≡ None
 fault_none fault front [] after e h = ap (λ f. fault f e) (append-nil front) ∙ none_first fault front after e h
@@ -34,7 +34,7 @@ module _ (at : ℕ) (es : List Entry) (placed : place_refusal at es ≡ None) wh
   item_taken : (before : List Entry) (e : Entry) (after : List Entry) → es ≡ before ++ e ∷ after → place_fault (labels_from at before) (at + size before) e ≡ None
   item_taken before e after is = fault_none (place_fault_in at) [] before after e (ap (first_fault (place_fault_in at) []) (sym is) ∙ placed)
 
-  -- the image has each item's bytes at its place
+  -- the image has each item's bytes at its address
   pub bytes_stand : BytesStand at es (image_of at es) (labels_from at es)
   bytes_stand = λ before e after is.
       ap (λ t. take (size_of e) (drop (size before) (bytes_from (labels_from at es) at t))) is ∙ stands (labels_from at es) at before after e

@@ -8,7 +8,7 @@ use Rattle.tb_asm.specs.declared.names.Name.{Name}
 use Rattle.tb_asm.specs.declared.items.Operand.{Operand}
 use Rattle.tb_asm.specs.Layout.{Entry, instr, label, size_of, size, has_mode, same_name, address_in, labels_from, bytes_of, code_fault}
 
--- the bytes of each item are at its place
+-- the bytes of each item are at its address
 abbrev pub BytesStand : ℕ → List Entry → List ℕ → List (Name × ℕ) → Type 0
 BytesStand at es image labels =
     (before : List Entry) (e : Entry) (after : List Entry) → es ≡ before ++ e ∷ after → take (size_of e) (drop (size before) image) ≡ bytes_of labels (at + size before) e

@@ -51,7 +51,7 @@ full_data q bytes h e =
 pub record Reads (blocks : ℕ → List ℕ) (area : List ℕ) : Type 0 where
   pub at : (k : ℕ) → k < 664 → blocks (file_block k) ≡ take 256 (drop (256 * k) area)
 
--- the places of a file's blocks: the k-th for files, and the given number more
+-- the indices of a file's blocks: the k-th for files, and the given number more
 abbrev pub indices_from : ℕ → ℕ → List ℕ
 indices_from k more = map file_block (range_with_len k (suc more))
 

@@ -8,7 +8,7 @@ mod Pieces
 mod Laying
 -- what the loops over files, entries and tracks have appended
 mod Listing
--- the places of the blocks for files
+-- the indices of the blocks for files
 mod Sectors
 -- the image, put together
 mod Joining

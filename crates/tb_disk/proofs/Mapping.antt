@@ -48,7 +48,7 @@ low_place j h = ap (λ b. if b then j else j + 19) (lt-ltb j 357 h)
 high_place : (j : ℕ) → 357 ≤ j → file_block j ≡ j + 19
 high_place j h = ap (λ b. if b then j else j + 19) (le-ltb j 357 h)
 
--- the places of blocks for files, taken once each
+-- the indices of blocks for files, taken once each
 files_below : (used p : ℕ) → p < 357 → times p (map file_block (range_with_len 0 used)) ≡ (if nat_le used p then 0 else 1)
 files_below used p h = elim (cases_lt p used) [
   | inl l ↦
@@ -83,7 +83,7 @@ files_above used p h = elim (cases_lt p (used + 19)) [
       ]) ∙ ap (λ b. if b then 0 else 1) (sym (le-leb (used + 19) p g))
 ]
 
--- the places of the directory's blocks
+-- the indices of the directory's blocks
 directory_out : (d p : ℕ) → (p < 358) → times p (range_with_len 358 d) ≡ 0
 directory_out d p h = ap (times p) (sym (map-id (range_with_len 358 d))) ∙ never (λ x. x) p 358 d (λ j l u e. absurd (omega (arith, e, l, h)))
 
@@ -93,7 +93,7 @@ directory_past d p h = ap (times p) (sym (map-id (range_with_len 358 d))) ∙ ne
 directory_in : (d p : ℕ) → 358 ≤ p → p < 358 + d → times p (range_with_len 358 d) ≡ 1
 directory_in d p l h = ap (times p) (sym (map-id (range_with_len 358 d))) ∙ once (λ x. x) p 358 d p l h refl (λ i ne e. ne e)
 
--- all places in use: the head, the directory's blocks, and those of the files
+-- the indices of all blocks in use: the head, the directory's blocks, and those of the files
 abbrev pub behind_head : ℕ → ℕ → List ℕ
 behind_head used d = range_with_len 358 d ++ map file_block (range_with_len 0 used)
 
@@ -103,7 +103,7 @@ all_used used d = 357 ∷ behind_head used d
 parts : (used d p : ℕ) → times p (behind_head used d) ≡ times p (range_with_len 358 d) + times p (map file_block (range_with_len 0 used))
 parts used d p = sum_by-append (λ q. if q == p then 1 else 0) (range_with_len 358 d) (map file_block (range_with_len 0 used))
 
--- a place is in use once if it is not free, and else not at all
+-- a block is in use once if it is not free, and else not at all
 pub uses_are : (used d p : ℕ) → d ≤ 18 → times p (all_used used d) ≡ (if is_free used d p then 0 else 1)
 uses_are used d p few = elim (cases_lt p 357) [
   | inl l ↦

@@ -61,7 +61,7 @@ reads_area area head directory s = record {
   ];
 }
 
--- the block at place 357 is the head
+-- the block with index 357 is the head
 pub reads_head : (area head directory : List ℕ) → Sizes area head directory → block (joined area head directory) 357 ≡ head
 reads_head area head directory s =
     let below : List ℕ = take 91392 area in

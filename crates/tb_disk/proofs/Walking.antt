@@ -122,7 +122,7 @@ pub bytes_found : (k : ℕ) (files : List File) → map (λ f. f.bytes) (found_f
 bytes_found k [] = refl
 bytes_found k (f ∷ fs) = ap (λ x. f.bytes.now ∷ x) (bytes_found (k + blocks_of f) fs)
 
--- the places of the files' blocks are those of the blocks for files from the k-th on
+-- the indices of the files' blocks are those of the blocks for files from the k-th on
 pub indices_found : (k : ℕ) (files : List File) → flat_map (λ f. f.blocks_used) (found_from k files) ≡ map file_block (range_with_len k (sum_by blocks_of files))
 indices_found k [] = refl
 indices_found k (f ∷ fs) =

@@ -13,7 +13,7 @@ sectors_on track =
 abbrev pub is_on_disk : ℕ → ℕ → Bool
 is_on_disk track sector = nat_le 1 track && nat_le track 35 && nat_lt sector (sectors_on track)
 
--- the place of a sector in the image: the number of sectors before it
+-- the index of a sector in the image: the number of sectors before it
 abbrev pub block_index : ℕ → ℕ → ℕ
 block_index track sector =
     if nat_le track 17 then 21 * (track - 1) + sector
@@ -25,15 +25,15 @@ block_index track sector =
 abbrev pub sectors : ℕ
 sectors = 683
 
--- the place of track 18, sector 0, which has the map of free blocks and the disk's name
+-- the index of track 18, sector 0, which has the map of free blocks and the disk's name
 abbrev pub head : ℕ
 head = 357
 
--- the 256 bytes at a place
+-- the 256 bytes of the block with an index
 abbrev pub block : List ℕ → ℕ → List ℕ
 block image p = take 256 (drop (256 * p) image)
 
--- the places of the chain of blocks from a sector on, at most the given number; None if it is longer or off the disk.
+-- the indices of the chain of blocks from a sector on, at most the given number; None if it is longer or off the disk.
 -- A block begins with the track and the sector of the next one, the last with track 0
 unfoldable pub chain : ℕ → (ℕ → List ℕ) → ℕ → ℕ → Option (List ℕ)
 chain zero blocks track sector = None
@@ -50,7 +50,7 @@ data_in b = if slice_index b 0 == 0 then take (slice_index b 1 - 1) (drop 2 b) e
 abbrev pub name_in : List ℕ → List ℕ
 name_in field = before_first (λ c. c == 0xa0) field
 
--- a file as the directory names it, and the places of its blocks
+-- a file as the directory names it, and the indices of its blocks
 pub record Found : Type 0 where
   pub name : List ℕ
   pub bytes : List ℕ
@@ -81,7 +81,7 @@ files_of blocks (entry ∷ entries) =
     if slice_index entry 2 == 0 then files_of blocks entries
     else option_and_then (λ file. option_map (λ files. file ∷ files) (files_of blocks entries)) (file_of blocks entry)
 
--- what a walk of a disk finds: the places of the directory's blocks, and the files in order
+-- what a walk of a disk finds: the indices of the directory's blocks, and the files in order
 pub record Walk : Type 0 where
   pub directory : List ℕ
   pub files : List Found
@@ -96,7 +96,7 @@ abbrev pub walk : (ℕ → List ℕ) → Option Walk
 walk blocks =
     option_and_then (walk_from blocks) (chain sectors blocks (slice_index (blocks head) 0) (slice_index (blocks head) 1))
 
--- the places of all blocks in use, as often as they are used
+-- the indices of all blocks in use, as often as they are used
 abbrev pub in_use : Walk → List ℕ
 in_use w = head ∷ w.directory ++ flat_map (λ f. f.blocks_used) w.files
 

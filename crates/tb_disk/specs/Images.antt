@@ -16,7 +16,7 @@ text_of n = name_in n.field
 abbrev pub blocks_of : File → ℕ
 blocks_of f = (length f.bytes.now - 1) / 254 + 1
 
--- how often a place is in use
+-- how often a block is in use, by its index
 abbrev pub uses : Walk → ℕ → ℕ
 uses w p = count_by (λ q. q == p) (in_use w)
 

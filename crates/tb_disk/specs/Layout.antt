@@ -1,4 +1,4 @@
--- How the maker lays a disk out: the blocks of the files lie in the order of places, file after file, and leave out
+-- How the maker lays a disk out: the blocks of the files lie in the order of indices, file after file, and leave out
 -- track 18.
 use Rattle.std.specs.Prelude.{ℕ, zero, suc, Bool, ◌==◌, ◌+◌, ◌-◌, ◌*◌, ◌/◌, ◌%◌, not, max, nat_le, nat_lt, List, [], ◌∷◌}
 use Rattle.std.specs.Prelude.{◌++◌, flat_map, length, take, drop, replicate, sum_by, if◌then◌else◌}
@@ -8,11 +8,11 @@ use Rattle.tb_disk.specs.Images.{blocks_of}
 use Rattle.tb_disk.specs.declared.names.Name.{Name}
 use Rattle.tb_disk.specs.declared.image.File.{File}
 
--- the place of the k-th block for files, of 664
+-- the index of the k-th block for files, of 664
 abbrev pub file_block : ℕ → ℕ
 file_block k = if nat_lt k 357 then k else k + 19
 
--- the track and the sector at a place
+-- the track and the sector of a block index
 abbrev pub track_at : ℕ → ℕ
 track_at p =
     if nat_lt p 357 then p / 21 + 1 else if nat_lt p 490 then (p - 357) / 19 + 18

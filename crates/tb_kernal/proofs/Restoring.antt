@@ -20,7 +20,7 @@ abbrev pub AreOf : (ℕ → ℕ) → Writes → Type 0
 AreOf m [] = Unit {0}
 AreOf m (u ∷ us) = (u.1 ≡ m u.0) × AreOf m us
 
--- a place that is not written keeps its byte
+-- an address that is not written keeps its byte
 not_written : (b : ℕ) (us : Writes) (ws : Writes) (m : ℕ → ℕ) → all_among ws us ≡ true → is_among b us ≡ false → written m ws b ≡ m b
 not_written b us [] m h o = refl
 not_written b us (w ∷ ws) m h o =
@@ -55,11 +55,11 @@ restored_at us ws m h a b =
       | inr e ↦ put_back b us m (written m ws) h (inl (not_written b us ws m a e))
     ]
 
--- noted bytes, written back after any writes to noted places, restore a memory
+-- noted bytes, written back after any writes to noted addresses, restore a memory
 pub restored : (us ws : Writes) (m : ℕ → ℕ) → AreOf m us → all_among ws us ≡ true → written (written m ws) us ≡ m
 restored us ws m h a = λ i b. restored_at us ws m h a b i
 
--- noted places are open, so none is left out
+-- noted addresses are open, so none is left out
 written_open_is : (us : Writes) (m : ℕ → ℕ) → all_open us ≡ true → written_open m us ≡ written m us
 written_open_is [] m h = refl
 written_open_is (u ∷ us) m h =

@@ -76,7 +76,7 @@ among_itself : (ws : Writes) → all_among ws ws ≡ true
 among_itself [] = refl
 among_itself (w ∷ ws) = and_from _ _ (or_left (nat_eq w.0 w.0) (is_among w.0 ws) (eq-eqb w.0 w.0 refl)) (among_more w ws ws (among_itself ws))
 
--- writes to open places among those noted are taken back
+-- writes to open addresses among those noted are taken back
 writes_back : (m : ℕ → ℕ) (ps ws : Writes) → all_open ws ≡ true → all_among ws ps ≡ true → written_open (written m ws) (old_of m ps) ≡ m
 writes_back m ps ws o a = restored_open (old_of m ps) ws m (are_old m ps) (old_open m ps) (all_old_among m ws ps o a)
 

@@ -12,5 +12,5 @@ pub record Former : Type 0 where
   pub text_taken : ℕ
   pub answers_taken : ℕ
   pub sent : ℕ
-  -- places that the event may write, with their bytes
+  -- addresses that the event may write, with their bytes
   pub bytes : Writes

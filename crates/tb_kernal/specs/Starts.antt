@@ -8,11 +8,12 @@ use Rattle.tb_kernal.specs.Machine.{State, home_of}
 abbrev pub LieAt : ℕ → List ℕ → (ℕ → ℕ) → Type 0
 LieAt base bytes m = (k : ℕ) → k < length bytes → m (base + k) ≡ slice_index bytes k
 
--- each place of a memory holds a byte
+-- each address of a memory holds a byte
 abbrev pub HoldsBytes : (ℕ → ℕ) → Type 0
 HoldsBytes m = (a : ℕ) → m a < 256
 
--- a machine with a program's bytes at their place, every other byte, A, X, Y, all flags and the keyboard arbitrary, at the start of the program
+-- a machine at the start of a program, with the program's bytes at their address; every other byte, A, X, Y, all flags
+-- and the keyboard are arbitrary
 pub record IsStart (base : ℕ) (bytes : List ℕ) (s : State) : Type 0 where
   pub loaded : LieAt base bytes s.mem
   pub holds_bytes : HoldsBytes s.mem

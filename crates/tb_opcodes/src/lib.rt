@@ -141,7 +141,7 @@ pub enum Mode {
     ZeroPageX,
     /// Page zero, Y added modulo 256.
     ZeroPageY,
-    /// Through a pointer of page zero whose place has X added: `(zp,X)`.
+    /// Through a pointer of page zero whose address has X added: `(zp,X)`.
     IndirectX,
     /// Through a pointer of page zero, Y added to what it holds: `(zp),Y`.
     IndirectY,

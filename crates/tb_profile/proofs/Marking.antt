@@ -1,4 +1,4 @@
--- Marks of places, and counts with more at an address.
+-- Marks of addresses, and counts with more at an address.
 use Rattle.std.proofs.Common.{◌≡◌, ℕ, ◌+◌, ◌<◌, true, false, List, length, sym, ap, ◌∙◌, arith, inl, inr, slice_index}
 use Rattle.std.specs.Prelude.{◌==◌, if◌then◌else◌}
 use Rattle.std.proofs.lemmas.Bool.{cases_eq}

@@ -36,13 +36,13 @@ abbrev pub step_of : List ℕ → ℕ → State → Step
 step_of starts line s =
     record { pc = s.regs.pc; line = line_by (begins_line starts s.regs.pc) line s.regs.pc; cycles = cycles_of_go s.regs (reading s.mem) }
 
--- the steps of a run whose lines begin at these places; interrupts are the ROM's, and no steps
+-- the steps of a run whose lines begin at these addresses; interrupts are the ROM's, and no steps
 abbrev pub steps : List ℕ → ℕ → List Event → State → List Step
 steps starts line [] s = []
 steps starts line (Go k ∷ es) s = step_of starts line s ∷ steps starts (step_of starts line s).line es (happens s (Go k))
 steps starts line (Interrupt ws ∷ es) s = steps starts line es (happens s (Interrupt ws))
 
--- ---- what is counted for a place
+-- ---- what is counted for an address
 
 -- how often a step began there
 abbrev pub times_of : List Step → ℕ → ℕ

@@ -21,7 +21,7 @@ abbrev pub last_line : ℕ → List Step → ℕ
 last_line line [] = line
 last_line line (t ∷ ts) = last_line t.line ts
 
--- a tally has counted these steps of a program whose lines begin at these places
+-- a tally has counted these steps of a program whose lines begin at these addresses
 pub record IsTally (starts : List ℕ) (ts : List Step) (t : Counted) : Type 0 where
   pub whole : (length t.begins ≡ 65536) × (length t.times ≡ 65536) × (length t.instructions ≡ 65536) × (length t.cycles ≡ 65536)
   pub begins : (a : ℕ) → a < 65536 → slice_index_or t.begins a false ≡ begins_line starts a

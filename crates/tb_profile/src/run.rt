@@ -82,7 +82,7 @@ fn take_event<O: Outside>(
 }
 
 /// Lets the events of an outside happen as `run` does, and counts the program's own by the lines that begin at these
-/// places. AllocError comes only if memory runs out; the counts are then lost.
+/// addresses. AllocError comes only if memory runs out; the counts are then lost.
 pub fn run_counted<O: Outside>(
     alloc: Global,
     machine: &mut Machine,

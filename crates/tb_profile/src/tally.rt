@@ -44,7 +44,7 @@ impl Model for Tally {
 }
 
 impl Tally {
-    /// The tally of no steps, of a program whose lines begin at these places. Fails only if memory runs out.
+    /// The tally of no steps, of a program whose lines begin at these addresses. Fails only if memory runs out.
     pub fn new(alloc: Global, starts: &[u16]) -> Result<Tally, AllocError>
         ensures { IfOk result (λ t. IsTally starts.now [] t) }
     {

@@ -103,7 +103,7 @@ known_first labels before [] h = refl
 known_first labels before (e ∷ es) h =
     first_none (λ front x. unknown_fault labels x) before es e h.0 ∙ known_first labels (before ++ e ∷ []) es h.1
 
--- ---- places
+-- ---- addresses
 within_most : (es : List Entry) → size es ≤ most es
 within_most es = let a = forms_most es (map kept es) (kept_forms es) in let b = kept_size es in omega (arith, a, b)
 

@@ -39,7 +39,7 @@ impl Model for Undo {
 
 impl Machine {
     /// What an event may change, to be handed to `undo` after it: registers, the refusal, how much
-    /// was taken and sent, and the bytes at the places that the event can write.
+    /// was taken and sent, and the bytes at the addresses that the event can write.
     pub fn note(&self, event: &Event) -> Undo
         ensures { IsFormer result self.now event.now }
     {
@@ -53,7 +53,7 @@ impl Machine {
         }
     }
 
-    // The bytes at the places that an event may write.
+    // The bytes at the addresses that an event may write.
     fn bytes_before(&self, event: &Event) -> Writes
         ensures { result.items ≡ old_of (at self.now.memory) (addresses_of event.now self.now) }
     {
