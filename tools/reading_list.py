@@ -122,25 +122,28 @@ def walk():
     return {key: (modules[key], sorted(reached[key])) for key in reached}, types
 
 
-def rows():
-    order = [line.split(":")[0] for line in (TOP / "crates.txt").read_text().split("\n") if line.startswith("tb")]
-    files, types = walk()
-    for (crate, name), (module, numbers) in sorted(files.items(), key=lambda f: (order.index(f[0][0]), f[0][1])):
+def reading():
+    """The files in the order of crates.txt, as (path, lines to read, all lines, names of definitions); the Rust types."""
+    order = [line.split(":")[0] for line in (TOP / "crates.txt").read_text().split("\n")]
+    reached, types = walk()
+    files = []
+    for crate, name in sorted(reached, key=lambda it: (order.index(it[0]), it[1])):
+        module, numbers = reached[crate, name]
         chosen = [module.definitions[number] for number in numbers]
-        yield f"{crate}/specs/{name}", sum(len(lines) for _, _, lines in chosen), len(module.lines), [it[0] for it in chosen]
-    yield None, None, None, sorted(f"{crate} {kind}" for crate, kind in types)
+        lines = sum(len(lines) for _, _, lines in chosen)
+        files.append((f"{crate}/specs/{name}", lines, len(module.lines), [it[0] for it in chosen]))
+    return files, sorted(f"{crate} {kind}" for crate, kind in types)
 
 
 def table():
-    *files, (_, _, _, types) = rows()
+    files, types = reading()
     yield "| File | Lines to read | of | Definitions |"
     yield "|---|---|---|---|"
     for path, lines, all_lines, names in files:
         yield f"| `{path}` | {lines} | {all_lines} | {', '.join(names)} |"
     _, lines, all_lines, names = zip(*files)
     yield f"| {len(files)} files | {sum(lines)} | {sum(all_lines)} | {sum(map(len, names))} definitions |"
-    yield ""
-    yield f"And {len(types)} Rust types: {', '.join(types)}."
+    yield f"| {len(types)} Rust types | | | {', '.join(types)} |"
 
 
 def main():
@@ -156,11 +159,10 @@ def main():
             print("\n".join(difflib.unified_diff(found, wanted, "docs/MAP.md", "what is computed", lineterm="")))
             sys.exit("docs/MAP.md has another reading list: tools/reading_list.py --table prints it")
     else:
-        for path, lines, all_lines, names in rows():
-            if path:
-                print(f"{path}: {lines} of {all_lines} lines, {len(names)} definitions\n    {', '.join(names)}")
-            else:
-                print(f"{len(names)} Rust types\n    {', '.join(names)}")
+        files, types = reading()
+        for path, lines, all_lines, names in files:
+            print(f"{path}: {lines} of {all_lines} lines, {len(names)} definitions\n    {', '.join(names)}")
+        print(f"{len(types)} Rust types\n    {', '.join(types)}")
 
 
 main()
