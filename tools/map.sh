@@ -59,7 +59,7 @@ missing() {
 # The lines with what each crate needs in the order of the alphabet.
 sorted() {
     while read -r name others; do
-        # shellcheck disable=SC2086
+        # shellcheck disable=SC2046,SC2086 # each name is a word
         [ "$name" = '#' ] && echo "# $others" || echo "$name" $(printf '%s\n' $others | sort)
     done
 }
