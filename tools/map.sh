@@ -1,61 +1,82 @@
 #!/usr/bin/env bash
-# Compares the layers of docs/MAP.md with crates.txt: each crate has a line there, below those that it stands on, and the
-# line names exactly those that it stands on directly, so none that another one of them stands on already.
+# Compares crates.txt with itself and with docs/MAP.md.
+#  - crates.txt: a crate is listed below all that it needs, in a group whose heading is a line `# NAME`.
+#  - The diagram of MAP.md, its first block, has the same groups with the same crates in the same order. Each line names
+#    the crates that its own crate needs directly, which are those that it doesn't need by way of another one as well.
+#  - The list of MAP.md, its tables of crates, has the same groups as headings `### NAME`, and a row for each crate. The
+#    files that a row names, as `src/code.rt` or `specs/Words`, are those of its crate.
 #
 #   tools/map.sh            compares; says what differs, and then ends with status 1
-#   tools/map.sh --print    prints the lines as they should be, in the order of crates.txt
+#   tools/map.sh --print    prints the lines that the diagram should have
 . "$(dirname "${BASH_SOURCE[0]}")/setup.sh"
 needs awk
 
-# Each crate of the repository with those that it stands on directly, without `tb_`.
+# The groups of crates.txt, and each crate with those that it needs directly, without `tb_`. A crate that is listed
+# above one that it needs is told to stderr, and the status is then 1.
 layers() {
     awk -F: '
-        function stands_on(crate, other,    i) { # by any way
-            if ((crate, other) in known) return known[crate, other]
-            for (i = 1; i <= count; i++)
-                if (uses(crate, name[i]) && (name[i] == other || stands_on(name[i], other)))
-                    return known[crate, other] = 1
-            return known[crate, other] = 0
-        }
-        function uses(crate, other) { return index(needs[crate], " " other " ") }
-        function is_direct(crate, other,    i) {
-            if (!uses(crate, other)) return 0
-            for (i = 1; i <= count; i++)
-                if (name[i] != other && uses(crate, name[i]) && stands_on(name[i], other)) return 0
-            return 1
-        }
-        /^tb/ { name[++count] = $1; needs[$1] = " " $2 " " }
-        END {
-            for (c = 1; c <= count; c++) {
-                line = ""
-                for (i = 1; i <= count; i++) if (is_direct(name[c], name[i])) line = line " " name[i]
-                line = " " name[c] (line == "" ? " -" : line)
-                gsub(/ tb_/, " ", line)
-                print substr(line, 2)
+        /^# / { print; next }
+        /^tb/ {
+            name = $1; count = split($2, words, " ")
+            delete needed # by the crates that this one needs
+            for (i = 1; i <= count; i++) if (words[i] ~ /^tb/) {
+                if (!(words[i] in all)) {
+                    print "crates.txt: " name " is listed above " words[i] ", which it needs" >"/dev/stderr"
+                    bad = 1
+                }
+                all[name] = all[name] " " words[i] " " all[words[i]]
+                split(all[words[i]], below, " ")
+                for (b in below) needed[below[b]]
             }
-        }' "$root/crates.txt"
+            all[name] = all[name] " "
+            line = name
+            for (i = 1; i <= count; i++) if (words[i] ~ /^tb/ && !(words[i] in needed)) line = line " " words[i]
+            if (line == name) line = line " -"
+            gsub(/(^|[ ])tb_/, " ", line); sub(/^ /, "", line)
+            print line
+        }
+        END { exit bad }' "$root/crates.txt"
 }
 
-# The same of the map: its first block, where what a layer is about stands behind two spaces or more.
-mapped() {
-    awk '/^```/ { inside = !inside; next } inside && NF' "$root/docs/MAP.md" |
-        sed -E 's/^([a-z0-9_]+) +/\1 /; s/  .*//; s/ +$//'
+# The same of the diagram, where what a crate is about comes after two spaces or more.
+diagram() {
+    awk '/^```/ { if (seen++) exit; next } seen && NF' "$root/docs/MAP.md" |
+        sed -E '/^#/b; s/^([a-z0-9_]+) +/\1 /; s/  .*//; s/ +$//'
 }
 
-# Lines in the order of their first words, the other words of each in order.
+# The groups and crates of the list.
+list() { sed -nE 's/^### /# /p; s/^\| (tb_)?([a-z0-9_]+) \|.*/\2/p' "$root/docs/MAP.md"; }
+
+# The files and folders that the list names and that aren't there.
+missing() {
+    sed -nE 's/^\| (tb\w*) \|/\1 /p' "$root/docs/MAP.md" | while read -r crate row; do
+        { grep -oE '`(src|specs|proofs|data)[a-zA-Z0-9_./]*`' <<<"$row" || true; } | tr -d '`' | while read -r file; do
+            [ -e "$root/crates/$crate/$file" ] || [ -e "$root/crates/$crate/$file.antt" ] || echo "$crate/$file"
+        done
+    done
+}
+
+# The lines with what each crate needs in the order of the alphabet.
 sorted() {
     while read -r name others; do
-        # shellcheck disable=SC2086
-        echo "$name" $(printf '%s\n' $others | sort)
-    done | sort
+        # shellcheck disable=SC2046,SC2086 # each name is a word
+        [ "$name" = '#' ] && echo "# $others" || echo "$name" $(printf '%s\n' $others | sort)
+    done
 }
 
 if [ "${1:-}" = --print ]; then
     layers
     exit
 fi
-layers | sorted >wanted
-mapped | sorted >found
-diff wanted found || { echo 'docs/MAP.md (>) has other layers than crates.txt (<)'; exit 1; }
-mapped | awk '{ seen[$1] = 1; for (i = 2; i <= NF; i++) if ($i != "-" && !($i in seen)) { print $1 " stands above " $i; bad = 1 } }
-    END { exit bad }'
+bad=0
+layers >lines || bad=1
+sorted <lines >wanted
+diagram | sorted >found
+diff wanted found || { echo 'docs/MAP.md has another diagram (>) than crates.txt asks for (<)'; bad=1; }
+sed -E '/^#/!s/ .*//' lines >wanted
+list >found
+diff wanted found || { echo 'docs/MAP.md has another list of crates (>) than crates.txt (<)'; bad=1; }
+missing >absent
+sed 's/^/docs\/MAP.md names a file that is not there: /' absent
+[ ! -s absent ] || bad=1
+exit "$bad"

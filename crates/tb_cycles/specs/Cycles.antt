@@ -11,7 +11,7 @@ use Rattle.tb_cpu.specs.declared.registers.Regs.{Regs}
 use Rattle.tb_cpu.specs.declared.registers.Flags.{Flags}
 use Rattle.tb_cpu.specs.declared.wrong.Wrong.{Wrong}
 use Rattle.tb_cpu.specs.Operands.{Reader}
-use Rattle.tb_cpu.specs.Instructions.{advanced, branch_target, place_of}
+use Rattle.tb_cpu.specs.Instructions.{advanced, branch_target, operand_address}
 
 -- ---- the base: no page crossed, no branch taken
 
@@ -119,7 +119,7 @@ unindexed r = record r { x = 0; y = 0 }
 
 -- whether the index leads out of the page: the operand of the instruction at PC is in another page than without index
 abbrev pub crosses_page : Regs → Reader → Bool
-crosses_page r read = not (same_page (place_of r read) (place_of (unindexed r) read))
+crosses_page r read = not (same_page (operand_address r read) (operand_address (unindexed r) read))
 
 -- 1 for a page that a reading instruction's index crosses
 abbrev pub index_extra : Mnemonic → Regs → Reader → ℕ
