@@ -12,8 +12,7 @@ LieAt base bytes m = (k : ℕ) → k < length bytes → m (base + k) ≡ slice_i
 abbrev pub HoldsBytes : (ℕ → ℕ) → Type 0
 HoldsBytes m = (a : ℕ) → m a < 256
 
--- a machine at the start of a program, with the program's bytes at their address; every other byte, A, X, Y, all flags
--- and the keyboard are arbitrary
+-- a machine at the start of a program: its bytes are in place; all other bytes, A, X, Y, flags and keyboard are arbitrary
 pub record IsStart (base : ℕ) (bytes : List ℕ) (s : State) : Type 0 where
   pub loaded : LieAt base bytes s.mem
   pub holds_bytes : HoldsBytes s.mem
