@@ -16,7 +16,7 @@ use Rattle.tb_settling.specs.Settled.{IsLaid}
 use Rattle.tb_templates.specs.Program.{program_code}
 use Rattle.tb_simulation.specs.Kept.{Keeps}
 use Rattle.tb_correctness.specs.Laid.{ArePolled}
-use Rattle.tb_correctness.proofs.Compiled.{image_keeps}
+use Rattle.tb_correctness.proofs.Whole.Compiled.{image_keeps}
 use Rattle.tb_codegen.proofs.Sized.{IsListed, same_numbers}
 use Rattle.tb_codegen.proofs.SmallPrograms.{count_numbers}
 

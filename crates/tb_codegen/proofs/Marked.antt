@@ -20,7 +20,7 @@ use Rattle.tb_templates.specs.Program.{program_code}
 use Rattle.tb_simulation.specs.Layout.{label_address}
 use Rattle.tb_simulation.specs.LineStarts.{MarksLines}
 use Rattle.tb_correctness.specs.Laid.{ArePolled}
-use Rattle.tb_correctness.proofs.Compiled.{image_marks}
+use Rattle.tb_correctness.proofs.Whole.Compiled.{image_marks}
 use Rattle.tb_simulation.proofs.Numbers.{start_of_line}
 use Rattle.tb_codegen.specs.Compiled.{start_in, starts_in}
 use Rattle.tb_codegen.proofs.Kept.{all_polled}

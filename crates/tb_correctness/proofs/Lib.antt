@@ -1,71 +1,18 @@
-pub mod Sources
-pub mod GroupCode
-pub mod Branches
-pub mod Surroundings
-pub mod Matching
-pub mod SlotSide
-pub mod Landing
-pub mod Sums
-pub mod Operands
-pub mod Ready
-pub mod Calculated
-pub mod Calculations
-pub mod SlotsRead
-pub mod Divisions
-pub mod Halves
-pub mod ShiftSteps
-pub mod Shifts
-pub mod Multiples
-pub mod Constants
-pub mod Changes
-pub mod InPlace
-pub mod TestSide
-pub mod Whereto
-pub mod Tests
-pub mod SignedOrder
-pub mod Lifted
-pub mod Orders
-pub mod TestLaws
-pub mod Beginnings
-pub mod Falling
-pub mod Products
-pub mod Remainders
-pub mod LeftOver
-pub mod Stepping
-pub mod MultipleSide
-pub mod DividesLaws
-pub mod Rests
-pub mod Moves
-pub mod Faults
-pub mod Polled
-pub mod Frames
-pub mod GroupInvariants
-pub mod OneWord
-pub mod Handed
-pub mod Quiet
-pub mod Sending
-pub mod Conversions
-pub mod Leaving
-pub mod Finding
-pub mod Noting
-pub mod Calling
-pub mod ChangeBytes
-pub mod CallBytes
-pub mod Asking
-pub mod Singles
-pub mod SingleLaws
-pub mod UseLaws
-pub mod GroupLaws
-pub mod GroupStrides
-pub mod GroupStarts
-pub mod GroupWhole
-pub mod Laying
-pub mod Imaged
-pub mod Served
-pub mod Emits
-pub mod SingleBytes
-pub mod ItemBytes
-pub mod TestBytes
-pub mod GroupBytes
-pub mod Lines
-pub mod Compiled
+-- pieces of code, each from view to view of the machine
+pub mod Pieces
+-- how a view of the machine matches a state of the slot code, and what of that is kept
+pub mod Relation
+-- what the slot instructions of a group do, and what they read
+pub mod Slots
+-- the laws of calculations
+pub mod Arithmetic
+-- the laws of tests
+pub mod Testing
+-- the laws of instructions that are groups of their own, and of uses of a word
+pub mod Alone
+-- the code of groups as instructions and as bytes
+pub mod Code
+-- where that code lies in a program's image
+pub mod Image
+-- from the laws of groups to the program
+pub mod Whole

@@ -4,9 +4,9 @@ use Rattle.tb_syntax.specs.Source.{numbers}
 use Rattle.tb_reaching.specs.View.{part_at}
 use Rattle.tb_runtime16.specs.Routines.{limit_by}
 use Rattle.tb_simulation.specs.Layout.{layout_of}
-use Rattle.tb_correctness.proofs.GroupWhole.{marks}
-use Rattle.tb_correctness.proofs.Lines.{groups_laid}
-use Rattle.tb_correctness.proofs.Served.{routines, prologue}
+use Rattle.tb_correctness.proofs.Whole.GroupWhole.{marks}
+use Rattle.tb_correctness.proofs.Image.Lines.{groups_laid}
+use Rattle.tb_correctness.proofs.Image.Served.{routines, prologue}
 use Rattle.tb_correctness.proofs.promises.marks_lines.Goals as goal
 
 pub returns : goal.returns

@@ -1,0 +1,383 @@
+-- The law of what is left over of a variable: its slot instructions and its code give the remainder's size with its sign.
+use Rattle.std.proofs.Common.{◌≡◌, ◌≢◌, ℕ, ◌+◌, ◌-◌, ◌*◌, ◌/◌, ◌%◌, ◌<◌, Bool, true, false, List, [], ◌∷◌, ◌++◌}
+use Rattle.std.proofs.Common.{length, refl, sym, ap, ◌∙◌, subst, arith, ⊎_elim, Some, length-set}
+use Rattle.std.specs.Prelude.{slice_index, nat_lt}
+use Rattle.std.proofs.lemmas.Bool.{cases_eq, eq-eqb, leb-true, ltb-false, ltb-true, ne_eqb}
+use Rattle.tb_cpu.specs.Effects.{has_bit}
+use Rattle.tb_words.specs.Words.{is_negative, magnitude, quotient, word}
+use Rattle.tb_syntax.specs.declared.expressions.Operator.TheVariants as op
+use Rattle.tb_meaning.specs.Control.{State, fault_text}
+use Rattle.tb_lower.specs.Ranges.{AreInRange}
+use Rattle.tb_lower.specs.Slots.{Instr, Compute, Load, Slots, SlotCode, SlotState, into, with_word}
+use Rattle.tb_meaning.specs.Steps.{Step, Goes, Stops, Faulted}
+use Rattle.tb_meaning.specs.Values.{apply, given}
+use Rattle.tb_reaching.proofs.Comes.{chained, looser}
+use Rattle.tb_reaching.specs.Start.{IsHome}
+use Rattle.tb_reaching.specs.View.{Comes, Fits, View}
+use Rattle.tb_runtime16.specs.Addresses.{DIVIDE_AT, LEFT, RESULT, RIGHT}
+use Rattle.tb_runtime16.specs.Routines.{Here, Moves, WordAt}
+use Rattle.tb_runtime16.proofs.StatePlaces.{not_argument}
+use Rattle.tb_simulation.proofs.Frames.{word_put}
+use Rattle.tb_simulation.proofs.Joins.{sent_in}
+use Rattle.tb_simulation.proofs.Pieces.{moves_looser}
+use Rattle.tb_simulation.proofs.Resolved.{Code, Lies, Piece, call, copied, pieces_size, size}
+use Rattle.tb_simulation.proofs.Returning.{back_here, moved}
+use Rattle.tb_selection.specs.Groups.{Operand, Constant, Variable, InSlot, Destination, IntoSlot, IntoHome, Remains, expand, fetch, kept, multiple, slot_of}
+use Rattle.tb_selection.specs.GroupSteps.{steps}
+use Rattle.tb_selection.specs.Liveness.{live}
+use Rattle.tb_selection.specs.Select.{omits_only_dead}
+use Rattle.tb_templates.specs.declared.sources.Source.{Source}
+use Rattle.tb_templates.specs.declared.sources.Source.TheVariants.{FixedWord, AtAddress}
+use Rattle.tb_templates.specs.GroupTemplates.{may_be_zero}
+use Rattle.tb_templates.specs.Sources.{destination_at, source_of}
+use Rattle.tb_templates.specs.Templates.{var_at}
+use Rattle.tb_correctness.proofs.Arithmetic.Calculations.{subtracted_word}
+use Rattle.tb_correctness.proofs.Code.GroupCode.{Negative, brought, over_at, remains_code, rest_asked, rest_at, rest_turned, sign_looked_at, signed_rest, way_size}
+use Rattle.tb_correctness.proofs.Arithmetic.Constants.{never_zero}
+use Rattle.tb_correctness.proofs.Alone.Handed.{asks_by, comes_back, result_gives}
+use Rattle.tb_correctness.proofs.Arithmetic.InPlace.{Forked, forked}
+use Rattle.tb_correctness.proofs.Relation.Landing.{DestFits}
+use Rattle.tb_correctness.proofs.Relation.GroupInvariants.{Kept, end_by, going_on, kept as kept_first, kept_put, kept_scratch, lies_by, lines_by, number_set, word_lands}
+use Rattle.tb_correctness.proofs.Relation.Matching.{Matches, Target}
+use Rattle.tb_correctness.proofs.Slots.MultipleSide.{held_stands, multiple_fails, multiple_next, multiplied, multiplied_length, others_stand, product_stands}
+use Rattle.tb_correctness.proofs.Relation.Operands.{OperandFits, SourceHolds, dest_fits, dest_in_data, operand_apart, operand_held, range_fetch}
+use Rattle.tb_correctness.proofs.Testing.LeftOver.{pieces_append}
+use Rattle.tb_correctness.proofs.Testing.Orders.{WithN, loads_sign}
+use Rattle.tb_correctness.proofs.Pieces.Sources.{At}
+use Rattle.tb_correctness.proofs.Relation.Ready.{Ready}
+use Rattle.tb_correctness.proofs.Arithmetic.Remainders.{rest_is, turned_size}
+use Rattle.tb_correctness.proofs.Slots.SlotSide.{IsDead, Lasting, StandsIn, ends, fetch_held, fetch_reads, fetched, fetched_behind, fetches, landed, line, other_slot, same_slot, slots_landed}
+use Rattle.tb_correctness.proofs.Pieces.Sums.{Grounded, copies, differs}
+use Rattle.tb_correctness.proofs.Testing.TestLaws.{lies_parts}
+use Rattle.tb_correctness.proofs.Relation.Surroundings.{Serves, Surroundings}
+
+-- the list with its parts bracketed to the right
+abbrev pub spread_remains : ℕ → Operand → Destination → List Instr → List Instr
+spread_remains v d to is = Load (slot_of to) v ∷ multiple (slot_of to + 1) v d (Compute op.Subtract (slot_of to) ∷ (kept to ++ is))
+
+pub spread_remains_is : (v : ℕ) (d : Operand) (to : Destination) (is : List Instr) → expand (Remains v d to) ++ is ≡ spread_remains v d to is
+spread_remains_is v (Constant w) to is = refl
+spread_remains_is v (Variable x) to is = refl
+spread_remains_is v InSlot to is = refl
+
+-- ---- what its slot instructions do
+-- what their ranges give
+record RemainsFit (v : ℕ) (d : Operand) (to : Destination) : Type 0 where
+  variable : OperandFits (Variable v)
+  divisor : OperandFits d
+  room : slot_of to + 1 + 1 < 16
+  dest : DestFits to
+
+remains_fit : (v : ℕ) (d : Operand) (to : Destination) → AreInRange 256 (expand (Remains v d to)) → RemainsFit v d to
+remains_fit v d to h =
+    let k = slot_of to in
+    let last = Compute op.Multiply (k + 1) ∷ Compute op.Subtract k ∷ kept to in
+    let first = range_fetch (k + 1 + 1) d (Compute op.Divide (k + 1) ∷ (fetch (k + 1 + 1) d ++ last)) h.1.1 in
+    let second = range_fetch (k + 1 + 1) d last first.1.1 in
+    record { variable = h.0.1; divisor = first.0; room = first.1.0; dest = dest_fits to h.0.0 second.1.1.1 }
+
+module _ (code : SlotCode) (n v : ℕ) (d : Operand) (to : Destination) (is : List Instr) (s : State) (r : Slots) (all : length r.words ≡ 16) (room : slot_of to + 1 + 1 < 16) where
+  abbrev slot : ℕ
+  slot = slot_of to
+
+  abbrev dividend : ℕ
+  dividend = slice_index s.vars v
+
+  abbrev divisor : ℕ
+  divisor = fetched s r (slot + 2) d
+
+  abbrev left_over : ℕ
+  left_over = word (dividend + (65536 - word (quotient dividend divisor * divisor)))
+
+  abbrev loaded : Slots
+  loaded = with_word r slot dividend
+
+  abbrev loaded_length : length loaded.words ≡ 16
+  loaded_length = length-set r.words slot dividend ∙ all
+
+  -- the slots before the difference
+  abbrev both : Slots
+  both = multiplied code n (slot + 1) v d s loaded loaded_length room
+
+  both_length : length both.words ≡ 16
+  both_length = multiplied_length code n (slot + 1) v d s loaded loaded_length room
+
+  divisor_is : fetched s loaded (slot + 1 + 1) d ≡ divisor
+  divisor_is =
+      let e : slot + 1 + 1 ≡ slot + 2 = omega arith in
+      fetched_behind s r slot (slot + 1 + 1) (Variable v) d (λ q. omega (arith, q)) ∙ ap (λ j. fetched s r j d) e
+
+  left_is : slice_index both.words slot ≡ dividend
+  left_is = others_stand code n (slot + 1) v d s loaded loaded_length room slot (λ q. omega (arith, q)) (λ q. omega (arith, q)) ∙ same_slot r slot dividend (omega (arith, all, room))
+
+  right_is : slice_index both.words (slot + 1) ≡ word (quotient dividend divisor * divisor)
+  right_is = product_stands code n (slot + 1) v d s loaded loaded_length room ∙ ap (λ q. word (quotient dividend q * q)) divisor_is
+
+  abbrev less : List Instr
+  less = Compute op.Subtract slot ∷ kept to
+
+  abbrev less_behind : List Instr
+  less_behind = Compute op.Subtract slot ∷ (kept to ++ is)
+
+  -- where the divisor is a word
+  remains_goes : divisor ≢ 0 → steps code (expand (Remains v d to)) (line code n (spread_remains v d to is) s r)
+      ≡ Goes (line code n is (landed to left_over s) (slots_landed to left_over (with_word both slot left_over))) []
+  remains_goes some =
+      let got : apply op.Subtract (slice_index both.words slot) (slice_index both.words (slot + 1)) ≡ Some left_over = (λ i. apply op.Subtract (left_is i) (right_is i)) in
+      fetches code n slot (Variable v) (multiple (slot + 1) v d less) (multiple (slot + 1) v d less_behind) s r
+      ∙ multiple_next code n (slot + 1) v d s loaded loaded_length room less less_behind (λ e. some (sym divisor_is ∙ e))
+      ∙ ends code n (Compute op.Subtract slot) to is s s both left_over (omega (arith, both_length, room)) (ap (λ o. into n slot (given o s.seed) s both) got)
+
+  -- and where it is 0
+  remains_fails : divisor ≡ 0 → steps code (expand (Remains v d to)) (line code n (spread_remains v d to is) s r) ≡ Stops Faulted (fault_text 2 n)
+  remains_fails zero =
+      fetches code n slot (Variable v) (multiple (slot + 1) v d less) (multiple (slot + 1) v d less_behind) s r
+      ∙ multiple_fails code n (slot + 1) v d s loaded loaded_length room less less_behind (divisor_is ∙ zero)
+
+-- ---- what they read
+module _ (v : ℕ) (d : Operand) (to : Destination) (is : List Instr) where
+  abbrev product_behind : List Instr
+  product_behind = Compute op.Multiply (slot_of to + 1) ∷ Compute op.Subtract (slot_of to) ∷ (kept to ++ is)
+
+  abbrev quotient_behind : List Instr
+  quotient_behind = Compute op.Divide (slot_of to + 1) ∷ (fetch (slot_of to + 1 + 1) d ++ product_behind)
+
+  -- a slot below the three is read before them
+  below_read : (j : ℕ) → j < slot_of to → j < (live (spread_remains v d to is)).slots
+  below_read j lt =
+      fetch_reads j (slot_of to) (Variable v) (Load (slot_of to + 1) v ∷ (fetch (slot_of to + 1 + 1) d ++ quotient_behind))
+      (fetch_reads j (slot_of to + 1) (Variable v) (fetch (slot_of to + 1 + 1) d ++ quotient_behind)
+      (fetch_reads j (slot_of to + 1 + 1) d quotient_behind (omega (arith, lt)) (λ q. omega (arith, q, lt)))
+      (λ q. omega (arith, q, lt)))
+      (λ q. omega (arith, q, lt))
+
+  -- a divisor that stands in its slot is read there
+  divisor_read : StandsIn d (slot_of to + 2) (live (spread_remains v d to is))
+  divisor_read = by d
+    where
+      by : (d : Operand) → StandsIn d (slot_of to + 2) (live (spread_remains v d to is))
+      by (Constant w) = tt
+      by (Variable x) = tt
+      by InSlot =
+          let behind = Compute op.Divide (slot_of to + 1) ∷ Compute op.Multiply (slot_of to + 1) ∷ Compute op.Subtract (slot_of to) ∷ (kept to ++ is) in
+          fetch_reads (slot_of to + 2) (slot_of to) (Variable v) (Load (slot_of to + 1) v ∷ behind) (fetch_reads (slot_of to + 2) (slot_of to + 1)
+          (Variable v) behind (omega arith) (λ q. omega (arith, q))) (λ q. omega (arith, q))
+
+  remains_lasting : (code : SlotCode) (n : ℕ) (s : State) (r : Slots) (all : length r.words ≡ 16) (room : slot_of to + 1 + 1 < 16)
+      → omits_only_dead (Remains v d to) (live is) ≡ true → Lasting (live (spread_remains v d to is)) to is r (both code n v d to is s r all room)
+  remains_lasting code n s r all room free = record {
+    all = both_length code n v d to is s r all room ∙ sym all;
+    same_held = held_stands code n (slot_of to + 1) v d s (with_word r (slot_of to) (slice_index s.vars v)) (length-set r.words (slot_of to) (slice_index s.vars v) ∙ all) room;
+    dead = by to free;
+    others = λ j lt ne. let below = lower to free j lt ne in (below_read j below, same j below);
+    held = λ h. fetch_held (slot_of to + 1 + 1) d quotient_behind ∙ fetch_held (slot_of to + 1 + 1) d product_behind ∙ h;
+  }
+    where
+      by : (to : Destination) → omits_only_dead (Remains v d to) (live is) ≡ true → IsDead to (live is)
+      by (IntoSlot k) f = tt
+      by (IntoHome home) f = leb-true _ _ f
+
+      lower : (to : Destination) → omits_only_dead (Remains v d to) (live is) ≡ true → (j : ℕ) → j < (live is).slots → j ≢ slot_of to → j < slot_of to
+      lower (IntoSlot k) f j lt ne = omega (arith, lt, ne, leb-true _ _ f)
+      lower (IntoHome home) f j lt ne = absurd (omega (arith, lt, leb-true _ _ f))
+
+      same : (j : ℕ) → j < slot_of to → slice_index (both code n v d to is s r all room).words j ≡ slice_index r.words j
+      same j lt =
+          others_stand code n (slot_of to + 1) v d s (with_word r (slot_of to) (slice_index s.vars v))
+          (length-set r.words (slot_of to) (slice_index s.vars v) ∙ all) room j (λ q. omega (arith, q, lt)) (λ q. omega (arith, q, lt))
+          ∙ other_slot r (slot_of to) j (slice_index s.vars v) (λ q. omega (arith, q, lt))
+
+-- ---- single pieces
+-- the sign bit of a word
+sign_bit : (x : ℕ) → x < 65536 → has_bit (x / 256) 128 ≡ is_negative x
+sign_bit x h = by (nat_lt 32767 x) refl
+  where
+    by : (t : Bool) → nat_lt 32767 x ≡ t → has_bit (x / 256) 128 ≡ t
+    by true e = eq-eqb (x / 256 / 128 % 2) 1 (omega (arith, h, ltb-true 32767 x e))
+    by false e = ne_eqb (x / 256 / 128 % 2) 1 (λ q. omega (arith, q, ltb-false 32767 x e))
+
+-- ---- the law
+module _ (around : Surroundings) (fits : Fits around.f 16) (code : SlotCode) (limit : ℕ) (rs : Serves around limit) (n v : ℕ) (d : Operand)
+    (to : Destination) (is : List Instr) (s : State) (r : Slots) (w : View) (h : Ready around n (Remains v d to) (spread_remains v d to is) is s r w) where
+  open around use {ly, f, lo, hi}
+
+  abbrev own : List ℕ
+  own = lo ∷ hi ∷ []
+
+  abbrev js : List Instr
+  js = spread_remains v d to is
+
+  abbrev k : ℕ
+  k = slot_of to
+
+  abbrev x : ℕ
+  x = slice_index s.vars v
+
+  abbrev y : ℕ
+  y = fetched s r (k + 2) d
+
+  abbrev a : Source
+  a = AtAddress (var_at v)
+
+  abbrev b : Source
+  b = source_of (k + 2) d
+
+  abbrev dest : ℕ
+  dest = destination_at to
+
+  -- the remainder's size, and the word that goes on
+  abbrev rest_size : ℕ
+  rest_size = magnitude x % magnitude y
+
+  abbrev value : ℕ
+  value = word (x + (65536 - word (quotient x y * y)))
+
+  fit : RemainsFit v d to
+  fit = remains_fit v d to h.ranged
+
+  a_holds : (m : ℕ → ℕ) → Kept around (live js) s r m → SourceHolds m a x
+  a_holds m c = operand_held ly s (live js) r m 0 (Variable v) c.state c.read fit.variable tt
+
+  b_holds : (m : ℕ → ℕ) → Kept around (live js) s r m → SourceHolds m b y
+  b_holds m c = operand_held ly s (live js) r m (k + 2) d c.state c.read fit.divisor (divisor_read v d to is)
+
+  first : Kept around (live js) s r w.mem
+  first = kept_first h
+
+  -- whether it may fault; behind the line's number, where it may
+  abbrev risky : Bool
+  risky = may_be_zero b
+
+  open going_on h risky use {at, m, c}
+
+  abbrev asking : List Piece
+  asking = Code (brought a LEFT) ∷ Code (brought b RIGHT) ∷ Code (call DIVIDE_AT) ∷ []
+
+  -- behind the call
+  abbrev middle : ℕ
+  middle = rest_at n w.regs.pc a b
+
+  abbrev signing : List Piece
+  signing = signed_rest h.first middle a dest
+
+  parts : Lies f.code w.regs.pc (rest_asked n a b) × Lies f.code middle signing
+  parts = lies_parts f.code w.regs.pc (rest_asked n a b) signing h.lies
+
+  asking_lies : Lies f.code at asking
+  asking_lies = lies_by h risky asking parts.0
+
+  a_apart : Grounded a LEFT
+  a_apart = operand_apart 0 (Variable v) LEFT (omega arith) (omega arith) fit.variable
+
+  b_apart : Grounded b RIGHT
+  b_apart = operand_apart (k + 2) d RIGHT (omega arith) (let room = fit.room in omega (arith, room)) fit.divisor
+
+  middle_is : at + size (brought a LEFT) + size (brought b RIGHT) + 3 ≡ middle
+  middle_is = let e = end_by h risky asking in omega (arith, e)
+
+  -- the remainder's size stands in RESULT
+  record Told (u : View) : Type 0 where
+    here : Here middle own u.mem w.text w.answers u
+    result : WordAt u.mem RESULT rest_size
+    kept : Kept around (live js) s r u.mem
+
+  asks_rest : y ≢ 0 → Comes f w Told [] (13 + limit)
+  asks_rest some =
+      looser f w _ _ [] (4 + (9 + limit)) (13 + limit) (omega arith) (λ u z. z)
+      (lines_by fits h risky asking parts.0 _ [] (9 + limit)
+      (asks_by fits h DIVIDE_AT at a b [] m c asking_lies x y a_apart b_apart (a_holds m c) b_holds _ [] limit
+      (λ m' g u e.
+      looser f u _ _ [] limit limit (omega arith)
+      (λ z q. record {
+        here = back_here _ _ w.text w.answers _ z q (comes_back fits h DIVIDE_AT at a b [] m c asking_lies x y a_apart b_apart (a_holds m c) b_holds ∙ middle_is);
+        result = q.memory.rest;
+        kept = kept_scratch around (live js) s r m' z.mem h.some_read (λ p o. q.memory.others p (not_argument p o)) g.kept;
+      })
+      (rs.divide _ _ m' w.text w.answers x y g.left g.right some u e))))
+
+  -- ---- its sign
+  abbrev Fork : Type 0
+  Fork = Forked f 16 fits own w.text w.answers refl h.first middle (sign_looked_at a) Negative false rest_turned (copied RESULT dest)
+
+  fork : Fork
+  fork = forked f 16 fits own w.text w.answers refl h.first middle (sign_looked_at a) Negative false rest_turned (copied RESULT dest) parts.1 h.reach
+
+  -- where it is copied from RESULT, and where that ends
+  abbrev copy_at : ℕ
+  copy_at = over_at h.first middle (sign_looked_at a) rest_turned
+
+  abbrev end : ℕ
+  end = w.regs.pc + pieces_size (remains_code h.first n w.regs.pc a b dest)
+
+  end_is : copy_at + size (copied RESULT dest) ≡ end
+  end_is = let e = fork.end_is in let q = pieces_append (rest_asked n a b) signing in omega (arith, e, q)
+
+  abbrev last : Slots
+  last = both code n v d to is s r h.read.all_words fit.room
+
+  abbrev Ends : View → Type 0
+  Ends = Matches around (line code n is (landed to value s) (slots_landed to value (with_word last k value)))
+
+  copies_out : (m : ℕ → ℕ) → WordAt m RESULT value → Kept around (live js) s r m → Moves f (Here copy_at own m w.text w.answers) Ends [] 4
+  copies_out m q c =
+      moves_looser f _ _ _ [] 4 4 (omega arith)
+      (λ u e. word_lands around code n h.small (live js) to is s r last value _ _ end m w.text w.answers q.low q.high q.small fit.dest
+      (remains_lasting v d to is code n s r h.read.all_words fit.room h.free) h.rest c h.text h.answers h.short u (moved _ end own _ w.text w.answers u e end_is))
+      (copies f 16 fits copy_at own m w.text w.answers refl RESULT dest fork.ends result_gives.0 (dest_in_data to fit.dest) (result_gives.1 to fit.dest) fork.behind_stands)
+
+  -- where it is taken from 0
+  abbrev turned_at : ℕ
+  turned_at = middle + size (sign_looked_at a) + way_size h.first
+
+  -- by the sign of the variable
+  signs : y ≢ 0 → Moves f Told Ends [] 14
+  signs some u told =
+      chained f u _ _ [] [] 1 13 (loads_sign f 16 fits middle own u.mem w.text w.answers refl (At (var_at v + 1)) a_apart.0.1 (let r = parts.1.0 in
+      omega (arith, r)) parts.1.1.0 u told.here) (λ z g. by (is_negative x) refl z g)
+    where
+      x_held : SourceHolds u.mem a x
+      x_held = a_holds u.mem told.kept
+
+      y_held : SourceHolds u.mem b y
+      y_held = b_holds u.mem told.kept
+
+      value_is : (t : Bool) → is_negative x ≡ t → value ≡ turned_size t rest_size
+      value_is t e = rest_is x y x_held.small y_held.small some ∙ ap (λ t. turned_size t rest_size) e
+
+      sign_is : has_bit (u.mem (var_at v + 1)) 128 ≡ is_negative x
+      sign_is = ap (λ b. has_bit b 128) x_held.high_byte ∙ sign_bit x x_held.small
+
+      by : (t : Bool) → is_negative x ≡ t → (z : View) → WithN (middle + 3) (has_bit (u.mem (var_at v + 1)) 128) own u.mem w.text w.answers z → Comes f z Ends [] 13
+      by false e z g =
+          looser f z _ _ [] (2 + 4) 13 (omega arith) (λ q k. k)
+          (chained f z _ _ [] [] 2 4 (fork.leads u.mem false z (moved _ _ own _ w.text w.answers z g.here (omega arith)) (g.negative ∙ sign_is ∙ e)) (λ q l.
+          copies_out u.mem (subst (WordAt u.mem RESULT) (sym (value_is false e)) told.result) told.kept q l.here))
+      by true e z g =
+          let difference = subtracted_word 0 0 _ _ 0 rest_size refl refl told.result.low told.result.high (omega arith) told.result.small in
+          let same = sym (value_is true e) in
+          chained f z _ _ [] [] 2 11 (fork.leads u.mem true z (moved _ _ own _ w.text w.answers z g.here (omega arith)) (g.negative ∙ sign_is ∙ e)) (λ q l.
+          chained f q _ _ [] [] 7 4 (differs f 16 fits turned_at own u.mem w.text w.answers refl (FixedWord 0) (AtAddress RESULT) RESULT
+          (let r = fork.ends in omega (arith, r)) tt ((refl, refl), λ e. omega (arith, e)) (refl, refl) fork.stands q l.here) (λ q l.
+          copies_out _ (word_put u.mem RESULT _ _ value (difference.0 ∙ ap (λ v. v % 256) same) (difference.1 ∙ ap (λ v. v / 256) same) (omega arith))
+          (kept_put around (live js) s r u.mem RESULT _ _ h.some_read refl refl told.kept) q l))
+
+  -- ---- by 0
+  faults : y ≡ 0 → Comes f w (IsHome f) (fault_text 2 n) (13 + limit)
+  faults zero =
+      looser f w _ _ (fault_text 2 n) (4 + (9 + limit)) (13 + limit) (omega arith) (λ u z. z)
+      (lines_by fits h risky asking parts.0 _ (fault_text 2 n) (9 + limit)
+      (asks_by fits h DIVIDE_AT at a b [] m c asking_lies x y a_apart b_apart (a_holds m c) b_holds _ (fault_text 2 n) limit
+      (λ m' g. rs.divide_by_zero _ _ m' w.text w.answers x n g.left (subst (WordAt m' RIGHT) zero g.right)
+      (g.line (number_set h risky (λ e. never_zero w.mem y b (b_holds w.mem first) e zero))) g.kept.homed)))
+
+  abbrev pub RemainsLeads : Step SlotState → Type 0
+  RemainsLeads z = Comes f w (Target around z) (sent_in z) (34 + (limit + limit))
+
+  pub remains_law : RemainsLeads (steps code (expand (Remains v d to)) (line code n js s r))
+  remains_law = ⊎_elim
+      (λ zero. subst RemainsLeads (sym (remains_fails code n v d to is s r h.read.all_words fit.room zero))
+      (looser f w _ _ (fault_text 2 n) (13 + limit) (34 + (limit + limit)) (omega arith) (λ u z. z) (faults zero)))
+      (λ some. subst RemainsLeads (sym (remains_goes code n v d to is s r h.read.all_words fit.room some))
+      (looser f w _ _ [] (13 + limit + 14) (34 + (limit + limit)) (omega arith) (λ u z. z)
+      (chained f w _ _ [] [] (13 + limit) 14 (asks_rest some) (signs some))))
+      (cases_eq y 0)

@@ -1,0 +1,187 @@
+-- The law of a quotient over a power of two, which is made by shifts and can't fault.
+use Rattle.std.proofs.Common.{◌≡◌, ◌≢◌, ℕ, zero, suc, ◌+◌, ◌*◌, ◌/◌, ◌%◌, ◌^◌, ◌≤◌, ◌<◌, Bool, true, List, []}
+use Rattle.std.proofs.Common.{◌∷◌, ◌++◌, length, refl, sym, ap, ◌∙◌, subst, arith, leb}
+use Rattle.std.specs.Prelude.{nat_le, nat_lt}
+use Rattle.tb_cpu.specs.Effects.{bit, has_bit}
+use Rattle.tb_memmap.specs.Bytes.{with_byte}
+use Rattle.tb_words.specs.Words.{quotient, word}
+use Rattle.tb_syntax.specs.declared.expressions.Operator.TheVariants as op
+use Rattle.tb_meaning.specs.Control.{State}
+use Rattle.tb_lower.specs.Slots.{Instr, Slots, SlotCode}
+use Rattle.tb_reaching.proofs.Comes.{chained, looser}
+use Rattle.tb_reaching.proofs.Instr.{Stands}
+use Rattle.tb_reaching.proofs.Memory.{put_other, put_same}
+use Rattle.tb_reaching.specs.View.{Fits, Setup, View}
+use Rattle.tb_runtime16.specs.Addresses.{LEFT}
+use Rattle.tb_runtime16.specs.Routines.{Here, Moves, WithA}
+use Rattle.tb_simulation.proofs.Resolved.{Code, Lies, highest_code, pieces_size, size}
+use Rattle.tb_selection.specs.Groups.{Operand, Destination, Calculate, slot_of}
+use Rattle.tb_selection.specs.Liveness.{live}
+use Rattle.tb_selection.specs.Select.{select}
+use Rattle.tb_templates.specs.declared.sources.Source.{Source}
+use Rattle.tb_templates.specs.Sources.{destination_at, source_of}
+use Rattle.tb_correctness.proofs.Code.GroupCode.{GroupsLie, carried, halved, halvings, high, high_first, low, rounded, shifted, signed}
+use Rattle.tb_correctness.proofs.Pieces.Halves.{halve, halve_small, halve_times, halves_are, high_half, low_half, more, more_small, raised_high, raised_low, sign_is}
+use Rattle.tb_correctness.proofs.Relation.GroupInvariants.{kept, kept_scratch}
+use Rattle.tb_correctness.proofs.Relation.Matching.{Matches}
+use Rattle.tb_correctness.proofs.Relation.Operands.{SourceHolds, dest_beyond}
+use Rattle.tb_correctness.proofs.Relation.Ready.{Ready, here}
+use Rattle.tb_correctness.proofs.Pieces.ShiftSteps.{carries, ends_high, halves, rounds, signs, size_append, stands_split}
+use Rattle.tb_correctness.proofs.Slots.SlotSide.{calculated, landed, line, spread}
+use Rattle.tb_correctness.proofs.Pieces.Sources.{value}
+use Rattle.tb_correctness.proofs.Pieces.Sums.{Grounded}
+use Rattle.tb_correctness.proofs.Relation.Surroundings.{Surroundings}
+use Rattle.tb_correctness.proofs.Arithmetic.Calculated.{Leads, calculation, fit, leads_on, left_apart, left_holds, quotient_is, result_lands}
+use Rattle.tb_simulation.proofs.Returning.{apart}
+
+module _ (f : Setup) (room : ℕ) (fits : Fits f room) (bs : List ℕ) (m : ℕ → ℕ) (text answers : List ℕ) (small : leb (length bs) room ≡ true) where
+  -- the high byte of a word in A and its low byte in LEFT; the rest of the memory is m
+  pub record HighInA (at v : ℕ) (w : View) : Type 0 where
+    pub here : Here at bs w.mem text answers w
+    pub high : w.regs.a ≡ v / 256
+    pub low : w.mem LEFT ≡ v % 256
+    pub is_word : v < 65536
+    pub others : (p : ℕ) → p ≢ LEFT → w.mem p ≡ m p
+
+  halves_on : (at v : ℕ) → at + size halved ≤ highest_code → Stands f.code at halved → Moves f (HighInA at v) (HighInA (at + size halved) (halve v)) [] 3
+  halves_on at v r st w e =
+      let h = w.regs.a in
+      let l = w.mem LEFT / 2 + 128 * bit (has_bit h 1) in
+      looser f w _ _ [] 3 3 (omega arith)
+      (λ u k. record {
+        here = record { pc = k.here.pc; stack = k.here.stack; binary = k.here.binary; mem = refl; text = k.here.text; answers = k.here.answers };
+        high = k.number ∙ ap (λ a. a / 2 + 128 * bit (nat_le 128 a)) e.high ∙ high_half v e.is_word;
+        low = ap (λ m. m LEFT) k.here.mem ∙ put_same w.mem LEFT l LEFT refl ∙ (λ i. e.low i / 2 + 128 * bit (has_bit (e.high i) 1)) ∙ low_half v e.is_word;
+        is_word = halve_small v e.is_word;
+        others = λ p n. ap (λ m. m p) k.here.mem ∙ put_other w.mem LEFT l p n ∙ e.others p n;
+      })
+      (halves f room fits at bs w.mem text answers small h r st w (record { here = e.here; number = refl }))
+
+  -- so many halves, and then
+  halves_then : (k at v : ℕ) → at + size (halvings k) ≤ highest_code → Stands f.code at (halvings k) → (q : View → Type 0) (n : ℕ)
+      → Moves f (HighInA (at + size (halvings k)) (halve_times k v)) q [] n → Moves f (HighInA at v) q [] (3 * k + n)
+  halves_then zero at v r st q n next w e =
+      looser f w q q [] n (3 * 0 + n) (omega arith) (λ u z. z) (next w (subst (λ p. HighInA p v w) (let s : at ≡ at + 0 = omega arith in s) e))
+  halves_then (suc k) at v r st q n next w e =
+      let s = size_append (halvings k) halved in
+      let p = at + size (halvings k) in
+      let parts = stands_split f.code at (halvings k) halved (omega (arith, r, s)) st in
+      let there : p + size halved ≡ at + size (halvings k ++ halved) = omega (arith, s) in
+      looser f w q q [] (3 * k + (3 + n)) (3 * suc k + n) (omega arith) (λ u x. x)
+      (halves_then k at v (omega (arith, r, s)) parts.0 q (3 + n)
+      (λ u g. chained f u _ q [] [] 3 n (halves_on p (halve_times k v) (omega (arith, r, s)) parts.1 u g) (λ x y. next x (subst (λ a. HighInA a (halve_times (suc k) v) x) there y))) w e)
+
+  -- ---- a word over 2^(k + 1)
+  module _ (at : ℕ) (a : Source) (x : ℕ) (ga : Grounded a LEFT) (ha : SourceHolds m a x) (k : ℕ) (few : k < 6) (to : ℕ)
+      (r : at + size (shifted k a to) ≤ highest_code) (st : Stands f.code at (shifted k a to)) where
+    sizes : size (shifted k a to) ≡ size (signed a) + (size (rounded k a) + (size (carried a) + (size (halvings (suc k)) + 8)))
+    sizes =
+        let e1 = size_append (signed a) (rounded k a ++ (carried a ++ (halvings (suc k) ++ high_first to))) in
+        let e2 = size_append (rounded k a) (carried a ++ (halvings (suc k) ++ high_first to)) in
+        let e3 = size_append (carried a) (halvings (suc k) ++ high_first to) in
+        let e4 = size_append (halvings (suc k)) (high_first to) in
+        omega (arith, e1, e2, e3, e4)
+
+    -- the places of its parts
+    abbrev p1 : ℕ
+    p1 = at + size (signed a)
+
+    abbrev p2 : ℕ
+    p2 = p1 + size (rounded k a)
+
+    abbrev p3 : ℕ
+    p3 = p2 + size (carried a)
+
+    abbrev pub p4 : ℕ
+    p4 = p3 + size (halvings (suc k))
+
+    s1 : Stands f.code at (signed a) × Stands f.code p1 (rounded k a ++ (carried a ++ (halvings (suc k) ++ high_first to)))
+    s1 = stands_split f.code at (signed a) _ (omega (arith, r, sizes)) st
+
+    s2 : Stands f.code p1 (rounded k a) × Stands f.code p2 (carried a ++ (halvings (suc k) ++ high_first to))
+    s2 = stands_split f.code p1 (rounded k a) _ (omega (arith, r, sizes)) s1.1
+
+    s3 : Stands f.code p2 (carried a) × Stands f.code p3 (halvings (suc k) ++ high_first to)
+    s3 = stands_split f.code p2 (carried a) _ (omega (arith, r, sizes)) s2.1
+
+    s4 : Stands f.code p3 (halvings (suc k)) × Stands f.code p4 (high_first to)
+    s4 = stands_split f.code p3 (halvings (suc k)) _ (omega (arith, r, sizes)) s3.1
+
+    pub last_stands : Stands f.code p4 (high_first to)
+    last_stands = s4.1
+
+    pub end_is : p4 + 8 ≡ at + size (shifted k a to)
+    end_is = omega (arith, sizes)
+
+    abbrev c : Bool
+    c = nat_le 128 (value m (high a))
+
+    abbrev n : ℕ
+    n = more k c
+
+    same_sign : c ≡ nat_le 32768 x
+    same_sign = ap (nat_le 128) ha.high_byte ∙ sign_is x ha.small
+
+    -- the word raised where it is negative
+    raised_here : (u : View) → WithA p3 ((value m (high a) + bit (nat_lt 255 (value m (low a) + n))) % 256) bs
+        (with_byte m LEFT ((value m (low a) + n) % 256)) text answers u → HighInA p3 (word (x + more k (nat_le 32768 x))) u
+    raised_here u g =
+        let l = (value m (low a) + n) % 256 in
+        let nn = more k (nat_le 32768 x) in record {
+          here = record { pc = g.here.pc; stack = g.here.stack; binary = g.here.binary; mem = refl; text = g.here.text; answers = g.here.answers };
+          high = g.number ∙ (λ i. (ha.high_byte i + bit (nat_lt 255 (ha.low_byte i + more k (same_sign i)))) % 256) ∙ raised_high x nn ha.small (more_small k (nat_le 32768 x) few);
+          low = ap (λ m. m LEFT) g.here.mem ∙ put_same m LEFT l LEFT refl ∙ (λ i. (ha.low_byte i + more k (same_sign i)) % 256) ∙ raised_low x nn;
+          is_word = omega arith;
+          others = λ p n. ap (λ m. m p) g.here.mem ∙ put_other m LEFT l p n;
+        }
+
+    pub divides_then : (q : View → Type 0) (j : ℕ) → Moves f (HighInA p4 (quotient x (2 ^ (k + 1)))) q [] j → Moves f (Here at bs m text answers) q [] (28 + j)
+    divides_then q j next w e =
+        let there : halve_times (suc k) (word (x + more k (nat_le 32768 x))) ≡ quotient x (2 ^ (k + 1)) = halves_are k x few ha.small in
+        looser f w q q [] (2 + (5 + (3 + (3 * suc k + j)))) (28 + j) (omega (arith, few)) (λ u z. z)
+        (chained f w _ q [] [] 2 (5 + (3 + (3 * suc k + j))) (signs f room fits at bs m text answers small a (omega (arith, r, sizes)) ga s1.0 w e) (λ u g.
+        chained f u _ q [] [] 5 (3 + (3 * suc k + j)) (rounds f room fits p1 bs m text answers small k a c few (omega (arith, r, sizes)) ga s2.0 u g) (λ u g.
+        chained f u _ q [] [] 3 (3 * suc k + j) (carries f room fits p2 bs m text answers small ((value m (low a) + n) % 256)
+        (nat_lt 255 (value m (low a) + n)) a (omega (arith, r, sizes)) ga s3.0 u g) (λ u g.
+        halves_then (suc k) p3 (word (x + more k (nat_le 32768 x))) (omega (arith, r, sizes)) s4.0 q j (λ u g. next u (subst (λ v. HighInA p4 v u) there g)) u (raised_here u g)))))
+
+module _ {around : Surroundings} (fits : Fits around.f 16) (code : SlotCode) {n : ℕ} {a b : Operand} {d : Destination} {is : List Instr} {s : State}
+    {r : Slots} {w : View} (h : Ready around n (Calculate op.Divide a b d) (spread op.Divide a b d is) is s r w) (j : ℕ) (few : j < 6)
+    (lies : Lies around.f.code w.regs.pc (Code (shifted j (source_of (slot_of d) a) (destination_at d)) ∷ []))
+    (rest : GroupsLie around.ly around.f.code n (w.regs.pc + pieces_size (Code (shifted j (source_of (slot_of d) a) (destination_at d)) ∷ [])) (select is)) where
+  open around use {ly, f, lo, hi}
+  open calculation a b d s r use {x, y, left, to}
+
+  abbrev own : List ℕ
+  own = lo ∷ hi ∷ []
+
+  abbrev v : ℕ
+  v = quotient x y
+
+  ha : SourceHolds w.mem left x
+  ha = left_holds h w.mem (kept h)
+
+  -- where the result is stored
+  abbrev at : ℕ
+  at = p4 f 16 fits own w.mem w.text w.answers refl w.regs.pc left x (left_apart h) ha j few to lies.0 lies.1
+
+  end_here : at + 8 ≡ w.regs.pc + size (shifted j left to)
+  end_here = end_is f 16 fits own w.mem w.text w.answers refl w.regs.pc left x (left_apart h) ha j few to lies.0 lies.1
+
+  behind : GroupsLie ly f.code n (at + 8) (select is)
+  behind = subst (λ p. GroupsLie ly f.code n p (select is)) (let e = end_here in let q : w.regs.pc + (size (shifted j left to) + 0) ≡ at + 8 = omega (arith, e) in q) rest
+
+  lands : Moves f (HighInA f 16 fits own w.mem w.text w.answers refl at v) (Matches around (line code n is (landed d v s) (calculated s r a b d v))) [] 3
+  lands u g =
+      looser f u _ _ [] 3 3 (omega arith)
+      (result_lands h code v (u.mem LEFT) u.regs.a (at + 8) u.mem g.low g.high g.is_word behind
+      (kept_scratch around (live (spread op.Divide a b d is)) s r w.mem u.mem h.some_read (λ p o. g.others p (apart p LEFT o refl)) (kept h)))
+      (ends_high f 16 fits at own u.mem w.text w.answers refl u.regs.a to (let e = end_here in omega (arith, e, lies.0)) (dest_beyond d (fit h).dest)
+      (last_stands f 16 fits own w.mem w.text w.answers refl w.regs.pc left x (left_apart h) ha j few to lies.0 lies.1) u (record { here = g.here; number = refl }))
+
+  pub shift_law : y ≡ 2 ^ (j + 1) → y ≢ 0 → Leads h code 31
+  shift_law power some =
+      leads_on h code v 31 (quotient_is x y some)
+      (divides_then f 16 fits own w.mem w.text w.answers refl w.regs.pc left x (left_apart h) ha j few to lies.0 lies.1 _ 3
+      (λ u g. lands u (subst (λ q. HighInA f 16 fits own w.mem w.text w.answers refl at q u) (ap (quotient x) (sym power)) g))
+      w (here h))
