@@ -70,11 +70,11 @@ expression_one line _ _ (fit_text x fit h) (fit_text y again k) = text_one Expre
 -- how far a line is judged before the statement after its number is read
 data Judged : Type 0 where
   Decided : Result Edit Refusal → Judged
-  Statement : (number : ℕ) (text : List Placed) → Judged
+  HasStatement : (number : ℕ) (text : List Placed) → Judged
 
 behind_number : ℕ → List Placed → Judged
 behind_number number [] = Decided (Ok (Deletes number))
-behind_number number (p ∷ text) = Statement number (p ∷ text)
+behind_number number (p ∷ text) = HasStatement number (p ∷ text)
 
 numbered_line : ℕ → List Placed → Judged
 numbered_line first placed =
@@ -96,7 +96,7 @@ at_number number (Err r) = Err r
 record Reads (line : List ℕ) (m : Result Edit Refusal) : Type 0 where
   number : ℕ
   text : List Placed
-  is_judged : judged line ≡ Statement number text
+  is_judged : judged line ≡ HasStatement number text
   said : Result Statement Refusal
   reading : TextIs Statement States text said
   meaning : m ≡ at_number number said
@@ -140,7 +140,7 @@ judged_number line number text n =
       low_enough number 32767 n.in_range.1,
     ) refl
 
-statement_behind : (number : ℕ) (text : List Placed) → text ≢ [] → behind_number number text ≡ Statement number text
+statement_behind : (number : ℕ) (text : List Placed) → text ≢ [] → behind_number number text ≡ HasStatement number text
 unfolding behind_number
 statement_behind number [] some = absurd (some refl)
 statement_behind number (p ∷ text) some = refl
@@ -174,18 +174,18 @@ judged_as line _ (unread number text r n some t) = inr (record {
 
 decided_in : Result Edit Refusal → Judged → Result Edit Refusal
 decided_in m (Decided d) = d
-decided_in m (Statement number text) = m
+decided_in m (HasStatement number text) = m
 
 number_in : Judged → ℕ
 number_in (Decided d) = 0
-number_in (Statement number text) = number
+number_in (HasStatement number text) = number
 
 text_in : Judged → List Placed
 text_in (Decided d) = []
-text_in (Statement number text) = text
+text_in (HasStatement number text) = text
 
-apart : (j : Judged) (d : Result Edit Refusal) (number : ℕ) (text : List Placed) → j ≡ Decided d → j ≡ Statement number text → ⊥
-apart j d number text e f = let no_match : Decided d ≡ Statement number text = sym e ∙ f in cc
+apart : (j : Judged) (d : Result Edit Refusal) (number : ℕ) (text : List Placed) → j ≡ Decided d → j ≡ HasStatement number text → ⊥
+apart j d number text e f = let no_match : Decided d ≡ HasStatement number text = sym e ∙ f in cc
 
 read_one : {line : List ℕ} {m k : Result Edit Refusal} → Reads line m → Reads line k → m ≡ k
 unfolding number_in text_in
