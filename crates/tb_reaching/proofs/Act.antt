@@ -31,23 +31,24 @@ use Rattle.tb_reaching.proofs.Memory.{fixed_owned, stack_owned, put_same, put_ot
 use Rattle.tb_reaching.proofs.Memory.{data_fixed, stack_not_data, fixed_not_stack, fixed_open, stack_open, program_range}
 use Rattle.tb_reaching.proofs.Readers.{ok≢err, moved, on_a_moved, more_operand, more_executed}
 
+-- equal answers have equal contents
 pub some_eq : {A : Type 0} {a b : A} → Some a ≡ Some b → a ≡ b
 some_eq h = cc
 
--- where there is no view, none is come to
+-- without a view there is nothing to equal one
 pub none≢some : (w : View) → ◌≡◌ {A = Option View} None (Some w) → ⊥
 none≢some w h = cc
 
 abbrev pub up : ℕ → ℕ
 up s = (s + 1) % 256
 
--- the table of opcodes, opened
+-- decoding an opcode is a search through its table
 pub decoded_by : (b : ℕ) → decoded b ≡ find_row rows b
 unfolding decoded
 decoded_by b = refl
 
 -- ---- what stays
--- the program stands in any memory that has its bytes
+-- the program is in any memory that has its bytes
 pub stays_in : (f : Setup) (m k : ℕ → ℕ) (wrong : Option Wrong) (to to_s : ℕ) → ((a : ℕ) → is_program a ≡ true → k a ≡ m a) → Stays f m wrong to to_s → Stays f k wrong to to_s
 stays_in f m k wrong to to_s e h = record {
   whole = λ a b p. let c = h.whole a b p in (c.0, e a c.0 ∙ c.1);
@@ -60,9 +61,11 @@ stays_in f m k wrong to to_s e h = record {
 }
 
 module _ (f : Setup) (v : View) (s : State) (at : At f v s) where
+  -- the machine's PC is the view's
   pub pc_here : s.regs.pc ≡ v.regs.pc
   pc_here = ap (λ r. r.pc) at.regs
 
+  -- the stack pointer is a byte
   pub s_small : s.regs.s ≤ 255
   s_small = omega (arith, at.depth)
 
@@ -80,9 +83,11 @@ module _ (f : Setup) (v : View) (s : State) (at : At f v s) where
   service_here : is_program v.regs.pc ≡ true → service_at s.regs.pc ≡ None
   service_here h = ap service_at pc_here ∙ no_service h
 
+  -- a PC that is not the home address is not at home
   pub not_home : eqb s.regs.pc s.home ≡ false → is_home s ≡ false
   not_home e = ap (λ b. b && eqb s.regs.s s.home_s && not s.regs.flags.d) e
 
+  -- at an address of the program, the machine runs
   pub runs : is_program v.regs.pc ≡ true → status s ≡ Running
   runs h =
       let r = program_range v.regs.pc h in
@@ -91,6 +96,7 @@ module _ (f : Setup) (v : View) (s : State) (at : At f v s) where
       ∙ ap (λ o. status_by false o (waits_for (service_at s.regs.pc) s.text)) at.stays.right
       ∙ ap (λ q. status_by false None (waits_for q s.text)) (service_here h)
 
+  -- at an address of the program, a Go executes one instruction
   pub goes_by_instruction : is_program v.regs.pc ≡ true → (k : Clobber) → happens s (Go k) ≡ stepped s (next s.regs s.mem)
   goes_by_instruction h k = ap (λ q. gone q k s) (runs h) ∙ ap (λ q. gone_at q k s) (service_here h)
 
@@ -98,6 +104,7 @@ module _ (f : Setup) (v : View) (s : State) (at : At f v s) where
   rom_leaves : (ws : Writes) → all_writable s.regs.s ws ≡ true → (a : ℕ) → is_owned s.regs.s a ≡ true → written s.mem ws a ≡ s.mem a
   rom_leaves ws h a o = written_keeps s.regs.s a ws s.mem (omega (arith, s_small)) h o
 
+  -- lawful writes of the ROM keep the view
   pub rom_wrote : (ws : Writes) → all_writable s.regs.s ws ≡ true → At f v (record s { mem = written s.mem ws })
   rom_wrote ws h = record {
     regs = at.regs;
@@ -110,6 +117,7 @@ module _ (f : Setup) (v : View) (s : State) (at : At f v s) where
     stays = stays_in f s.mem (written s.mem ws) s.wrong s.home s.home_s (λ a p. rom_leaves ws h a (fixed_owned s.regs.s a (program_fixed a p))) at.stays;
   }
 
+  -- a lawful interrupt keeps the view
   pub kept_by_interrupt : (ws : ArrayVec (ℕ × ℕ)) → is_lawful s (Interrupt ws) ≡ true → At f v (happens s (Interrupt ws))
   kept_by_interrupt ws h = go (status s) h
     where
@@ -123,10 +131,12 @@ module _ (f : Setup) (v : View) (s : State) (at : At f v s) where
   read_open : (a b : ℕ) → is_open a ≡ true → s.mem a ≡ b → reading s.mem a ≡ Ok b
   read_open a b h e = ap (λ t. if t then Ok (s.mem a) else Err (Closed a)) h ∙ ap Ok e
 
+  -- the machine reads each byte of the code
   pub read_code : (a b : ℕ) → f.code a ≡ Some b → reading s.mem a ≡ Ok b
   read_code a b h = let c = code_at a b h in read_open a b (fixed_open a (program_fixed a c.0)) c.1
 
   module _ (part : Part) (holds : Holds part f.code) where
+    -- what a view reads, the machine reads too
     pub read_more : (a b : ℕ) → read_view part v.mem a ≡ Ok b → reading s.mem a ≡ Ok b
     read_more a b h = go (is_data a) refl h
       where
@@ -205,11 +215,11 @@ module _ (f : Setup) (v : View) (s : State) (at : At f v s) where
       )
 
 module _ (f : Setup) (room : ℕ) (fits : Fits f room) (v : View) (s : State) (at : At f v s) where
-  -- what an instruction comes to, against a view
+  -- what an instruction leads to, seen from a view
   abbrev pub Left : View → Result Outcome Wrong → Type 0
   Left w x = (e : Outcome) × (x ≡ Ok e) × At f w (record s { regs = e.0; mem = written s.mem e.1 })
 
-  -- an outcome of the view's is one of the machine's, with its S
+  -- an outcome for the view is one for the machine, with its S
   done_left : (w : View) (x : Result Outcome Wrong) (y : Result Outcome Wrong) → ((e : Outcome) → x ≡ Ok e → y ≡ Ok (moved s.regs.s e)) → finish_view v x ≡ Some w → Left w y
   done_left w (Err e) y g h = absurd (none≢some w h)
   done_left w (Ok e) y g h = go (all_data e.1) refl h
@@ -309,7 +319,7 @@ module _ (f : Setup) (room : ℕ) (fits : Fits f room) (v : View) (s : State) (a
             subst (λ x. At f x (record s { regs = with_s (up s.regs.s) (with_pulled m r b) })) (some_eq h) one.3,
           )
 
-  -- any mnemonic, where a reader gives the machine's bytes at the operand
+  -- any mnemonic, if a reader gives the machine's bytes at the operand
   pub left : (read : Reader) (m : Mnemonic) (r : Regs) (o : ℕ) → ((b : ℕ) → read o ≡ Ok b → reading s.mem o ≡ Ok b) → (w : View)
       → act_kind (kind_of m) room m v r read o ≡ Some w → Left w (executed m (with_s s.regs.s r) (reading s.mem) o)
   left read Jsr r o g w h = calls_left r o w h
@@ -327,7 +337,7 @@ module _ (f : Setup) (room : ℕ) (fits : Fits f room) (v : View) (s : State) (a
   on_a_left : (m : Mnemonic) (r : Regs) (w : View) → finish_view v (executed_on_a m r) ≡ Some w → Left w (executed_on_a m (with_s s.regs.s r))
   on_a_left m r w h = done_left w (executed_on_a m r) _ (λ e p. on_a_moved s.regs.s m r ∙ ap (λ x. elim x as (λ _. Result Outcome Wrong) [ Ok e ↦ Ok (moved s.regs.s e) | Err w ↦ Err w ]) p) h
 
-  -- an instruction by its row, where its operand and a reader of it are known
+  -- an instruction by its row, if its operand and a reader of it are known
   pub mode_left : (read : Reader) (m : Mnemonic) (mode : Mode) (x : Result ℕ Wrong)
       → ((o : ℕ) → x ≡ Ok o → operand_of mode (with_s s.regs.s v.regs) (reading s.mem) ≡ Ok o) → ((o : ℕ) → x ≡ Ok o → (b : ℕ) → read o ≡ Ok b
       → reading s.mem o ≡ Ok b) → (w : View) → (if is_accumulator mode then finish_view v (executed_on_a m (advanced v.regs mode))
@@ -369,7 +379,7 @@ module _ (f : Setup) (room : ℕ) (fits : Fits f room) (v : View) (s : State) (a
         (λ o p. more_operand (read_view part v.mem) (reading s.mem) (read_more f v s at part holds) s.regs.s y.1 v.regs o p)
         (λ o p b q. read_more f v s at part holds o b q) w h
 
-    -- an opcode of the part, and what it comes to
+    -- an opcode of the part, and what it leads to
     record Fetched (w : View) : Type 0 where
       opcode : ℕ
       here : part v.regs.pc ≡ Some opcode
@@ -387,10 +397,11 @@ module _ (f : Setup) (room : ℕ) (fits : Fits f room) (v : View) (s : State) (a
         go None p h = absurd (none≢some w h)
         go (Some b) p h = at_opcode b p (b == 0) refl h
 
+    -- one Go event does what the view's instruction does, and sends nothing
     pub acts : (w : View) → act part room v ≡ Some w → (k : Clobber) → At f w (happens s (Go k)) × ((happens s (Go k)).sent ≡ s.sent)
     acts w h k = let x = fetched w h in goes_by x.opcode (holds v.regs.pc x.opcode x.here) x.some w x.comes k
 
--- where a part acts, its opcode stands
+-- if a part acts, its opcode is there
 pub fetched_here : (part : Part) (room : ℕ) (v w : View) → act part room v ≡ Some w → (b : ℕ) × (part v.regs.pc ≡ Some b)
 fetched_here part room v w h = go (part v.regs.pc) refl h
   where

@@ -20,7 +20,7 @@ abbrev pub from_part : ℕ → Option ℕ → Result ℕ Wrong
 from_part a None = Err (Closed a)
 from_part a (Some b) = Ok b
 
--- data are read from memory, and the program's bytes from the program
+-- data are read from memory, and the program's bytes are read from the program
 abbrev pub read_view : Part → (ℕ → ℕ) → Reader
 read_view part m a = if is_data a then Ok (m a) else from_part a (part a)
 
@@ -29,14 +29,14 @@ abbrev pub all_data : Writes → Bool
 all_data [] = true
 all_data (w ∷ ws) = is_data w.0 && all_data ws
 
--- the view that an outcome leads to, where there is one
+-- the view that an outcome leads to, if there is one
 abbrev pub finish_view : View → Result Outcome Wrong → Option View
 finish_view v (Ok e) = if all_data e.1 then Some (record v { regs = e.0; mem = written v.mem e.1 }) else None
 finish_view v (Err w) = None
 
 -- ---- the stack
 
--- bytes are pushed where there is room
+-- bytes are pushed if there is room
 abbrev pub push_view : ℕ → View → List ℕ → Regs → Option View
 push_view room v bs r = if nat_le (length (bs ++ v.stack)) room then Some (record v { regs = r; stack = bs ++ v.stack }) else None
 
@@ -111,7 +111,7 @@ abbrev pub act_opcode : ℕ → View → Reader → Option ℕ → Option View
 act_opcode room v read None = None
 act_opcode room v read (Some b) = if b == 0 then None else act_row room v read (find_row rows b)
 
--- one instruction of a part of the program, with so much room for the view's stack
+-- one instruction of a part of the program, with room for this many bytes on the view's stack
 abbrev pub act : Part → ℕ → View → Option View
 act part room v = act_opcode room v (read_view part v.mem) (part v.regs.pc)
 
@@ -121,7 +121,7 @@ run_view part room zero v = Some v
 run_view part room (suc n) v =
     elim (leb (length v.stack) room) [ false ↦ None | true ↦ elim (act part room v) [ None ↦ None | Some w ↦ run_view part room n w ] ]
 
--- the view, or any other where there is none
+-- the view, or another if there is none
 abbrev pub the : View → Option View → View
 the v None = v
 the v (Some w) = w

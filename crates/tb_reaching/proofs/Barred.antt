@@ -1,4 +1,4 @@
--- Places where nothing on the way may be, as the first bytes of lines; a law that begins at such a place.
+-- Addresses that nothing on the way may be at, as the first bytes of lines; a law that begins at such an address.
 use Rattle.std.proofs.Common.{◌≡◌, ◌⊎◌, ℕ, ◌+◌, ◌≤◌, true, List, [], ◌∷◌, refl, ap, ◌∙◌, subst, inl, inr, ⊎_elim, arith}
 use Rattle.std.proofs.lemmas.Bool.{and_parts}
 use Rattle.tb_kernal.specs.declared.events.Event.{Event}
@@ -11,11 +11,11 @@ use Rattle.tb_reaching.proofs.Laws.{interrupt_sends_nothing, goes_append, lawful
 use Rattle.tb_reaching.proofs.Act.{kept_by_interrupt}
 
 -- ---- a law that begins there
--- all the program's bytes may be fetched
+-- a setup in which all the program's bytes may be fetched
 abbrev pub opened : Setup → Setup
 opened f = record f { code = f.whole }
 
--- one instruction at a barred place, and then a law
+-- one instruction at a barred address, and then a law
 pub record Enters (f : Setup) (v : View) (q : View → Type 0) (t : List ℕ) (n : ℕ) : Type 0 where
   pub rest : ℕ
   pub few : 1 + rest ≤ n
@@ -30,11 +30,12 @@ quiet f v (Interrupt ws ∷ es) s at h z =
     let r = quiet f v es (happens s (Interrupt ws)) (kept_by_interrupt f v s at ws p.0) p.1 z in
     (r.0, r.1 ∙ interrupt_sends_nothing s ws)
 
--- where a law begins, the machine is under way
+-- when a law begins, the machine is under way
 pub begins : (f : Setup) (v : View) (q : View → Type 0) (t : List ℕ) (n : ℕ) → Comes f v q t n → (s : State) → At f v s → UnderWay f s
 begins f v q t n c s at = ⊎_elim (λ a. absurd (let none : ⊥ = omega (arith, a.some, ap goes a.split, goes_append a.before a.after) in none)) (λ a. a.kept) (c.reaches.leads s at [] refl)
 
 module _ (f : Setup) (v : View) (q : View → Type 0) (t : List ℕ) (n : ℕ) where
+  -- a view stays a view when all the program's bytes may be fetched
   pub open_up : (w : View) (s : State) → At f w s → At (opened f) w s
   open_up w s at =
       let st = at.stays in
@@ -61,7 +62,7 @@ module _ (f : Setup) (v : View) (q : View → Type 0) (t : List ℕ) (n : ℕ) w
         stays = record { whole = st.whole; inner = inner; right = st.right; home = st.home; home_s = st.home_s; far = st.far; apart = st.apart };
       }
 
-  -- nothing but interrupts yet, or the law's two cases over the inner code
+  -- only interrupts so far, or the law's two cases over the inner code
   pub enters : Enters f v q t n → (s : State) → At f v s → (es : List Event) → all_lawful es s ≡ true
       → (goes es ≡ 0) ⊎ (Arrived (Among f q) t n s es ⊎ OnTheWay (UnderWay f) t n s es)
   enters l s at es h = ⊎_elim there_first (λ a. inl (let z : goes es ≡ 0 = omega (arith, a.few) in z)) (l.one.reaches.leads s (open_up v s at) es h)

@@ -4,7 +4,7 @@ use Rattle.tb_kernal.specs.Machine.{State}
 use Rattle.tb_reaching.specs.View.{View, Setup, At, Stacked, Comes}
 use Rattle.tb_reaching.proofs.Comes.{chained}
 
--- the callee's setup: the caller's part of the stack belongs to what stays
+-- the callee's setup: the caller's part of the stack belongs to what is kept
 abbrev pub under : Setup → List ℕ → Setup
 under f own = record f { rest = own ++ f.rest }
 
@@ -12,7 +12,7 @@ abbrev pub stacked_on : List ℕ → View → View
 stacked_on own v = record v { stack = v.stack ++ own }
 
 module _ (f : Setup) (own : List ℕ) where
-  -- the same stack, parted otherwise into what is the view's and the rest
+  -- the same stack, divided differently into the view's part and the rest
   parted : (a b xs ys : List ℕ) (v : View) (s : State) → xs ++ a ≡ ys ++ b → At (record f { rest = a }) (record v { stack = xs }) s → At (record f { rest = b }) (record v { stack = ys }) s
   parted a b xs ys v s e at =
       let st = at.stays in
@@ -32,7 +32,7 @@ module _ (f : Setup) (own : List ℕ) where
   out_of : (v : View) (s : State) → At (under f own) v s → At f (stacked_on own v) s
   out_of v s = parted (own ++ f.rest) f.rest v.stack (v.stack ++ own) v s (sym (append_assoc v.stack own f.rest))
 
-  -- a routine's law, in its caller
+  -- a routine's law, within its caller
   pub framed : (v : View) (q : View → Type 0) (t : List ℕ) (n : ℕ) → Comes (under f own) v q t n → Comes f (stacked_on own v) (λ w. (u : View) × q u × (stacked_on own u ≡ w)) t n
   framed v q t n c = record {
     reaches = record {
@@ -59,7 +59,7 @@ module _ (f : Setup) (own : List ℕ) where
     };
   }
 
-  -- a call, and then
+  -- a call, and then a law
   pub calling : (v : View) (q r : View → Type 0) (t u : List ℕ) (n m : ℕ) → Comes (under f own) v q t n
       → ((w : View) → q w → Comes f (stacked_on own w) r u m) → Comes f (stacked_on own v) r (t ++ u) (n + m)
   calling v q r t u n m c next = chained f (stacked_on own v) (λ w. (u : View) × q u × (stacked_on own u ≡ w)) r t u n m (framed v q t n c)

@@ -47,7 +47,7 @@ module _ (f : Setup) where
       (λ s at. inr (b, ap f.code (pc_here f v s at) ∙ here))
       (λ s at k l. let a = g s at k in ((w, a.0, x), a.1 ∙ sym (append-nil s.sent)))
 
-  -- one after the other
+  -- one law after another
   pub chained : (v : View) (p q : View → Type 0) (t u : List ℕ) (n m : ℕ) → Comes f v p t n → ((w : View) → p w → Comes f w q u m) → Comes f v q (t ++ u) (n + m)
   chained v p q t u n m a b = record { reaches = chain (UnderWay f) (At f v) (Among f p) (Among f q) t u n m a.reaches (record { leads = λ s h es l. (b h.0 h.2).reaches.leads s h.1 es l }) }
 
@@ -98,11 +98,11 @@ module _ (f : Setup) where
     there_is v None h = cc
     there_is v (Some w) h = refl
 
-    -- n + 1 instructions that come to a view, and then
+    -- n + 1 instructions that lead to a view, and then a law
     pub through : (n : ℕ) (v w : View) (q : View → Type 0) (t : List ℕ) (m : ℕ) → run_view part room (suc n) v ≡ Some w → Comes f w q t m → Comes f v q t (suc n + m)
     through n v w q t m h c = chained_at v w q [] t (suc n) m (several_from (Just w) n v w h refl) c
 
-    -- the same where the view is computed
+    -- the same with a view that is computed
     pub after : (n : ℕ) (v : View) (q : View → Type 0) (t : List ℕ) (m : ℕ) → is_there (run_view part room (suc n) v) ≡ true
         → Comes f (the v (run_view part room (suc n) v)) q t m → Comes f v q t (suc n + m)
     after n v q t m h c = through n v (the v (run_view part room (suc n) v)) q t m (there_is v (run_view part room (suc n) v) h) c
@@ -111,7 +111,7 @@ module _ (f : Setup) where
     pub ending : (n : ℕ) (v : View) (q : View → Type 0) → is_there (run_view part room (suc n) v) ≡ true → q (the v (run_view part room (suc n) v)) → Comes f v q [] (suc n)
     ending n v q h x = several_from q n v (the v (run_view part room (suc n) v)) (there_is v (run_view part room (suc n) v) h) x
 
-  -- an instruction that stands at PC, whose outcome is shown by hand, and then
+  -- an instruction at PC whose outcome is shown by hand, and then a law
   pub by_hand : (room : ℕ) → Fits f room → (v w : View) (b : ℕ) (q : View → Type 0) (t : List ℕ) (m : ℕ) → leb (length v.stack) room ≡ true
       → f.code v.regs.pc ≡ Some b → (b == 0) ≡ false → ((s : State) → At f v s → (e : Outcome)
       × (instruction (find_row rows b) (with_s s.regs.s v.regs) (reading s.mem) ≡ Ok e) × At f w (record s { regs = e.0; mem = written s.mem e.1 }))
@@ -136,7 +136,7 @@ any_s f v k q t n c = record {
   };
 }
 
--- a view whose place, stack and keyboard are known, with D clear
+-- a view whose PC, stack and keyboard are known, with D clear
 pub known : (f : Setup) (w : View) (pc : ℕ) (stack text answers : List ℕ) (q : View → Type 0) (t : List ℕ) (n : ℕ) → w.regs.pc ≡ pc → w.stack ≡ stack
     → w.regs.flags.d ≡ false → w.text ≡ text → w.answers ≡ answers
     → Comes f (view w.regs.a w.regs.x w.regs.y w.regs.flags.n w.regs.flags.v w.regs.flags.i w.regs.flags.z w.regs.flags.c pc stack w.mem text answers) q t n → Comes f w q t n

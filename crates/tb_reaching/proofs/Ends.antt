@@ -23,6 +23,7 @@ never_wrong f v q t n c = weakened (UnderWay f) NotWrong (At f v) (Among f q) t 
 pub record Rests (p : States) : Type 0 where
   pub stays : (s : State) → p s → (e : Event) → is_lawful s e ≡ true → p (happens s e) × ((happens s e).sent ≡ s.sent)
 
+-- no lawful list of events leaves such states, and nothing is sent
 pub rest_all : (p : States) → Rests p → (es : List Event) (s : State) → p s → all_lawful es s ≡ true → p (run es s) × ((run es s).sent ≡ s.sent)
 rest_all p r [] s h l = (h, refl)
 rest_all p r (e ∷ es) s h l =
@@ -31,7 +32,7 @@ rest_all p r (e ∷ es) s h l =
     let b = rest_all p r es (happens s e) a.0 l'.1 in
     (b.0, b.1 ∙ a.1)
 
--- who reaches such states is on the way, or there with the whole output
+-- a machine that reaches such states is on the way, or there with the whole output
 pub settles : (w p q : States) (t : List ℕ) (n : ℕ) → Reaches w p q t n → Rests q → (s : State) → p s → (es : List Event) → all_lawful es s ≡ true
     → (q (run es s) × ((run es s).sent ≡ s.sent ++ t)) ⊎ OnTheWay w t n s es
 settles w p q t n law r s h es l = ⊎_elim
@@ -47,9 +48,11 @@ module _ (f : Setup) (above : f.home_s + length f.rest ≡ 255) where
   deep : (w : View) → w.stack ≡ [] → f.home_s + length (w.stack ++ f.rest) ≡ 255
   deep w h = ap (λ l. f.home_s + length (l ++ f.rest)) h ∙ above
 
+  -- a machine that is home has the status Returned
   pub home_returned : (s : State) → Among f (IsHome f) s → status s ≡ Returned
   home_returned s h = comes_home f h.0 s h.1 h.2.pc (deep h.0 h.2.stack) h.2.binary
 
+  -- no lawful event leaves home
   pub home_rests : Rests (Among f (IsHome f))
   home_rests = record {
     stays = λ s h e l.
@@ -57,5 +60,6 @@ module _ (f : Setup) (above : f.home_s + length f.rest ≡ 255) where
         ((h.0, subst (At f h.0) (sym same) h.1, h.2), ap (λ x. x.sent) same);
   }
 
+-- a machine at CHRIN without a byte left has the status Waits
 pub waiting_waits : (f : Setup) (s : State) → Among f IsWaiting s → status s ≡ Waits
 waiting_waits f s h = waits f h.0 s h.1 h.2.pc h.2.text

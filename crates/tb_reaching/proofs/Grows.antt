@@ -32,7 +32,7 @@ gone_sent Returned k s = prefix_same _ _ refl
 gone_sent Waits k s = prefix_same _ _ refl
 gone_sent (WentWrong w) k s = prefix_same _ _ refl
 
--- one event
+-- one event keeps what was sent, as a prefix
 pub sends_on : (e : Event) (s : State) → IsPrefix s.sent (happens s e).sent
 sends_on (Go k) s = gone_sent (status s) k s
 sends_on (Interrupt ws) s = prefix_same _ _ (interrupt_sends_nothing s ws)

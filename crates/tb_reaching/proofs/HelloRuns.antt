@@ -173,6 +173,7 @@ module _ (f : Setup) (fits : Fits f 4) (st : Holds hello_part f.code) (lo hi : �
       (after f 4 fits hello_part st 1 (view a x y n v i z c 0x081f (lo ∷ hi ∷ []) m0 text answers) _ _ (9 * length bs + 10) refl
       (rw some (send bs (counts bs) _ _ _ _ _ _ _ _ _ b (m0 pointer + 256 * m0 high) h e)))
 
+-- the routine sends the text that it is pointed to
 pub sends_text : SendsText HELLO
 unfolding Rest
 sends_text f fits st lo hi text answers m a x y n v i z c sent p =
@@ -194,7 +195,7 @@ program_from = omega arith
 program_to : CODE_START + length HELLO ≤ 0xa000
 program_to = let size : length HELLO ≡ 48 = refl in omega (arith, size)
 
--- the text stands behind the code
+-- the text follows the code
 shown : (code : Part) → Holds hello_part code → Bytes code 0x0837 hello_text
 shown code st = (st _ _ refl, (st _ _ refl, (st _ _ refl, (st _ _ refl, (st _ _ refl, (st _ _ refl, tt))))))
 
@@ -218,6 +219,7 @@ module _ (s : State) (h : IsStart CODE_START HELLO s) where
       (ending f 18 fits hello_part st 0 (view _ _ _ _ _ _ _ _ 0x081e own w.mem s.text s.answers) (IsHome f) refl
       (record { pc = sym home.home; stack = refl; binary = refl }))))
 
+-- the whole program prints its text within 66 Go events
 pub prints_hello : Prints HELLO hello_text 66
 prints_hello s h es l =
     let st = holds_itself hello_part in

@@ -1,4 +1,4 @@
--- Instructions at places that are not known as numbers: the operand is given, not read.
+-- Instructions at addresses that are not known as numbers: the operand is given, not read.
 use Rattle.std.specs.Prelude.{◌≡◌, ℕ, ◌+◌, ◌/◌, ◌%◌, true, ◌==◌, leb, List, [], ◌∷◌, ◌++◌, length, Option, Some, None, Result, Ok, if◌then◌else◌}
 use Rattle.tb_opcodes.specs.Opcodes.{find_row, rows}
 use Rattle.tb_opcodes.specs.declared.Mnemonic.{Mnemonic}
@@ -13,7 +13,7 @@ use Rattle.tb_reaching.proofs.Acting.{read_view, finish_view, act_operand}
 
 -- ---- code
 
--- an opcode, and the byte or word behind it, 0 where there is none
+-- an opcode, and the byte or word after it, 0 if there is none
 pub record Instr : Type 0 where
   pub opcode : ℕ
   pub operand : ℕ
@@ -41,14 +41,14 @@ abbrev pub flat : List Instr → List ℕ
 flat [] = []
 flat (i ∷ is) = instr_bytes i ++ flat is
 
--- these instructions stand one behind the other
+-- these instructions follow one another from an address on
 abbrev pub Stands : Part → ℕ → List Instr → Type 0
 Stands code at [] = Unit {0}
 Stands code at (i ∷ is) = Bytes code at (instr_bytes i) × Stands code ((at + length (instr_bytes i)) % 65536) is
 
 -- ---- what they do
 
--- the operand's address, by the byte or word behind the opcode
+-- the operand's address, by the byte or word after the opcode
 abbrev pub operand_by : Mode → ℕ → Regs → Reader → Result ℕ Wrong
 operand_by Implied o r read = Ok 0
 operand_by Accumulator o r read = Ok 0
@@ -64,7 +64,7 @@ operand_by AbsoluteX o r read = Ok ((o + r.x) % 65536)
 operand_by AbsoluteY o r read = Ok ((o + r.y) % 65536)
 operand_by Indirect o r read = indirect_address read o
 
--- what reads there: a byte behind the opcode is the given one
+-- what reads there: a byte after the opcode is the given one
 abbrev pub reader_by : Mode → ℕ → Reader → Reader
 reader_by Immediate o read = λ a. Ok o
 reader_by Relative o read = λ a. Ok o

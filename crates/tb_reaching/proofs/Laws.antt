@@ -12,15 +12,18 @@ use Rattle.tb_kernal.specs.Runs.{run, all_lawful, goes}
 use Rattle.tb_reaching.specs.Reaching.{States, Arrived, OnTheWay, Reaches}
 use Rattle.tb_reaching.specs.Laws.{OneStep}
 
+-- running two lists of events in turn is running their concatenation
 pub run_append : (es fs : List Event) (s : State) → run (es ++ fs) s ≡ run fs (run es s)
 run_append [] fs s = refl
 run_append (e ∷ es) fs s = run_append es fs (happens s e)
 
+-- the Go events of two lists add up
 pub goes_append : (es fs : List Event) → goes (es ++ fs) ≡ goes es + goes fs
 goes_append [] fs = omega arith
 goes_append (Go k ∷ es) fs = omega (arith, goes_append es fs)
 goes_append (Interrupt ws ∷ es) fs = goes_append es fs
 
+-- the rest of a lawful list is lawful in the state that its front leads to
 pub lawful_after : (es fs : List Event) (s : State) → all_lawful (es ++ fs) s ≡ true → all_lawful fs (run es s) ≡ true
 lawful_after [] fs s h = h
 lawful_after (e ∷ es) fs s h = lawful_after es fs (happens s e) (and_parts _ _ h).1
@@ -32,6 +35,7 @@ interrupted_sent Returned ws s = refl
 interrupted_sent Waits ws s = refl
 interrupted_sent (WentWrong w) ws s = refl
 
+-- an interrupt sends nothing
 pub interrupt_sends_nothing : (s : State) (ws : ArrayVec (ℕ × ℕ)) → (happens s (Interrupt ws)).sent ≡ s.sent
 interrupt_sends_nothing s ws = interrupted_sent (status s) ws.items s
 
@@ -69,6 +73,7 @@ step_leads i p q t o (Interrupt ws ∷ es) s h l =
     ⊎_elim (λ a. inl (later_arrived q t 1 s ws es quiet a)) (λ a. inr (later_on_the_way i t 1 s ws es quiet a))
     (step_leads i p q t o es (happens s (Interrupt ws)) (o.keeps s h ws l'.0) l'.1)
 
+-- one step reaches within 1
 pub step : (i p q : States) (t : List ℕ) → OneStep i p q t → Reaches i p q t 1
 step i p q t o = record { leads = λ s h es l. step_leads i p q t o es s h l }
 
@@ -83,6 +88,7 @@ on_first_way i t u n m s es r = record {
   whole = ap (λ l. l ++ u) r.whole ∙ append_assoc r.so_far r.to_come u;
 }
 
+-- an arrival after an arrival is an arrival
 pub then_arrived : (q r : States) (t u : List ℕ) (n m : ℕ) (s : State) (es : List Event) → (a : Arrived q t n s es) → Arrived r u m (run a.before s) a.after → Arrived r (t ++ u) (n + m) s es
 then_arrived q r t u n m s es a b = record {
   before = a.before ++ b.before;
@@ -94,6 +100,7 @@ then_arrived q r t u n m s es a b = record {
   sent = ap (λ x. x.sent) (run_append a.before b.before s) ∙ b.sent ∙ ap (λ l. l ++ u) a.sent ∙ append_assoc s.sent t u;
 }
 
+-- being on the way after an arrival is being on the way
 pub then_on_the_way : (i q : States) (t u : List ℕ) (n m : ℕ) (s : State) (es : List Event) → (a : Arrived q t n s es)
     → OnTheWay i u m (run a.before s) a.after → OnTheWay i (t ++ u) (n + m) s es
 then_on_the_way i q t u n m s es a b =
@@ -107,6 +114,7 @@ then_on_the_way i q t u n m s es a b =
       whole = ap (λ l. t ++ l) b.whole ∙ sym (append_assoc t b.so_far b.to_come);
     }
 
+-- reaching q and from there r is reaching r: outputs and bounds add up
 pub chain : (i p q r : States) (t u : List ℕ) (n m : ℕ) → Reaches i p q t n → Reaches i q r u m → Reaches i p r (t ++ u) (n + m)
 chain i p q r t u n m first second = record {
   leads = λ s h es l.
@@ -127,7 +135,7 @@ widen i p q r t n m le w first = record {
       (first.leads s h es l);
 }
 
--- less is wanted on the way
+-- a weaker promise for the way
 pub weakened : (w z p q : States) (t : List ℕ) (n : ℕ) → ((s : State) → w s → z s) → Reaches w p q t n → Reaches z p q t n
 weakened w z p q t n g law = record {
   leads = λ s h es l.

@@ -9,6 +9,7 @@ use Rattle.tb_reaching.proofs.Instr.{Instr, instr_bytes, flat, Stands}
 pub holds_itself : (p : Part) → Holds p p
 holds_itself p a b e = e
 
+-- holding is transitive
 pub holds_then : (p q r : Part) → Holds p q → Holds q r → Holds p r
 holds_then p q r h k a b e = k a b (h a b e)
 
@@ -22,7 +23,7 @@ part_before : (at : ℕ) (bs : List ℕ) (a : ℕ) → a < at → part_at at bs 
 part_before at [] a h = refl
 part_before at (b ∷ bs) a h = ap (λ t. if t then Some b else part_at (at + 1) bs a) (ne_eqb a at (λ e. omega arith)) ∙ part_before (at + 1) bs a (omega arith)
 
--- the others
+-- the others of its bytes
 part_next : (at b : ℕ) (bs : List ℕ) → Holds (part_at (at + 1) bs) (part_at at (b ∷ bs))
 part_next at b bs a x e = ⊎_elim
     (λ h. let none : part_at (at + 1) bs a ≡ None = part_before (at + 1) bs a (omega arith) in let bad : Some x ≡ None = sym e ∙ none in cc)
@@ -38,6 +39,7 @@ part_front at (b ∷ xs) ys a x e = ⊎_elim
     ∙ part_front (at + 1) xs ys a x (sym (ap (λ t. if t then Some b else part_at (at + 1) xs a) (ne_eqb a at n)) ∙ e))
     (cases_eq a at)
 
+-- the second of two lists is a part of the whole
 pub part_back : (at : ℕ) (xs ys : List ℕ) → Holds (part_at (at + length xs) ys) (part_at at (xs ++ ys))
 part_back at [] ys = subst (λ n. Holds (part_at n ys) (part_at at ys)) (let e : at ≡ at + 0 = omega arith in e) (holds_itself (part_at at ys))
 part_back at (b ∷ xs) ys =
@@ -46,11 +48,12 @@ part_back at (b ∷ xs) ys =
     (subst (λ n. Holds (part_at n ys) (part_at (at + 1) (xs ++ ys))) later (part_back (at + 1) xs ys))
     (part_next at b (xs ++ ys))
 
+-- bytes in one part are in each part that holds it
 pub bytes_same : (p q : Part) → Holds p q → (at : ℕ) (bs : List ℕ) → Bytes p at bs → Bytes q at bs
 bytes_same p q h at [] b = tt
 bytes_same p q h at (x ∷ bs) b = (h at x b.0, bytes_same p q h ((at + 1) % 65536) bs b.1)
 
--- a part's bytes stand one behind the other
+-- a part's bytes follow one another
 pub part_bytes : (at : ℕ) (bs : List ℕ) → at + length bs ≤ 65536 → Bytes (part_at at bs) at bs
 part_bytes at [] h = tt
 part_bytes at (b ∷ []) h = (part_first at b [], tt)
@@ -61,6 +64,7 @@ part_bytes at (b ∷ c ∷ cs) h =
           (part_at at (b ∷ c ∷ cs)) (part_next at b (c ∷ cs)) (at + 1) (c ∷ cs) (part_bytes (at + 1) (c ∷ cs) (omega arith))),
     )
 
+-- code that holds a list as a part has its bytes in order
 pub holds_bytes : (code : Part) (at : ℕ) (bs : List ℕ) → at + length bs ≤ 65536 → Holds (part_at at bs) code → Bytes code at bs
 holds_bytes code at bs r h = bytes_same (part_at at bs) code h at bs (part_bytes at bs r)
 
@@ -73,6 +77,7 @@ first_or_later code at b bs a x here later e = ⊎_elim
     (λ n. later (sym (ap (λ t. if t then Some b else part_at (at + 1) bs a) (ne_eqb a at n)) ∙ e))
     (cases_eq a at)
 
+-- code that has bytes in order holds them as a part
 pub bytes_hold : (code : Part) (at : ℕ) (bs : List ℕ) → at + length bs ≤ 65536 → Bytes code at bs → Holds (part_at at bs) code
 bytes_hold code at [] r h a x e = cc
 bytes_hold code at (b ∷ []) r h a x e = first_or_later code at b [] a x h.0 (λ e. cc) e
@@ -80,10 +85,12 @@ bytes_hold code at (b ∷ c ∷ cs) r h a x e =
     let s : (at + 1) % 65536 ≡ at + 1 = omega arith in
     first_or_later code at b (c ∷ cs) a x h.0 (λ e. bytes_hold code (at + 1) (c ∷ cs) (omega arith) (subst (λ n. Bytes code n (c ∷ cs)) s h.1) a x e) e
 
+-- the first of two lists of bytes is in its place
 pub bytes_front : (code : Part) (at : ℕ) (a b : List ℕ) → Bytes code at (a ++ b) → Bytes code at a
 bytes_front code at [] b h = tt
 bytes_front code at (x ∷ a) b h = (h.0, bytes_front code ((at + 1) % 65536) a b h.1)
 
+-- the second of two lists of bytes follows the first
 pub bytes_back : (code : Part) (at : ℕ) (a b : List ℕ) → at < 65536 → Bytes code at (a ++ b) → Bytes code ((at + length a) % 65536) b
 bytes_back code at [] b r h = subst (λ n. Bytes code n b) (let e : at ≡ (at + 0) % 65536 = omega arith in e) h
 bytes_back code at (x ∷ a) b r h =

@@ -1,4 +1,4 @@
--- Instructions at places that are not known as numbers, and data at places that are known by a proof.
+-- Instructions at addresses that are not known as numbers, and data at addresses that are known by a proof.
 use Rattle.std.proofs.Common.{◌≡◌, ℕ, ◌+◌, ◌*◌, ◌/◌, ◌%◌, Bool, true, false, ◌&&◌, List, [], ◌∷◌, length, refl, sym, ap}
 use Rattle.std.proofs.Common.{◌∙◌, subst, arith, leb, Option, Some, None}
 use Rattle.std.specs.Prelude.{Result, Ok, Err, if◌then◌else◌, ◌==◌}
@@ -28,7 +28,7 @@ ok_eq a b h = cc
 known : {A B : Type 0} (x : Result A Wrong) (a : A) (g : A → Result B Wrong) (c : B) → x ≡ Ok a → g a ≡ Ok c → and_then x g ≡ Ok c
 known x a g c e h = ap (λ z. and_then z g) e ∙ h
 
--- ---- the operand is what stands behind the opcode
+-- ---- the operand is what follows the opcode
 abbrev Behind : Setup → View → List ℕ → Type 0
 Behind f v bs = Bytes f.code ((v.regs.pc + 1) % 65536) bs
 
@@ -92,21 +92,21 @@ module _ (f : Setup) (room : ℕ) (fits : Fits f room) where
   placed i v w x st true z h = absurd (none≢some w h)
   placed i v w x st false z h = let r = by_row i v w x st h in record { here = r.0; some = z; comes = r.1 }
 
-  -- one instruction at any place, and then
+  -- one instruction at any address, and then a law
   pub placing : (i : Instr) (v w : View) (q : View → Type 0) (t : List ℕ) (m : ℕ) → leb (length v.stack) room ≡ true
       → Bytes f.code v.regs.pc (instr_bytes i) → act_instr f.code room i v ≡ Some w → Comes f w q t m → Comes f v q t (1 + m)
   placing i v w q t m small st h next =
       let p = placed i v w (find_row rows i.opcode) st (i.opcode == 0) refl h in
       by_hand f room fits v w i.opcode q t m small p.here p.some p.comes next
 
-  -- one instruction at any place, as the last piece
+  -- one instruction at any address, as the last piece
   pub placed_last : (i : Instr) (v w : View) (q : View → Type 0) → leb (length v.stack) room ≡ true → Bytes f.code v.regs.pc (instr_bytes i)
       → act_instr f.code room i v ≡ Some w → q w → Comes f v q [] 1
   placed_last i v w q small st h x =
       let p = placed i v w (find_row rows i.opcode) st (i.opcode == 0) refl h in
       comes_at f v w q room i.opcode fits (leb-true _ _ small) p.here (λ s at k. goes_by f room fits v s at i.opcode p.here p.some w (p.comes s at) k) x
 
-  -- straight on from any address, and then
+  -- straight on from any address, and then a law
   pub along : (is : List Instr) (at : ℕ) (v w : View) (q : View → Type 0) (t : List ℕ) (m : ℕ) → Stands f.code at is
       → Follows f.code room is at (Some v) → run_along f.code room is v ≡ Some w → Comes f w q t m → Comes f v q t (length is + m)
   along [] at v w q t m st fo h c = looser f v q q t m (0 + m) (omega arith) (λ w x. x) (subst (λ w. Comes f w q t m) (let e : w ≡ v = cc in e) c)
@@ -122,10 +122,11 @@ module _ (f : Setup) (room : ℕ) (fits : Fits f room) where
           looser f v q q t (1 + (length is + m)) (length (i ∷ is) + m) (omega arith) (λ w x. x)
           (placing i v u q t (length is + m) fo.1 (subst (λ p. Bytes f.code p (instr_bytes i)) fo.0 st.0) a (r u w q t m st.1 fo.2 h c))
 
--- ---- data at a place that a proof gives
+-- ---- data at an address that a proof gives
 pub reads_data : (part : Part) (m : ℕ → ℕ) (a : ℕ) → is_data a ≡ true → read_view part m a ≡ Ok (m a)
 reads_data part m a h = ap (λ t. if t then Ok (m a) else from_part a (part a)) h
 
+-- a view reads the program's bytes from the program
 pub reads_code : (part : Part) (m : ℕ → ℕ) (a b : ℕ) → is_data a ≡ false → part a ≡ Some b → read_view part m a ≡ Ok b
 reads_code part m a b h e = ap (λ t. if t then Ok (m a) else from_part a (part a)) h ∙ ap (from_part a) e
 
@@ -149,7 +150,7 @@ module _ (part : Part) (room : ℕ) (i : Instr) (v : View) (m : Mnemonic) (mode 
   takes_at b r read h = acts_so (moved v.regs.s (r, [])) (more_executed (λ a. Ok b) (reader_by mode i.operand (read_view part v.mem)) o (λ c e. read
       ∙ e) v.regs.s m plain (advanced v.regs mode) (r, []) h)
 
-  -- an instruction that reads the byte b there and stores c in its place
+  -- an instruction that reads the byte b there and stores c instead
   pub changes_at : (b c : ℕ) (r : Regs) → is_data o ≡ true → reader_by mode i.operand (read_view part v.mem) o ≡ Ok b → executed m (advanced v.regs mode) (λ a. Ok b) o ≡ stored r o c
       → act_instr part room i v ≡ Some (record v { regs = with_s v.regs.s r; mem = with_byte v.mem o c })
   changes_at b c r d read h =

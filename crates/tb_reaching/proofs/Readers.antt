@@ -26,11 +26,12 @@ pub ok≢err : {A : Type 0} (a : A) (e : Wrong) (x : Result A Wrong) → x ≡ O
 unfolding is_ok
 ok≢err a e x h k = subst is_ok (sym h ∙ k) tt
 
--- a check that went well
+-- a check that was passed
 then_ok : {A B : Type 0} (x : Result A Wrong) (f : A → Result B Wrong) (b : B) → and_then x f ≡ Ok b → (a : A) × (x ≡ Ok a) × (f a ≡ Ok b)
 then_ok (Ok a) f b h = (a, refl, h)
 then_ok (Err e) f b h = absurd (ok≢err b e (Err e) h refl)
 
+-- two checks in turn still pass with a reader that reads more
 pub then_more : {A B C : Type 0} (x y : Result A Wrong) (f : A → Result B Wrong) (g : A → Result C Wrong) (b : B) (c : C)
     → ((a : A) → x ≡ Ok a → y ≡ Ok a) → ((a : A) → f a ≡ Ok b → g a ≡ Ok c) → and_then x f ≡ Ok b → and_then y g ≡ Ok c
 then_more x y f g b c hx hf h = let p = then_ok x f b h in ap (λ z. and_then z g) (hx p.0 p.1) ∙ hf p.0 p.2
@@ -57,9 +58,11 @@ if_moved t false x y = refl
 
 -- ---- operands
 module _ (r k : Reader) (ext : (a b : ℕ) → r a ≡ Ok b → k a ≡ Ok b) where
+  -- a word is read the same by a reader that reads more
   pub more_word : (a b w : ℕ) → word_at r a b ≡ Ok w → word_at k a b ≡ Ok w
   more_word a b w = then_more (r a) (k a) _ _ w w (ext a) (λ low. then_more (r b) (k b) _ _ w w (ext b) (λ high h. h))
 
+  -- an operand is found the same by a reader that reads more, whatever S is
   pub more_operand : (t : ℕ) (mode : Mode) (q : Regs) (o : ℕ) → operand_of mode q r ≡ Ok o → operand_of mode (with_s t q) k ≡ Ok o
   more_operand t Implied q o h = h
   more_operand t Accumulator q o h = h
@@ -81,7 +84,7 @@ pub on_a_moved : (t : ℕ) (m : Mnemonic) (q : Regs) → executed_on_a m (with_s
 on_a_moved t Asl q = refl
 on_a_moved t _ q = refl
 
--- a reader gives the same where the operand is
+-- a reader gives the same at the operand
 module _ (r k : Reader) (o : ℕ) (ext : (b : ℕ) → r o ≡ Ok b → k o ≡ Ok b) (t : ℕ) where
   -- an instruction that only reads
   more_takes : (q : Regs) (f g : ℕ → Result Regs Wrong) → ((v : ℕ) → g v ≡ regs_ok t (f v)) → (e : Outcome) → with_datum q r o f ≡ Ok e
@@ -115,6 +118,7 @@ module _ (r k : Reader) (o : ℕ) (ext : (b : ℕ) → r o ≡ Ok b → k o ≡ 
   more_branches : (q : Regs) (b : Bool) (e : Outcome) → branch_effect q r o b ≡ Ok e → branch_effect (with_s t q) k o b ≡ Ok (moved t e)
   more_branches q b e h = more_changes q _ _ (λ v. refl) e h
 
+  -- a plain instruction does the same with a reader that reads more, whatever S is
   pub more_executed : (m : Mnemonic) → kind_of m ≡ Plain → (q : Regs) (e : Outcome) → executed m q r o ≡ Ok e → executed m (with_s t q) k o ≡ Ok (moved t e)
   more_executed Lda p q e h = more_takes q (λ v. Ok (loaded_a q v)) (λ v. Ok (loaded_a (with_s t q) v)) (λ v. refl) e h
   more_executed Ldx p q e h = more_takes q (λ v. Ok (loaded_x q v)) (λ v. Ok (loaded_x (with_s t q) v)) (λ v. refl) e h

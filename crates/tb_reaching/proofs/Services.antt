@@ -1,4 +1,4 @@
--- CHROUT, CHRIN and GETIN; waiting for a key, and coming home.
+-- CHROUT, CHRIN and GETIN; waiting for a key, and returning home.
 use Rattle.std.proofs.Common.{◌≡◌, ℕ, ◌+◌, ◌%◌, true, false, not, ◌&&◌, ◌||◌, List, [], ◌∷◌, ◌++◌, length, drop, refl, sym}
 use Rattle.std.proofs.Common.{ap, ◌∙◌, subst, ap₂, arith, eqb, leb, Some, None, append-nil, inl}
 use Rattle.std.proofs.lemmas.Bool.{ne_eqb, eq-eqb, leb-true}
@@ -44,7 +44,7 @@ module _ (f : Setup) where
       let to : (word_from (s.mem (256 + up s.regs.s)) (s.mem (256 + up (up s.regs.s))) + 1) % 65536 ≡ back_at lo hi = ap₂ (λ l h. (word_from l h + 1) % 65536) one.1 two.1 in
       subst (λ p. At f (record v { regs = q; stack = bs }) (record s { regs = record r { pc = p; s = up (up s.regs.s) } })) (sym to) two.3
 
-  -- the status at a service
+  -- the machine's status at a service
   at_service : (v : View) (s : State) (q : Service) → At f v s → service_at v.regs.pc ≡ Some q → status s ≡ status_by false None (waits_for (Some q) v.text)
   at_service v s q at e =
       let here : service_at s.regs.pc ≡ Some q = ap service_at (pc_here f v s at) ∙ e in
@@ -116,7 +116,7 @@ module _ (f : Setup) where
           ap (λ x. x.sent) e ∙ d.1,
         ))
 
-    -- a service, and then
+    -- a service, and then a law
     pub serving : (q : Service) (v : View) (lo hi : ℕ) (bs : List ℕ) (goal : View → Type 0) (u : List ℕ) (m : ℕ) → leb (length v.stack) room ≡ true
         → service_at v.regs.pc ≡ Some q → waits_for (Some q) v.text ≡ false → v.stack ≡ lo ∷ hi ∷ bs
         → ((k : Clobber) → Comes f (served_view q k v (back_at lo hi) bs) goal u m) → Comes f v goal (sent_by q v.regs.a ++ u) (1 + m)
@@ -135,6 +135,7 @@ module _ (f : Setup) where
   pub waits : (v : View) (s : State) → At f v s → v.regs.pc ≡ 0xffcf → v.text ≡ [] → status s ≡ Waits
   waits v s at p t = at_service v s Chrin at (ap service_at p) ∙ ap (λ l. status_by false None (waits_for (Some Chrin) l)) t
 
+  -- while CHRIN waits without a byte, every lawful event keeps the view and sends nothing
   pub waits_on : (v : View) (s : State) → At f v s → v.regs.pc ≡ 0xffcf → v.text ≡ [] → (e : Event) → is_lawful s e ≡ true → At f v (happens s e) × ((happens s e).sent ≡ s.sent)
   waits_on v s at p t (Go k) l = let e : happens s (Go k) ≡ s = ap (λ q. gone q k s) (waits v s at p t) in (subst (At f v) (sym e) at, ap (λ x. x.sent) e)
   waits_on v s at p t (Interrupt ws) l = (kept_by_interrupt f v s at ws l, interrupt_sends_nothing s ws)
@@ -147,6 +148,7 @@ module _ (f : Setup) where
       (ap (λ c. c && eqb s.regs.s s.home_s && not s.regs.flags.d) (eq-eqb s.regs.pc s.home (pc_here f v s at ∙ p ∙ sym at.stays.home))
       ∙ ap (λ c. c && not s.regs.flags.d) (eq-eqb s.regs.s s.home_s same) ∙ ap (λ r. not r.flags.d) at.regs ∙ ap not b)
 
+  -- at home, every event leaves the state as it is
   pub stays_home : (v : View) (s : State) → At f v s → v.regs.pc ≡ f.home → f.home_s + length (v.stack ++ f.rest) ≡ 255 → v.regs.flags.d ≡ false → (e : Event) → happens s e ≡ s
   stays_home v s at p d b (Go k) = ap (λ q. gone q k s) (comes_home v s at p d b)
   stays_home v s at p d b (Interrupt ws) = ap (λ q. interrupted q ws.items s) (comes_home v s at p d b)

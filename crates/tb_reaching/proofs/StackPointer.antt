@@ -1,4 +1,4 @@
--- TSX and TXS, where S is known by the stack's length.
+-- TSX and TXS, when the stack's length gives S.
 use Rattle.std.proofs.Common.{◌≡◌, ℕ, ◌+◌, true, List, [], ◌∷◌, ◌++◌, length, refl, ap, ◌∙◌, subst, arith, leb, Some, append_assoc, length-append}
 use Rattle.std.specs.Prelude.{Ok}
 use Rattle.tb_opcodes.specs.declared.Mode.TheVariants.{Implied}

@@ -12,6 +12,7 @@ use Rattle.tb_reaching.specs.View.{At, Part, Holds, Fits, Stacked, part_at, is_p
 use Rattle.tb_reaching.specs.Start.{from_memory, setup_of, view_of, home_low, home_high, Homed}
 use Rattle.tb_reaching.proofs.Act.{some_eq}
 
+-- the bytes of n addresses are n bytes
 pub length_from : (m : ℕ → ℕ) (at n : ℕ) → length (from_memory m at n) ≡ n
 length_from m at zero = refl
 length_from m at (suc n) = ap suc (length_from m (at + 1) n)
@@ -24,6 +25,7 @@ stacked_from m at (suc n) = (refl, stacked_from m (at + 1) n)
 far_rom : (a : ℕ) → is_rom a ≡ true → 0xa000 ≤ a
 far_rom a h = grind (arith, nat_tests)
 
+-- $0800 to $9FFF are the program's addresses
 pub in_program : (a : ℕ) → 0x0800 ≤ a → a < 0xa000 → is_program a ≡ true
 in_program a lo hi = grind (arith, nat_tests)
 
@@ -42,9 +44,10 @@ lies place (x ∷ bytes) m from to h a b e = by_place (lies (place + 1) bytes m 
         (λ n. later (ap (λ t. if t then Some x else part_at (place + 1) bytes a) (sym (ne_eqb a place n)) ∙ e))
         (cases_eq a place)
 
--- ---- the view of a start
+-- ---- the view at a start
 module _ (place : ℕ) (bytes : List ℕ) (from : 0x0800 ≤ place) (to : place + length bytes ≤ 0xa000) (inner : Part)
     (holds : Holds inner (part_at place bytes)) (s : State) (h : IsStart place bytes s) where
+  -- a started machine looks like the view of its start
   pub at_start : At (setup_of inner (part_at place bytes) s) (view_of s) s
   at_start = record {
     regs = ap (λ p. record s.regs { pc = p }) h.pc;
@@ -60,6 +63,7 @@ module _ (place : ℕ) (bytes : List ℕ) (from : 0x0800 ≤ place) (to : place 
   pub fits_start : Fits (setup_of inner (part_at place bytes) s) 18
   fits_start = omega (arith, length_from s.mem (0x0101 + s.regs.s + 1 + 1) (253 - s.regs.s), h.s_from, h.s_to)
 
+  -- the return address of a start is on the stack, and what is kept lies above it
   pub homed_start : Homed (setup_of inner (part_at place bytes) s) (home_low s) (home_high s)
   homed_start =
       let low : 257 + s.regs.s ≡ 0x0101 + s.regs.s = omega arith in
@@ -69,11 +73,12 @@ module _ (place : ℕ) (bytes : List ℕ) (from : 0x0800 ≤ place) (to : place 
         above = omega (arith, h.home_s, length_from s.mem (0x0101 + s.regs.s + 1 + 1) (253 - s.regs.s), h.s_to);
       }
 
--- ---- cleared places: a computed test gives the fact for each place
+-- ---- cleared addresses: a computed test gives the fact for each address
 abbrev pub all_zero : (ℕ → ℕ) → ℕ → ℕ → Bool
 all_zero m at zero = true
 all_zero m at (suc n) = eqb (m at) 0 && all_zero m (at + 1) n
 
+-- if the test holds, each byte of the range is 0
 pub zero_at : (m : ℕ → ℕ) (at n : ℕ) → all_zero m at n ≡ true → (a : ℕ) → at ≤ a → a < at + n → m a ≡ 0
 zero_at m at zero h a lo hi = absurd (let none : ⊥ = omega arith in none)
 zero_at m at (suc n) h a lo hi =

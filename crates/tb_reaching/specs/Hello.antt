@@ -19,11 +19,11 @@ pointer = 0xfb
 abbrev pub left : ℕ
 left = 0xc000
 
--- the program's part, from the start on
+-- the program's part, from its start on
 abbrev pub program_part : List ℕ → Part
 program_part program = part_at CODE_START program
 
--- a text of at most 255 bytes in the program, and where it begins and how long it is, as the routine is told
+-- a text of at most 255 bytes in the program, with its address and length as the routine is given them
 pub record Points (f : Setup) (m : ℕ → ℕ) (text : List ℕ) : Type 0 where
   pub low : m pointer < 256
   pub high : m (pointer + 1) < 256
@@ -33,7 +33,7 @@ pub record Points (f : Setup) (m : ℕ → ℕ) (text : List ℕ) : Type 0 where
   pub count : m left ≡ length text
   pub few : length text < 256
 
--- back at the caller, with all but the routine's own bytes as they were
+-- back at the caller, with all but the routine's own bytes unchanged
 pub record Sent (lo hi : ℕ) (m : ℕ → ℕ) (text answers : List ℕ) (w : View) : Type 0 where
   pub pc : w.regs.pc ≡ back_at lo hi
   pub stack : w.stack ≡ []
@@ -56,8 +56,8 @@ SendsText program =
 abbrev pub hello_text : List ℕ
 hello_text = 72 ∷ 69 ∷ 76 ∷ 76 ∷ 79 ∷ 13 ∷ []
 
--- from every start, whatever the ROM does: a first part of the text was sent and the machine runs, for fewer than n Go
--- events, or just the text was sent and the machine returned
+-- from every start, whatever the ROM does: a prefix of the text was sent and the machine runs, for fewer than n Go
+-- events, or exactly the text was sent and the machine returned
 abbrev pub Prints : List ℕ → List ℕ → ℕ → Type 0
 Prints program text n =
     (s : State) → IsStart CODE_START program s → (es : List Event) → all_lawful es s ≡ true →

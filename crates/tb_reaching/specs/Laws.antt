@@ -22,7 +22,7 @@ abbrev pub StepLaw : Type 0
 StepLaw =
     (w p q : State → Bool) (t : List ℕ) → OneStep (Passes w) (Passes p) (Passes q) t → Reaches (Passes w) (Passes p) (Passes q) t 1
 
--- reaching one after the other adds outputs and bounds
+-- reaching one set after another adds outputs and bounds
 abbrev pub ChainLaw : Type 0
 ChainLaw =
     (w p q r : State → Bool) (t u : List ℕ) (n m : ℕ) → Reaches (Passes w) (Passes p) (Passes q) t n →

@@ -10,7 +10,7 @@ use Rattle.tb_kernal.specs.Runs.{run, all_lawful, goes}
 abbrev pub States : Type 1
 States = State → Type 0
 
--- a first part of the events, with 1 to n Go events, ends in q, and t was sent
+-- a prefix of the events, with 1 to n Go events, ends in q, and t was sent
 pub record Arrived (q : States) (t : List ℕ) (n : ℕ) (s : State) (es : List Event) : Type 0 where
   pub before : List Event
   pub after : List Event
@@ -20,7 +20,7 @@ pub record Arrived (q : States) (t : List ℕ) (n : ℕ) (s : State) (es : List 
   pub there : q (run before s)
   pub sent : (run before s).sent ≡ s.sent ++ t
 
--- fewer than n Go events, which lead to w, and a first part of t was sent
+-- fewer than n Go events, which lead to w, and a prefix of t was sent
 pub record OnTheWay (w : States) (t : List ℕ) (n : ℕ) (s : State) (es : List Event) : Type 0 where
   pub few : goes es < n
   pub kept : w (run es s)
@@ -33,6 +33,6 @@ pub record OnTheWay (w : States) (t : List ℕ) (n : ℕ) (s : State) (es : List
 pub record Reaches (w p q : States) (t : List ℕ) (n : ℕ) : Type 0 where
   pub leads : (s : State) → p s → (es : List Event) → all_lawful es s ≡ true → Arrived q t n s es ⊎ OnTheWay w t n s es
 
--- the least that is wanted on the way
+-- the least that is promised on the way
 abbrev pub NotWrong : States
 NotWrong s = (e : Wrong) → status s ≢ WentWrong e

@@ -18,7 +18,7 @@ home_low s = s.mem (0x0101 + s.regs.s)
 abbrev pub home_high : State → ℕ
 home_high s = s.mem (0x0101 + s.regs.s + 1)
 
--- all but the return address stays on the stack, and S may go down by 16
+-- all but the return address is kept on the stack, and S may go down by 16
 abbrev pub setup_of : Part → Part → State → Setup
 setup_of code whole s = record {
   code = code;
@@ -46,7 +46,7 @@ pub record IsWaiting (w : View) : Type 0 where
   pub pc : w.regs.pc ≡ CHRIN
   pub text : w.text ≡ []
 
--- the return address of the start is lo, hi on the stack, and what stays lies above it
+-- the return address of the start is lo, hi on the stack, and what is kept lies above it
 pub record Homed (f : Setup) (lo hi : ℕ) : Type 0 where
   pub home : f.home ≡ back_at lo hi
   pub above : f.home_s + length f.rest ≡ 255

@@ -10,7 +10,7 @@ use Rattle.tb_kernal.specs.Rom.{service_at}
 use Rattle.tb_kernal.specs.Machine.{State, status}
 use Rattle.tb_reaching.specs.Reaching.{States, Reaches}
 
--- ---- places
+-- ---- addresses
 
 -- the program's own data
 abbrev pub is_data : ℕ → Bool
@@ -20,11 +20,11 @@ is_data a = within 0x00fb 0x00fe a || within 0xc000 0xcfff a
 abbrev pub is_program : ℕ → Bool
 is_program a = within 0x0800 0x9fff a
 
--- places that no event of the ROM writes
+-- addresses that no event of the ROM writes
 abbrev pub is_fixed : ℕ → Bool
 is_fixed a = is_data a || is_program a
 
--- ---- a view, and what stays
+-- ---- a view, and what is kept
 
 -- the registers, of which S is not looked at; the bytes pushed since a routine began, the last one first; memory; the keyboard
 pub record View : Type 0 where
@@ -43,12 +43,12 @@ abbrev pub part_at : ℕ → List ℕ → Part
 part_at at [] a = None
 part_at at (b ∷ bs) a = let later = part_at (at + 1) bs a in if a == at then Some b else later
 
--- bytes stand one behind the other from an address on
+-- bytes follow one another from an address on
 abbrev pub Bytes : Part → ℕ → List ℕ → Type 0
 Bytes code at [] = Unit {0}
 Bytes code at (b ∷ bs) = (code at ≡ Some b) × Bytes code ((at + 1) % 65536) bs
 
--- a part but for its bytes at some places
+-- a part without its bytes at some addresses
 abbrev pub without : (ℕ → Bool) → Part → Part
 without barred code a = if barred a then None else code a
 
@@ -56,7 +56,7 @@ without barred code a = if barred a then None else code a
 abbrev pub Holds : Part → Part → Type 0
 Holds part code = (a b : ℕ) → part a ≡ Some b → code a ≡ Some b
 
--- what stays while a routine runs: the bytes that instructions may be fetched from, all bytes of the program,
+-- what is kept while a routine runs: the bytes that instructions may be fetched from, all bytes of the program,
 -- the stack above the view's, the return, and the lowest S
 pub record Setup : Type 0 where
   pub code : Part
@@ -66,7 +66,7 @@ pub record Setup : Type 0 where
   pub home_s : ℕ
   pub low : ℕ
 
--- bytes stand one behind the other in memory
+-- bytes follow one another in memory
 abbrev pub Stacked : (ℕ → ℕ) → ℕ → List ℕ → Type 0
 Stacked m at [] = Unit {0}
 Stacked m at (b ∷ bs) = (m at ≡ b) × Stacked m (at + 1) bs
@@ -75,7 +75,7 @@ Stacked m at (b ∷ bs) = (m at ≡ b) × Stacked m (at + 1) bs
 abbrev pub with_s : ℕ → Regs → Regs
 with_s k r = record r { s = k }
 
--- the program stands in memory, nothing went wrong, and the return leads to the ROM and to no service
+-- the program is in memory, nothing went wrong, and the return leads to the ROM and to no service
 pub record Stays (f : Setup) (m : ℕ → ℕ) (wrong : Option Wrong) (to to_s : ℕ) : Type 0 where
   pub whole : (a b : ℕ) → f.whole a ≡ Some b → (is_program a ≡ true) × (m a ≡ b)
   pub inner : Holds f.code f.whole
@@ -108,7 +108,7 @@ pub record UnderWay (f : Setup) (s : State) : Type 0 where
   pub not_above : s.regs.s + length f.rest ≤ 255
   pub on_code : OnCode f s
 
--- with so many bytes on top of what stays, S is not below the lowest
+-- with this many bytes on top of what is kept, S is not below the lowest
 abbrev pub Fits : Setup → ℕ → Type 0
 Fits f room = f.low + room + length f.rest ≤ 255
 

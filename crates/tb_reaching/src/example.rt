@@ -1,9 +1,9 @@
 //! A program in machine code, proved from its start to its return.
 ghost use Rattle.tb_reaching.specs.Hello.{Prints, SendsText, hello_text};
 
-/// Machine code for $080D: it sends HELLO and a return, and goes back to the ROM.
+/// Machine code for $080D, 48 bytes: it sends HELLO and a return, and goes back to the ROM.
 ///
-/// The routine at $081F sends as many bytes as $C000 says, from the address in $FB and $FC on.
+/// The routine at $081F sends as many bytes as $C000 says, 0 to 255, from the address in $FB and $FC on.
 pub const HELLO: [u8; 48] = [
     0xd8, // 080D CLD
     0xa9, 0x37, // 080E LDA #$37

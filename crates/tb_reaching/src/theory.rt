@@ -6,7 +6,7 @@ pub fn step()
     ensures { StepLaw }
 {}
 
-/// Reaching one set and from it another is reaching the other.
+/// Reaching one set, and from it another, is reaching the other.
 pub fn chain()
     ensures { ChainLaw }
 {}
