@@ -9,6 +9,7 @@ use Rattle.tb_lower.specs.Lowered.{or_constant, value_code}
 or_constant-some : (x : Option ℕ) (k v : ℕ) (code : List Instr) → x ≡ Some v → or_constant x k code ≡ Put k v ∷ []
 or_constant-some x k v code e = ap (λ y. or_constant y k code) e
 
+-- an expression that is a constant has the code of that constant
 pub constant_code : (e : Expression) (k v : ℕ) → constant e ≡ Some v → value_code e k ≡ Put k v ∷ []
 constant_code (Number n) k v e = cc
 constant_code (Variable x) k v e = absurd cc

@@ -87,7 +87,7 @@ found_code (l ∷ lines) n =
     ap (λ x. if nat_eq l.number n then Some (list_code l.content) else x) (found_code lines n)
     ∙ found_if (nat_eq l.number n) l.content (content_at lines n)
 
--- a statement that is found is shallow, and its code is at most so long
+-- a statement that is found is shallow, and its code is at most this long
 abbrev IsFit : ℕ → Option Statement → Type 0
 IsFit size (Some c) = (statement_need c ≤ 16) × (length (list_code c) ≤ size)
 IsFit size None = Unit {0}
@@ -112,6 +112,7 @@ found_fit (l ∷ lines) n (more h hs) =
     (fit_more (longest (program_code lines)) (longest (program_code (l ∷ lines))) (content_at lines n) (omega arith) (found_fit lines n hs))
 
 module _ (code : SlotCode) where
+  -- the beginnings of a + b steps are those of the first a steps and of the b after them
   pub beginnings_sum : (a b : ℕ) (r : Run SlotState) → beginnings code (a + b) r ≡ beginnings code a r + beginnings code b (advance_by (slot_step code) a r)
   beginnings_sum zero b r = ap (λ n. beginnings code n r) (zero-add b) ∙ sym (zero-add _)
   beginnings_sum (suc a) b r =
@@ -119,7 +120,7 @@ module _ (code : SlotCode) where
       ∙ ap (λ n. begins_in r + n) (beginnings_sum a b (advance (slot_step code) r))
       ∙ sym (add_assoc (begins_in r) _ _)
 
-  -- some steps, at most so many, after which the slot run meets the source's
+  -- some steps, at most the limit, after which the slot run meets the source's
   pub record Arrives (limit m passed : ℕ) (source : Run State) (r : Run SlotState) : Type 0 where
     pub steps : ℕ
     pub few : steps ≤ limit
@@ -199,7 +200,7 @@ module _ (program : Program) (shallow : IsShallow program) where
     few : k ≤ m * (longest (program_code program) + 1)
     meets : Meets m (advance_by (line program) m source) (advance_by (slot_step (program_code program)) k r) (beginnings (program_code program) k r)
 
-  -- where the runs meet after a line, they meet after m more
+  -- if the runs meet after a line, they meet after m more
   goes_on : (m b : ℕ) (source : Run State) (r : Run SlotState) → Meets 1 source r b → ((s : State) (w : Slots) (out : List ℕ) → length w.words ≡ 16
       → Reaches m (GoesOn s out) (GoesOn (record { state = s; rest = Whole; slots = w }) out)) → (k : ℕ)
       × (k ≤ m * (longest (program_code program) + 1)) × Meets (suc m) (advance_by (line program) m source)
@@ -243,7 +244,7 @@ abbrev source_over : Run SlotState → Run State
 source_over (Over e out) = Over e out
 source_over (GoesOn s out) = GoesOn s.state out
 
--- no more beginnings than instructions
+-- a step passes at most one beginning
 begins_once : (r : Run SlotState) → begins_in r ≤ 1
 begins_once (GoesOn c out) = once c.rest c.state.place
   where
@@ -270,7 +271,7 @@ agrees_before c d m b (Over why o) later (GoesOn t out) e h =
 agrees_before c d m b (Over why o) later (Over why' out) e h =
     ap source_over (sym h.0 ∙ e ∙ over_stays (slot_step c) d why o)
 
--- a run that is over where the source's run is stays so
+-- a run that is over when the source's run is over stays so
 agrees_after : (c : SlotCode) (d m b : ℕ) (q sooner : Run SlotState) (why : End) (out : List ℕ) → q ≡ advance_by (slot_step c) d sooner
     → Meets m (Over why out) sooner b → Agrees q (Over why out)
 agrees_after c d m b q sooner why out e h =
@@ -281,6 +282,7 @@ list_of : (x : Option Statement) → IsListOf x (option_map list_code x)
 list_of None = tt
 list_of (Some c) = (bounded_list c, same_texts c)
 
+-- the code of a shallow program has the program's runs
 pub follows : (program : Program) → IsShallow program → Follows program (program_code program)
 follows program shallow = record {
   same_numbers = numbers_code program;
@@ -325,10 +327,11 @@ shallow_if : (b : Bool) (l : Numbered Statement) (lines : Program) → nat_le (s
 shallow_if true l lines e next h = more (leb-true (statement_need l.content) 16 e) (next h)
 shallow_if false l lines e next h = absurd cc
 
+-- a program of which no line is too deep is shallow
 pub shallow : (lines : Program) → too_deep lines ≡ None → IsShallow lines
 shallow [] h = none
 shallow (l ∷ lines) h = shallow_if (nat_le (statement_need l.content) 16) l lines refl (shallow lines) h
 
--- a program that is not too deep is followed by its code
+-- the code of a program that is not too deep has the program's runs
 pub lowered : (lines : Program) (code : SlotCode) → too_deep lines ≡ None → code ≡ program_code lines → Follows lines code
 lowered lines code h e = subst (Follows lines) (sym e) (follows lines (shallow lines h))

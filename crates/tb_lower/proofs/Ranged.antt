@@ -78,6 +78,7 @@ module _ (limit : ℕ) where
   code_in_range (l ∷ ls) (more fits rest) short =
       ((tt, statement_in_range (statement_of l.1) fits (statement_letters l.1) short.0), code_in_range ls rest short.1)
 
+-- the code of a program that is not too deep has its operands in range, and texts as short as the program's
 pub in_range : (lines : List (ℕ × RustStatement)) (code : SlotCode) → too_deep (lines_of lines) ≡ None → code ≡ program_code (lines_of lines)
     → (limit : ℕ) → HasShortTexts limit (lines_of lines) → IsCodeInRange limit code
 in_range lines code deep same limit short =

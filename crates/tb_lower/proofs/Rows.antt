@@ -22,7 +22,7 @@ cr = 13 ∷ []
 abbrev any_slots : Slots
 any_slots = record { words = replicate 16 12345; held = 7 }
 
--- after so many lines the run is over, with this output; and so is the slot code's, after twelve times as many steps
+-- after n lines the run is over, with this output; and so is the slot code's run, after twelve times as many steps
 abbrev Sends : Program → ℕ → List ℕ → List ℕ → ℕ → steps.End → List ℕ → Type 0
 Sends program seed text answers m why out =
     (source_run program seed text answers m ≡ Over why out)
@@ -210,7 +210,7 @@ break_later = (refl, refl)
 break_unmet_past_last : Sends (line 10 (Print ((Text (codes "A")) ∷ []) true) ∷ []) 1 ([]) (0 ∷ 3 ∷ []) 2 Faulted (codes "A" ++ cr ++ cr ++ codes "!7 AT 10" ++ cr)
 break_unmet_past_last = (refl, refl)
 
--- so many lines from n on, a step apart, which do the same, and then the rest
+-- this many lines from n on, a step apart, which do the same, and then the rest
 abbrev repeated : ℕ → ℕ → ℕ → Statement → Program → Program
 repeated zero n apart c rest = rest
 repeated (suc k) n apart c rest = line n c ∷ repeated k (n + apart) apart c rest
@@ -219,31 +219,31 @@ repeated (suc k) n apart c rest = line n c ∷ repeated k (n + apart) apart c re
 abbrev long_program : Program
 long_program = line 10 (Input (0 ∷ [])) ∷ line 20 (Goto (Variable 0)) ∷ repeated 297 30 10 End (line 3000 (Print (Text (codes "Z") ∷ []) true) ∷ [])
 
--- 3000
+-- line 3000
 goto_last : Sends long_program 1 (codes "3000" ++ cr) [] 4 Faulted (codes "? " ++ cr ++ codes "Z" ++ cr ++ cr ++ codes "!7 AT 3000" ++ cr)
 goto_last = (refl, refl)
 
--- 30
+-- line 30
 goto_first : Sends long_program 1 (codes "30" ++ cr) [] 3 Ended (codes "? " ++ cr)
 goto_first = (refl, refl)
 
--- 2990
+-- line 2990
 goto_last_but_one : Sends long_program 1 (codes "2990" ++ cr) [] 3 Ended (codes "? " ++ cr)
 goto_last_but_one = (refl, refl)
 
--- 25
+-- line 25
 goto_between : Sends long_program 1 (codes "25" ++ cr) [] 2 Faulted (codes "? " ++ cr ++ cr ++ codes "!1 AT 20" ++ cr)
 goto_between = (refl, refl)
 
--- 3001
+-- line 3001
 goto_above : Sends long_program 1 (codes "3001" ++ cr) [] 2 Faulted (codes "? " ++ cr ++ cr ++ codes "!1 AT 20" ++ cr)
 goto_above = (refl, refl)
 
--- 0
+-- line 0
 goto_zero : Sends long_program 1 (codes "0" ++ cr) [] 2 Faulted (codes "? " ++ cr ++ cr ++ codes "!1 AT 20" ++ cr)
 goto_zero = (refl, refl)
 
--- -1
+-- line -1
 goto_minus_one : Sends long_program 1 (codes "-1" ++ cr) [] 2 Faulted (codes "? " ++ cr ++ cr ++ codes "!1 AT 20" ++ cr)
 goto_minus_one = (refl, refl)
 
@@ -251,12 +251,12 @@ goto_minus_one = (refl, refl)
 endless : sent_by (source_run (line 10 (Print (Text (codes "A") ∷ []) false) ∷ line 20 (Goto (Number 10)) ∷ []) 1 [] [] 10) ≡ codes "AAAAA"
 endless = refl
 
--- 1+(1+( .. 1 .. )), so many parentheses deep
+-- 1+(1+( .. 1 .. )), this many parentheses deep
 abbrev nested : ℕ → Expression
 nested zero = Number 1
 nested (suc k) = Binary Add (Number 1) (nested k)
 
--- ((( .. 1+1)+1) .. +1), so many parentheses deep
+-- ((( .. 1+1)+1) .. +1), this many parentheses deep
 abbrev nested_left : ℕ → Expression
 nested_left zero = Number 1
 nested_left (suc k) = Binary Add (nested_left k) (Number 1)

@@ -68,13 +68,13 @@ module _ (ns : List ℕ) (n : ℕ) where
       ∙ then_same (input n x s) _ _ (λ s'. inputs_runs xs size s' w len)
       ∙ sym (then_assoc (input n x s) (inputs n xs) (fall ns n))
 
-  -- the line goes on where the relation holds
+  -- the line goes on if the relation holds
   leave_runs : (b : Bool) (is : List Instr) (s : State) (w : Slots) (go : Step State) → perform ns n is s w ≡ go
       → stay_then (if b then Goes (Stays s w) [] else leaving (fall ns n s)) (perform ns n is) ≡ (if b then go else fall ns n s)
   leave_runs true is s w go h = after_nothing _ ∙ h
   leave_runs false is s w go h = refl
 
-  -- a jump to a constant line, and one to a line that is worked out
+  -- a jump to a constant line, and one to a line that is computed
   goto_runs : (e : Expression) (x : Option ℕ) → constant e ≡ x → (size : ℕ) → need e ≤ size
       → Does size (target_code x JumpTo (value_code e 0 ++ Jump ∷ [])) (λ s. valued n e s (go_to ns n))
   goto_runs e (Some v) same size fits s w len =
@@ -91,6 +91,7 @@ module _ (ns : List ℕ) (n : ℕ) where
       value_runs ns n e 0 (Call ∷ []) s w (go_sub ns n) (omega arith)
       (λ v s' w' kept at. leaving_ends (go_sub ns n (slice_index w'.words 0) s') _ ∙ ap (λ u. go_sub ns n u s') at)
 
+  -- the slot code of a statement does what the statement does
   pub statement_runs : (c : Statement) (size : ℕ) → statement_need c ≤ size → Does size (statement_code c) (does ns n c)
   statement_runs (Let x e) size fits s w len =
       value_runs ns n e 0 (Store x ∷ []) s w (λ v s'. fall ns n (stored x v s')) (omega arith)

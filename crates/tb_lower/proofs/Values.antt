@@ -16,7 +16,7 @@ use Rattle.tb_lower.specs.Lowered.{or_constant, value_code}
 use Rattle.tb_meaning.proofs.Constants.{constant_value, constant_word}
 use Rattle.tb_meaning.proofs.Runs.{after_nothing}
 
--- goes on where an instruction stays in the line
+-- on with what is next, if an instruction stays in the line
 abbrev pub stay_then : Step After → (State → Slots → Step State) → Step State
 stay_then (Goes (Stays s words) t) f = after_sending t (f s words)
 stay_then (Goes (Leaves s) t) f = Goes s t
@@ -27,7 +27,7 @@ abbrev pub perform : List ℕ → ℕ → List Instr → State → Slots → Ste
 perform ns n [] s words = fall ns n s
 perform ns n (i ∷ is) s words = stay_then (act ns n i s words) (perform ns n is)
 
--- nothing but slots from k on was changed
+-- only slots from k on were changed
 pub record Kept (k : ℕ) (old new : Slots) : Type 0 where
   pub size : length new.words ≡ length old.words
   pub held : new.held ≡ old.held
@@ -50,6 +50,7 @@ kept_trans k j a b c le p q = record {
   below = λ i lt. q.below i (omega arith) ∙ p.below i lt;
 }
 
+-- an expression needs at least one slot
 pub need_pos : (e : Expression) → 1 ≤ need e
 need_pos (Number m) = omega arith
 need_pos (Variable x) = omega arith
@@ -103,6 +104,7 @@ module _ (ns : List ℕ) (n : ℕ) where
       ∙ ap (λ u. go u s) (constant_word e v same) ∙ sym (ap (λ x. with_value n x s go) (constant_value e v s.vars s.seed same))
   constant_runs e None code k is s w go same fits h runs = runs
 
+  -- the code of an expression puts its value into slot k, or faults as the expression does
   pub value_runs : (e : Expression) (k : ℕ) (is : List Instr) (s : State) (w : Slots) (go : ℕ → State → Step State) → k + need e ≤ length w.words
       → ((v : ℕ) (s' : State) (w' : Slots) → Kept k w w' → slice_index w'.words k ≡ v → perform ns n is s' w' ≡ go v s') → perform ns n (value_code e k ++ is) s w ≡ valued n e s go
   value_runs (Number m) k is s w go fits h =

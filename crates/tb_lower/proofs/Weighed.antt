@@ -54,6 +54,7 @@ target_weight : (w : Weights) (x : Option ℕ) (direct : ℕ → Instr) (code : 
 target_weight w (Some v) direct code most h h' = h v
 target_weight w None direct code most h h' = h'
 
+-- a statement's code weighs at most the statement's share and one store, newline and stop
 pub bounded : (c : Statement) (w : Weights) → weigh w (statement_code c) ≤ w.store + w.newline + w.stop + share w c
 bounded (Let x e) w = omega (arith, weigh_append w (value_code e 0) (Store x ∷ []), value_weight w e 0)
 bounded (Print items true) w = omega (arith, weigh_append w (items_code items) (SendNewline ∷ []), items_weight w items)
@@ -115,9 +116,11 @@ items_texts (Value e ∷ is) js =
     ∙ sym (texts_append (items_code is) js) ∙ items_texts is js
 items_texts (Zone ∷ is) js = items_texts is js
 
+-- a line's list is bounded by its statement, with the poll
 pub bounded_list : (c : Statement) → IsBounded c (list_code c)
 bounded_list c w = omega (arith, bounded c w)
 
+-- a statement's code sends the statement's texts, in order
 pub same_texts : (c : Statement) → instr_texts (statement_code c) ≡ statement_texts c
 same_texts (Let x e) = value_texts e 0 _
 same_texts (Print items true) = items_texts items _ ∙ append-nil _

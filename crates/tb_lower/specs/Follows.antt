@@ -1,4 +1,4 @@
--- What it is that slot code has the runs of a program.
+-- What it means that slot code has the runs of a program.
 use Rattle.std.specs.Prelude.{◌≡◌, ℕ, ◌+◌, ◌*◌, ◌≤◌, max, List, [], ◌∷◌, length, Option, Some, None}
 use Rattle.tb_syntax.specs.Source.{Statement, Program, numbers}
 use Rattle.tb_syntax.specs.Texts.{statement_texts}
@@ -14,7 +14,7 @@ abbrev pub longest : SlotCode → ℕ
 longest [] = 0
 longest (line ∷ lines) = max (length line.content) (longest lines)
 
--- the slot run stands where the source's run stands after m lines, b beginnings of lists having passed
+-- the slot run is where the source's run is after m lines, and b beginnings of lists have passed
 abbrev pub Meets : ℕ → Run State → Run SlotState → ℕ → Type 0
 Meets m (GoesOn s out) r b =
     (slots : Slots) × (length slots.words ≡ 16) × (r ≡ GoesOn (record { state = s; rest = Whole; slots = slots }) out) × (b ≡ m)
@@ -25,7 +25,7 @@ abbrev pub Agrees : Run SlotState → Run State → Type 0
 Agrees (GoesOn c out) source = IsPrefix out (sent_by source)
 Agrees (Over e out) source = source ≡ Over e out
 
--- a line's list: bounded by kind, with the texts of its items
+-- a line's list: bounded by its statement kind by kind, with the texts of its items
 abbrev pub IsListOf : Option Statement → Option (List Instr) → Type 0
 IsListOf None None = Unit {0}
 IsListOf (Some c) (Some is) = IsBounded c is × (instr_texts is ≡ statement_texts c)
@@ -34,7 +34,7 @@ IsListOf (Some c) None = ⊥
 
 -- The slot code has the program's runs, for each first seed, keyboard, first slots and first held word. For each m
 -- some k, at most m times one more than the longest list, has the output and the end that the program has after
--- m lines, at the beginning of a list and in the same state where the run goes on. For each k the output is a prefix
+-- m lines, at the beginning of a list and in the same state if the run goes on. For each k the output is a prefix
 -- of what some number of lines sends, and the end, if there is one, is the program's.
 pub record Follows (program : Program) (code : SlotCode) : Type 0 where
   pub same_numbers : numbers code ≡ numbers program

@@ -7,7 +7,7 @@ use Rattle.tb_meaning.specs.Values.{constant}
 use Rattle.tb_lower.specs.Slots.{Instr, Put, Load, Compute, Store, SendText, SendNumber, SendZone, SendNewline, Poll, Hold, LeaveUnless, Jump, Call, JumpTo, CallTo, SlotCode}
 use Rattle.tb_lower.specs.Slots as slots
 
--- a constant, where there is one, into slot k, and else that code
+-- a constant, if there is one, into slot k; else that code
 abbrev pub or_constant : Option ℕ → ℕ → List Instr → List Instr
 or_constant (Some v) k code = Put k v ∷ []
 or_constant None k code = code
@@ -41,12 +41,12 @@ abbrev pub newline_code : Bool → List Instr
 newline_code true = SendNewline ∷ []
 newline_code false = []
 
--- a constant target, where there is one, is part of the instruction; else that code
+-- a constant target, if there is one, is part of the instruction; else that code
 abbrev pub target_code : Option ℕ → (ℕ → Instr) → List Instr → List Instr
 target_code (Some v) direct code = direct v ∷ []
 target_code None direct code = code
 
--- the slot code of a statement; the left side of IF is held while the right one is valued
+-- the slot code of a statement; the left side of IF is held while the right one is computed
 abbrev pub statement_code : Statement → List Instr
 statement_code (Let x e) = value_code e 0 ++ Store x ∷ []
 statement_code (Print items ends) = items_code items ++ newline_code ends

@@ -2,7 +2,7 @@
 use Rattle.std.specs.Prelude.{ℕ, ◌+◌, max, List, [], ◌∷◌, if◌then◌else◌, nat_le, Option, Some, None}
 use Rattle.tb_syntax.specs.Source.{Expression, Number, Variable, Negate, Binary, Random, Item, Text, Value, Zone, Statement, Let, Print, Input, If, Goto, Gosub, Return, End, Remark, Program}
 
--- an operator keeps its left value in one slot while its right operand is valued
+-- an operator keeps its left value in one slot while its right operand is computed
 abbrev pub need : Expression → ℕ
 need (Number n) = 1
 need (Variable x) = 1

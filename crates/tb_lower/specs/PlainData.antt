@@ -8,7 +8,7 @@ use Rattle.tb_lower.specs.declared.slot_code.SlotLine.{SlotLine}
 use Rattle.tb_lower.specs.Slots.{Instr, Put, Load, Store, Negate, Compute, Random, SendText, SendNumber, SendZone, SendNewline, Input, Poll, Hold, LeaveUnless}
 use Rattle.tb_lower.specs.Slots.{Jump, Call, JumpTo, CallTo, Return, End, SlotCode}
 
--- an instruction; a letter by its place from 0 for A
+-- an instruction; a letter by its index, 0 for A
 abbrev pub instr_of : SlotInstr → Instr
 instr_of (instr.Put k n) = Put k n
 instr_of (instr.Load k x) = Load k (letter_index x)
@@ -35,6 +35,6 @@ instr_of instr.End = End
 abbrev pub slot_line_of : SlotLine → Numbered (List Instr)
 slot_line_of line = record { number = line.number; content = map instr_of line.code.items }
 
--- slot code's model, which is the list of its lines
+-- the model of slot code is the list of its lines
 abbrev pub code_of : List SlotLine → SlotCode
 code_of lines = map slot_line_of lines

@@ -2,7 +2,7 @@
 use Rattle.std.specs.Prelude.{ℕ, ◌+◌, ◌<◌, List, [], ◌∷◌, length}
 use Rattle.tb_lower.specs.Slots.{Instr, Put, Load, Store, Negate, Compute, Random, SendText, Input, JumpTo, CallTo, SlotCode}
 
--- an operator's right operand is in the slot behind its left one
+-- an operator's right operand is in the slot after its left one
 abbrev pub IsInRange : ℕ → Instr → Type 0
 IsInRange limit (Put k n) = (k < 16) × (n < 65536)
 IsInRange limit (Load k x) = (k < 16) × (x < 26)
@@ -21,7 +21,7 @@ abbrev pub AreInRange : ℕ → List Instr → Type 0
 AreInRange limit [] = Unit {0}
 AreInRange limit (i ∷ is) = IsInRange limit i × AreInRange limit is
 
--- and each of slot code
+-- each list of slot code is in range
 abbrev pub IsCodeInRange : ℕ → SlotCode → Type 0
 IsCodeInRange limit [] = Unit {0}
 IsCodeInRange limit (line ∷ lines) = AreInRange limit line.content × IsCodeInRange limit lines

@@ -5,7 +5,7 @@ use Rattle.tb_lower.specs.declared.lowering.LowerError.{LowerError}
 use Rattle.tb_lower.specs.declared.lowering.LowerError.TheVariants.{TooDeep, NoMemory}
 use Rattle.tb_lower.specs.Need.{too_deep}
 
--- want of memory says nothing of the program
+-- running out of memory says nothing about the program
 abbrev pub IsRefusal : Program → LowerError → Type 0
 IsRefusal program (TooDeep n) = too_deep program ≡ Some n
 IsRefusal program NoMemory = Unit {0}

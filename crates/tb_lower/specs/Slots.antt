@@ -95,7 +95,7 @@ act ns n (CallTo target) s slots = leaving (go_sub ns n target s)
 act ns n Return s slots = leaving (go_back n s)
 act ns n End s slots = Stops Ended []
 
--- the state after an instruction of line n, where others are left of its list
+-- the state after an instruction of line n, if others are left of its list
 abbrev pub settled : ℕ → List Instr → Slots → Step After → Step SlotState
 settled n is slots (Goes (Stays s slots') t) = Goes (record { state = s; rest = Left n is; slots = slots' }) t
 settled n is slots (Goes (Leaves s) t) = Goes (record { state = s; rest = Whole; slots = slots }) t
@@ -106,7 +106,7 @@ abbrev pub instr : List ℕ → ℕ → List Instr → State → Slots → Step 
 instr ns n [] s slots = settled n [] slots (leaving (fall ns n s))
 instr ns n (i ∷ is) s slots = settled n is slots (act ns n i s slots)
 
--- the list at a line, where there is one
+-- the list at a line, if there is one
 abbrev pub instr_found : List ℕ → ℕ → Option (List Instr) → State → Slots → Step SlotState
 instr_found ns n (Some is) s slots = instr ns n is s slots
 instr_found ns n None s slots = past ns
@@ -129,13 +129,13 @@ slot_start code seed text answers slots = GoesOn (record { state = start (number
 abbrev pub slot_run : SlotCode → ℕ → List ℕ → List ℕ → Slots → ℕ → Run SlotState
 slot_run code seed text answers slots k = advance_by (slot_step code) k (slot_start code seed text answers slots)
 
--- whether a run stands at the beginning of a list
+-- 1 if a run is at the beginning of a list, else 0
 abbrev pub begins : Rest → Place → ℕ
 begins (Left n is) place = 0
 begins Whole (At n) = 1
 begins Whole Past = 0
 
--- whether a run stands at the beginning of a list, as a number
+-- 1 if the run goes on and is at the beginning of a list, else 0
 abbrev pub begins_in : Run SlotState → ℕ
 begins_in (GoesOn c out) = begins c.rest c.state.place
 begins_in (Over e out) = 0

@@ -7,7 +7,7 @@ use Rattle.tb_lower.specs.Slots as slots
 use Rattle.tb_meaning.specs.Cost.{nodes}
 
 -- a weight for each kind of instruction: work is put, load, negation, arithmetic and RND, an item is one send of a
--- text or a number, a byte one of a text, a move one go to, gosub or return
+-- text or a number, a byte one of a text, a move one GOTO, GOSUB or RETURN
 pub record Weights : Type 0 where
   pub work : ℕ
   pub store : ℕ
@@ -50,18 +50,18 @@ abbrev pub weigh : Weights → List Instr → ℕ
 weigh w [] = 0
 weigh w (i ∷ is) = weight w i + weigh w is
 
--- what an item's parts may weigh
+-- the most that an item's parts may weigh
 abbrev pub item_share : Weights → Item → ℕ
 item_share w (Text t) = w.item + w.byte * length t
 item_share w (Value e) = w.item + w.work * nodes e
 item_share w Zone = w.zone
 
--- what the items of a PRINT may weigh
+-- the most that the items of a PRINT may weigh
 abbrev pub items_share : Weights → List Item → ℕ
 items_share w [] = 0
 items_share w (i ∷ is) = item_share w i + items_share w is
 
--- what a statement's parts may weigh
+-- the most that a statement's parts may weigh
 abbrev pub share : Weights → Statement → ℕ
 share w (Let x e) = w.work * nodes e
 share w (Print items ends) = items_share w items
@@ -73,7 +73,7 @@ share w source.Return = w.move
 share w source.End = 0
 share w Remark = 0
 
--- at most one store, one newline, one stop and one poll, and of the rest as many as the statement has parts: work for
+-- at most one store, one newline, one stop and one poll, and as many of the others as the statement has parts: work for
 -- each node of an expression, an item for each text and value, and so on
 abbrev pub IsBounded : Statement → List Instr → Type 0
 IsBounded c is = (w : Weights) → weigh w is ≤ w.store + w.newline + w.stop + w.poll + share w c

@@ -40,9 +40,9 @@ impl From<AllocError> for LowerError {
     }
 }
 
-/// The slot code that does what the program does. Constant parts of expressions, which have no variable, no RND and
-/// no division by zero, are worked out, and a constant target is a direct jump. Whether an expression needs too many
-/// slots is judged on the expression as written.
+/// The slot code that does what the program does, or the lowest line whose expression needs more than 16 slots. Constant
+/// parts of expressions, which have no variable, no RND and no division by zero, are computed, and a constant target is a
+/// direct jump. Whether an expression needs too many slots is judged on the expression as written.
 #[tactic(auto, using(crate::proofs::Ranged::in_range))]
 pub fn lower(alloc: Global, program: &Program) -> Result<SlotCode, LowerError>
     ensures lowered { IfOk result (λ code. code_of code ≡ program_code (lines_of program.now)) }

@@ -17,11 +17,11 @@ pub enum SlotInstr {
     Load(u8, Letter),
     /// Stores slot 0 in a variable.
     Store(Letter),
-    /// Turns the sign of a slot.
+    /// Negates a slot.
     Negate(u8),
-    /// Joins a slot with the next one, into the first; or fault 2.
+    /// Combines a slot with the next one, into the first; or fault 2.
     Compute(Operator, u8),
-    /// Replaces a slot, the bound, by a random number; or fault 3.
+    /// Replaces a slot, which is the bound, by a random number; or fault 3.
     Random(u8),
     /// Sends a text.
     SendText(Vec<u8>),
@@ -37,17 +37,17 @@ pub enum SlotInstr {
     Poll,
     /// Holds slot 0.
     Hold,
-    /// Leaves the line unless the held word and slot 0 are so related.
+    /// Leaves the line unless the held word and slot 0 are in this relation.
     LeaveUnless(Rel),
     /// Goes to the line that slot 0 names; or fault 1.
     Jump,
-    /// Notes the place behind this line and goes to the line that slot 0 names; or fault 1 or 4.
+    /// Puts a return to the next line on the return list and goes to the line that slot 0 names; or fault 1 or 4.
     Call,
     /// Goes to this line; or fault 1.
     JumpTo(u16),
-    /// Notes the place behind this line and goes to this line; or fault 1 or 4.
+    /// Puts a return to the next line on the return list and goes to this line; or fault 1 or 4.
     CallTo(u16),
-    /// Goes to the place that was noted last; or fault 5.
+    /// Goes to the line of the newest return; or fault 5.
     Return,
     /// Ends the run.
     End,
@@ -89,7 +89,7 @@ impl SlotCode {
         &self.lines
     }
 
-    /// The same lines, given away.
+    /// Consumes self and returns the lines.
     pub fn into_lines(self) -> Vec<SlotLine>
         ensures { result.items ≡ self }
     {
