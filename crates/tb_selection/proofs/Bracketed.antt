@@ -1,4 +1,4 @@
--- The groups of a list are the list, and none leaves out what is read behind it.
+-- The groups of a list are the list, and none omits a word that is read after it.
 use Rattle.std.proofs.Common.{◌≡◌, ℕ, ◌+◌, Bool, true, false, if◌then◌else◌, List, [], ◌∷◌, ◌++◌, refl, sym, ap, ◌∙◌, append_assoc, Option, Some, None}
 use Rattle.std.specs.Prelude.{◌&&◌, nat_eq, option_map}
 use Rattle.std.proofs.lemmas.Bool.{and_parts, eqb-true}
@@ -24,7 +24,7 @@ abbrev pub IsThis : List Instr → Option Group → Type 0
 IsThis is None = Unit {0}
 IsThis is (Some g) = expand g ≡ is
 
--- the instruction that fetches a word, where one does
+-- the instruction that fetches a word, if one does
 pub data Fetches (k : ℕ) (i : Instr) : Operand → Type 0 where
   puts : (w : ℕ) → i ≡ Put k w → Fetches k i (Constant w)
   loads : (x : ℕ) → i ≡ Load k x → Fetches k i (Variable x)
@@ -37,13 +37,13 @@ at_slot : (t : Bool) (g : Group) (is : List Instr) → (t ≡ true → expand g 
 at_slot true g is h = h refl
 at_slot false g is h = tt
 
--- the same of the operands of a calculation that goes on by a constant
+-- the same for the operands of a calculation that goes on by a constant
 at_operands : (is : List Instr) (op by : Operator) (w x : ℕ) (t : Bool) (a b : Operand) → (t ≡ true → expand (Stepped op a b by w x) ≡ is)
     → IsThis is (option_map (λ (words : Operand × Operand). Stepped op words.0 words.1 by w x) (if t then Some (a, b) else None))
 at_operands is op by w x true a b h = h refl
 at_operands is op by w x false a b h = tt
 
--- the words of a test that is these instructions with some more behind it, if there are such words
+-- the words of a test that is these instructions followed by some more, if there are such words
 abbrev TestThis : Rel → (behind is : List Instr) → Option (Tested × Operand) → Type 0
 TestThis rel behind is None = Unit {0}
 TestThis rel behind is (Some words) = held words.0 ++ (fetch 0 words.1 ++ LeaveUnless rel ∷ behind) ≡ is
@@ -62,7 +62,7 @@ go_this rel to is None h = tt
 go_this rel to is (Some words) h = h
 
 module _ (k : ℕ) (i : Instr) (l : Operand) (h : Fetches k i l) where
-  -- the same before more
+  -- the same before further instructions
   more : (j : ℕ) (is : List Instr) → nat_eq k j ≡ true → fetch j l ++ is ≡ i ∷ is
   more j is e = ap (λ j. fetch j l ++ is) (sym (eqb-true k j e)) ∙ ap (λ f. f ++ is) (fetched k i l h)
 
@@ -127,7 +127,7 @@ held_is (Test rel HeldBefore b) = refl
 held_is (TestGo rel HeldBefore b to) = refl
 held_is _ = tt
 
--- a merged group is both
+-- a merged group has the instruction, and then those of the group
 pub merged_is : (i : Instr) (g : Group) → IsThis (i ∷ expand g) (merged i g)
 merged_is (Put k w) g = with_is k (Put k w) (Constant w) (puts w refl) g
 merged_is (Load k x) g = with_is k (Load k x) (Variable x) (loads x refl) g
@@ -141,7 +141,7 @@ merged_is _ g = tt
 alone_before : (i : Instr) (gs : List Group) → expand_all (alone i ∷ gs) ≡ i ∷ expand_all gs
 alone_before i gs = ap (λ l. l ++ expand_all gs) (alone_is i)
 
--- a group, if there is one, and those behind it have these instructions
+-- a group, if there is one, and those after it have these instructions
 abbrev Gives : Option Group → List Group → List Instr → Type 0
 Gives None gs is = Unit {0}
 Gives (Some m) gs is = expand m ++ expand_all gs ≡ is
@@ -162,7 +162,7 @@ instead_is (Some m) gs others is h k = by (omits_only_dead m (live (expand_all g
     by true = h
     by false = k
 
--- a group before others is that
+-- groups that were fused have the instructions of the group and of those after it
 fused_is : (a : Group) (gs : List Group) → expand_all (fused a gs) ≡ expand_all (a ∷ gs)
 fused_is a [] = refl
 fused_is a (b ∷ []) = refl
@@ -182,12 +182,12 @@ tried_is (Some m) i g gs h = by (omits_only_dead m (live (expand_all gs)) && may
     by true = fused_is m gs ∙ ap (λ l. l ++ expand_all gs) h
     by false = alone_fused i (g ∷ gs)
 
--- an instruction before groups is that
+-- groups that an instruction was attached to have that instruction, and then their own
 pub attach_is : (i : Instr) (gs : List Group) → expand_all (attach i gs) ≡ i ∷ expand_all gs
 attach_is i [] = alone_before i []
 attach_is i (g ∷ gs) = tried_is (merged i g) i g gs (merged_is i g)
 
--- the groups of a list are the list
+-- the instructions of the groups of a list are the list
 pub brackets : (is : List Instr) → expand_all (select is) ≡ is
 brackets [] = refl
 brackets (i ∷ is) = attach_is i (select is) ∙ ap (λ l. i ∷ l) (brackets is)

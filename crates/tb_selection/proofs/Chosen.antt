@@ -1,4 +1,4 @@
--- What a group omits is dead behind it, and the groups behind one are those of the rest.
+-- What a group omits is dead after it, and the groups after one are those of the rest.
 use Rattle.std.proofs.Common.{◌≡◌, Bool, true, false, List, [], ◌∷◌, refl, sym, ap, ◌∙◌, arith, Option, Some, None}
 use Rattle.std.specs.Prelude.{◌&&◌, nat_le, not}
 use Rattle.std.proofs.lemmas.Bool.{and_parts, leb-true}
@@ -15,7 +15,7 @@ pub alone_free : (i : Instr) (r : Live) → omits_only_dead (alone i) r ≡ true
 alone_free (Put k w) r = refl
 alone_free _ r = refl
 
--- and it may stand anywhere
+-- and it may be before any groups
 alone_stands : (i : Instr) (gs : List Group) → may_stand (alone i) gs ≡ true
 alone_stands (Put k w) gs = refl
 alone_stands _ gs = refl
@@ -37,7 +37,7 @@ fused_chosen a (b ∷ c ∷ e ∷ gs) h =
     let last = h.3.3.3 in
     instead_chosen (three_as_one a b c) (e ∷ gs) _ h.3.3.1 last (instead_chosen (four_as_one a b c e) gs (a ∷ b ∷ c ∷ e ∷ gs) last.1 last.3 h)
 
--- where no slot and not the held word is read, nothing is
+-- if no slot is read and the held word is not, nothing is live
 pub nothing_read : (r : Live) → (nat_le r.slots 0 && not r.held) ≡ true → nothing_live ≡ r
 nothing_read r h =
     let p = and_parts (nat_le r.slots 0) (not r.held) h in
@@ -66,7 +66,7 @@ attach_chosen i is (g ∷ gs) e h = by (merged i g)
     by None = single
     by (Some m) = by_free m (omits_only_dead m (live (expand_all gs)) && may_stand m gs) refl
 
--- so it is with the groups of every list
+-- the groups of every list are chosen
 pub chosen : (is : List Instr) → AreChosen (select is)
 chosen [] = tt
 chosen (i ∷ is) = attach_chosen i is (select is) refl (chosen is)

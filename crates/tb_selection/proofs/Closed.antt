@@ -14,7 +14,7 @@ use Rattle.tb_selection.specs.Laws.{AreClosed}
 use Rattle.tb_selection.specs.Liveness.{live, nothing_live, written, read}
 use Rattle.tb_selection.specs.declared.liveness.Live.{Live}
 
--- at most the slots below k are read, and the held word where h says so
+-- at most the slots below k are read, and the held word if h says so
 record Below (k : ℕ) (h : Bool) (r : Live) : Type 0 where
   slots : r.slots ≤ k
   held : r.held ≡ h
@@ -36,7 +36,7 @@ constant_below None k h code is b c = c
 more : (k : ℕ) (h : Bool) (a b c : List Instr) → Below k h (live (a ++ (b ++ c))) → Below k h (live ((a ++ b) ++ c))
 more k h a b c x = subst (λ l. Below k h (live l)) (sym (append_assoc a b c)) x
 
--- a value into slot k reads the slots below k only
+-- a value into slot k reads only the slots below k
 value_below : (e : Expression) (k : ℕ) (h : Bool) (is : List Instr) → Below (k + 1) h (live is) → Below k h (live (value_code e k ++ is))
 value_below (Number n) k h is b = written_below k h (live is) b
 value_below (Variable x) k h is b = written_below k h (live is) b
@@ -105,7 +105,7 @@ some_is a b h = cc
 none_is : {A : Type 0} (b : A) → ◌≡◌ {A = Option A} None (Some b) → ⊥
 none_is b h = cc
 
--- nothing is live where no slot and not the held word is read
+-- nothing is live if no slot is read and the held word is not
 is_nothing : (r : Live) → Below 0 false r → r ≡ nothing_live
 is_nothing r b =
     let none : r.slots ≡ 0 = omega (arith, b.slots) in
@@ -116,6 +116,7 @@ closed_by : (t : Bool) (c : Statement) (o : Option (List Instr)) (is : List Inst
 closed_by true c o is later e = ap live (sym (some_is _ _ e)) ∙ is_nothing (live (list_code c)) (statement_below c)
 closed_by false c o is later e = later e
 
+-- nothing is live before any line of a program
 pub all_closed : (program : Program) → AreClosed (program_code program)
 all_closed [] n is e = absurd (none_is is e)
 all_closed (line ∷ lines) n is e = closed_by (nat_eq line.number n) line.content (content_at (program_code lines) n) is (all_closed lines n is) e

@@ -17,6 +17,7 @@ operand_some k (Constant w) j js = (_, _, refl)
 operand_some k (Variable x) j js = (_, _, refl)
 operand_some k InSlot j js = (_, _, refl)
 
+-- a group has at least one instruction
 pub expand_some : (g : Group) → (i : Instr) × (is : List Instr) × (expand g ≡ i ∷ is)
 expand_some (Calculate op (Constant w) b d) = (_, _, refl)
 expand_some (Calculate op (Variable x) b d) = (_, _, refl)
@@ -41,14 +42,14 @@ expand_some (Remains x d to) = (_, _, refl)
 expand_some (Single i) = (_, _, refl)
 
 module _ (code : SlotCode) where
-  -- so many steps of slot instructions lead from a state to where x leads, passing no beginning of a list but the first
+  -- some steps of slot instructions lead from a state to where x leads, passing no beginning of a list but the first
   pub record Covers (c : SlotState) (out : List ℕ) (x : Step SlotState) : Type 0 where
     pub more : ℕ
     pub leads : advance_by (slot_step code) more (advance (slot_step code) (GoesOn c out)) ≡ joined out x
     pub none_begins : beginnings code more (advance (slot_step code) (GoesOn c out)) ≡ 0
     pub within : (m : ℕ) → m < more → IsInside (advance_by (slot_step code) m (advance (slot_step code) (GoesOn c out)))
 
-  -- the same behind the first step
+  -- the same after the first step
   record Behind (out : List ℕ) (x y : Step SlotState) : Type 0 where
     more : ℕ
     leads : advance_by (slot_step code) more (joined out x) ≡ joined out y
@@ -79,7 +80,7 @@ module _ (code : SlotCode) where
       within zero lt = here
       within (suc m) lt = h.within m (omega (arith, lt))
 
-  -- a step and those behind it, by the ones behind it
+  -- a step and those after it, by what is known of those after it
   on : (out : List ℕ) (f : SlotState → Step SlotState) (x : Step SlotState) → ((c : SlotState) (t : List ℕ) → InsideRest c.rest
       → Behind out (Goes c t) (after_sending t (f c))) → Behind out x (and_then x (λ c. inside f c.rest c))
   on out f (Stops e t) next = record { more = 0; leads = refl; none_begins = refl; within = λ m lt. absurd (omega (arith, lt)) }
@@ -100,14 +101,14 @@ module _ (code : SlotCode) where
   one_covers : (c : SlotState) (out : List ℕ) → Covers c out (slot_step code c)
   one_covers c out = record { more = 0; leads = refl; none_begins = refl; within = λ m lt. absurd (omega (arith, lt)) }
 
-  -- the instructions of a group, of which there is one at least
+  -- the instructions of a group, which has at least one
   some : (g : Group) (c : SlotState) (out : List ℕ) → Covers c out (steps code (expand g) c)
   some g c out = by (expand_some g)
     where
       by : (i : Instr) × (is : List Instr) × (expand g ≡ i ∷ is) → Covers c out (steps code (expand g) c)
       by p = subst (λ l. Covers c out (steps code l c)) (sym p.2) (covers p.0 p.1 c out)
 
-  -- steps, and the fall into the next line where they leave nothing of theirs
+  -- steps, and the fall into the next line if nothing is left of theirs
   then_fallen : (c : SlotState) (out : List ℕ) (x : Step SlotState) → Covers c out x → Covers c out (and_then x (λ d. fallen code d.rest d))
   then_fallen c out (Stops e t) h = record { more = h.more; leads = h.leads; none_begins = h.none_begins; within = h.within }
   then_fallen c out (Goes d t) h = by d.rest refl
@@ -142,6 +143,7 @@ module _ (code : SlotCode) where
 
   -- ---- runs
 
+  -- after j groups a run is where the instructions lead it
   pub reached : (j : ℕ) (r : Run SlotState) → Reached code j r
   reached zero r = record { count = 0; enough = omega arith; same = refl; begun = refl }
   reached (suc j) (Over e out) =
@@ -193,5 +195,6 @@ module _ (code : SlotCode) where
                 begun = omega (arith, sum, at, all, none, begun);
               }
 
+  -- a run that is not inside a line is where some number of groups leads
   pub found : (k : ℕ) (r : Run SlotState) → (IsInside (advance_by (slot_step code) k r) → ⊥) → Found code k r
   found k r out = found_within k k r (omega arith) out

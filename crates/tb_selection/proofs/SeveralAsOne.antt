@@ -1,4 +1,4 @@
--- Groups that are one, and the one in their place.
+-- Several groups that are one, and the one that takes their place.
 use Rattle.std.proofs.Common.{◌≡◌, ℕ, ◌+◌, Bool, true, false, if◌then◌else◌, List, ◌++◌, refl, sym, ap, ◌∙◌, Option, Some, None}
 use Rattle.std.specs.Prelude.{◌&&◌, not, nat_eq, option_map}
 use Rattle.std.proofs.lemmas.Bool.{and_parts, eqb-true}
@@ -69,7 +69,7 @@ held_is : (g : Group) → IsHeld g (held_in g)
 held_is (Move (Variable x) IntoHeld) = refl
 held_is _ = tt
 
--- what follows a relation that asks for a multiple, or for none, and any other
+-- what follows a relation that asks for a multiple, one that asks for any other word, and any other relation
 by_asked : (P : Rel → Option Divisibility → Type 0) → ((how : Divisibility) → P (compared how) (Some how)) → ((r : Rel) → P r None) → (r : Rel) → P r (asked r)
 by_asked P asks other rel.Eq = asks Divisible
 by_asked P asks other rel.Ne = asks Indivisible
@@ -91,7 +91,7 @@ operand_is (Variable x) (Variable y) e = ap Variable (eqb-true x y e)
 operand_is _ _ e = cc
 
 -- ── a multiple ──
--- two groups are the quotient of a variable and that times the divisor
+-- two groups are the quotient of a variable and that quotient times the divisor
 abbrev AreMultiple : Group → Group → Option (ℕ × ℕ × Operand) → Type 0
 AreMultiple a b (Some m) = (a ≡ Calculate op.Divide (Variable m.1) m.2 (IntoSlot m.0)) × (b ≡ Calculate op.Multiply InSlot m.2 (IntoSlot m.0))
 AreMultiple a b None = Unit {0}
@@ -109,7 +109,7 @@ multiple_is a b = by (quotient_in a) (factor_in b) (quotient_is a) (product_is b
         go false e = tt
     by _ _ ea eb = tt
 
--- ── the one ──
+-- ── the one group ──
 -- a group, if there is one, has the slot instructions of three, or of four
 abbrev pub IsThree : Group → Group → Group → Option Group → Type 0
 IsThree a b c None = Unit {0}
@@ -145,6 +145,7 @@ rest_expanded x (Constant w) to is = refl
 rest_expanded x (Variable y) to is = refl
 rest_expanded x InSlot to is = refl
 
+-- three groups as one have the instructions of the three
 pub three_is : (a b c : Group) → IsThree a b c (three_as_one a b c)
 three_is a b c = by (multiple_in a b) (equality_in c) (multiple_is a b) (test_is c)
   where
@@ -199,6 +200,7 @@ rest_is a b c e = by (loaded_in a) (multiple_in b c) (difference_in e) (loaded_i
         go false q = tt
     by _ _ _ ea es ee = tt
 
+-- four groups as one have the instructions of the four
 pub four_is : (a b c e : Group) → IsFour a b c e (four_as_one a b c e)
 four_is a b c e = by (divides_right (held_in a) (multiple_in b c) (against_in e)) (right_is a b c e)
   where

@@ -1,4 +1,4 @@
--- Groups as they are found, from the end of a list on.
+-- Groups as they are found, from the end of a list backwards.
 use Rattle.std.proofs.Common.{◌≡◌, List, [], ◌∷◌, ◌++◌, refl, sym, ap, ◌∙◌, map, length, reverse, take, append_assoc, Option, Some, subst}
 use Rattle.std.proofs.lemmas.List.{map-append, reverse-append, take_at}
 use Rattle.tb_lower.specs.Slots.{Instr}
@@ -20,6 +20,7 @@ onto_last : (is : List Instr) (i : Instr) (gs : List Group) → onto (is ++ i �
 onto_last [] i gs = refl
 onto_last (j ∷ is) i gs = ap (attach j) (onto_last is i gs)
 
+-- a whole list before no groups is the selection
 pub onto_none : (is : List Instr) → onto is [] ≡ select is
 onto_none [] = refl
 onto_none (i ∷ is) = ap (attach i) (onto_none is)
@@ -27,10 +28,11 @@ onto_none (i ∷ is) = ap (attach i) (onto_none is)
 live_attached : (i : Instr) (gs : List Group) → live (expand_all (attach i gs)) ≡ live_before i (live (expand_all gs))
 live_attached i gs = ap live (attach_is i gs)
 
--- the last of a list and those before it, looked at one by one
+-- the map of a list with a last element
 pub map_last : {A B : Type 0} → (f : A → B) (xs front : List A) (x : A) → xs ≡ front ++ x ∷ [] → map f xs ≡ map f front ++ f x ∷ []
 map_last f xs front x e = ap (map f) e ∙ map-append f front (x ∷ [])
 
+-- one turn of the selection: the last instruction of the front is attached
 pub stepped : (is front : List Instr) (i : Instr) (gs gs' : List Group) (l : List Group) → is ≡ front ++ i ∷ [] → gs' ≡ attach i gs → onto is gs ≡ l → onto front gs' ≡ l
 stepped is front i gs gs' l e q h = ap (onto front) q ∙ sym (onto_last front i gs) ∙ ap (λ is. onto is gs) (sym e) ∙ h
 
@@ -38,8 +40,8 @@ stepped is front i gs gs' l e q h = ap (onto front) q ∙ sym (onto_last front i
 pub attached_live : (i : Instr) (gs gs' : List Group) (all r : Live) → all ≡ live (expand_all gs) → r ≡ live_before i all → gs' ≡ attach i gs → r ≡ live (expand_all gs')
 attached_live i gs gs' all r e q a = q ∙ ap (live_before i) e ∙ sym (live_attached i gs) ∙ ap (λ l. live (expand_all l)) (sym a)
 
--- ── groups of which the last one stands first ──
--- one more is the first one
+-- ── groups with the last one first ──
+-- the one pushed last is the first
 pub one_more : (ps qs : List Placed) (p : Placed) → qs ≡ ps ++ p ∷ [] → in_order qs ≡ placed_of p ∷ in_order ps
 one_more ps qs p e = ap in_order e ∙ ap reverse (map-append placed_of ps (p ∷ [])) ∙ reverse-append (map placed_of ps) (placed_of p ∷ [])
 
@@ -47,11 +49,11 @@ one_more ps qs p e = ap in_order e ∙ ap reverse (map-append placed_of ps (p �
 pub front_is : (ps qs back : List Placed) → qs ≡ ps ++ back → take (length ps) qs ≡ ps
 front_is ps qs back e = ap (take (length ps)) e ∙ take_at ps back (length ps) refl
 
--- ── a group and the first of those behind it ──
+-- ── a group and the first of those after it ──
 abbrev pub group_in : Placed → Group
 group_in p = group_of p.group
 
--- what there is behind a group, and what becomes of both
+-- what follows a group, and what becomes of both
 fused_one : (a m : Group) (b c : Group) (gs : List Group) → allowed (three_as_one a b c) gs ≡ Some m → fused a (b ∷ c ∷ gs) ≡ m ∷ gs
 fused_one a m b c [] q = ap (λ o. instead o [] (a ∷ b ∷ c ∷ [])) q
 fused_one a m b c (e ∷ gs) q = ap (λ o. instead o (e ∷ gs) (instead (allowed (four_as_one a b c e) gs) gs (a ∷ b ∷ c ∷ e ∷ gs))) q
@@ -74,6 +76,7 @@ module _ (a : Group) (groups : List Placed) where
       by_third : in_order groups ≡ placed_of second ∷ placed_of third ∷ in_order rest
       by_third = by_second ∙ ap (λ l. placed_of second ∷ l) (one_more rest some third some_is)
 
+      -- what is live after the third group is known from all of them
       pub live_behind : AreLive (in_order groups) → AreLive (placed_of third ∷ in_order rest)
       live_behind h = (subst AreLive by_third h).1
 

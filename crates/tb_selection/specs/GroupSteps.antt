@@ -1,4 +1,4 @@
--- What a group does: the steps of its slot instructions, while they stay in the line, and behind the last one the fall
+-- What a group does: the steps of its slot instructions, while they stay in the line, and after the last one the fall
 -- into the next line.
 use Rattle.std.specs.Prelude.{ℕ, zero, suc, ◌+◌, List, [], ◌∷◌, Option, Some, None}
 use Rattle.tb_meaning.specs.Steps.{Step, Goes, and_then, Run, GoesOn, Over, advance}
@@ -7,7 +7,7 @@ use Rattle.tb_lower.specs.Slots.{Instr, SlotCode, Rest, Whole, Left, SlotState, 
 use Rattle.tb_selection.specs.Groups.{Group, expand}
 use Rattle.tb_selection.specs.Select.{select}
 
--- on with what is next where the line was not left
+-- on with what is next if the line was not left
 abbrev pub inside : (SlotState → Step SlotState) → Rest → SlotState → Step SlotState
 inside f Whole c = Goes c []
 inside f (Left n is) c = f c
@@ -22,13 +22,13 @@ abbrev pub or_empty : Option (List Instr) → List Instr
 or_empty (Some is) = is
 or_empty None = []
 
--- the instructions still to be done of the line at which a run stands
+-- the instructions still to be done of the line that a run is at
 abbrev pub ahead : SlotCode → Rest → Place → List Instr
 ahead code (Left n is) place = is
 ahead code Whole (At n) = or_empty (content_at code n)
 ahead code Whole Past = []
 
--- the first of these groups, or one step where there is none: on to the next line, or past the last one
+-- the first of these groups, or one step if there is none: on to the next line, or past the last one
 abbrev pub first : SlotCode → List Group → SlotState → Step SlotState
 first code [] c = slot_step code c
 first code (g ∷ gs) c = steps code (expand g) c
@@ -37,7 +37,7 @@ first code (g ∷ gs) c = steps code (expand g) c
 abbrev pub first_group : SlotCode → SlotState → Step SlotState
 first_group code c = first code (select (ahead code c.rest c.state.place)) c
 
--- where nothing is left of a line, on to the next one, or past the last one
+-- if nothing is left of a line, on to the next one, or past the last one
 abbrev pub fallen : SlotCode → Rest → SlotState → Step SlotState
 fallen code (Left n []) c = slot_step code c
 fallen code (Left n (i ∷ is)) c = Goes c []
@@ -57,7 +57,7 @@ abbrev pub InsideRest : Rest → Type 0
 InsideRest Whole = ⊥
 InsideRest (Left n is) = Unit {0}
 
--- a run that stands inside a line
+-- a run that is inside a line
 abbrev pub IsInside : Run SlotState → Type 0
 IsInside (GoesOn c out) = InsideRest c.rest
 IsInside (Over e out) = ⊥

@@ -6,7 +6,7 @@ use Rattle.tb_syntax.specs.declared.expressions.Operator.{Operator}
 use Rattle.tb_syntax.specs.declared.expressions.Operator.TheVariants.{Divide, Multiply, Subtract}
 use Rattle.tb_lower.specs.Slots.{Instr, Put, Load, Store, Negate, Compute, Random, SendNumber, Hold, LeaveUnless, Jump, Call, JumpTo}
 
--- where a word comes from: a constant, a variable, or the slot in which it stands already
+-- where a word comes from: a constant, a variable, or the slot that it is in already
 pub data Operand : Type 0 where
   Constant : (w : ℕ) → Operand
   Variable : (letter : ℕ) → Operand
@@ -39,13 +39,13 @@ pub data Usage : Type 0 where
 pub data Divisibility : Type 0 where
   Divisible Indivisible : Divisibility
 
--- the side of a test on which a multiple of its divisor stands
+-- the side of a test that a multiple of its divisor is on
 pub data Side : Type 0 where
   OnLeft OnRight : Side
 
 -- consecutive slot instructions with one template: a calculation with two words, one that goes on by a constant and into a
--- variable, a calculation with one word, a move, a use, a test, a test that goes straight to a line where it holds, a test
--- of a variable by a divisor that does so or not, what is left over of a variable by a divisor, or a single instruction
+-- variable, a calculation with one word, a move, a use, a test, a test that goes straight to a line if it holds, a test
+-- of a variable by a divisor that does so or not, the remainder of a variable by a divisor, or a single instruction
 pub data Group : Type 0 where
   Calculate : (op : Operator) (a b : Operand) (d : Destination) → Group
   Stepped : (op : Operator) (a b : Operand) (by : Operator) (w : ℕ) (x : ℕ) → Group
@@ -69,12 +69,12 @@ abbrev pub keep : Home → Instr
 keep (IntoVariable x) = Store x
 keep IntoHeld = Hold
 
--- the slot in which a result is worked out
+-- the slot in which a result is computed
 abbrev pub slot_of : Destination → ℕ
 slot_of (IntoSlot k) = k
 slot_of (IntoHome home) = 0
 
--- the result to where it goes
+-- the result, moved to where it goes
 abbrev pub kept : Destination → List Instr
 kept (IntoSlot k) = []
 kept (IntoHome home) = keep home ∷ []
@@ -95,7 +95,7 @@ use_of AsNumber = SendNumber
 use_of AsLine = Jump
 use_of AsSubroutine = Call
 
--- the relation that holds where this one does not
+-- the relation that holds if this one does not
 abbrev pub denied : Rel → Rel
 denied rel.Eq = rel.Ne
 denied rel.Ne = rel.Eq
@@ -118,7 +118,7 @@ contrary Indivisible = Divisible
 abbrev pub multiple : ℕ → ℕ → Operand → List Instr → List Instr
 multiple k x d is = Load k x ∷ (fetch (k + 1) d ++ Compute Divide k ∷ (fetch (k + 1) d ++ Compute Multiply k ∷ is))
 
--- on to a line, if to one
+-- on to a line, if the test leads to one
 abbrev pub onward : Option ℕ → List Instr
 onward None = []
 onward (Some to) = JumpTo to ∷ []
@@ -141,7 +141,7 @@ expand (Divides how x d side to) = dividing how x d side (onward to)
 expand (Remains x d to) = Load (slot_of to) x ∷ multiple (slot_of to + 1) x d (Compute Subtract (slot_of to) ∷ kept to)
 expand (Single i) = i ∷ []
 
--- the slot instructions of groups, one behind the other
+-- the slot instructions of groups, one group after another
 abbrev pub expand_all : List Group → List Instr
 expand_all [] = []
 expand_all (g ∷ gs) = expand g ++ expand_all gs

@@ -11,7 +11,7 @@ written k r = record { slots = if nat_eq r.slots (k + 1) then k else r.slots; he
 abbrev pub read : ℕ → Live → Live
 read k r = record { slots = max k r.slots; held = r.held }
 
--- what is live before an instruction, by what is live behind it
+-- what is live before an instruction, by what is live after it
 abbrev pub live_before : Instr → Live → Live
 live_before (Put k w) r = written k r
 live_before (Load k x) r = written k r
@@ -34,7 +34,7 @@ live_before (CallTo target) r = r
 live_before Return r = r
 live_before End r = r
 
--- nothing is live: so it is behind a line's list
+-- nothing is live, as after a line's list
 abbrev pub nothing_live : Live
 nothing_live = record { slots = 0; held = false }
 

@@ -27,7 +27,7 @@ use Rattle.tb_selection.specs.Groups.{Operand, Constant, Variable, InSlot, Home,
 use Rattle.tb_selection.specs.Groups.{HeldNow, Conversion, Negated, Drawn, Usage, AsNumber, AsLine, AsSubroutine, Divisibility, Divisible, Indivisible, Side}
 use Rattle.tb_selection.specs.Groups.{OnLeft, OnRight, Group, Calculate, Stepped, Convert, Move, Use, Test, TestGo, Divides, Remains, Single}
 
--- an operand; a letter by its place from 0 for A
+-- an operand; a letter by its index, 0 for A
 abbrev pub operand_of : operand.Operand → Operand
 operand_of (operands.Constant w) = Constant w
 operand_of (operands.Variable x) = Variable (letter_index x)
@@ -90,7 +90,7 @@ group_of (groups.Divides how x d s to) = Divides (divisibility_of how) (letter_i
 group_of (groups.Remains x d to) = Remains (letter_index x) (operand_of d) (destination_of to)
 group_of (groups.Single i) = Single (instr_of i.now)
 
--- groups of which the last one stands first, each with what is live behind it
+-- groups with the last one first, each with what is live after it
 abbrev pub placed_of : Placed → Group × Live
 placed_of p = (group_of p.group, p.behind)
 
@@ -101,7 +101,7 @@ in_order ps = reverse (map placed_of ps)
 abbrev pub groups_in : List (Group × Live) → List Group
 groups_in ps = map (λ p. p.0) ps
 
--- what groups that may become one hold
+-- the quotient that groups of a multiple have in common
 abbrev pub multiple_of : ℕ × Letter × operand.Operand → ℕ × ℕ × Operand
 multiple_of m = (m.0, letter_index m.1, operand_of m.2)
 

@@ -25,7 +25,7 @@ alone Call = Use AsSubroutine InSlot
 alone (LeaveUnless rel) = Test rel HeldBefore InSlot
 alone i = Single i
 
--- a group where a test holds
+-- a group, if a test holds
 abbrev pub provided : Bool → Group → Option Group
 provided true g = Some g
 provided false g = None
@@ -86,7 +86,7 @@ with_word k word (Divides how x d side to) = None
 with_word k word (Remains x d to) = None
 with_word k word (Single i) = None
 
--- a constant with which a word in a variable goes on in place; it faults with none of them
+-- whether a word in a variable goes on with this operator and constant in place; that never faults
 abbrev pub goes_on : Operator → ℕ → Bool
 goes_on Sum w = true
 goes_on Difference w = true
@@ -115,7 +115,7 @@ abbrev pub gone : Rel → Group → Option Group
 gone rel (Single (JumpTo to)) = Some (TestGo rel HeldBefore InSlot to)
 gone rel _ = None
 
--- an instruction and the group behind it as one group, where there is one
+-- an instruction and the group after it as one group, if there is one
 abbrev pub merged : Instr → Group → Option Group
 merged (Put k w) g = with_word k (Constant w) g
 merged (Load k x) g = with_word k (Variable x) g
@@ -126,12 +126,12 @@ merged Hold g = held_before g
 merged (LeaveUnless rel) g = gone rel g
 merged _ g = None
 
--- of a calculation into slot k, the slot of the right operand is dead where its template leaves it alone
+-- of a calculation into slot k, the slot of the right operand is dead if its template leaves it alone
 abbrev pub right_slot_dead : Operand → Operand → ℕ → Live → Bool
 right_slot_dead InSlot InSlot k r = true
 right_slot_dead a b k r = nat_le r.slots (k + 1)
 
--- of a test, slot 0 is dead where a word is fetched into it, and the word that is held now. Where slot 0 is held and then
+-- of a test, slot 0 is dead if a word is fetched into it, and so is the word that is held now. If slot 0 is held and then
 -- tested against itself, it is read inside the group.
 abbrev pub test_words_dead : Tested → Operand → Live → Bool
 test_words_dead HeldBefore InSlot r = true
@@ -141,13 +141,13 @@ test_words_dead (HeldNow a) InSlot r = false
 test_words_dead (HeldNow a) (Constant w) r = nat_le r.slots 0 && not r.held
 test_words_dead (HeldNow a) (Variable x) r = nat_le r.slots 0 && not r.held
 
--- slot 0 is dead where it is left alone, since the word comes from elsewhere
+-- slot 0 is dead if it is left alone, since the word comes from elsewhere
 abbrev pub slot_dead : Operand → Live → Bool
 slot_dead InSlot r = true
 slot_dead (Constant w) r = nat_le r.slots 0
 slot_dead (Variable x) r = nat_le r.slots 0
 
--- what a group's template does not write, while its instructions do, is dead behind it: slots of operands that are
+-- what a group's template does not write, while its instructions do, is dead after it: slots of operands that are
 -- fetched, slot 0 of what goes to a home, the word that is held now; of a test by a divisor, all of them
 abbrev pub omits_only_dead : Group → Live → Bool
 omits_only_dead (Calculate op a b (IntoSlot k)) r = right_slot_dead a b k r
@@ -164,7 +164,7 @@ omits_only_dead (Remains x d (IntoSlot k)) r = nat_le r.slots (k + 1)
 omits_only_dead (Remains x d (IntoHome home)) r = nat_le r.slots 0
 omits_only_dead (Single i) r = true
 
--- a test before a jump goes straight to its line where it is a line's last group, behind which the next line begins
+-- a test before a jump goes straight to its line if it is a line's last group, after which the next line begins
 abbrev pub may_stand : Group → List Group → Bool
 may_stand (TestGo rel a b to) behind = nat_eq (length behind) 0
 may_stand (Divides how x d side (Some to)) behind = nat_eq (length behind) 0
@@ -202,8 +202,8 @@ asked rel.Eq = Some Divisible
 asked rel.Ne = Some Indivisible
 asked _ = None
 
--- a test of slot 0 with a variable, or of the held word with slot 0: what it asks for, the variable, and the line to which
--- it leads, if to one
+-- a test of slot 0 with a variable, or of the held word with slot 0: what it asks for, the variable, and the line that
+-- it leads to, if there is one
 abbrev pub equality_in : Group → Option (Divisibility × ℕ × Option ℕ)
 equality_in (Test r (HeldNow InSlot) (Variable x)) = option_map (λ how. (how, x, None)) (asked r)
 equality_in (TestGo r (HeldNow InSlot) (Variable x) to) = option_map (λ how. (how, x, Some to)) (asked r)
@@ -214,7 +214,7 @@ against_in (Test r HeldBefore InSlot) = option_map (λ how. (how, None)) (asked 
 against_in (TestGo r HeldBefore InSlot to) = option_map (λ how. (how, Some to)) (asked r)
 against_in _ = None
 
--- whether two words are fetched from one place
+-- whether two words are fetched from the same source
 abbrev pub same_operand : Operand → Operand → Bool
 same_operand (Constant v) (Constant w) = nat_eq v w
 same_operand (Variable x) (Variable y) = nat_eq x y
@@ -242,7 +242,7 @@ divides_right (Some x) (Some m) None = None
 divides_right (Some x) None t = None
 divides_right None m t = None
 
--- a divisor by which quotients are made by shifts: by them what is left over is made sooner
+-- a divisor by which quotients are made by shifts: for it the remainder is faster by shifts too
 abbrev pub is_shifted : Operand → Bool
 is_shifted (Constant w) = nat_eq w 2 || nat_eq w 4 || nat_eq w 8 || nat_eq w 16 || nat_eq w 32 || nat_eq w 64
 is_shifted (Variable x) = false
@@ -260,31 +260,31 @@ abbrev pub or_else : Option Group → Option Group → Option Group
 or_else (Some g) o = Some g
 or_else None o = o
 
--- three groups as one, and four
+-- three groups as one, or four
 abbrev pub three_as_one : Group → Group → Group → Option Group
 three_as_one a b c = divides_left (multiple_in a b) (equality_in c)
 
 abbrev pub four_as_one : Group → Group → Group → Group → Option Group
 four_as_one a b c e = or_else (divides_right (held_in a) (multiple_in b c) (against_in e)) (remains (loaded_in a) (multiple_in b c) (difference_in e))
 
--- a group before others, where what it omits is dead and it may stand there
+-- a group before others, if what it omits is dead and it may be there
 abbrev pub allowed : Option Group → List Group → Option Group
 allowed (Some m) gs = provided (omits_only_dead m (live (expand_all gs)) && may_stand m gs) m
 allowed None gs = None
 
--- one group before others, where there is one; else what else there is
+-- one group before others, if there is one; else the other groups
 abbrev pub instead : Option Group → List Group → List Group → List Group
 instead (Some m) gs others = m ∷ gs
 instead None gs others = others
 
--- a group before others: with the first of them as one, where they are one
+-- a group before others: made one with the first of them, if possible
 abbrev pub fused : Group → List Group → List Group
 fused a [] = a ∷ []
 fused a (b ∷ []) = a ∷ b ∷ []
 fused a (b ∷ c ∷ []) = instead (allowed (three_as_one a b c) []) [] (a ∷ b ∷ c ∷ [])
 fused a (b ∷ c ∷ e ∷ gs) = instead (allowed (three_as_one a b c) (e ∷ gs)) (e ∷ gs) (instead (allowed (four_as_one a b c e) gs) gs (a ∷ b ∷ c ∷ e ∷ gs))
 
--- the merged group before others, where there is one; else the instruction alone before them all
+-- the merged group before others, if there is one; else the instruction alone before all of them
 abbrev pub tried : Option Group → Instr → Group → List Group → List Group
 tried (Some m) i g gs = fused m gs
 tried None i g gs = fused (alone i) (g ∷ gs)

@@ -81,7 +81,7 @@ fn asked(rel: Rel) -> Option<Divisibility>
     }
 }
 
-// A test of slot 0 with a variable: what it asks for, the variable, and the line to which it leads, if to one.
+// A test of slot 0 with a variable: what it asks for, the variable, and the line that it leads to, if there is one.
 fn equality_in(group: Group<'_>) -> Option<(Divisibility, Letter, Option<u16>)>
     ensures { option_map equality_of result ≡ select.equality_in (group_of group.entry) }
 {
@@ -96,7 +96,7 @@ fn equality_in(group: Group<'_>) -> Option<(Divisibility, Letter, Option<u16>)>
     }
 }
 
-// A test of the held word with slot 0: what it asks for, and the line to which it leads, if to one.
+// A test of the held word with slot 0: what it asks for, and the line that it leads to, if there is one.
 fn against_in(group: Group<'_>) -> Option<(Divisibility, Option<u16>)>
     ensures { option_map against_of result ≡ select.against_in (group_of group.entry) }
 {
@@ -109,7 +109,7 @@ fn against_in(group: Group<'_>) -> Option<(Divisibility, Option<u16>)>
     }
 }
 
-// Whether two words are fetched from one place.
+// Whether two words are fetched from the same source.
 fn same_operand(left: Operand, right: Operand) -> bool
     ensures { result ≡ select.same_operand (operand_of left) (operand_of right) }
 {
@@ -179,7 +179,7 @@ fn remains<'a>(
     is_one.then_some(Group::Remains(y, divisor, to))
 }
 
-/// Three groups as one: a multiple of a divisor before the test with its variable.
+/// Three groups as one, if they are a multiple of a divisor before the test with its variable; else `None`.
 pub fn three_as_one<'a>(
     quotient: Group<'a>,
     product: Group<'a>,
@@ -198,7 +198,7 @@ pub fn three_as_one<'a>(
     ))
 }
 
-/// Four groups as one: a variable, a multiple of a divisor, and their test or their difference.
+/// Four groups as one, if they are a variable, a multiple of a divisor, and their test or their difference; else `None`.
 pub fn four_as_one<'a>(
     first: Group<'a>,
     quotient: Group<'a>,

@@ -10,7 +10,7 @@ pub enum Operand {
     Constant(u16),
     /// A variable.
     Variable(Letter),
-    /// The slot in which it stands already.
+    /// The slot that it is in already.
     InSlot,
 }
 
@@ -70,7 +70,7 @@ pub enum Divisibility {
     Indivisible,
 }
 
-/// The side of a test on which a multiple of its divisor stands.
+/// The side of a test that a multiple of its divisor is on.
 #[derive(Clone, Copy, Debug, Drop)]
 pub enum Side {
     /// The multiple is held, and the variable is compared with it.
@@ -82,9 +82,9 @@ pub enum Side {
 /// Consecutive slot instructions that have one template.
 #[derive(Clone, Copy, Debug, Drop)]
 pub enum Group<'a> {
-    /// A left operand joined with a right one, and where the result goes.
+    /// A left operand combined with a right one, and where the result goes.
     Calculate(Operator, Operand, Operand, Destination),
-    /// A left operand joined with a right one, the result joined with a constant, and the variable to which that goes.
+    /// A left operand combined with a right one, the result combined with a constant, and the variable that it goes to.
     Stepped(Operator, Operand, Operand, Operator, u16, Letter),
     /// A word made of one operand, and where it goes.
     Convert(Conversion, Operand, Destination),
@@ -92,13 +92,13 @@ pub enum Group<'a> {
     Move(Operand, Home),
     /// A word that is used.
     Use(Usage, Operand),
-    /// A test that leaves the line unless the two words are so related.
+    /// A test that leaves the line unless the two words are in this relation.
     Test(Rel, Tested, Operand),
-    /// A test that goes straight to the line of this number where the two words are so related, and else leaves the line.
+    /// A test that goes straight to the line of this number if the two words are in this relation, and else leaves the line.
     TestGo(Rel, Tested, Operand, u16),
-    /// A test whether a divisor divides a variable, that leaves the line or goes straight to the line of this number.
+    /// A test whether a divisor divides a variable, which leaves the line or goes straight to the line of this number.
     Divides(Divisibility, Letter, Operand, Side, Option<u16>),
-    /// What is left over of a variable by a divisor, with the variable's sign, and where it goes.
+    /// The remainder of a variable by a divisor, with the variable's sign, and where it goes.
     Remains(Letter, Operand, Destination),
     /// A single instruction.
     Single(&'a SlotInstr),

@@ -1,7 +1,7 @@
 //! The laws of groups, each the contract of a function that does nothing.
 ghost use Rattle.tb_selection.specs.Laws.{ChoiceLaw, ClosedLaw, RunLaw};
 
-/// Behind each group that is selected, what its template need not write is not read; a test that goes straight to a line
+/// After each group that is selected, what its template need not write is not read; a test that goes straight to a line
 /// is the last one of its list.
 pub fn omitted_words_are_dead()
     ensures { ChoiceLaw }

@@ -3,10 +3,10 @@
 //! Slot code is simple: every word goes through a numbered slot. Machine code need not do so: `LET C=A+B` is five slot
 //! instructions, `Poll`, `Load(0, A)`, `Load(1, B)`, `Compute(Add, 0)` and `Store(C)`, but the last four are one piece
 //! of code that adds two variables into a third. `select` finds such runs: it brackets a line's list into groups, and
-//! moves nothing, so that the instructions of the groups, one behind the other, are the list (`specs/Groups`).
+//! moves nothing, so that the instructions of the groups, one after another, are the list (`specs/Groups`).
 //!
-//! The template of a group need not write the slots between its instructions. That is right only where nobody reads
-//! them later, so instructions are joined only where those words are dead (`specs/Liveness`, `specs/Select`); that this
+//! The template of a group need not write the slots between its instructions. That is right only if nothing reads
+//! them later, so instructions are joined only if those words are dead (`specs/Liveness`, `specs/Select`); that this
 //! is so, and that a run by groups is a run of the slot code, are the laws of `specs/Laws`.
 #![tactic(auto)]
 

@@ -5,7 +5,7 @@ ghost use Rattle.tb_selection.specs.Liveness.{live_before, nothing_live};
 
 use tb_lower::SlotInstr;
 
-/// How many slots are read before they are written, and whether the held word is.
+/// How many slots are read before they are written, and whether the held word is too.
 #[derive(Clone, Copy, Drop)]
 pub struct Live {
     /// The slots below this one may be read.
@@ -15,7 +15,7 @@ pub struct Live {
 }
 
 impl Live {
-    /// Behind a line's list nothing is read.
+    /// After a line's list nothing is read.
     pub const NOTHING: Live = Live {
         slots: 0,
         held: false,
@@ -43,7 +43,7 @@ impl Live {
     }
 }
 
-/// What is live before an instruction, by what is live behind it.
+/// What is live before an instruction, by what is live after it.
 pub fn live_before(instr: &SlotInstr, behind: Live) -> Live
     ensures { result ≡ live_before (instr_of instr.now) behind }
 {

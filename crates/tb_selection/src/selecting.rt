@@ -15,12 +15,12 @@ use tb_lower::SlotInstr;
 use tb_syntax::Operator;
 use tb_words::Rel;
 
-/// A group, and what is live behind it.
+/// A group, and what is live after it.
 #[derive(Clone, Copy, Drop)]
 pub struct Placed<'a> {
     /// The group.
     pub group: Group<'a>,
-    /// What is live behind it.
+    /// What is live after it.
     pub behind: Live,
 }
 
@@ -54,7 +54,7 @@ fn convert_in_slot<'a>(what: Conversion, slot: u8) -> Group<'a>
     Group::Convert(what, Operand::InSlot, Destination::IntoSlot(slot))
 }
 
-/// The slot in which a result is worked out.
+/// The slot in which a result is computed: 0 if it goes from there to a home.
 pub fn slot_of(destination: Destination) -> u8
     ensures { result ≡ Rattle.tb_selection.specs.Groups.slot_of (destination_of destination) }
 {
@@ -212,7 +212,7 @@ fn held_before(group: Group<'_>) -> Option<Group<'_>>
     }
 }
 
-// An instruction and the group behind it as one group.
+// An instruction and the group after it as one group, if there is one.
 fn merged<'a>(instr: &SlotInstr, group: Group<'a>) -> Option<Group<'a>>
     ensures { option_map group_of result ≡ select.merged (instr_of instr.now) (group_of group.entry) }
 {
@@ -233,7 +233,7 @@ fn merged<'a>(instr: &SlotInstr, group: Group<'a>) -> Option<Group<'a>>
     }
 }
 
-// Whether what the template of a test need not write is dead behind it.
+// Whether what the template of a test need not write is dead after it.
 fn test_words_dead(left: Tested, right: Operand, behind: Live) -> bool
     ensures { result ≡ select.test_words_dead (tested_of left) (operand_of right) behind }
 {
@@ -245,7 +245,7 @@ fn test_words_dead(left: Tested, right: Operand, behind: Live) -> bool
     }
 }
 
-// Whether what a group's template need not write is dead behind it.
+// Whether what a group's template need not write is dead after it.
 fn omits_only_dead(group: Group<'_>, behind: Live) -> bool
     ensures { result ≡ select.omits_only_dead (group_of group.entry) behind }
 {
@@ -270,7 +270,7 @@ fn omits_only_dead(group: Group<'_>, behind: Live) -> bool
     }
 }
 
-// Whether a group may stand before these groups, the first of which stands last.
+// Whether a group may be before these groups, the first of which is the last of the slice.
 fn may_stand(group: Group<'_>, behind: &[Placed<'_>]) -> bool
     ensures { result ≡ select.may_stand (group_of group.entry) (groups_in (in_order behind.now)) }
 {
@@ -280,7 +280,7 @@ fn may_stand(group: Group<'_>, behind: &[Placed<'_>]) -> bool
     }
 }
 
-// A group before these, the first of which stands last, where what it omits is dead and it may stand there.
+// A group before these, the first of which is the last of the slice, if what it omits is dead and it may be there.
 fn allowed<'a>(group: Option<Group<'a>>, behind: Live, rest: &[Placed<'a>]) -> Option<Group<'a>>
     requires { behind ≡ live (expand_all (groups_in (in_order rest.now))) }
     ensures { option_map group_of result ≡ select.allowed (option_map group_of group.entry) (groups_in (in_order rest.now)) }
@@ -289,7 +289,7 @@ fn allowed<'a>(group: Option<Group<'a>>, behind: Live, rest: &[Placed<'a>]) -> O
     (omits_only_dead(whole, behind) && may_stand(whole, rest)).then_some(whole)
 }
 
-// The group that is this one and the last of these, and how many of these are before them.
+// The group that this one and the last of these make together, and how many of these are before them.
 fn joined<'a>(first: Group<'a>, groups: &[Placed<'a>]) -> Option<(Placed<'a>, usize)>
     requires { AreLive (in_order groups.now) }
     ensures { IsJoined (group_of first.entry) groups.now result }
@@ -316,7 +316,7 @@ fn joined<'a>(first: Group<'a>, groups: &[Placed<'a>]) -> Option<(Placed<'a>, us
     }
 }
 
-// Puts a group before groups, the first of which stands last: with the first of them as one, where they are one.
+// Puts a group before groups, the first of which is last in the list: as one with the first of them, if possible.
 fn put_before<'a>(groups: &mut Vec<Placed<'a>>, first: Placed<'a>) -> Result<(), AllocError>
     requires { AreLive (placed_of first ∷ in_order groups.old.items) }
     ensures put { OnOk result (groups_in (in_order groups.new.items) ≡ select.fused (group_of first.entry.group) (groups_in (in_order groups.old.items))) }
@@ -333,7 +333,7 @@ fn put_before<'a>(groups: &mut Vec<Placed<'a>>, first: Placed<'a>) -> Result<(),
     Ok(())
 }
 
-// Puts an instruction before groups, the first of which stands last and before which this is live.
+// Puts an instruction before groups, the first of which is last in the list and before which `before` is live.
 fn attach<'a>(
     groups: &mut Vec<Placed<'a>>,
     instr: &'a SlotInstr,
@@ -363,7 +363,8 @@ fn attach<'a>(
     }
 }
 
-/// The groups of a line's list, each as long as it can be: their instructions, one behind the other, are the list.
+/// The groups of a line's list, each as long as it can be: their instructions, one group after another, are the list.
+/// Fails if memory runs out.
 pub fn select<'a>(alloc: Global, code: &'a [SlotInstr]) -> Result<Vec<Group<'a>>, AllocError>
     ensures selected { IfOk result (λ groups. map group_of groups.items ≡ select.select (map instr_of code.now)) }
     ensures bracketed { IfOk result (λ groups. expand_all (map group_of groups.items) ≡ map instr_of code.now) }
