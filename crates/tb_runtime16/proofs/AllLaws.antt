@@ -42,7 +42,7 @@ return_addresses : (m : ℕ → ℕ) (ns : List ℕ) → WordAt m NOTES (length 
 return_addresses m ns w h few = record { count = w; few = few; held = h }
 
 -- ---- INPUT
--- a byte is no more than one
+-- a byte that is not below 1
 not_zero : (a : ℕ) → (nat_eq a 0 || nat_le 32768 a) ≡ false → (1 ≤ a) × (a < 32768)
 not_zero a h = (grind (arith, nat_tests), grind (arith, nat_tests))
 
@@ -91,7 +91,7 @@ module _ (table seed_option : ℕ) (numbers : List ℕ) (start : ℕ → ℕ) (f
       (input_law f 16 (let most : 13 ≤ 16 = omega arith in most) fits block lo hi [] (let deep : 6 ≤ 16 = omega arith in deep) l h text answers m e j
       line small o is_open (m COLUMN) (let r : m COLUMN ≡ m COLUMN % 256 = omega (arith, column) in r) x y z n b i c d)
 
-  -- back from INPUT
+  -- back at the caller, from INPUT
   taken : (l h : ℕ) (m : ℕ → ℕ) (answers : List ℕ) (stays : Bool) (v : ℕ) (left : List ℕ) (o : Bool) (w : View)
       → asking.Ended f l h own m answers (m COLUMN) (prompt o) (Got v stays left) w → Leaves (back_at l h) own left answers
       (Taken m (column_after (m COLUMN) (prompt o ++ line_end stays) % 256) v stays) w
@@ -224,5 +224,6 @@ module _ (table seed_option : ℕ) (numbers : List ℕ) (start : ℕ → ℕ) (f
         j line (first_small answers small) x y z n v i c d).1 (eqb-true (first_or_zero answers) 3 stop)));
   }
 
+-- all routines in the form that the lines' code needs
 pub all_laws : AllLaws
 all_laws = routines

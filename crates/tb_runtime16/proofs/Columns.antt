@@ -1,4 +1,4 @@
--- The column behind a text, modulo 256.
+-- The column after a text, modulo 256.
 use Rattle.std.proofs.Common.{◌≡◌, ◌≢◌, ℕ, zero, suc, ◌+◌, ◌/◌, ◌%◌, Bool, true, false, List, [], ◌∷◌, ◌++◌, length, refl, sym, ap, ◌∙◌, arith, eqb}
 use Rattle.std.specs.Prelude.{nat_lt, if◌then◌else◌}
 use Rattle.std.proofs.lemmas.Bool.{ne_eqb}
@@ -7,6 +7,7 @@ use Rattle.tb_meaning.specs.Control.{column_after}
 use Rattle.tb_runtime16.specs.Addresses.{COLUMN}
 use Rattle.tb_runtime16.specs.Laws.{Sent}
 
+-- the column after a text, modulo 256, depends on the column before it modulo 256
 pub column_same : (c d : ℕ) (bs : List ℕ) → c % 256 ≡ d % 256 → column_after c bs % 256 ≡ column_after d bs % 256
 column_same c d [] e = e
 column_same c d (b ∷ bs) e = go (column_same (c + 1) (d + 1) bs (omega arith)) (eqb b 13)
@@ -15,6 +16,7 @@ column_same c d (b ∷ bs) e = go (column_same (c + 1) (d + 1) bs (omega arith))
     go r true = refl
     go r false = r
 
+-- the column after two texts is the column after the second one, from that after the first one
 pub column_append : (c : ℕ) (bs cs : List ℕ) → column_after c (bs ++ cs) ≡ column_after (column_after c bs) cs
 column_append c [] cs = refl
 column_append c (b ∷ bs) cs = column_append (if eqb b 13 then 0 else c + 1) bs cs
@@ -47,5 +49,6 @@ plain_digits (suc k) n text h = plain_either (nat_lt n 10) ((48 + n) ∷ text) (
 plain_number : (w : ℕ) → Plain (digits_of w)
 plain_number w = plain_either (is_negative w) (45 ∷ digits_before 5 (magnitude w) []) (digits_before 5 w []) ((λ e. omega arith), plain_digits 5 (magnitude w) [] tt) (plain_digits 5 w [] tt)
 
+-- after a number's digits the column is as much further as it has digits
 pub number_column : (c w : ℕ) → (c + length (digits_of w)) % 256 ≡ column_after c (digits_of w) % 256
 number_column c w = ap (λ n. n % 256) (sym (plain_column c (digits_of w) (plain_number w)))

@@ -7,20 +7,22 @@ use Rattle.std.proofs.lemmas.Bool.{ne_eqb, eq-eqb, cases_lt, le-leb, lt-leb}
 use Rattle.std.proofs.lemmas.Nat.{or_comm, or_shifted, or_block}
 use Rattle.tb_words.specs.Words.{digits_before}
 
--- what is sent of a number below ten times the first power, where a digit was sent before it or not
+-- what is sent of a number below ten times the first power, if a digit was sent before it or not
 abbrev pub sent : List ℕ → Bool → ℕ → List ℕ
 sent [] begun w = (48 + w) ∷ []
 sent (p ∷ ps) true w = (48 + w / p) ∷ sent ps true (w % p)
 sent (p ∷ ps) false w = if eqb (w / p) 0 then sent ps false (w % p) else (48 + w / p) ∷ sent ps true (w % p)
 
--- what a digit is counted from: 0 as long as none was sent, and then its text
+-- what a digit is counted from: 0 as long as none was sent, then the text of 0
 abbrev pub base : Bool → ℕ
 base true = 48
 base false = 0
 
+-- a digit's text, counted from 0
 pub digit_alone : (d : ℕ) → d < 10 → bit_or d 48 ≡ 48 + d
 digit_alone d h = or_comm d 48 ∙ or_shifted 3 4 d (let s : d < 16 = omega (arith, h) in s)
 
+-- a digit's text, counted from either base
 pub digit_text : (begun : Bool) (d : ℕ) → d < 10 → bit_or (base begun + d) 48 ≡ 48 + d
 digit_text false d h = ap (λ n. bit_or n 48) (let e : 0 + d ≡ d = omega arith in e) ∙ digit_alone d h
 digit_text true d h = or_block 4 3 3 d 0 (let s : d < 16 = omega (arith, h) in s) (let s : 0 < 16 = omega arith in s) ∙ ap (λ e. 48 + e) (or_zero_r d)
@@ -29,6 +31,7 @@ digit_text true d h = or_block 4 3 3 d 0 (let s : d < 16 = omega (arith, h) in s
 pub skipped : (p : ℕ) (ps : List ℕ) (w : ℕ) → w / p ≡ 0 → sent (p ∷ ps) false w ≡ sent ps false (w % p)
 skipped p ps w e = ap (λ b. if b then sent ps false (w % p) else (48 + w / p) ∷ sent ps true (w % p)) (eq-eqb (w / p) 0 e)
 
+-- the first digit that is not 0 is sent
 pub begins : (p : ℕ) (ps : List ℕ) (w : ℕ) → w / p ≢ 0 → sent (p ∷ ps) false w ≡ (48 + w / p) ∷ sent ps true (w % p)
 begins p ps w n = ap (λ b. if b then sent ps false (w % p) else (48 + w / p) ∷ sent ps true (w % p)) (ne_eqb (w / p) 0 n)
 
@@ -53,11 +56,11 @@ five : (w : ℕ) → 10000 ≤ w → w < 100000 → digits_before 5 w [] ≡ (48
     ∷ (48 + w / 10 % 10) ∷ (48 + w % 10) ∷ []
 five w from to = ten_more 4 w [] (omega (arith, from)) ∙ four 0 (w / 10) ((48 + w % 10) ∷ []) (omega (arith, from)) (omega (arith, to))
 
--- ---- both ways come to the same text
+-- ---- both ways lead to the same text
 cons : (a b : ℕ) (ds es : List ℕ) → a ≡ b → ds ≡ es → a ∷ ds ≡ b ∷ es
 cons a b ds es e h = ap₂ (λ a ds. a ∷ ds) e h
 
--- the quotient by a power is the quotient by ten, so many times
+-- the quotient by a power is the quotient by ten, taken repeatedly
 by_hundred : (w : ℕ) → w / 100 ≡ w / 10 / 10
 by_hundred w = omega arith
 
@@ -94,6 +97,7 @@ tens k w to = ⊎_elim
     (λ more. begins 10 [] w (λ e. omega (arith, more, e)) ∙ sym (two k w [] more to))
     (cases_lt w 10)
 
+-- the digits of a number below 1,000, by powers from 100 on
 pub hundreds : (k w : ℕ) → w < 1000 → sent (100 ∷ 10 ∷ []) false w ≡ digits_before (suc (suc (suc k))) w []
 hundreds k w to = ⊎_elim
     (λ less. skipped 100 (10 ∷ []) w (omega (arith, less)) ∙ ap (sent (10 ∷ []) false) (let e : w % 100 ≡ w = omega (arith, less) in e) ∙ tens (suc k) w less)
@@ -106,6 +110,7 @@ thousands k w to = ⊎_elim
     (λ more. begins 1000 (100 ∷ 10 ∷ []) w (λ e. omega (arith, more, e)) ∙ thousands_same w ∙ sym (four k w [] more to))
     (cases_lt w 1000)
 
+-- the digits of a number below 100,000, by powers from 10,000 on
 pub ten_thousands : (w : ℕ) → w < 100000 → sent (10000 ∷ 1000 ∷ 100 ∷ 10 ∷ []) false w ≡ digits_before 5 w []
 ten_thousands w to = ⊎_elim
     (λ less. skipped 10000 (1000 ∷ 100 ∷ 10 ∷ []) w (omega (arith, less)) ∙ ap (sent (1000 ∷ 100 ∷ 10 ∷ []) false) (let e : w % 10000 ≡ w =

@@ -28,7 +28,7 @@ pub sign_case : (b : Bool) → (b ≡ true) ⊎ (b ≡ false)
 sign_case true = inl refl
 sign_case false = inr refl
 
--- the word at a place, negated
+-- the word at an address, negated
 abbrev pub negated_low : ℕ → ℕ
 negated_low l = (0 + 256 - (l + 0)) % 256
 
@@ -50,12 +50,13 @@ right_frame m w h = frame_put m (with_byte w RIGHT (negated_low (w RIGHT))) (RIG
 bytes_negated : (l h : ℕ) → (negated_low l < 256) × (negated_high l h < 256)
 bytes_negated l h = (small_byte (0 + 256 - (l + 0)), small_byte (0 + 256 - (h + bit (not (nat_le (l + 0) 0)))))
 
--- LEFT turned round, and the memory but for the arguments as it was
+-- LEFT is negated, and only the arguments were changed
 pub record Turned (m0 : ℕ → ℕ) (q : ℕ) (m : ℕ → ℕ) : Type 0 where
   pub is_word : IsWord m LEFT
   pub value : word_in m LEFT ≡ q
   pub others : Frame m0 m
 
+-- negating LEFT in place leaves its negation
 pub turned : (m : ℕ → ℕ) → IsWord m LEFT → Turned m (negated (word_in m LEFT)) (negated_left m)
 turned m k = record {
   is_word = bytes_negated (m LEFT) (m (LEFT + 1));
@@ -63,7 +64,7 @@ turned m k = record {
   others = left_frame m m (λ a e. refl);
 }
 
--- the same behind a division
+-- the same after a division
 divided_negated : (m w : ℕ → ℕ) (q r : ℕ) → Parts is_argument m q r w → Parts is_argument m (negated q) r (negated_left w)
 divided_negated m w q r h =
     let b = bytes_of w LEFT q h.left in
@@ -79,6 +80,7 @@ module _ (f : Setup) (fits : Fits f 2) (block : Holds block_part f.code) (lo hi 
   negate_return a x y n v i z c w q h = ending f 2 fits divide_part (divide_in f.code block) 0 (view a x y n v i z c (DIVIDE_AT + 36) (lo ∷ hi ∷ []) w text answers) _ refl
       (leaves_now refl h)
 
+  -- Divide's inner routine negates LEFT
   pub negate_left : (a x y : ℕ) (n v i z c : Bool) (w : ℕ → ℕ) (q : (ℕ → ℕ) → Type 0) → q (negated_left w)
       → Comes f (view a x y n v i z c negate_left_at (lo ∷ hi ∷ []) w text answers) (Back lo hi text answers q) [] 9
   negate_left a x y n v i z c w q h =
@@ -201,6 +203,7 @@ module _ (f : Setup) (fits : Fits f 6) (block : Holds block_part f.code) (lo hi 
       after f 6 fits divide_part (divide_in f.code block) 2 (view a x y n v i z c DIVIDE_AT (lo ∷ hi ∷ []) m text answers) _ _ 313 refl
       (rw b (signed _ _ _ _ _ _ _ _))
 
+-- Divide's law, from the block's bytes
 pub divide_law : DivideLaw
 divide_law f fits block lo hi text answers m a x y n v i z c left right p q some =
     let start = view a x y n v i z c DIVIDE_AT (lo ∷ hi ∷ []) m text answers in
@@ -209,6 +212,7 @@ divide_law f fits block lo hi text answers m a x y n v i z c left right p q some
     (of_word (λ r. Comes f start (Back lo hi text answers (Parts is_argument m (quotient (word_in m LEFT) r) (magnitude (word_in m LEFT) % magnitude r))) [] 316) m RIGHT right q
     (divide f fits block lo hi text answers m (bytes_of m LEFT left p) (bytes_of m RIGHT right q) (omega (arith, same, some)) a x y n v i z c))
 
+-- the law of Divide by 0, from the block's bytes
 pub divide_by_zero_law : DivideByZeroLaw
 divide_by_zero_law f fits block lo hi text answers m a x y n v i z c e =
     let b : eqb (bit_or (m RIGHT) (m (RIGHT + 1))) 0 ≡ true = eq-eqb _ _ (ap₂ bit_or e.low e.high) in

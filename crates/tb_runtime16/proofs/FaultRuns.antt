@@ -31,11 +31,11 @@ module _ (f : Setup) (fits : Fits f 13) (block : Holds block_part f.code) (hlo h
     high : m (LINE + 1) ≡ h
     byte : m BYTE ≡ d
 
-  -- from a place, with the start's return alone on the stack
+  -- from an address, with only the start's return on the stack
   From : ℕ → List ℕ → ℕ → Type 0
   From pc out k = (a x y : ℕ) (n v i z c : Bool) (m : ℕ → ℕ) → Kept m → Comes f (view a x y n v i z c pc own m text answers) (IsHome f) out k
 
-  -- from a place behind the first byte sent
+  -- from an address after the first byte was sent
   Later : ℕ → List ℕ → ℕ → Type 0
   Later pc out k = (a x y : ℕ) (n v i z c : Bool) (m : ℕ → ℕ) → Kept m → m COLUMN < 256 → Comes f (view a x y n v i z c pc own m text answers) (IsHome f) out k
 
@@ -92,6 +92,7 @@ module _ (f : Setup) (fits : Fits f 13) (block : Holds block_part f.code) (hlo h
       (later _ _ _ (say (FAULT_AT + 0x24) 84 ((FAULT_AT + 0x28) % 256) ((FAULT_AT + 0x28) / 256) _ (2 + (7 + (5 + (458 + 9)))) (omega arith) (λ a x y n v i z c m k. refl)
       (later _ _ _ (say (FAULT_AT + 0x29) 32 ((FAULT_AT + 0x2D) % 256) ((FAULT_AT + 0x2D) / 256) _ (5 + (458 + 9)) (omega arith) (λ a x y n v i z c m k. refl) tell))))))))))))
 
+-- Fault's law, from the block's bytes
 pub fault_law : FaultLaw
 unfolding From
 fault_law f room most fits block hlo hhi above deep text answers m e line is_line k x y n v i z c small =
@@ -109,6 +110,7 @@ fault_law f room most fits block hlo hhi above deep text answers m e line is_lin
     (text_sent f (omega (arith, most, fits)) block hlo hhi e.homed.home text answers (m LINE) (m (LINE + 1)) (48 + k) (bytes_of m LINE line is_line)
     (omega (arith, small)) _ _ _ _ _ _ _ _ _ (record { low = refl; high = refl; byte = omega (arith, small) }))))))
 
+-- the law of Fault's entry with a line, from the block's bytes
 pub fault_line_law : FaultLineLaw
 fault_line_law f room most fits block hlo hhi above deep text answers m e k x y n v i z c small low high =
     let own = above ++ hlo ∷ hhi ∷ [] in

@@ -23,6 +23,7 @@ from_here f at bs m text answers q t n go w h =
     known f w at bs text answers q t n h.pc h.stack h.binary h.text h.answers
     (subst (λ k. Comes f (view w.regs.a w.regs.x w.regs.y w.regs.flags.n w.regs.flags.v w.regs.flags.i w.regs.flags.z w.regs.flags.c at bs k text answers) q t n) (sym h.mem) (go _ _ _ _ _ _ _ _))
 
+-- a law for all registers but A and all flags holds with that A
 pub from_a : (f : Setup) (at k : ℕ) (bs : List ℕ) (m : ℕ → ℕ) (text answers : List ℕ) (q : View → Type 0) (t : List ℕ) (n : ℕ)
     → ((x y : ℕ) (b v i z c : Bool) → Comes f (view k x y b v i z c at bs m text answers) q t n) → Moves f (WithA at k bs m text answers) q t n
 from_a f at k bs m text answers q t n go w h =
@@ -30,6 +31,7 @@ from_a f at k bs m text answers q t n go w h =
     (subst (λ j. Comes f (view w.regs.a w.regs.x w.regs.y w.regs.flags.n w.regs.flags.v w.regs.flags.i w.regs.flags.z w.regs.flags.c at bs j text answers) q t n) (sym h.here.mem)
     (subst (λ j. Comes f (view j w.regs.x w.regs.y w.regs.flags.n w.regs.flags.v w.regs.flags.i w.regs.flags.z w.regs.flags.c at bs m text answers) q t n) (sym h.number) (go _ _ _ _ _ _ _)))
 
+-- a law for all flags holds with that A and that line in X and Y
 pub from_line : (f : Setup) (at k j : ℕ) (bs : List ℕ) (m : ℕ → ℕ) (text answers : List ℕ) (q : View → Type 0) (t : List ℕ) (n : ℕ)
     → ((b v i z c : Bool) → Comes f (view k (j % 256) (j / 256) b v i z c at bs m text answers) q t n) → Moves f (WithLine at k j bs m text answers) q t n
 from_line f at k j bs m text answers q t n go w h =
@@ -40,7 +42,7 @@ from_line f at k j bs m text answers q t n go w h =
     (subst (λ r. Comes f (view k r w.regs.y w.regs.flags.n w.regs.flags.v w.regs.flags.i w.regs.flags.z w.regs.flags.c at bs m text answers) q t n) (sym h.low)
     (subst (λ r. Comes f (view k (j % 256) r w.regs.flags.n w.regs.flags.v w.regs.flags.i w.regs.flags.z w.regs.flags.c at bs m text answers) q t n) (sym h.high) (go _ _ _ _ _)))))
 
--- a law beside what the caller keeps, with a larger bound and less said of the memory
+-- a law above what the caller keeps, with a larger bound and less said about the memory
 pub beside : (f : Setup) (own : List ℕ) (v : View) (at : ℕ) (text answers : List ℕ) (p q : (ℕ → ℕ) → Type 0) (t : List ℕ) (n limit : ℕ) → n ≤ limit
     → Comes (under f own) v (Leaves at [] text answers p) t n → ((w : ℕ → ℕ) → p w → q w) → Comes f (stacked_on own v) (Leaves at own text answers q) t limit
 beside f own v at text answers p q t n limit le c go =
@@ -56,16 +58,17 @@ beside f own v at text answers p q t n limit le c go =
     (framed f own v (Leaves at [] text answers p) t n c)
 
 -- ---- faults
--- the line and the start's stack pointer are as they were
+-- the line and the start's stack pointer are unchanged
 pub record Stays (m w : ℕ → ℕ) : Type 0 where
   pub line : w LINE ≡ m LINE
   pub line_high : w (LINE + 1) ≡ m (LINE + 1)
   pub home_s : w HOME_S ≡ m HOME_S
 
+-- a memory that is the same has the same line and stack pointer
 pub unchanged : (m w : ℕ → ℕ) → w ≡ m → Stays m w
 unchanged m w e = record { line = ap (λ r. r LINE) e; line_high = ap (λ r. r (LINE + 1)) e; home_s = ap (λ r. r HOME_S) e }
 
--- a routine that comes to Fault, and the fault: its text is sent, and the machine has returned
+-- a routine that goes to Fault, and the fault: its text is sent, and the machine has returned
 pub faulting : (f : Setup) (lo hi : ℕ) → Fits f 16 → Holds block_part f.code → (l h k : ℕ) → k < 10 → (m : ℕ → ℕ) (text answers : List ℕ) (n : ℕ)
     → WordAt m LINE n → Entered f lo hi m → (v : View) (q : (ℕ → ℕ) → Type 0) (j limit : ℕ) → j + 540 ≤ limit
     → Comes (under f (lo ∷ hi ∷ [])) v (Faults l h text answers k q) [] j → ((w : ℕ → ℕ) → q w → Stays m w) → Comes f (stacked_on (lo ∷ hi ∷ []) v)
@@ -87,10 +90,12 @@ pub entries_length : (start : ℕ → ℕ) (ns : List ℕ) → length (entries s
 entries_length start [] = refl
 entries_length start (n ∷ ns) = ap (λ k. suc k) (entries_length start ns)
 
+-- the entries of the line table have the lines' numbers
 pub entries_numbers : (start : ℕ → ℕ) (ns : List ℕ) → numbers_in (entries start ns) ≡ ns
 entries_numbers start [] = refl
 entries_numbers start (n ∷ ns) = ap (λ ns. n ∷ ns) (entries_numbers start ns)
 
+-- the look-up of a line that there is gives its address
 pub found : (start : ℕ → ℕ) (ns : List ℕ) (n : ℕ) → has_line ns n ≡ true → address_of n (entries start ns) ≡ Some (start n)
 found start [] n h = cc
 found start (k ∷ ns) n h = ⊎_elim
@@ -98,6 +103,7 @@ found start (k ∷ ns) n h = ⊎_elim
     (λ e. ap (λ t. if t then Some (start k) else address_of n (entries start ns)) (ne_eqb k n e) ∙ found start ns n (sym (ap (λ t. t || has_line ns n) (ne_eqb k n e)) ∙ h))
     (cases_eq k n)
 
+-- the look-up of a line that there is not gives nothing
 pub not_found : (start : ℕ → ℕ) (ns : List ℕ) (n : ℕ) → has_line ns n ≡ false → address_of n (entries start ns) ≡ None
 not_found start [] n h = refl
 not_found start (k ∷ ns) n h = ⊎_elim

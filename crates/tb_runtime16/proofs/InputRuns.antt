@@ -35,7 +35,7 @@ compares_same b k = eqb ((b + 256 - k) % 256) 0
 other_byte : (b k : ℕ) → b < 256 → k < 256 → b ≢ k → compares_same b k ≡ false
 other_byte b k p q n = ne_eqb _ _ (λ h. n (omega (arith, p, q, h)))
 
--- a call of Send, and then
+-- a call of Send, and then a law
 saying : (f : Setup) (own : List ℕ) → Fits (under f own) 2 → Holds block_part f.code → (lo hi : ℕ) (text answers : List ℕ) (m : ℕ → ℕ) (a x y : ℕ)
     (n v i z c : Bool) → a < 256 → (q : View → Type 0) (u : List ℕ) (k : ℕ) → ((a' x y : ℕ) (n v i z c : Bool) (m' : ℕ → ℕ)
     → m' COLUMN ≡ column_after (m COLUMN) (a ∷ []) % 256 → ((p : ℕ) → p ≢ COLUMN → m' p ≡ m p)
@@ -271,7 +271,7 @@ module _ (f : Setup) (room : ℕ) (most : 13 ≤ room) (fits : Fits f room) (blo
             rw e1 (rw e2 (rw e3 (rw e4 (rw e5 (h.others a t)))));
       }) bs)
 
-  -- ---- a byte has come
+  -- ---- a byte was read
   abbrev Byte : ℕ → List ℕ → Reading → Type 0
   Byte b text r = (x y : ℕ) (n v i z c : Bool) (m : ℕ → ℕ) → Held r m → AreBytes text
       → Comes f (view b x y n v i z c (INPUT_AT + 0x25) (lo ∷ hi ∷ own) m text answers) (Goal (turn r (b ∷ text))) (sends (turn r (b ∷ text))) (45 * length text + (145 + 458))
@@ -398,6 +398,7 @@ module _ (f : Setup) (room : ℕ) (most : 13 ≤ room) (fits : Fits f room) (blo
         others = changes_put _ _ _ MINUS _ refl (changes_put _ _ _ SCRATCH _ refl (changes_put _ _ _ (RESULT + 1) _ refl (changes_put _ _ _ RESULT _ refl k)));
       }) bs)
 
+-- Input's law, from the block's bytes
 pub input_law : InputLaw
 input_law f room most fits block hlo hhi above deep lo hi text answers m e line is_line bs true o col column a x y n v i z c =
     let own = above ++ hlo ∷ hhi ∷ [] in

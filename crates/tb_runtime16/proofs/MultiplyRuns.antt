@@ -30,7 +30,7 @@ byte_bits k h =
     let s : pow2 (k + (7 - k)) ≡ 128 = ap pow2 e in
     omega (arith, pow2_rises k (7 - k), s)
 
--- how many Go events k rounds take at most: 14 each, and two more where RIGHT's high byte is looked at
+-- how many Go events k rounds take at most: 14 each, and two more if RIGHT's high byte is looked at
 abbrev rounds : ℕ → ℕ
 rounds k = 14 * k + 2 * (k - 8)
 
@@ -41,7 +41,7 @@ module _ (f : Setup) (fits : Fits f 2) (block : Holds block_part f.code) (lo hi 
     r : m (RESULT + 1) < 256
     others : Frame m0 m
 
-  -- behind the sum, the low byte of the result in A: RIGHT has k bits left
+  -- after the sum, with the low byte of the result in A: RIGHT has k bits left
   Skip : ℕ → Type 0
   Skip k = (a x y : ℕ) (n v i z c : Bool) (m : ℕ → ℕ) (product : ℕ) → a < 256 → Held m → word_in m RIGHT < pow2 k
       → product ≡ (a + 256 * m (RESULT + 1) + 2 * word_in m LEFT * word_in m RIGHT) % 65536
@@ -65,7 +65,7 @@ module _ (f : Setup) (fits : Fits f 2) (block : Holds block_part f.code) (lo hi 
     others = frame_put _ _ (LEFT + 1) _ refl (frame_put _ _ LEFT _ refl h.others);
   }
 
-  -- RIGHT's low byte is 0: its high one is looked at
+  -- RIGHT's low byte is 0: its high byte is looked at
   high_none : (a x y : ℕ) (n v i z c : Bool) (m : ℕ → ℕ) (product : ℕ) → a < 256 → Held m → m (RIGHT + 1) ≡ 0 → product ≡ a + 256 * m (RESULT + 1)
       → Comes f (view a x y n v i z c (MULTIPLY_AT + 33) (lo ∷ hi ∷ []) m text answers) (Back lo hi text answers (Gives is_argument m0 product)) [] 4
   high_none a x y n v i z c m product small h none e =
@@ -97,7 +97,7 @@ module _ (f : Setup) (fits : Fits f 2) (block : Holds block_part f.code) (lo hi 
   unfolding Skip
   skip_none a x y n v i z c m product small h bound e = stops a x y n v i z c m product small h (omega (arith, bound)) (omega (arith, bound)) e
 
-  -- the product for LEFT doubled
+  -- the product with LEFT doubled
   twice : (a : ℕ) (m : ℕ → ℕ) (product : ℕ) → Held m → product ≡ (a + 256 * m (RESULT + 1) + 2 * word_in m LEFT * word_in m RIGHT) % 65536
       → product ≡ (a + 256 * m (RESULT + 1) + (2 * m LEFT % 256 + 256 * (2 * m (LEFT + 1) % 256 + bit (eqb (m LEFT / 128 % 2) 1))) * word_in m RIGHT) % 65536
   twice a m product h e = e ∙ sym (turn_double (a + 256 * m (RESULT + 1)) (word_in m LEFT) (word_in m RIGHT))
@@ -182,6 +182,7 @@ module _ (f : Setup) (fits : Fits f 2) (block : Holds block_part f.code) (lo hi 
       (record { p = p; q = q; r = omega arith; others = frame_put _ _ (RESULT + 1) _ refl (λ a e. refl) })
       (omega (arith, p, q)) (let z : 0 + 256 * 0 + word_in m0 LEFT * word_in m0 RIGHT ≡ word_in m0 LEFT * word_in m0 RIGHT = omega arith in ap (λ x. x % 65536) (sym z))))
 
+-- Multiply's law, from the block's bytes
 pub multiply_law : MultiplyLaw
 multiply_law f fits block lo hi text answers m a x y n v i z c left right p q =
     let start = view a x y n v i z c MULTIPLY_AT (lo ∷ hi ∷ []) m text answers in

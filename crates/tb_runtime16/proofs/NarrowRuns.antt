@@ -147,6 +147,7 @@ module _ (f : Setup) (fits : Fits f 2) (block : Holds block_part f.code) (lo hi 
   lesses zero = less_none
   lesses (suc k) = less_more k (turn k (lesses k))
 
+  -- eight rounds divide LEFT by a byte above its high byte
   pub narrow : (x y : ℕ) (n v i z c : Bool) → IsWord m0 LEFT → m0 (LEFT + 1) < m0 RIGHT → Goal (view (m0 (LEFT + 1)) x y n v i z c (DIVIDE_AT + 66) (lo ∷ hi ∷ []) m0 text answers) 70
   unfolding Next
   narrow x y n v i z c p less =

@@ -49,7 +49,7 @@ module _ (f : Setup) (fits : Fits f 6) (block : Holds block_part f.code) (lo hi 
   abbrev Done : ℕ → (ℕ → ℕ) → Type 0
   Done col m = (m COLUMN ≡ col) × Rest m
 
-  -- what stands before a digit, of a number w
+  -- what is in memory before a digit, of a number w
   record Left (begun : Bool) (w : ℕ) (m : ℕ → ℕ) : Type 0 where
     is_word : IsWord m LEFT
     is : word_in m LEFT ≡ w
@@ -57,7 +57,7 @@ module _ (f : Setup) (fits : Fits f 6) (block : Holds block_part f.code) (lo hi 
     others : Rest m
     column : m COLUMN < 256
 
-  -- from a place, with the powers ps to come and the number below top
+  -- from an address, with the powers ps still to come and the number below top
   From : ℕ → ℕ → Bool → List ℕ → ℕ → ℕ → Type 0
   From pc x begun ps top k = (a y : ℕ) (n v i z c : Bool) (m : ℕ → ℕ) (w col : ℕ) → Left begun w m → w < top
       → (m COLUMN + length (sent ps begun w)) % 256 ≡ col → Comes f (view a x y n v i z c pc own m text answers) (Back lo hi text answers (Done col)) (sent ps begun w) k
@@ -113,7 +113,7 @@ module _ (f : Setup) (fits : Fits f 6) (block : Holds block_part f.code) (lo hi 
         column = omega (arith, next);
       }) small (one_later (m COLUMN) (u COLUMN) (length (sent ps true w)) next ∙ e))))))))
 
-  -- ---- one power, l + 256 * h, whose bytes stand at X in the tables
+  -- ---- one power, l + 256 * h, whose bytes are at X in the tables
   abbrev low_left : (ℕ → ℕ) → ℕ → ℕ
   low_left m l = (m LEFT + 256 - l) % 256
 
@@ -123,13 +123,13 @@ module _ (f : Setup) (fits : Fits f 6) (block : Holds block_part f.code) (lo hi 
   abbrev goes_in : (ℕ → ℕ) → ℕ → ℕ → Bool
   goes_in m l h = nat_le (h + bit (not (nat_le l (m LEFT)))) (m (LEFT + 1))
 
-  -- a comparison of LEFT with the power at X, and then
+  -- a comparison of LEFT with the power at X, and then a law
   abbrev Weighs : ℕ → ℕ → ℕ → Type 1
   Weighs x l h = (a y : ℕ) (n v i z c : Bool) (m : ℕ → ℕ) (q : View → Type 0) (t : List ℕ) (k : ℕ)
       → ((n v z : Bool) → Comes f (view (high_left m l h) x y n v i z (goes_in m l h) (NUMBER_AT + 36) own m text answers) q t k)
       → Comes f (view a x y n v i z c (NUMBER_AT + 26) own m text answers) q t (4 + k)
 
-  -- the power is taken from LEFT and counted, and then
+  -- the power is taken from LEFT and counted, and then a law
   abbrev Takes : ℕ → ℕ → Type 1
   Takes x l = (a y : ℕ) (n v i z : Bool) (m : ℕ → ℕ) (q : View → Type 0) (t : List ℕ) (k : ℕ)
       → ((n v c : Bool) → Comes f (view (low_left m l) x ((y + 1) % 256) n v i (eqb ((y + 1) % 256) 0) c (NUMBER_AT + 48) own
@@ -142,12 +142,12 @@ module _ (f : Setup) (fits : Fits f 6) (block : Holds block_part f.code) (lo hi 
     abbrev Away : (ℕ → ℕ) → (ℕ → ℕ) → Type 0
     Away m m' = (a : ℕ) → a ≢ LEFT → a ≢ LEFT + 1 → m' a ≡ m a
 
-    -- behind the comparison that fails, with the count y and the rest r
+    -- after the comparison that fails, with the count y and the remainder r
     abbrev Stops : (ℕ → ℕ) → Bool → ℕ → ℕ → (View → Type 0) → List ℕ → ℕ → Type 0
     Stops m i y r q t k = (a y' : ℕ) (n v z c : Bool) (m' : ℕ → ℕ) → y' ≡ y → IsWord m' LEFT → word_in m' LEFT ≡ r → Away m m'
         → Comes f (view a x y' n v i z c (NUMBER_AT + 50) own m' text answers) q t k
 
-    -- d times the power, and a rest
+    -- d times the power, and a remainder
     down : (d r : ℕ) → r < p → (a y : ℕ) (n v i z c : Bool) (m : ℕ → ℕ) (q : View → Type 0) (t : List ℕ) (k : ℕ) → IsWord m LEFT → word_in m LEFT
         ≡ d * p + r → y + d < 256 → Stops m i (y + d) r q t k → Comes f (view a x y n v i z c (NUMBER_AT + 26) own m text answers) q t (11 * d + (5 + k))
     down zero r less a y n v i z c m q t k w e few stop =
@@ -184,7 +184,7 @@ module _ (f : Setup) (fits : Fits f 6) (block : Holds block_part f.code) (lo hi 
       column = omega (arith, g.column, away COLUMN (λ q. omega (arith, q)) (λ q. omega (arith, q)));
     }
 
-    -- behind the count: a digit, or none
+    -- after the count: a digit, or none
     counted : (begun : Bool) (ps : List ℕ) (k : ℕ) → ((s : Bool) → From (NUMBER_AT + 66) x s ps p k) → (a y : ℕ) (n v i z c : Bool) (m m' : ℕ → ℕ)
         (w col : ℕ) → Left begun w m → (m COLUMN + length (sent (p ∷ ps) begun w)) % 256 ≡ col → w % p < p → w / p < 10 → y ≡ base begun + w / p
         → IsWord m' LEFT → word_in m' LEFT ≡ w % p → Away m m' → Comes f (view a x y n v i z c (NUMBER_AT + 50) own m' text answers)
@@ -211,7 +211,7 @@ module _ (f : Setup) (fits : Fits f 6) (block : Holds block_part f.code) (lo hi 
         omega (arith, start, q))) held less (ap (λ c. (c + length ((48 + w / p) ∷ sent ps true (w % p))) % 256) same ∙ ap (λ s. (m COLUMN + length s) % 256) (sym t) ∙ e)))
         (cases_eq (w / p) 0)
 
-    -- the digit of the power, which is at most a number, and what comes behind it
+    -- the digit of the power, which is at most a number, and what comes after it
     power : (begun : Bool) (ps : List ℕ) (top most k : ℕ) → most < 10 → ((w : ℕ) → w < top → (w / p ≤ most) × (w / p * p + w % p ≡ w) × (w % p < p))
         → ((s : Bool) → From (NUMBER_AT + 66) x s ps p k) → From (NUMBER_AT + 24) x begun (p ∷ ps) top (1 + (11 * most + (5 + (2 + (5 + (7 + (1 + k)))))))
     unfolding From
@@ -252,7 +252,7 @@ module _ (f : Setup) (fits : Fits f 6) (block : Holds block_part f.code) (lo hi 
       (λ s. on s (1000 ∷ 100 ∷ 10 ∷ []) 2 10000 376 (omega arith) (thousands_on s))
 
   -- ---- the whole
-  -- from 100 on where the number is below 256
+  -- from 100 on if the number is below 256
   plain_byte : (a x y : ℕ) (n v i z c : Bool) (m : ℕ → ℕ) (w col : ℕ) → m (LEFT + 1) ≡ 0 → Left false w (with_byte m RIGHT 0) → w < 1000
       → (m COLUMN + length (digits_before 5 w [])) % 256 ≡ col → Comes f (view a x y n v i z c (NUMBER_AT + 12) own m text answers)
       (Back lo hi text answers (Done col)) (digits_before 5 w []) (5 + (1 + 254))
@@ -290,7 +290,7 @@ module _ (f : Setup) (fits : Fits f 6) (block : Holds block_part f.code) (lo hi 
       (λ some. plain_word a x y n v i z c m w col some ready few many l)
       (cases_eq (m (LEFT + 1)) 0)
 
-  -- behind the sign
+  -- after the sign
   negative : (a x y : ℕ) (n v i z c : Bool) (m : ℕ → ℕ) (col : ℕ) → IsWord m LEFT → is_negative (word_in m LEFT) ≡ true → Rest m → m COLUMN < 256
       → (m COLUMN + length (digits_before 5 (magnitude (word_in m LEFT)) [])) % 256 ≡ col
       → Comes f (view a x y n v i z c (NUMBER_AT + 9) own m text answers) (Back lo hi text answers (Done col)) (digits_before 5 (magnitude (word_in m LEFT)) []) (1 + (9 + 437))
@@ -347,6 +347,7 @@ module _ (f : Setup) (fits : Fits f 6) (block : Holds block_part f.code) (lo hi 
       (rw b (plain _ _ _ _ _ _ _ _ m0 w _ p refl (omega (arith, below)) (λ a b d. refl) q refl)))))
       (sign_case (is_negative w))
 
+-- Number's law, from the block's bytes
 pub number_law : NumberLaw
 unfolding Rest
 number_law f fits block lo hi text answers m a x y n v i z c number p w =

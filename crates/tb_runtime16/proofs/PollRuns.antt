@@ -15,6 +15,7 @@ use Rattle.tb_runtime16.proofs.Called.{after_on, ending_on}
 use Rattle.tb_runtime16.proofs.FaultRuns.{fault_law}
 use Rattle.tb_runtime16.proofs.Frames.{leaves_now}
 
+-- Poll's law, from the block's bytes
 pub poll_law : PollLaw
 poll_law f room most fits block hlo hhi above deep lo hi text answers m e line is_line byte a x y n v i z c =
     let own = above ++ hlo ∷ hhi ∷ [] in

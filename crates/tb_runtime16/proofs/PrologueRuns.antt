@@ -30,6 +30,7 @@ cleared_small : (n : ℕ) (m : ℕ → ℕ) → ((a : ℕ) → m a < 256) → (a
 cleared_small zero m h = h
 cleared_small (suc n) m h = cleared_small n (with_byte m (VARS + n) 0) (put_small m (VARS + n) 0 (omega arith) h)
 
+-- the prologue's law, from the block's bytes
 pub prologue_law : PrologueLaw
 prologue_law place bytes from to inner holds block s h =
     let f = setup_of inner (part_at place bytes) s in

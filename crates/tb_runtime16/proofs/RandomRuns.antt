@@ -136,6 +136,7 @@ module _ (f : Setup) (fits : Fits f 6) (block : Holds block_part f.code) (lo hi 
       (rw b (seeding _ _ _ _ _ _ _ _ (seed_of m0 (word_in m0 RIGHT) (word_in m0 SEED)) refl q s))))))
       (cases_eq (m0 (LEFT + 1)) 0)
 
+-- Random's law, from the block's bytes
 pub random_law : RandomLaw
 random_law f fits block lo hi text answers m a x y n v i z c bound option stored p q s least most =
     let start = view a x y n v i z c RANDOM_AT (lo ∷ hi ∷ []) m text answers in
@@ -152,6 +153,7 @@ module _ (f : Setup) (fits : Fits f 2) (block : Holds block_part f.code) (lo hi 
   bad a x y n v i z c = ending f 2 fits random_part (random_in f.code block) 1 (view a x y n v i z c (RANDOM_AT + 10) (lo ∷ hi ∷ []) m text answers) _ refl
       (record { leaves = leaves_now refl refl; number = refl })
 
+-- the law of Random with a bad bound, from the block's bytes
 pub random_range_law : RandomRangeLaw
 random_range_law f fits block lo hi text answers m a x y n v i z c bound p (inl none) =
     let sign : eqb (m (LEFT + 1) / 128 % 2) 1 ≡ false = ne_eqb _ _ (λ e. omega (arith, none, p.high, e)) in

@@ -27,7 +27,7 @@ return_same : (m k : ℕ → ℕ) (j return_address : ℕ) → k (RETURN_LOW + j
     → ReturnAt m j return_address → ReturnAt k j return_address
 return_same m k j return_address e d h = record { low = e ∙ h.low; high = d ∙ h.high; small = h.small }
 
--- what changes neither low nor high bytes of a list leaves it
+-- memory that agrees on a list's low and high bytes has the list too
 returns_same : (m k : ℕ → ℕ) (ns : List ℕ) → ((j : ℕ) → j < length ns → (k (RETURN_LOW + j) ≡ m (RETURN_LOW + j)) × (k (RETURN_HIGH + j) ≡ m (RETURN_HIGH + j)))
     → AreReturns m ns → AreReturns k ns
 returns_same m k [] e h = tt
@@ -52,14 +52,14 @@ up_carry l h k p q r e = (omega arith, omega arith, omega arith)
 up_plain : (l h k : ℕ) → l < 256 → l + 256 * h ≡ k → k < deepest → (l + 1) % 256 ≢ 0 → ((l + 1) % 256 < 256) × (h < 256) × ((l + 1) % 256 + 256 * h ≡ suc k)
 up_plain l h k p q r e = (omega arith, omega arith, omega arith)
 
--- the word in two bytes of a note
+-- the word in two bytes of a return
 return_word : (low high return_address : ℕ) → low ≡ return_address % 256 → high ≡ return_address / 256 → return_address < 65536 → (low < 256)
     × (high < 256) × (low + 256 * high ≡ return_address)
 return_word low high return_address l h s = (omega arith, omega (arith, h, s), omega (arith, l, h))
 
 module _ (f : Setup) (fits : Fits f 2) (block : Holds block_part f.code) (lo hi : ℕ) (text answers : List ℕ) (m0 : ℕ → ℕ) where
   -- ---- Push
-  -- the note's bytes stand, and NOTES goes up: with a carry
+  -- the return's bytes are stored, and NOTES goes up: with a carry
   count_over : (a x y : ℕ) (n v i z c : Bool) (m : ℕ → ℕ) (return_address : ℕ) (ns : List ℕ) → m NOTES < 256 → m NOTES + 256 * m (NOTES + 1) ≡ length ns
       → length ns < deepest → AreReturns m (return_address ∷ ns) → Changes push_changes m0 m → (m NOTES + 1) % 256 ≡ 0
       → Comes f (view a x y n v i z c (PUSH_AT + 0x12) (lo ∷ hi ∷ []) m text answers) (Back lo hi text answers (Pushed m0 (return_address ∷ ns))) [] 4
@@ -110,7 +110,7 @@ module _ (f : Setup) (fits : Fits f 2) (block : Holds block_part f.code) (lo hi 
       (λ under. looser f _ _ _ [] 3 4 (omega arith) (λ w h. h) (count_plain a x y n v i z c m return_address ns low is small h r under))
       (cases_eq ((m NOTES + 1) % 256) 0)
 
-  -- an instruction at a place of the list, by X
+  -- an instruction at an address of the list, by X
   module _ (o pc at a x y : ℕ) (n v i z c : Bool) (m : ℕ → ℕ) (q : View → Type 0) (k : ℕ) (there : (o + x) % 65536 ≡ at) (from : 0xc000 ≤ at) (to : at ≤ 0xCFFF) where
     abbrev here : View
     here = view a x y n v i z c pc (lo ∷ hi ∷ []) m text answers
@@ -133,7 +133,7 @@ module _ (f : Setup) (fits : Fits f 2) (block : Holds block_part f.code) (lo hi 
         refl (ap (λ a. Ok a) there) (m at) _ (reads_data f.code m at (data_place at from to)) refl) next
 
   module _ (ns : List ℕ) (left : IsWord m0 LEFT) (h : ReturnList m0 ns) (small : length ns < deepest) where
-    -- the places of a new note's bytes, and memory with the first of them and with both
+    -- the addresses of a new return's bytes, and memory with the first of them and with both
     abbrev low_at : ℕ
     low_at = RETURN_LOW + length ns
 
@@ -152,7 +152,7 @@ module _ (f : Setup) (fits : Fits f 2) (block : Holds block_part f.code) (lo hi 
     high_stays : with_low (LEFT + 1) ≡ m0 (LEFT + 1)
     high_stays = put_other m0 low_at (m0 LEFT) (LEFT + 1) (λ e. omega arith)
 
-    -- memory with a new note
+    -- memory with a new return
     record Stands : Type 0 where
       low : with_return NOTES < 256
       is : with_return NOTES + 256 * with_return (NOTES + 1) ≡ length ns
@@ -197,7 +197,7 @@ module _ (f : Setup) (fits : Fits f 2) (block : Holds block_part f.code) (lo hi 
         (omega arith) (omega (arith, small)) (returns_in f.code block _ _ refl, (returns_in f.code block _ _ refl, (returns_in f.code block _ _ refl, tt)))
         (count _ _ _ _ _ _ _ _ with_return (word_in m0 LEFT) ns stands.low stands.is small stands.held stands.others)))))
 
-    -- and on its second one
+    -- or on its second page
     store_far : (a y : ℕ) (n v i z : Bool) → m0 (NOTES + 1) ≡ 1
         → Comes f (view a (m0 NOTES) y n v i z false (PUSH_AT + 0x1F) (lo ∷ hi ∷ []) m0 text answers) (Back lo hi text answers (Pushed m0 (word_in m0 LEFT ∷ ns))) [] 8
     store_far a y n v i z one =
@@ -241,11 +241,11 @@ module _ (f : Setup) (fits : Fits f 2) (block : Holds block_part f.code) (lo hi 
       (record { leaves = leaves_now refl refl; number = refl })))))
 
   -- ---- Pop
-  -- memory without the newest note
+  -- memory without the newest return
   abbrev counted : (ℕ → ℕ) → ℕ → ℕ
   counted m = with_byte m NOTES ((m NOTES + 255) % 256)
 
-  -- the note's bytes into RESULT
+  -- the return's bytes into RESULT
   record Fetched (m : ℕ → ℕ) (return_address : ℕ) (ns : List ℕ) : Type 0 where
     word : (counted m (RETURN_LOW + length ns) < 256) × (counted m (RETURN_HIGH + length ns) < 256)
         × (counted m (RETURN_LOW + length ns) + 256 * counted m (RETURN_HIGH + length ns) ≡ return_address)
@@ -279,7 +279,7 @@ module _ (f : Setup) (fits : Fits f 2) (block : Holds block_part f.code) (lo hi 
 
   module _ (m : ℕ → ℕ) (return_address : ℕ) (ns : List ℕ) (is : (m NOTES + 255) % 256 + 256 * m (NOTES + 1) ≡ length ns) (small : length ns < deepest)
       (h : AreReturns m (return_address ∷ ns)) (r : Changes pop_changes m0 m) where
-    -- the places of the newest note's bytes
+    -- the addresses of the newest return's bytes
     abbrev low_from : ℕ
     low_from = RETURN_LOW + length ns
 
@@ -291,7 +291,7 @@ module _ (f : Setup) (fits : Fits f 2) (block : Holds block_part f.code) (lo hi 
     gives top n v i z c = let g = fetched m return_address ns h in give _ _ _ n v i z c (counted m) return_address ns g.word
         (omega arith) top is small g.held (changes_put pop_changes m0 m NOTES _ refl r)
 
-    -- the newest note, on the first page
+    -- the newest return, on the first page
     take_near : (a y : ℕ) (n v i z c : Bool) → m (NOTES + 1) ≡ 0
         → Comes f (view a (m NOTES) y n v i z c (PUSH_AT + 0x3D) (lo ∷ hi ∷ []) m text answers) (Back lo hi text answers (Popped m0 return_address ns)) [] 9
     take_near a y n v i z c near =
@@ -303,7 +303,7 @@ module _ (f : Setup) (fits : Fits f 2) (block : Holds block_part f.code) (lo hi 
         (returns_in f.code block _ _ refl, (returns_in f.code block _ _ refl, (returns_in f.code block _ _ refl, tt)))
         (gives (omega (arith, near)) _ _ _ _ _))))
 
-    -- and on the second one
+    -- or on the second page
     take_far : (a y : ℕ) (n v i z c : Bool) → m (NOTES + 1) ≡ 1
         → Comes f (view a (m NOTES) y n v i z c (PUSH_AT + 0x3D) (lo ∷ hi ∷ []) m text answers) (Back lo hi text answers (Popped m0 return_address ns)) [] 10
     take_far a y n v i z c far =
@@ -350,16 +350,20 @@ module _ (f : Setup) (fits : Fits f 2) (block : Holds block_part f.code) (lo hi 
       (rw s (ending f 2 fits returns_part (returns_in f.code block) 1 (view _ _ _ _ _ _ _ _ (PUSH_AT + 0x5C) (lo ∷ hi ∷ []) m0 text answers) _ refl
       (record { leaves = leaves_now refl refl; number = refl })))))
 
+-- Push's law, from the block's bytes
 pub push_law : PushLaw
 push_law f fits block lo hi text answers m a x y n v i z c return_address returns left h small =
     of_word (λ j. Comes f (view a x y n v i z c PUSH_AT (lo ∷ hi ∷ []) m text answers) (Back lo hi text answers (Pushed m (j ∷ returns))) [] 13) m LEFT return_address left
     (push_whole f fits block lo hi text answers m returns (bytes_of m LEFT return_address left) h small a x y n v i z c)
 
+-- the law of Push on a full list, from the block's bytes
 pub push_full_law : PushFullLaw
 push_full_law f fits block lo hi text answers m a x y n v i z c returns h full = push_full f fits block lo hi text answers m a x y n v i z c returns h full
 
+-- Pop's law, from the block's bytes
 pub pop_law : PopLaw
 pop_law f fits block lo hi text answers m a x y n v i z c return_address returns h = pop_whole f fits block lo hi text answers m a x y n v i z c return_address returns h
 
+-- the law of Pop of an empty list, from the block's bytes
 pub pop_none_law : PopNoneLaw
 pop_none_law f fits block lo hi text answers m a x y n v i z c h = pop_none f fits block lo hi text answers m a x y n v i z c h

@@ -35,7 +35,7 @@ same_bytes : (n l h : ℕ) → n % 256 ≡ l → n / 256 ≡ h → n ≡ l + 256
 same_bytes n l h p q = omega arith
 
 module _ (f : Setup) (fits : Fits f 2) (block : Holds block_part f.code) (lo hi : ℕ) (text answers : List ℕ) (m0 : ℕ → ℕ) (left : IsWord m0 WANTED) (r : Option ℕ) where
-  -- these entries, from at on, have the line
+  -- entries of the table, from the address at on, in which the look-up has the same answer
   record Piece (es : List Line) (at : ℕ) : Type 0 where
     shown : Bytes f.code at (table_bytes es)
     from : 0x0800 ≤ at
@@ -44,20 +44,20 @@ module _ (f : Setup) (fits : Fits f 2) (block : Holds block_part f.code) (lo hi 
     words : AllWords es
     same : address_of (word_in m0 WANTED) es ≡ r
 
-  -- the bytes at TABLE and COUNT tell where they stand and how many they are
+  -- the bytes at TABLE and COUNT give the address of the entries and their number
   record Told (t0 t1 c0 c1 : ℕ) (es : List Line) (at : ℕ) : Type 0 where
     table : t0 + 256 * t1 ≡ at
     table_word : (t0 < 256) × (t1 < 256)
     size : c0 + 256 * c1 ≡ length es
     size_word : (c0 < 256) × (c1 < 256)
 
-  -- and memory tells of them
+  -- these bytes are in memory
   record Range (m : ℕ → ℕ) (es : List Line) (at : ℕ) : Type 0 where
     told : Told (m TABLE) (m (TABLE + 1)) (m COUNT) (m (COUNT + 1)) es at
     part : Piece es at
     others : Changes search_changes m0 m
 
-  -- or it tells of few, by how far they lie behind the table's address
+  -- or memory gives few entries, by how far they are from the table's address
   record Short (m : ℕ → ℕ) (es : List Line) (at : ℕ) : Type 0 where
     place : m TABLE + 256 * m (TABLE + 1) + m POINTER ≡ at
     near : m POINTER + 4 * length es ≤ 252
@@ -65,7 +65,7 @@ module _ (f : Setup) (fits : Fits f 2) (block : Holds block_part f.code) (lo hi 
     part : Piece es at
     others : Changes search_changes m0 m
 
-  -- WANTED stays
+  -- WANTED is kept
   record Wanted (m : ℕ → ℕ) : Type 0 where
     low : m WANTED ≡ m0 WANTED
     high : m (WANTED + 1) ≡ m0 (WANTED + 1)
@@ -78,7 +78,7 @@ module _ (f : Setup) (fits : Fits f 2) (block : Holds block_part f.code) (lo hi 
       let high : m (WANTED + 1) ≡ m0 (WANTED + 1) = others (WANTED + 1) refl in
       record { low = low; high = high; low_small = omega (arith, left.0); high_small = omega (arith, left.1) }
 
-  -- an entry in the middle: where it stands, and its number
+  -- an entry in the middle: its address, and its number
   record Middle (front : List Line) (e : Line) (at : ℕ) : Type 0 where
     start : 0x0800 ≤ at + 4 * length front
     end : at + 4 * length front + 4 ≤ 0xa000
@@ -107,7 +107,7 @@ module _ (f : Setup) (fits : Fits f 2) (block : Holds block_part f.code) (lo hi 
         same = sym (address_front (word_in m0 WANTED) front e back h.rising less) ∙ h.same;
       }
 
-  -- and those from it on
+  -- the entries from the one in the middle on
   back_part : (front : List Line) (e : Line) (back : List Line) (at : ℕ) → Piece (front ++ (e ∷ back)) at → e.0 ≤ word_in m0 WANTED → Piece (e ∷ back) (at + 4 * length front)
   back_part front e back at h least =
       let to = h.to in
@@ -226,7 +226,7 @@ module _ (f : Setup) (fits : Fits f 2) (block : Holds block_part f.code) (lo hi 
   Halve k = (a x y : ℕ) (n v i z c : Bool) (m : ℕ → ℕ) (es : List Line) (at : ℕ) → Short m es at → a ≡ length es → 1 ≤ length es → length es ≤ pow2 k
       → Comes f (view a x y n v i z c (SEARCH_AT + 0x6B) (lo ∷ hi ∷ []) m text answers) (Searched lo hi m0 text answers r) [] (21 * k + 17)
 
-  -- those before the one in the middle
+  -- the entries before the one in the middle
   halve_front : (k : ℕ) → Halve k → (a x y : ℕ) (n v i z c : Bool) (m : ℕ → ℕ) (front : List Line) (e : Line) (back : List Line) (at : ℕ)
       → Short m (front ++ (e ∷ back)) at → x ≡ length front → 1 ≤ length front → length front ≤ pow2 k → word_in m0 WANTED < e.0
       → Comes f (view a x y n v i z c (SEARCH_AT + 0x91) (lo ∷ hi ∷ []) m text answers) (Searched lo hi m0 text answers r) [] (3 + (21 * k + 17))
@@ -244,7 +244,7 @@ module _ (f : Setup) (fits : Fits f 2) (block : Holds block_part f.code) (lo hi 
         others = changes_put _ _ _ COUNT _ refl h.others;
       }) size some few))
 
-  -- and those from it on
+  -- the entries from the one in the middle on
   halve_back : (k : ℕ) → Halve k → (a x y : ℕ) (n v i z : Bool) (m : ℕ → ℕ) (front : List Line) (e : Line) (back : List Line) (at : ℕ)
       → Short m (front ++ (e ∷ back)) at → x ≡ length front → y ≡ m POINTER + 4 * length front + 1 → suc (length back) ≤ pow2 k
       → e.0 ≤ word_in m0 WANTED → Comes f (view a x y n v i z true (SEARCH_AT + 0x82) (lo ∷ hi ∷ []) m text answers) (Searched lo hi m0 text answers r) [] (7 + (21 * k + 17))
@@ -268,7 +268,7 @@ module _ (f : Setup) (fits : Fits f 2) (block : Holds block_part f.code) (lo hi 
         others = changes_put _ _ _ COUNT _ refl (changes_put _ _ _ (POINTER + 1) _ refl (changes_put _ _ _ POINTER _ refl h.others));
       }) rest (omega arith) few))
 
-  -- WANTED against the number of the one in the middle
+  -- WANTED against the number of the entry in the middle
   halve_by : (k : ℕ) → Halve k → (a x y : ℕ) (n v i z c : Bool) (m : ℕ → ℕ) (front : List Line) (e : Line) (back : List Line) (at : ℕ)
       → Short m (front ++ (e ∷ back)) at → x ≡ length front → y ≡ m POINTER + 4 * length front → 1 ≤ length front → length front ≤ pow2 k
       → suc (length back) ≤ pow2 k → Comes f (view a x y n v i z c (SEARCH_AT + 0x75) (lo ∷ hi ∷ []) m text answers) (Searched lo hi m0 text answers r) [] (6 + (7 + (21 * k + 17)))
@@ -548,6 +548,7 @@ module _ (f : Setup) (fits : Fits f 2) (block : Holds block_part f.code) (lo hi 
         others = λ a e. refl;
       }) some (omega arith)
 
+-- Search's law, from the block's bytes
 pub search_law : SearchLaw
 search_law f fits block lo hi text answers m a x y n v i z c number table lines wanted at count shown from to some rising words =
     let place = value m TABLE table at in

@@ -14,10 +14,11 @@ use Rattle.tb_runtime16.specs.Laws.{Back, Sent, nowhere, SendLaw}
 use Rattle.tb_runtime16.proofs.Within.{send_part, send_in}
 use Rattle.tb_runtime16.proofs.Frames.{leaves_now}
 
--- the column behind a return, and behind another byte
+-- the column after a return
 pub column_cr : (c b : ℕ) → b ≡ 13 → column_after c (b ∷ []) ≡ 0
 column_cr c b e = ap (λ t. if t then 0 else c + 1) (eq-eqb b 13 e)
 
+-- the column after any other byte
 pub column_on : (c b : ℕ) → b ≢ 13 → column_after c (b ∷ []) ≡ c + 1
 column_on c b e = ap (λ t. if t then 0 else c + 1) (ne_eqb b 13 e)
 
@@ -43,5 +44,6 @@ module _ (f : Setup) (fits : Fits f 2) (block : Holds block_part f.code) (lo hi 
       (rw t (count _ _ _ _ _ _ _ _ _ (sym (ap (λ n. n % 256) (column_on (m0 COLUMN) a on))) (λ a p. refl)))))
       (cases_eq a 13)
 
+-- Send's law, from the block's bytes
 pub send_law : SendLaw
 send_law f fits block lo hi text answers m a x y n v i z c small = whole f fits block lo hi text answers m a x y n v i z c small

@@ -13,7 +13,7 @@ high_sum l h k j = (h + j + bit (nat_lt 255 (l + k + 0))) % 256
 high_twice_small : (l h : ℕ) → l < 256 → high_twice l h < 256
 high_twice_small l h p = omega (arith, one_high l p)
 
--- a word times ten and a digit: twice, twice, and the word, twice, and the digit
+-- a word times ten and a digit: doubled twice, the word added, doubled, and the digit added
 pub times_ten : (l h d : ℕ) → l < 256 → h < 256 → d < 256 →
     (2 * ((2 * (2 * l % 256) % 256 + l + 0) % 256) % 256 + d + 0) % 256
     + 256 * high_sum (2 * ((2 * (2 * l % 256) % 256 + l + 0) % 256) % 256) (high_twice ((2 * (2 * l % 256) % 256 + l + 0) % 256)

@@ -26,7 +26,7 @@ use Rattle.tb_runtime16.proofs.SendRuns.{send_law}
 use Rattle.tb_runtime16.proofs.Frames.{leaves_now}
 
 module _ (f : Setup) (fits : Fits f 4) (block : Holds block_part f.code) (lo hi : ℕ) (text answers : List ℕ) (m0 : ℕ → ℕ) (all : List ℕ) where
-  -- the bytes from an address on are still to be sent, and those before are
+  -- the bytes from an address on are still to be sent, and those before were
   record Still (m : ℕ → ℕ) (at : ℕ) (bytes : List ℕ) : Type 0 where
     word_is : m POINTER + 256 * m (POINTER + 1) ≡ at
     low : m POINTER < 256
@@ -96,7 +96,7 @@ module _ (f : Setup) (fits : Fits f 4) (block : Holds block_part f.code) (lo hi 
       })
       less)))
 
-  -- the pointer goes up; the byte before it was sent
+  -- the pointer goes up after the byte was sent
   next_byte : (bs : List ℕ) → Count bs → (a x y : ℕ) (n v i z c : Bool) (m w : ℕ → ℕ) (b at : ℕ) → Still m at (b ∷ bs) → Sent nowhere m (b ∷ []) w
       → m LENGTH ≡ suc (length bs) → Comes f (view a x y n v i z c (TEXT_AT + 12) (lo ∷ hi ∷ []) w text answers)
       (Back lo hi text answers (Told m0 all)) bs (3 + (15 * length bs + 3))
@@ -192,6 +192,7 @@ module _ (f : Setup) (fits : Fits f 4) (block : Holds block_part f.code) (lo hi 
       (after f 4 fits text_part (text_in f.code block) 1 (view a x y n v i z c TEXT_AT (lo ∷ hi ∷ []) m text answers) _ _ (15 * length bs + 16) refl
       (rw some (send bs (counts bs) _ _ _ _ _ _ _ _ _ b at h e)))
 
+-- Text's law, from the block's bytes
 pub text_law : TextLaw
 text_law f fits block lo hi text answers m a x y n v i z c at bytes p =
     let small = bytes_of m POINTER at p.pointer in

@@ -1,4 +1,4 @@
--- Division without signs, inside Divide: by the byte at RIGHT where that and LEFT are small enough, else by the word.
+-- Division without signs, inside Divide: by the byte at RIGHT if that and LEFT are small enough, else by the word.
 use Rattle.std.proofs.Common.{◌≡◌, ℕ, ◌+◌, ◌/◌, ◌%◌, ◌<◌, ◌≤◌, Bool, true, false, List, [], ◌∷◌, refl, ⊎_elim, arith, eqb}
 use Rattle.std.specs.Prelude.{nat_le}
 use Rattle.std.proofs.lemmas.Bool.{ne_eqb, eq-eqb, le-leb, lt-leb, cases_eq, cases_lt}
@@ -58,6 +58,7 @@ module _ (f : Setup) (fits : Fits f 2) (block : Holds block_part f.code) (lo hi 
       (rw b (by_word _ _ _ _ _ _ _ _))))
       (cases_eq (m (RIGHT + 1)) 0)
 
+-- the law of the division without signs, from the block's bytes
 pub unsigned_law : UnsignedLaw
 unsigned_law f fits block lo hi text answers m a x y n v i z c left right p q some most =
     let start = view a x y n v i z c unsigned_at (lo ∷ hi ∷ []) m text answers in

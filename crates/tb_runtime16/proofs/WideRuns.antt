@@ -18,13 +18,15 @@ use Rattle.tb_runtime16.proofs.Words.{small_byte, carried, doubled, doubled_in, 
 use Rattle.tb_words.proofs.Powers.{pow2}
 use Rattle.tb_runtime16.proofs.Frames.{Frame, frame_put, leaves_now}
 
+-- doubling the first factor doubles the product
 pub double : (a b : ℕ) → (a + a) * b ≡ a * b + a * b
 double a b = grind arith
 
+-- doubling the first factor and adding 1 adds the second factor too
 pub double_one : (a b : ℕ) → (a + a + 1) * b ≡ a * b + a * b + b
 double_one a b = grind arith
 
--- rest, dividend and quotient of a turn
+-- remainder, dividend and quotient of a turn
 sum_less : (l r q d p n l' r' : ℕ) → l < 65536 → l' ≡ 2 * l % 65536 → r' ≡ 2 * r + l / 32768 → r * 65536 + l + q * d * 65536 ≡ p * n + q
     → r' * 65536 + l' + (q + q) * d * 65536 ≡ (p + p) * n + (q + q)
 sum_less l r q d p n l' r' small e e' h = omega (arith, double q d, double p n)
@@ -33,7 +35,7 @@ sum_more : (l r q d p n l' r' : ℕ) → l < 65536 → l' ≡ 2 * l % 65536 + 1 
     → r' * 65536 + l' + (q + q + 1) * d * 65536 ≡ (p + p) * n + (q + q + 1)
 sum_more l r q d p n l' r' small e e' h = omega (arith, double_one q d, double p n)
 
--- a word goes up from an even one
+-- one more than an even word
 up : (l h e : ℕ) → l < 256 → h < 256 → l + 256 * h ≡ 2 * e % 65536 → (l + 1) % 256 + 256 * h ≡ 2 * e % 65536 + 1
 up l h e p q r = omega arith
 
@@ -107,7 +109,7 @@ module _ (f : Setup) (fits : Fits f 2) (block : Holds block_part f.code) (lo hi 
       (after f 2 fits divide_part (divide_in f.code block) 1 (view a x y n v i z c (DIVIDE_AT + 135) (lo ∷ hi ∷ []) m text answers) _ _ (16 * k + 17) refl
       (rw more (go _ _ _ _ _ _ _ _ m j q h less (omega (arith, s)))))
 
-  -- the divisor goes into the rest: X, A and 1
+  -- the divisor goes into the remainder: X, A and 1
   keep : (k : ℕ) → Less k → (a x y : ℕ) (n v i z c : Bool) (m : ℕ → ℕ) (j q : ℕ)
       → Held j q (with_byte (with_byte (with_byte m RESULT x) (RESULT + 1) a) LEFT ((m LEFT + 1) % 256)) → y ≡ suc k → j + k ≡ 16
       → Goal (view a x y n v i z c (DIVIDE_AT + 127) (lo ∷ hi ∷ []) m text answers) (3 + (16 * k + 3))
@@ -180,6 +182,7 @@ module _ (f : Setup) (fits : Fits f 2) (block : Holds block_part f.code) (lo hi 
   lesses zero = less_none
   lesses (suc k) = less_more k (turn k (lesses k))
 
+  -- sixteen rounds divide LEFT by RIGHT
   pub wide : (a x y : ℕ) (n v i z c : Bool) → IsWord m0 LEFT → 1 ≤ word_in m0 RIGHT → Goal (view a x y n v i z c (DIVIDE_AT + 93) (lo ∷ hi ∷ []) m0 text answers) 261
   unfolding Next
   wide a x y n v i z c p some =

@@ -48,7 +48,7 @@ fault_part = part_at FAULT_AT FAULT_BYTES
 abbrev pub poll_part : Part
 poll_part = part_at POLL_AT POLL_BYTES
 
--- Push, the place of a note, and Pop, one behind the other
+-- Push and Pop, one after the other
 abbrev pub returns_part : Part
 returns_part = part_at PUSH_AT (PUSH_BYTES ++ POP_BYTES)
 
@@ -143,49 +143,62 @@ from_fault = holds_then (part_at FAULT_AT fault_on) (part_at FAULT_LINE_AT fault
 from_poll : Holds (part_at POLL_AT poll_on) block_part
 from_poll = holds_then (part_at POLL_AT poll_on) (part_at FAULT_AT fault_on) block_part (part_back FAULT_AT FAULT_BYTES poll_on) from_fault
 
--- ---- where the block stands, each routine stands
+-- ---- code that holds the block holds each routine
 pub prologue_in : (code : Part) → Holds block_part code → Holds prologue_part code
 prologue_in code block = holds_then prologue_part block_part code (holds_then prologue_part (part_at PROLOGUE_AT prologue_on) block_part
     (part_front PROLOGUE_AT PROLOGUE_BYTES send_on) from_prologue) block
 
+-- the block holds Send
 pub send_in : (code : Part) → Holds block_part code → Holds send_part code
 send_in code block = holds_then send_part block_part code (holds_then send_part (part_at SEND_AT send_on) block_part (part_front SEND_AT SEND_BYTES multiply_on) from_send) block
 
+-- the block holds Multiply
 pub multiply_in : (code : Part) → Holds block_part code → Holds multiply_part code
 multiply_in code block = holds_then multiply_part block_part code (holds_then multiply_part (part_at MULTIPLY_AT multiply_on) block_part
     (part_front MULTIPLY_AT MULTIPLY_BYTES divide_on) from_multiply) block
 
+-- the block holds Divide
 pub divide_in : (code : Part) → Holds block_part code → Holds divide_part code
 divide_in code block = holds_then divide_part block_part code (holds_then divide_part (part_at DIVIDE_AT divide_on) block_part (part_front DIVIDE_AT DIVIDE_BYTES random_on) from_divide) block
 
+-- the block holds Random
 pub random_in : (code : Part) → Holds block_part code → Holds random_part code
 random_in code block = holds_then random_part block_part code (holds_then random_part (part_at RANDOM_AT random_on) block_part (part_front RANDOM_AT RANDOM_BYTES number_on) from_random) block
 
+-- the block holds Number
 pub number_in : (code : Part) → Holds block_part code → Holds number_part code
 number_in code block = holds_then number_part block_part code (holds_then number_part (part_at NUMBER_AT number_on) block_part (part_front NUMBER_AT NUMBER_BYTES text_on) from_number) block
 
+-- the block holds Text
 pub text_in : (code : Part) → Holds block_part code → Holds text_part code
 text_in code block = holds_then text_part block_part code (holds_then text_part (part_at TEXT_AT text_on) block_part (part_front TEXT_AT TEXT_BYTES zone_on) from_text) block
 
+-- the block holds Zone
 pub zone_in : (code : Part) → Holds block_part code → Holds zone_part code
 zone_in code block = holds_then zone_part block_part code (holds_then zone_part (part_at ZONE_AT zone_on) block_part (part_front ZONE_AT ZONE_BYTES input_on) from_zone) block
 
+-- the block holds Input
 pub input_in : (code : Part) → Holds block_part code → Holds input_part code
 input_in code block = holds_then input_part block_part code (holds_then input_part (part_at INPUT_AT input_on) block_part (part_front INPUT_AT INPUT_BYTES search_on) from_input) block
 
+-- the block holds Search
 pub search_in : (code : Part) → Holds block_part code → Holds search_part code
 search_in code block = holds_then search_part block_part code (holds_then search_part (part_at SEARCH_AT search_on) block_part (part_front SEARCH_AT SEARCH_BYTES push_on) from_search) block
 
+-- the block holds Fault's entry with a line
 pub fault_line_in : (code : Part) → Holds block_part code → Holds fault_line_part code
 fault_line_in code block = holds_then fault_line_part block_part code (holds_then fault_line_part (part_at FAULT_LINE_AT fault_line_on) block_part
     (part_front FAULT_LINE_AT FAULT_LINE_BYTES fault_on) from_fault_line) block
 
+-- the block holds Fault
 pub fault_in : (code : Part) → Holds block_part code → Holds fault_part code
 fault_in code block = holds_then fault_part block_part code (holds_then fault_part (part_at FAULT_AT fault_on) block_part (part_front FAULT_AT FAULT_BYTES poll_on) from_fault) block
 
+-- the block holds Poll
 pub poll_in : (code : Part) → Holds block_part code → Holds poll_part code
 poll_in code block = holds_then poll_part block_part code from_poll block
 
+-- the block holds Push and Pop
 pub returns_in : (code : Part) → Holds block_part code → Holds returns_part code
 returns_in code block = holds_then returns_part block_part code (holds_then returns_part (part_at PUSH_AT push_on) block_part
     (part_front PUSH_AT (PUSH_BYTES ++ POP_BYTES) fault_line_on) from_push) block

@@ -24,7 +24,7 @@ module _ (f : Setup) (fits : Fits f 4) (block : Holds block_part f.code) (lo hi 
       → Comes f (view a x y n v i z c ZONE_AT (lo ∷ hi ∷ []) m text answers) (Back lo hi text answers (Sent nowhere m (replicate (suc k) 32)))
       (replicate (suc k) 32) (12 * suc k + 1)
 
-  -- LDA COLUMN, AND #7, BNE, behind the space
+  -- LDA COLUMN, AND #7, BNE, after the space
   Test : ℕ → Type 0
   Test k = (a x y : ℕ) (n v i z c : Bool) (m0 m : ℕ → ℕ) → Sent nowhere m0 (32 ∷ []) m → m0 COLUMN % 8 + suc k ≡ 8
       → Comes f (view a x y n v i z c (ZONE_AT + 5) (lo ∷ hi ∷ []) m text answers) (Back lo hi text answers (Sent nowhere m0 (replicate (suc k) 32))) (replicate k 32) (12 * k + 4)
@@ -77,5 +77,6 @@ module _ (f : Setup) (fits : Fits f 4) (block : Holds block_part f.code) (lo hi 
       subst (λ u. Comes f (view a x y n v i z c ZONE_AT (lo ∷ hi ∷ []) m text answers) (Back lo hi text answers (Sent nowhere m (replicate u 32))) (replicate u 32) 97) spaces
       (looser f _ _ _ _ (12 * suc k + 1) 97 (omega arith) (λ w h. h) (loops k a x y n v i z c m small (omega arith)))
 
+-- Zone's law, from the block's bytes
 pub zone_law : ZoneLaw
 zone_law f fits block lo hi text answers m a x y n v i z c small = whole f fits block lo hi text answers a x y n v i z c m small

@@ -1,11 +1,11 @@
--- Where the code of a program keeps its data, and where its routines begin. A word stands low byte first.
+-- Where the code of a program keeps its data, and where its routines begin. A word is low byte first.
 use Rattle.std.specs.Prelude.{ℕ}
 use Rattle.tb_memmap.specs.Regions.{CODE_START}
 use Rattle.tb_runtime16.specs.declared.addresses.TheConstants as address
 use Rattle.tb_runtime16.specs.declared.addresses.Routine.{Routine}
 use Rattle.tb_runtime16.specs.declared.addresses.Routine.TheVariants.{Multiply, Divide, Random, Number, Text, Zone, Input, Search, Push, Pop, FaultLine, Fault, Poll}
 
--- ── page zero: arguments, and pointers in the same places ──
+-- ── page zero: arguments, and pointers at the same addresses ──
 -- a routine's first argument
 abbrev pub LEFT : ℕ
 LEFT = 0xFB
@@ -18,7 +18,7 @@ RIGHT = 0xFD
 abbrev pub POINTER : ℕ
 POINTER = 0xFB
 
--- the line table's address, and then the first entry of the table that is still in question
+-- the line table's address, and then the address of the first entry that the search may still end at
 abbrev pub TABLE : ℕ
 TABLE = 0xFD
 
@@ -31,11 +31,11 @@ VARS = 0xC000
 abbrev pub COLUMN : ℕ
 COLUMN = 0xC034
 
--- 1 where an input line is open, else 0
+-- 1 if an input line is open, else 0
 abbrev pub OPEN : ℕ
 OPEN = 0xC035
 
--- 1 where an RND state is stored, else 0
+-- 1 if an RND state is stored, else 0
 abbrev pub SEEDED : ℕ
 SEEDED = 0xC036
 
@@ -51,7 +51,7 @@ SEED = 0xC038
 abbrev pub LINE : ℕ
 LINE = 0xC03A
 
--- how many notes the return list holds, 0 to 500
+-- how many returns the return list holds, 0 to 500
 abbrev pub NOTES : ℕ
 NOTES = 0xC03C
 
@@ -83,11 +83,11 @@ LENGTH = 0xC06C
 abbrev pub BYTE : ℕ
 BYTE = 0xC06D
 
--- scratch places of the routines, up to $C07F
+-- scratch bytes of the routines, up to $C07F
 abbrev pub SCRATCH : ℕ
 SCRATCH = 0xC06E
 
--- the low bytes of 500 notes, which are code addresses
+-- the low bytes of 500 returns, which are code addresses
 abbrev pub RETURN_LOW : ℕ
 RETURN_LOW = 0xC100
 
@@ -96,7 +96,7 @@ abbrev pub RETURN_HIGH : ℕ
 RETURN_HIGH = 0xC300
 
 -- ── the lines' code ──
--- where the lines' code begins, behind the block
+-- where the lines' code begins, after the block
 abbrev pub LINES_AT : ℕ
 LINES_AT = 0x0C00
 

@@ -8,7 +8,7 @@ use Rattle.tb_runtime16.specs.declared.code.TheConstants.{PROLOGUE_BYTES, SEND_B
 use Rattle.tb_runtime16.specs.declared.code.TheConstants.{ZONE_BYTES, INPUT_BYTES, SEARCH_BYTES, PUSH_BYTES, POP_BYTES, FAULT_LINE_BYTES, FAULT_BYTES}
 use Rattle.tb_runtime16.specs.declared.code.TheConstants.{POLL_BYTES}
 
--- the bytes of the block, which are those of the code's table, a routine behind the other
+-- the bytes of the block, which are those of the code's table, one routine after another
 abbrev pub block_bytes : List ℕ
 block_bytes =
     PROLOGUE_BYTES ++ SEND_BYTES ++ MULTIPLY_BYTES ++ DIVIDE_BYTES ++ RANDOM_BYTES ++ NUMBER_BYTES ++ TEXT_BYTES ++ ZONE_BYTES ++ INPUT_BYTES
@@ -34,6 +34,6 @@ bytes_of FaultLine = FAULT_LINE_BYTES
 bytes_of Fault = FAULT_BYTES
 bytes_of Poll = POLL_BYTES
 
--- bytes stand in the block from an address on
+-- bytes are in the block from an address on
 abbrev pub StandAt : ℕ → List ℕ → Type 0
 StandAt address bytes = take (length bytes) (drop (address - PROLOGUE_AT) block_bytes) ≡ bytes

@@ -10,7 +10,7 @@ use Rattle.tb_runtime16.specs.Addresses.{VARS, SEEDED, HOME_S, SEED, LINE, NOTES
 use Rattle.tb_runtime16.specs.Block.{block_part}
 use Rattle.tb_runtime16.specs.Laws.{WordAt, Leaves}
 
--- the return address of the start is lo, hi on the stack behind what is kept, and the stack pointer's place of it is kept
+-- the return address of the start is lo, hi on the stack above what is kept, and HOME_S keeps the stack pointer for it
 pub record Entered (f : Setup) (lo hi : ℕ) (m : ℕ → ℕ) : Type 0 where
   pub homed : Homed f lo hi
   pub kept : m HOME_S + 2 ≡ f.home_s
@@ -39,11 +39,11 @@ PollLaw =
     (Leaves (back_at lo hi) (above ++ hlo ∷ hhi ∷ []) text (drop 1 answers) (λ w. w ≡ m)) [] 5)
     × (first_or_zero answers ≡ 3 → Comes f (view a x y n v i z c POLL_AT (lo ∷ hi ∷ above ++ hlo ∷ hhi ∷ []) m text answers) (IsHome f) (fault_text 0 line) 546)
 
--- places that the prologue clears
+-- addresses that the prologue clears
 abbrev pub is_cleared : ℕ → Bool
 is_cleared a = within VARS SEEDED a || within SEED (NOTES + 1) a
 
--- the end of the prologue, from a start s: at the first line, the cleared places zero, keyboard and return as at s
+-- the end of the prologue, from a start s: at the first line, with cleared data, keyboard and return as at s
 pub record Begun (f : Setup) (s : State) (w : View) : Type 0 where
   pub pc : w.regs.pc ≡ LINES_AT
   pub stack : w.stack ≡ home_low s ∷ home_high s ∷ []

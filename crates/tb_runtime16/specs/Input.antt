@@ -14,20 +14,20 @@ use Rattle.tb_opcodes.specs.Bytes.{AreBytes}
 
 -- ---- the law
 
--- where Input keeps the sign it read, or 0 before one: the byte behind SCRATCH
+-- where Input keeps the sign that it read, or 0 before one: the byte after SCRATCH
 abbrev pub MINUS : ℕ
 MINUS = SCRATCH + 1
 
--- the places that Input changes
+-- the addresses that Input changes
 abbrev pub is_changed : ℕ → Bool
 is_changed a = within LEFT (LEFT + 1) a || (within RESULT (RESULT + 1) a || (within BYTE MINUS a || (a == OPEN || a == COLUMN)))
 
--- what Input sends before it reads: nothing where a line is open, else a question mark and a space
+-- what Input sends before it reads: nothing if a line is open, else a question mark and a space
 abbrev pub prompt : Bool → List ℕ
 prompt true = []
 prompt false = 63 ∷ 32 ∷ []
 
--- what a turn sends behind the prompt, at a line
+-- what a turn sends after the prompt, at a line
 abbrev pub turn_sends : ℕ → Turn → List ℕ
 turn_sends line (Got v true rest) = []
 turn_sends line (Got v false rest) = 13 ∷ []
@@ -40,7 +40,7 @@ pub record Taken (m0 : ℕ → ℕ) (column number : ℕ) (stays : Bool) (m : �
   pub line_open : m OPEN ≡ bit stays
   pub column_is : m COLUMN ≡ column
 
--- the end of a turn, from column c, when so much was sent before, with own on the stack of the caller
+-- the end of a turn, from column c, when these bytes were sent before, with own on the stack of the caller
 abbrev pub Ended : Setup → ℕ → ℕ → List ℕ → (ℕ → ℕ) → List ℕ → ℕ → List ℕ → Turn → View → Type 0
 Ended f lo hi own m replies c before (Got v true rest) w = Leaves (back_at lo hi) own rest replies (Taken m (column_after c before % 256) v true) w
 Ended f lo hi own m replies c before (Got v false rest) w = Leaves (back_at lo hi) own rest replies (Taken m 0 v false) w

@@ -15,11 +15,11 @@ pub record WordAt (m : ℕ → ℕ) (at w : ℕ) : Type 0 where
   pub high : m (at + 1) ≡ w / 256
   pub small : w < 65536
 
--- only these places changed
+-- only these addresses were changed
 abbrev pub Changes : (ℕ → Bool) → (ℕ → ℕ) → (ℕ → ℕ) → Type 0
 Changes changes m0 m = (a : ℕ) → changes a ≡ false → m a ≡ m0 a
 
--- no place
+-- no address
 abbrev pub nowhere : ℕ → Bool
 nowhere a = false
 
@@ -29,7 +29,7 @@ is_argument a = within LEFT (RIGHT + 1) a || within RESULT (RESULT + 1) a
 
 -- ---- how a routine ends
 
--- at a place with this on the stack, and this said of the memory
+-- at an address with this on the stack, and this said about the memory
 pub record Leaves (at : ℕ) (stack text answers : List ℕ) (q : (ℕ → ℕ) → Type 0) (w : View) : Type 0 where
   pub pc : w.regs.pc ≡ at
   pub stack_is : w.stack ≡ stack
@@ -47,18 +47,18 @@ pub record Faults (lo hi : ℕ) (text answers : List ℕ) (k : ℕ) (q : (ℕ �
   pub leaves : Leaves FAULT_AT (lo ∷ hi ∷ []) text answers q w
   pub number : w.regs.a ≡ k
 
--- memory with a word at RESULT, and only these places changed
+-- memory with a word at RESULT, and only these addresses changed
 pub record Gives (changes : ℕ → Bool) (m0 : ℕ → ℕ) (v : ℕ) (m : ℕ → ℕ) : Type 0 where
   pub result : WordAt m RESULT v
   pub others : Changes changes m0 m
 
--- memory with a quotient at LEFT and a remainder at RESULT, and only these places changed
+-- memory with a quotient at LEFT and a remainder at RESULT, and only these addresses changed
 pub record Parts (changes : ℕ → Bool) (m0 : ℕ → ℕ) (q r : ℕ) (m : ℕ → ℕ) : Type 0 where
   pub left : WordAt m LEFT q
   pub rest : WordAt m RESULT r
   pub others : Changes changes m0 m
 
--- memory after bytes were sent: COLUMN is the column behind them, modulo 256, and only these places changed too
+-- memory after bytes were sent: COLUMN is the column after them, modulo 256, and only these addresses changed besides
 pub record Sent (changes : ℕ → Bool) (m0 : ℕ → ℕ) (sent : List ℕ) (m : ℕ → ℕ) : Type 0 where
   pub column : m COLUMN ≡ column_after (m0 COLUMN) sent % 256
   pub others : (a : ℕ) → changes a ≡ false → a ≢ COLUMN → m a ≡ m0 a
@@ -73,7 +73,7 @@ SendLaw =
 
 -- ---- Text
 
--- a text of at most 255 bytes in the program, and where it begins and how long it is, as the routine is told
+-- a text of at most 255 bytes in the program, with its address and length as the routine is given them
 pub record Points (f : Setup) (m : ℕ → ℕ) (at : ℕ) (bytes : List ℕ) : Type 0 where
   pub pointer : WordAt m POINTER at
   pub shown : Bytes f.code at bytes
@@ -83,7 +83,7 @@ pub record Points (f : Setup) (m : ℕ → ℕ) (at : ℕ) (bytes : List ℕ) : 
   pub few : length bytes < 256
   pub bytes_small : AreBytes bytes
 
--- memory after Text sent bytes: COLUMN as behind them, POINTER and LENGTH lost, and all else as it was
+-- memory after Text sent bytes: COLUMN is the column after them, POINTER and LENGTH are lost, and all else is unchanged
 pub record Told (m0 : ℕ → ℕ) (sent : List ℕ) (m : ℕ → ℕ) : Type 0 where
   pub column : m COLUMN % 256 ≡ column_after (m0 COLUMN) sent % 256
   pub column_small : m0 COLUMN < 256 → m COLUMN < 256
@@ -119,7 +119,7 @@ MultiplyLaw =
 abbrev pub unsigned_at : ℕ
 unsigned_at = DIVIDE_AT + 52
 
--- memory after the division without signs: quotient q at LEFT, remainder r at RESULT, and all else as it was
+-- memory after the division without signs: quotient q at LEFT, remainder r at RESULT, and all else unchanged
 pub record Parted (m0 : ℕ → ℕ) (q r : ℕ) (m : ℕ → ℕ) : Type 0 where
   pub parts : Parts is_argument m0 q r m
   pub right_low : m RIGHT ≡ m0 RIGHT
@@ -134,7 +134,7 @@ UnsignedLaw =
 
 -- ---- Divide
 
--- the entry of what turns the sign of LEFT, inside Divide
+-- the entry of what negates LEFT, inside Divide
 abbrev pub negate_left_at : ℕ
 negate_left_at = DIVIDE_AT + 21
 
@@ -145,7 +145,7 @@ DivideLaw =
     → WordAt m LEFT left → WordAt m RIGHT right → 1 ≤ right →
     Comes f (view a x y n v i z c DIVIDE_AT (lo ∷ hi ∷ []) m text answers) (Back lo hi text answers (Parts is_argument m (quotient left right) (magnitude left % magnitude right))) [] 316
 
--- by 0, Divide comes to Fault with 2, with memory as it was
+-- by 0, Divide goes to Fault with 2, with memory unchanged
 abbrev pub DivideByZeroLaw : Type 0
 DivideByZeroLaw =
     (f : Setup) → Fits f 2 → Holds block_part f.code → (lo hi : ℕ) (text answers : List ℕ) (m : ℕ → ℕ) (a x y : ℕ) (n v i z c : Bool) → WordAt m RIGHT 0 →
@@ -166,7 +166,7 @@ NumberLaw =
 abbrev pub is_seed : ℕ → Bool
 is_seed a = a == SEEDED || within SEED (SEED + 1) a
 
--- the state of RND before a call, where the option is that of a first one
+-- the state of RND before a call, given the option's first state
 abbrev pub seed_of : (ℕ → ℕ) → ℕ → ℕ → ℕ
 seed_of m option stored = if m SEEDED == 0 then option else stored
 
@@ -184,7 +184,7 @@ RandomLaw =
     (bound option stored : ℕ) → WordAt m LEFT bound → WordAt m RIGHT option → WordAt m SEED stored → 1 ≤ bound → bound < 32768 →
     Comes f (view a x y n v i z c RANDOM_AT (lo ∷ hi ∷ []) m text answers) (Back lo hi text answers (Drawn m bound (seed_of m option stored))) [] 549
 
--- for a bound below 1, Random comes to Fault with 3, with memory as it was
+-- for a bound below 1, Random goes to Fault with 3, with memory unchanged
 abbrev pub RandomRangeLaw : Type 0
 RandomRangeLaw =
     (f : Setup) → Fits f 2 → Holds block_part f.code → (lo hi : ℕ) (text answers : List ℕ) (m : ℕ → ℕ) (a x y : ℕ) (n v i z c : Bool) (bound : ℕ)

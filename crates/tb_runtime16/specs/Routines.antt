@@ -24,22 +24,22 @@ use Rattle.tb_runtime16.specs.Search.{Line, table_bytes, AreRising, AllWords, se
 
 -- ---- memory
 
--- the places that a program's state is kept at; all others are scratch
+-- the addresses that a program's state is kept at; all others are scratch
 abbrev pub is_state : ℕ → Bool
 is_state a = within VARS (HELD + 1) a || within RETURN_LOW (RETURN_HIGH + 499) a
 
--- all other places
+-- all other addresses
 abbrev pub is_scratch : ℕ → Bool
 is_scratch a = not (is_state a)
 
--- the RND state is stored, or still the option's
+-- the RND state is the stored one, or still the option's
 pub data SeedAt (m : ℕ → ℕ) (option seed : ℕ) : Type 0 where
   stored : m SEEDED ≡ 1 → WordAt m SEED seed → SeedAt m option seed
   first : m SEEDED ≡ 0 → seed ≡ option → seed < 65536 → (old : ℕ) → WordAt m SEED old → SeedAt m option seed
 
 -- ---- views
 
--- at an address, whatever the registers and flags but D
+-- at an address, whatever the registers and flags other than D
 pub record Here (at : ℕ) (bs : List ℕ) (m : ℕ → ℕ) (typed polled : List ℕ) (w : View) : Type 0 where
   pub pc : w.regs.pc ≡ at
   pub stack : w.stack ≡ bs
@@ -68,7 +68,7 @@ pub record Waiting (w : View) : Type 0 where
   pub waits : IsWaiting w
   pub deep : length w.stack ≤ 14
 
--- what a turn of INPUT sends behind a number: nothing where the line stays open, else 13
+-- what a turn of INPUT sends after a number: nothing if the line stays open, else 13
 abbrev pub line_end : Bool → List ℕ
 line_end true = []
 line_end false = 13 ∷ []
@@ -133,14 +133,14 @@ pub record Routines (table seed_option : ℕ) (numbers : List ℕ) (start : ℕ 
   pub poll_breaks : (l h : ℕ) (m : ℕ → ℕ) (text answers : List ℕ) (n : ℕ) → AreBytes answers → nat_eq (first_or_zero answers) 3 ≡ true → WordAt m LINE n → Entered f lo hi m →
       Moves f (Here POLL_AT (l ∷ h ∷ lo ∷ hi ∷ []) m text answers) (IsHome f) (fault_text 0 n) limit
 
--- ---- what they stand on
+-- ---- what they are built on
 
 -- the entries of the line table: each number with its line's address
 abbrev pub entries : (ℕ → ℕ) → List ℕ → List Line
 entries start [] = []
 entries start (n ∷ ns) = (n, start n) ∷ entries start ns
 
--- the line table stands in the program, with at least one line
+-- the line table is in the program, with at least one line
 pub record Tabled (code : Part) (table : ℕ) (numbers : List ℕ) (start : ℕ → ℕ) : Type 0 where
   pub shown : Bytes code table (table_bytes (entries start numbers))
   pub from : 0x0800 ≤ table
@@ -153,7 +153,7 @@ pub record Tabled (code : Part) (table : ℕ) (numbers : List ℕ) (start : ℕ 
 abbrev pub limit_by : ℕ → ℕ
 limit_by keys = 45 * keys + 3828
 
--- the block and the line table stand in the program, and S may go down by 16
+-- the block and the line table are in the program, and S may go down by 16
 abbrev pub AllLaws : Type 0
 AllLaws =
     (table seed_option : ℕ) (numbers : List ℕ) (start : ℕ → ℕ) (f : Setup) (lo hi keys : ℕ) → Fits f 16 → Holds block_part f.code → Tabled f.code table numbers start →

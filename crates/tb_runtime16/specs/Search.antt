@@ -40,7 +40,7 @@ abbrev pub address_of : ℕ → List Line → Option ℕ
 address_of t [] = None
 address_of t (e ∷ es) = let later = address_of t es in if nat_eq e.0 t then Some e.1 else later
 
--- the places that Search may change: POINTER, TABLE, RESULT, COUNT and the two bytes from SCRATCH on
+-- the addresses that Search may change: POINTER, TABLE, RESULT, COUNT and the two bytes from SCRATCH on
 abbrev pub search_changes : ℕ → Bool
 search_changes a = within POINTER (TABLE + 1) a || (within RESULT (RESULT + 1) a || (within COUNT (COUNT + 1) a || within SCRATCH (SCRATCH + 1) a))
 
@@ -49,7 +49,7 @@ abbrev pub Searched : ℕ → ℕ → (ℕ → ℕ) → List ℕ → List ℕ �
 Searched lo hi m text answers (Some address) w = Back lo hi text answers (Gives search_changes m address) w
 Searched lo hi m text answers None w = Faults lo hi text answers 1 (Changes search_changes m) w
 
--- Search gives the address of the line with the number at WANTED, or comes to Fault with 1, within 510 Go events for every table
+-- Search gives the address of the line with the number at WANTED, or goes to Fault with 1, within 510 Go events for every table
 abbrev pub SearchLaw : Type 0
 SearchLaw = (f : Setup) → Fits f 2 → Holds block_part f.code → (lo hi : ℕ) (text answers : List ℕ) (m : ℕ → ℕ) (a x y : ℕ) (n v i z c : Bool)
     (number table : ℕ) (lines : List Line) → WordAt m WANTED number → WordAt m TABLE table → WordAt m COUNT (length lines)

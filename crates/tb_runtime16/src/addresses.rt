@@ -1,4 +1,4 @@
-//! Where a program's data and the block's routines stand. All data places are owned: no ROM writes them. A word stands low byte first.
+//! Addresses of a program's data and of the block's routines. All data addresses are owned: no ROM writes them. A word is low byte first.
 ghost use Rattle.std.specs.Prelude.{◌≡◌};
 ghost use Rattle.tb_runtime16.specs.Block.{StandAt, bytes_of};
 ghost use Rattle.tb_runtime16.specs.Addresses.{entry_of};
@@ -11,17 +11,17 @@ pub const LINES_AT: u16 = 0x0c00;
 pub const LEFT: u16 = 0xfb;
 /// A routine's second argument.
 pub const RIGHT: u16 = 0xfd;
-/// The pointer of page zero for the bytes of a text, in the place of `LEFT`.
+/// The pointer of page zero for the bytes of a text, at the address of `LEFT`.
 pub const POINTER: u8 = 0xfb;
-/// The line table's address, in the place of `RIGHT`.
+/// The line table's address, at the address of `RIGHT`.
 pub const TABLE: u16 = 0xfd;
 /// 26 words, one a variable.
 pub const VARS: u16 = 0xc000;
 /// Bytes sent since the last 13 or the start, modulo 256.
 pub const COLUMN: u16 = 0xc034;
-/// 1 where an input line is open, else 0.
+/// 1 if an input line is open, else 0.
 pub const OPEN: u16 = 0xc035;
-/// 1 where an RND state is stored, else 0.
+/// 1 if an RND state is stored, else 0.
 pub const SEEDED: u16 = 0xc036;
 /// The stack pointer as at the start.
 pub const HOME_S: u16 = 0xc037;
@@ -29,7 +29,7 @@ pub const HOME_S: u16 = 0xc037;
 pub const SEED: u16 = 0xc038;
 /// The number of the line that is executed.
 pub const LINE: u16 = 0xc03a;
-/// How many notes the return list holds, 0 to 500.
+/// How many returns the return list holds, 0 to 500.
 pub const NOTES: u16 = 0xc03c;
 /// 16 words.
 pub const SLOTS: u16 = 0xc040;
@@ -45,14 +45,14 @@ pub const COUNT: u16 = 0xc06a;
 pub const LENGTH: u16 = 0xc06c;
 /// The byte that is sent or was read.
 pub const BYTE: u16 = 0xc06d;
-/// Scratch places of the routines, up to $C07F.
+/// Scratch bytes of the routines, up to $C07F.
 pub const SCRATCH: u16 = 0xc06e;
-/// The low bytes of 500 notes, which are code addresses.
+/// The low bytes of 500 returns, which are code addresses.
 pub const RETURN_LOW: u16 = 0xc100;
 /// Their high bytes.
 pub const RETURN_HIGH: u16 = 0xc300;
 
-// How many bytes each part of the block has, in the order in which they lie: the entries follow.
+// How many bytes each part of the block has, in the order of the parts: the entries follow from these.
 /// Bytes of the prologue.
 pub const PROLOGUE_LENGTH: usize = 18;
 /// Bytes of Send.
@@ -85,7 +85,7 @@ pub const FAULT_LENGTH: usize = 64;
 pub const POLL_LENGTH: usize = 13;
 /// Where the block begins: the prologue, which a program starts with.
 pub const BLOCK_AT: u16 = CODE_START;
-/// Where Send begins, which sends the byte in A and keeps `COLUMN`: what the other routines call for a single byte.
+/// Where Send begins, which sends the byte in A and updates `COLUMN`: what the other routines call for a single byte.
 pub const SEND_AT: u16 = BLOCK_AT + PROLOGUE_LENGTH as u16;
 /// Where Multiply begins.
 pub const MULTIPLY_AT: u16 = SEND_AT + SEND_LENGTH as u16;
@@ -121,9 +121,9 @@ pub const BLOCK_LENGTH: usize = (POLL_AT - BLOCK_AT) as usize + POLL_LENGTH;
 pub enum Routine {
     /// `RESULT` = `LEFT` * `RIGHT`, modulo 65,536.
     Multiply,
-    /// `LEFT` = `LEFT` / `RIGHT`, signed, `RESULT` = the remainder's size; fault 2 where `RIGHT` is 0.
+    /// `LEFT` = `LEFT` / `RIGHT`, signed, `RESULT` = the remainder's size; fault 2 if `RIGHT` is 0.
     Divide,
-    /// `RESULT` = the next RND state modulo `LEFT`; the first state is in `RIGHT`; fault 3 where `LEFT` is below 1.
+    /// `RESULT` = the next RND state modulo `LEFT`; the first state is in `RIGHT`; fault 3 if `LEFT` is below 1.
     Random,
     /// Sends the word in `LEFT` in decimal.
     Number,
@@ -131,23 +131,23 @@ pub enum Routine {
     Text,
     /// Sends spaces up to the next zone of eight columns.
     Zone,
-    /// One variable's turn of INPUT, its value in `RESULT`; fault 6 at a bad byte; waits where the text ends.
+    /// One variable's turn of INPUT, its value in `RESULT`; fault 6 at a bad byte; waits when the text ends.
     Input,
-    /// `RESULT` = the code address of the line `WANTED`, by `TABLE` and `COUNT`; fault 1 where there is none.
+    /// `RESULT` = the code address of the line `WANTED`, by `TABLE` and `COUNT`; fault 1 if there is none.
     Search,
-    /// Notes the word in `LEFT` on the return list; fault 4 where it holds 500.
+    /// Puts the word in `LEFT` on the return list; fault 4 if it holds 500.
     Push,
-    /// Takes the last note off the return list into `RESULT`; fault 5 where there is none.
+    /// Takes the newest return off the return list into `RESULT`; fault 5 if there is none.
     Pop,
     /// Ends the program with the fault whose number is in A, at the line whose number is in X (low byte) and Y.
     FaultLine,
     /// Ends the program with the fault whose number is in A, at the line in `LINE`.
     Fault,
-    /// Looks at the keyboard once; fault 0 where the STOP key is down.
+    /// Looks at the keyboard once; fault 0 if the STOP key is down.
     Poll,
 }
 
-/// The address at which a routine is called, where its bytes stand in the block.
+/// The address at which a routine is called: that of its first byte in the block.
 pub fn entry(routine: Routine) -> u16
     ensures entry { result ≡ entry_of routine }
     ensures bytes { StandAt result (bytes_of routine) }

@@ -1,5 +1,5 @@
-//! The block's machine code, the one table of its bytes: a line is an instruction, by its place from the routine's entry on.
-//! Each routine is a macro that puts its bytes behind those that it is given, and hands them to the next one: so one table
+//! The block's machine code, the one table of its bytes: a line is an instruction, by its offset from the routine's entry.
+//! Each routine is a macro that puts its bytes after those that it is given, and hands them to the next one: so one table
 //! makes the block and each routine by itself.
 //! Addresses inside the block are those of `targets`, which follow from the routines' lengths.
 ghost use Rattle.std.specs.Prelude.{◌≡◌, ◌≤◌, ◌+◌, length};
@@ -33,7 +33,7 @@ macro_rules! prologue {
     };
 }
 
-// Send: the byte in A goes to CHROUT, and COLUMN is one more, or 0 behind a 13.
+// Send: the byte in A goes to CHROUT, and COLUMN is one more, or 0 after a 13.
 macro_rules! send {
     ([$($before:tt)*] $next:ident $($others:ident)*) => {
         $next!([$($before)*
@@ -76,7 +76,7 @@ macro_rules! multiply {
     };
 }
 
-// Divide: the quotient of the signed words at LEFT and RIGHT into LEFT, the remainder's size into RESULT; fault 2 where
+// Divide: the quotient of the signed words at LEFT and RIGHT into LEFT, the remainder's size into RESULT; fault 2 if
 // RIGHT is 0.
 macro_rules! divide {
     ([$($before:tt)*] $next:ident $($others:ident)*) => {
@@ -151,7 +151,7 @@ macro_rules! divide {
     };
 }
 
-// Random: stores the next RND state, and gives it modulo LEFT in RESULT; fault 3 where LEFT is below 1.
+// Random: stores the next RND state, and gives it modulo LEFT in RESULT; fault 3 if LEFT is below 1.
 macro_rules! random {
     ([$($before:tt)*] $next:ident $($others:ident)*) => {
         $next!([$($before)*
@@ -276,7 +276,7 @@ macro_rules! zone {
     };
 }
 
-// Input: one variable's turn of INPUT, its value into RESULT; fault 6 where no number can be read.
+// Input: one variable's turn of INPUT, its value into RESULT; fault 6 if no number can be read.
 macro_rules! input {
     ([$($before:tt)*] $next:ident $($others:ident)*) => {
         $next!([$($before)*
@@ -371,7 +371,7 @@ macro_rules! input {
     };
 }
 
-// Search: the address of the line whose number is at WANTED, by TABLE and COUNT, into RESULT; fault 1 where none is.
+// Search: the address of the line whose number is at WANTED, by TABLE and COUNT, into RESULT; fault 1 if there is none.
 macro_rules! search {
     ([$($before:tt)*] $next:ident $($others:ident)*) => {
         $next!([$($before)*
@@ -467,7 +467,7 @@ macro_rules! search {
     };
 }
 
-// Push: the word at LEFT onto the return list; fault 4 where that is full.
+// Push: the word at LEFT onto the return list; fault 4 if that is full.
 macro_rules! push {
     ([$($before:tt)*] $next:ident $($others:ident)*) => {
         $next!([$($before)*
@@ -495,7 +495,7 @@ macro_rules! push {
     };
 }
 
-// Pop: the newest note off the return list into RESULT; fault 5 where there is none.
+// Pop: the newest return off the return list into RESULT; fault 5 if there is none.
 macro_rules! pop {
     ([$($before:tt)*] $next:ident $($others:ident)*) => {
         $next!([$($before)*
@@ -566,7 +566,7 @@ macro_rules! fault {
     };
 }
 
-// Poll: asks GETIN once; fault 0 where it gives 3, the STOP key.
+// Poll: asks GETIN once; fault 0 if it gives 3, the STOP key.
 macro_rules! poll {
     ([$($before:tt)*] $next:ident $($others:ident)*) => {
         $next!([$($before)*
@@ -587,7 +587,7 @@ macro_rules! array {
     };
 }
 
-// The block: its routines one behind the other.
+// The block: its routines one after another.
 static BLOCK: [u8; BLOCK_LENGTH] = prologue!(
     [] send multiply divide random number text zone input search push pop fault_line fault poll array
 );

@@ -1,4 +1,4 @@
-//! The routine block, the machine code that every compiled program shares: where it and the data of a program stand, its
+//! The routine block, the machine code that every compiled program shares: its address and those of a program's data, its
 //! bytes, and the laws of its routines. Each law is the contract of a function that does nothing, about the block's bytes.
 #![tactic(auto)]
 

@@ -6,12 +6,12 @@ ghost use Rattle.tb_runtime16.specs.Returns.{PushLaw, PushFullLaw, PopLaw, PopNo
 ghost use Rattle.tb_runtime16.specs.Search.{SearchLaw};
 ghost use Rattle.tb_runtime16.specs.Routines.{AllLaws};
 
-/// Send: the byte in A is sent, and the column kept.
+/// Send: the byte in A is sent, and the column is updated.
 pub fn send()
     ensures { SendLaw }
 {}
 
-/// Text: the bytes that POINTER and LENGTH tell are sent.
+/// Text: the bytes that POINTER and LENGTH give are sent.
 pub fn text()
     ensures { TextLaw }
 {}
@@ -36,7 +36,7 @@ pub fn divide()
     ensures { DivideLaw }
 {}
 
-/// Divide by 0 comes to Fault with 2.
+/// Divide by 0 goes to Fault with 2.
 pub fn divide_by_zero()
     ensures { DivideByZeroLaw }
 {}
@@ -51,7 +51,7 @@ pub fn random()
     ensures { RandomLaw }
 {}
 
-/// Random over a bad range comes to Fault with 3.
+/// Random with a bound below 1 goes to Fault with 3.
 pub fn random_range()
     ensures { RandomRangeLaw }
 {}
@@ -66,7 +66,7 @@ pub fn fault_line()
     ensures { FaultLineLaw }
 {}
 
-/// Poll: an answer is taken, and 3 is fault 0.
+/// Poll: an answer is taken; 3 is fault 0.
 pub fn poll()
     ensures { PollLaw }
 {}
@@ -86,7 +86,7 @@ pub fn push()
     ensures { PushLaw }
 {}
 
-/// Push on a full list comes to Fault with 4.
+/// Push on a full list goes to Fault with 4.
 pub fn push_full()
     ensures { PushFullLaw }
 {}
@@ -96,7 +96,7 @@ pub fn pop()
     ensures { PopLaw }
 {}
 
-/// Pop of an empty list comes to Fault with 5.
+/// Pop of an empty list goes to Fault with 5.
 pub fn pop_none()
     ensures { PopNoneLaw }
 {}

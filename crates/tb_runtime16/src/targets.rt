@@ -1,4 +1,4 @@
-//! The places of the block that its own code jumps to or calls, each as its two bytes, low byte first.
+//! The addresses of the block that its own code jumps to or calls, each as its two bytes, low byte first.
 use crate::addresses::{
     DIVIDE_AT, FAULT_AT, INPUT_AT, LINES_AT, MULTIPLY_AT, NUMBER_AT, POP_AT, SEARCH_AT, SEND_AT,
 };
@@ -10,7 +10,7 @@ macro_rules! word {
     };
 }
 
-/// The lines' code, behind the block.
+/// The lines' code, after the block.
 pub const LINES: (u8, u8) = word!(LINES_AT);
 /// Send.
 pub const SEND: (u8, u8) = word!(SEND_AT);
@@ -20,9 +20,9 @@ pub const MULTIPLY: (u8, u8) = word!(MULTIPLY_AT);
 pub const NUMBER: (u8, u8) = word!(NUMBER_AT);
 /// Fault.
 pub const FAULT: (u8, u8) = word!(FAULT_AT);
-/// Divide's NEGATELEFT: LEFT becomes its opposite.
+/// Divide's NEGATELEFT: LEFT is negated.
 pub const OPPOSITE: (u8, u8) = word!(DIVIDE_AT + 21);
-/// Divide's NEGATE: so does the word X behind LEFT.
+/// Divide's NEGATE: the word at X bytes after LEFT is negated.
 pub const NEGATE: (u8, u8) = word!(DIVIDE_AT + 23);
 /// Divide's DIVIDEBY: the division of a LEFT without a sign.
 pub const DIVIDEBY: (u8, u8) = word!(DIVIDE_AT + 37);
@@ -36,5 +36,5 @@ pub const POWERS_HIGH: (u8, u8) = word!(NUMBER_AT + 80);
 pub const READ: (u8, u8) = word!(INPUT_AT + 34);
 /// Search.
 pub const SEARCH: (u8, u8) = word!(SEARCH_AT);
-/// Pop's POP_STORE: A and Y are the note.
+/// Pop's POP_STORE: A and Y are the return.
 pub const STORE: (u8, u8) = word!(POP_AT + 28);
