@@ -1,4 +1,4 @@
--- The items of a program's code are of forms that there are, and they may move.
+-- The items of a program's code have forms that exist, and they may be moved.
 use Rattle.std.proofs.Common.{◌≡◌, ℕ, ◌+◌, Bool, true, false, List, [], ◌∷◌, ◌++◌, refl, sym, ap, ◌∙◌, is_some, true≢false, Option, Some, None}
 use Rattle.std.specs.Prelude.{◌&&◌, if◌then◌else◌, nat_lt}
 use Rattle.std.specs.List.{list_all}
@@ -80,7 +80,7 @@ forms_append (x ∷ xs) ys h k =
     and_from (has_form x) (list_all has_form (xs ++ ys)) (left_true (has_form x) (list_all has_form xs) h) (forms_append xs ys (right_true (has_form x) (list_all has_form xs) h) k)
 
 -- ── single instructions ──
--- by either mode of a place
+-- in either mode for an address
 on_form : (m : Mnemonic) (p : ℕ) → has_form (instr m ZeroPage (Byte p)) ≡ true → has_form (instr m Absolute (Word p)) ≡ true → has_form (on m p) ≡ true
 on_form m p h k = by (nat_lt p 256)
   where
@@ -298,8 +298,10 @@ program_forms seed code =
     forms_append (lines_code ns seed [] code) (past_code ns ++ (last ++ (find_code ns ++ table_code ns))) (lines_forms ns seed [] code)
     (forms_append last (find_code ns ++ table_code ns) (broken_forms (still_asking [] code)) (rows_forms ns))
 
+-- each item of a program's code has a form that exists
 pub program_modes : (seed : ℕ) (code : SlotCode) → list_all has_mode (program_code seed code) ≡ true
 program_modes seed code = all_by has_form has_mode has_form_mode (program_code seed code) (program_forms seed code)
 
+-- each item of a program's code may be moved
 pub program_moves : (seed : ℕ) (code : SlotCode) → list_all may_move (program_code seed code) ≡ true
 program_moves seed code = all_by has_form may_move has_form_moves (program_code seed code) (program_forms seed code)

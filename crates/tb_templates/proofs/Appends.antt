@@ -1,4 +1,4 @@
--- What several pieces append, one behind the other.
+-- What several pieces append, one after another.
 use Rattle.std.proofs.Common.{◌≡◌, List, ◌++◌, append_assoc, ap, ◌∙◌}
 use Rattle.std.proofs.Common.{ℕ, Bool, true, false, [], subst}
 use Rattle.std.proofs.lemmas.List.{append-nil}
@@ -7,12 +7,15 @@ use Rattle.tb_runtime16.specs.Addresses.{LINE}
 use Rattle.tb_templates.specs.Templates.{constant}
 use Rattle.tb_templates.specs.GroupTemplates.{lined}
 
+-- two pieces
 pub two : {A : Type 0} (o m n a b : List A) → m ≡ o ++ a → n ≡ m ++ b → n ≡ o ++ (a ++ b)
 two o m n a b p q = q ∙ ap (λ x. x ++ b) p ∙ append_assoc o a b
 
+-- three pieces
 pub three : {A : Type 0} (o m n r a b c : List A) → m ≡ o ++ a → n ≡ m ++ b → r ≡ n ++ c → r ≡ o ++ (a ++ (b ++ c))
 three o m n r a b c p q s = two o m r a (b ++ c) p (two m n r b c q s)
 
+-- four pieces
 pub four : {A : Type 0} (o m n r s a b c d : List A) → m ≡ o ++ a → n ≡ m ++ b → r ≡ n ++ c → s ≡ r ++ d → s ≡ o ++ (a ++ (b ++ (c ++ d)))
 four o m n r s a b c d p q t u = two o m s a (b ++ (c ++ d)) p (three m n r s b c d q t u)
 

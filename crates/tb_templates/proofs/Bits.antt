@@ -14,6 +14,7 @@ size_same (suc k) factor h =
     let half : factor / 2 < pow2 (suc k) = omega (arith, h) in
     ap (λ n. if nat_lt factor 2 then 0 else n + (if nat_eq (factor % 2) 1 then 16 else 3)) (size_same k (factor / 2) half)
 
+-- the bits of half a factor fit in one bit less
 pub half_size : (factor : ℕ) → factor < 65536 → bits_size 15 (factor / 2) ≡ bits_size 14 (factor / 2)
 half_size factor h = let e : pow2 15 ≡ 32768 = refl in size_same 14 (factor / 2) (omega (arith, h, e))
 
@@ -26,5 +27,6 @@ size_few (suc k) factor = by (size_few k (factor / 2)) (nat_lt factor 2) (nat_eq
     by h false true = omega (arith, h)
     by h false false = omega (arith, h)
 
+-- the bits of a factor take few bytes, so that their number is a word
 pub few_bytes : (factor : ℕ) → bits_size 15 factor ≤ 240
 few_bytes factor = size_few 15 factor

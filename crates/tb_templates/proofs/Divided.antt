@@ -1,4 +1,4 @@
--- The items of a test by a divisor are plain but for its branch; and which divisors are told by the lowest bits.
+-- The items of a test by a divisor are plain, except its branch; and which divisors are tested by the lowest bits.
 use Rattle.std.proofs.Common.{◌≡◌, ℕ, ◌+◌, ◌-◌, ◌^◌, ◌<◌, Bool, true, false, List, [], ◌∷◌, ◌++◌, refl, arith, Option, Some, None}
 use Rattle.std.specs.Prelude.{if◌then◌else◌, nat_lt}
 use Rattle.tb_opcodes.specs.declared.Mnemonic.{Mnemonic}
@@ -40,22 +40,26 @@ lined_plain true n es h =
     plain_append (constant n LINE) es (immediate Lda _ refl ▹ absolute Sta LINE refl ▹ immediate Lda _ refl ▹ absolute Sta (LINE + 1) refl ▹ tt) h
 lined_plain false n es h = h
 
+-- the items that compute a remainder for a test are plain
 pub left_over_plain : (n : ℕ) (o : Option ℕ) (a b : Source) → ArePlain (left_over n o a b)
 left_over_plain n (Some bits) a b = (low_byte Lda a refl refl ▹ immediate And bits refl ▹ tt)
 left_over_plain n None a b = lined_plain (may_be_zero b) n (remainder a b) (remainder_plain a b)
 
+-- the items that compute a remainder with its size are plain
 pub asked_rest_plain : (n : ℕ) (a b : Source) → ArePlain (asked_rest n a b)
 asked_rest_plain n a b = lined_plain (may_be_zero b) n _ (asked_plain a b)
 
+-- the items that copy a word are plain
 pub copied_plain : (from to : ℕ) → ArePlain (copied from to)
 copied_plain from to = (on_plain Lda from refl refl ▹ absolute Sta to refl ▹ on_plain Lda (from + 1) refl refl ▹ absolute Sta (to + 1) refl ▹ tt)
 
 -- ── by the lowest bits ──
--- a divisor that is 2^(k + 1), and the one less
+-- a divisor that is 2^(k + 1), with its mask, or any other
 pub data IsMasking (b : Source) : Option ℕ → Type 0 where
   by_bits : (w k : ℕ) → b ≡ FixedWord w → k < 8 → w ≡ 2 ^ (k + 1) → IsMasking b (Some (2 ^ (k + 1) - 1))
   by_division : IsMasking b None
 
+-- the mask is right for each divisor
 pub masking_is : (b : Source) → IsMasking b (mask b)
 masking_is (FixedWord w) =
     let P = λ (o : Option ℕ). IsMasking (FixedWord w) o in

@@ -1,16 +1,17 @@
--- Which products are made by a constant's bits, and which quotients by shifts.
+-- Which products are computed by a constant's bits, and which quotients by shifts.
 use Rattle.std.proofs.Common.{◌≡◌, ℕ, ◌+◌, ◌^◌, ◌<◌, Bool, true, false, refl, arith, Option, Some, None}
 use Rattle.std.specs.Prelude.{if◌then◌else◌, nat_eq}
 use Rattle.std.proofs.lemmas.Bool.{eqb-true}
 use Rattle.tb_templates.specs.Sources.{Source, FixedWord, AtAddress}
 use Rattle.tb_templates.specs.Scaled.{is_factor, scaling, shifts}
 
--- a constant of a product, and the other word
+-- a product's constant and its other word, or none
 pub data IsScaling (a b : Source) : Option (ℕ × Source) → Type 0 where
   by_right : (w : ℕ) → b ≡ FixedWord w → is_factor w ≡ true → IsScaling a b (Some (w, a))
   by_left : (v : ℕ) → a ≡ FixedWord v → is_factor v ≡ true → IsScaling a b (Some (v, b))
   by_routine : IsScaling a b None
 
+-- the choice of a product's constant is right
 pub scaling_is : (a b : Source) → IsScaling a b (scaling a b)
 scaling_is a (FixedWord w) = by (is_factor w) refl
   where
@@ -24,12 +25,12 @@ scaling_is (FixedWord v) (AtAddress q) = by (is_factor v) refl
     by false e = by_routine
 scaling_is (AtAddress p) (AtAddress q) = by_routine
 
--- a divisor that is 2^(k + 1)
+-- a divisor that is 2^(k + 1), or any other
 pub data IsShifting (b : Source) : Option ℕ → Type 0 where
   by_shifts : (w k : ℕ) → b ≡ FixedWord w → k < 6 → w ≡ 2 ^ (k + 1) → IsShifting b (Some k)
   by_call : IsShifting b None
 
--- what is found at a number, before what is told of others
+-- a fact about a number that is looked for, before those about others
 pub one_of : (P : Option ℕ → Type 0) (w v found : ℕ) (o : Option ℕ) → (w ≡ v → P (Some found)) → P o → P (if nat_eq w v then Some found else o)
 one_of P w v found o here rest = by (nat_eq w v) refl
   where
@@ -37,6 +38,7 @@ one_of P w v found o here rest = by (nat_eq w v) refl
     by true e = here (eqb-true w v e)
     by false e = rest
 
+-- the choice of a quotient's shifts is right
 pub shifting_is : (b : Source) → IsShifting b (shifts b)
 shifting_is (FixedWord w) =
     let P = λ (o : Option ℕ). IsShifting (FixedWord w) o in

@@ -52,7 +52,7 @@ list_append [] ys = omega arith
 list_append (x ∷ xs) ys = let e = list_append xs ys in omega (arith, e)
 
 -- ── a single instruction ──
--- by either mode of a place
+-- in either mode for an address
 on_most : (m : Mnemonic) (p : ℕ) → most_of (on m p) ≤ 3
 on_most m p = by (nat_lt p 256)
   where
@@ -94,7 +94,7 @@ joined_fits : (m : Mnemonic) (a b : Source) (to : ℕ) → most (joined m a b to
 joined_fits m a b to =
     let l = low_most Lda a in let h = high_most Lda a in let p = low_most m b in let q = high_most m b in omega (arith, l, h, p, q)
 
--- two bytes less in page zero
+-- two bytes fewer in page zero
 left_fits : (a : Source) → most (brought a LEFT) ≤ 10
 left_fits a = let l = low_most Lda a in let h = high_most Lda a in omega (arith, l, h)
 
@@ -311,6 +311,7 @@ rest_fits ns seed n i (g ∷ gs) =
 selected_fits : (ns : List ℕ) (seed n i : ℕ) (is : List Instr) → most (rest_code ns seed n i (select is)) ≤ list_room is
 selected_fits ns seed n i is = subst (λ js. most (rest_code ns seed n i (select is)) ≤ list_room js) (brackets is) (rest_fits ns seed n i (select is))
 
+-- a list's code takes no more than the room of its instructions
 pub list_fits : (ns : List ℕ) (seed n : ℕ) (is : List Instr) → most (list_code ns seed n is) ≤ list_room is
 list_fits ns seed n is =
     by_poll (λ es. most es ≤ list_room is) ns seed n is
@@ -329,7 +330,7 @@ constant_room : (v : Option ℕ) (k b : ℕ) (code : List Instr) → 46 ≤ b �
 constant_room (Some v) k b code p q = omega (arith, p)
 constant_room None k b code p q = q
 
--- a number or a variable costs 36 more than its code takes: so there is room for what an operator takes beyond its cost
+-- a number or a variable costs 36 more than its code takes: so there is room for what an operator takes above its cost
 value_room : (e : Expression) (k : ℕ) → list_room (value_code e k) + 36 ≤ 48 * nodes e
 value_room (Number n) k = omega arith
 value_room (Variable x) k = omega arith
@@ -356,7 +357,7 @@ value_item_room e is =
     let d = list_append (value_code e 0) (SendNumber ∷ []) in
     omega (arith, b, c, d)
 
--- what a text or a value before pays for a zone
+-- what an earlier text or value pays for a zone
 abbrev left_over : Bool → ℕ
 left_over true = 3
 left_over false = 0
@@ -378,10 +379,12 @@ newline_room : (ends : Bool) → list_room (newline_code ends) ≤ 10
 newline_room true = omega arith
 newline_room false = omega arith
 
+-- what the items of a PRINT cost is the sum of their costs
 pub items_pay : (is : List Item) → items_cost is ≡ sum_by item_cost is
 items_pay [] = refl
 items_pay (i ∷ is) = ap (λ n. item_cost i + n) (items_pay is) ∙ sym (sum_by-cons item_cost i is)
 
+-- a statement's code takes at most 10 bytes more than its cost
 pub statement_room : (c : Statement) → IsSpaced c → list_room (statement_code c) ≤ 10 + statement_cost c
 statement_room (Let x e) h = let a = value_room e 0 in let b = list_append (value_code e 0) (Store x ∷ []) in omega (arith, a, b)
 statement_room (Print items ends) h =
@@ -411,6 +414,6 @@ lines_pay (line ∷ lines) h =
     let c = sum_by-cons (λ line. 36 + statement_cost line.content) line lines in
     omega (arith, a, b, c)
 
--- lines, line table and what belongs to no line
+-- lines, line table and what belongs to no line take no more than the cost says
 pub program_fits : (lines : Program) → AreSpaced lines → lines_room (program_code lines) + rest_room ≤ cost lines
 program_fits lines h = let a = lines_pay lines h in omega (arith, a)

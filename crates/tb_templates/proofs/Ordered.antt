@@ -63,7 +63,7 @@ module _ (low high : ℕ) (up : low ≤ high) where
   equal_rises (AtAddress p) (FixedWord w) next = up
   equal_rises (AtAddress p) (AtAddress q) next = up
 
--- code with no label but one
+-- code with only one label
 module _ (low high : ℕ) (skip : Target) (above : low ≤ key_of (label_of skip)) (below : key_of (label_of skip) + 1 ≤ high) where
   unequal_rises : (a b : Source) (next : Target) → Rising low (unequal a b skip next) high
   unequal_rises (FixedWord v) (FixedWord w) next = (above, below)
@@ -184,7 +184,7 @@ module _ (ns : List ℕ) (seed n i : ℕ) (small : n < 65536) (index : i < 65536
   changes_rise low high skip above below (Some c) op a b to = changed_rises low high skip above (omega (arith, below)) (omega (arith, above, below)) c to
   changes_rise low high skip above below None op a b to = calculated_rises low high n op a b to (omega (arith, above, below))
 
-  -- and that of a remainder's sign
+  -- the label of a remainder's sign
   remains_rise : (a b : Source) (to : ℕ) → Rising (base n i) (remains n (Inside inner.Skip n i) a b to) (base n (i + 1))
   remains_rise a b to =
       rising_append (base n i) (base n i) (base n (i + 1)) (asked_rest n a b) (signed_rest (Inside inner.Skip n i) a to)
@@ -261,7 +261,7 @@ list_rises ns seed n is h l =
     groups : (js : List Instr) → length js < 65536 → Rising (base n 1) (rest_code ns seed n 1 (select js)) (base (n + 1) 0)
     groups js k = rest_rises ns seed n 1 (select js) h (let f = selected_few js in omega (arith, f, k))
 
--- behind a line comes the first of the lines that rise from it
+-- after a line comes the first of the lines that rise from it
 first_behind : (n : ℕ) (lines : SlotCode) → RisingFrom (n + 1) (numbers lines) → first_of lines ≡ next_line (numbers lines) n
 first_behind n [] r = refl
 first_behind n (line ∷ lines) r = by (nat_lt n line.number) refl
@@ -277,7 +277,7 @@ not_behind n m ms h = by (nat_lt n m) refl
     by true e = absurd (let no : ⊥ = grind (arith, e, h, nat_tests) in no)
     by false e = refl
 
--- lines are in turn where they rise, and all lines before them are lower
+-- lines are in turn if they rise and all lines before them are lower
 in_turn : (ns : List ℕ) (low : ℕ) (lines : SlotCode) → RisingFrom low (numbers lines) → ((n : ℕ) → low ≤ n → next_after ns n ≡ next_after (numbers lines) n) → AreInTurn ns lines
 in_turn ns low [] r same = tt
 in_turn ns low (line ∷ lines) r same =
@@ -286,10 +286,11 @@ in_turn ns low (line ∷ lines) r same =
       in_turn ns (m + 1) lines r.2 (λ n h. same n (let l = r.0 in omega (arith, h, l)) ∙ not_behind n m (numbers lines) (omega (arith, h))),
     )
 
+-- lines that rise are in turn
 pub lines_in_turn : (lines : SlotCode) → RisingFrom 0 (numbers lines) → AreInTurn (numbers lines) lines
 lines_in_turn lines r = in_turn (numbers lines) 0 lines r (λ n h. refl)
 
--- what is done for the STOP key behind lines, before more
+-- what is done for the STOP key after lines, before other items
 done_woven : (low from : ℕ) (t : Bool) (ns ms : List ℕ) (ys : List Entry) → RisingFrom from (ns ++ ms)
     → ((to : ℕ) → RisingFrom to (left_behind t ns ++ ms) → Woven low (break_base to) ys) → Woven low (break_base from) (done_behind t ns ++ ys)
 done_woven low from true ns ms ys r f = broken_woven low from ns ms ys r f
@@ -327,6 +328,7 @@ rest_woven ns asking from r =
           (λ to b. inl (omega arith, omega arith, inl (omega arith, omega arith, rows_woven ns (key_of (label_of Table) + 1) (break_base to)))),
     )
 
+-- the labels of a whole program rise in their two orders
 pub program_woven : (seed : ℕ) (code : SlotCode) → RisingFrom 0 (numbers code) → AreCodable code → Woven lowest 0 (program_code seed code)
 program_woven seed code r c =
     let ns = numbers code in

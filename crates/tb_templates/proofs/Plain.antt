@@ -20,7 +20,7 @@ use Rattle.tb_templates.specs.Scaled.{on_a, at_zero, all_but_lowest, rounded, ra
 use Rattle.tb_templates.specs.Orders.{lifted}
 use Rattle.tb_templates.proofs.Rising.{Rising}
 
--- whether an item is of a form that there is, and may stand anywhere
+-- whether an item has a form that exists, and may be at any address
 abbrev pub has_form : Entry → Bool
 has_form (instr n m o) = is_some (find_opcode rows n m) && (suits m o && may_move (instr n m o))
 has_form (label n) = true
@@ -38,22 +38,27 @@ abbrev pub ArePlain : List Entry → Type 0
 ArePlain [] = Unit {0}
 ArePlain (e ∷ es) = IsPlain e × ArePlain es
 
+-- plain items before plain items are plain
 pub plain_append : (xs ys : List Entry) → ArePlain xs → ArePlain ys → ArePlain (xs ++ ys)
 plain_append [] ys h k = k
 plain_append (x ∷ xs) ys h k = (h.0, plain_append xs ys h.1 k)
 
+-- plain items have forms that exist
 pub plain_forms : (es : List Entry) → ArePlain es → list_all has_form es ≡ true
 plain_forms [] h = refl
 plain_forms (e ∷ es) h = and_from (has_form e) (list_all has_form es) h.0.form (plain_forms es h.1)
 
+-- plain items have no branches to labels
 pub plain_straight : (es : List Entry) → ArePlain es → list_all is_straight es ≡ true
 plain_straight [] h = refl
 plain_straight (e ∷ es) h = and_from (is_straight e) (list_all is_straight es) h.0.straight (plain_straight es h.1)
 
+-- plain items name no unknown label
 pub plain_known : (labels : List (Name × ℕ)) (es : List Entry) → ArePlain es → AllKnown labels es
 plain_known labels [] h = tt
 plain_known labels (e ∷ es) h = (h.0.known labels, plain_known labels es h.1)
 
+-- plain items have no labels that could fall
 pub plain_rises : (low high : ℕ) (es : List Entry) → low ≤ high → ArePlain es → Rising low es high
 plain_rises low high [] up h = up
 plain_rises low high (e ∷ es) up h = h.0.rises low high es (plain_rises low high es up h.1)
@@ -72,24 +77,29 @@ implied n h = record { form = formed (is_some (find_opcode rows n Implied)) h; s
 accumulator : (n : Mnemonic) → Is n Accumulator → IsPlain (on_a n)
 accumulator n h = record { form = formed (is_some (find_opcode rows n Accumulator)) h; straight = refl; known = λ l. refl; rises = λ low high es h. h }
 
+-- an instruction with a constant byte is plain
 pub immediate : (n : Mnemonic) (b : ℕ) → Is n Immediate → IsPlain (const n b)
 immediate n b h = record { form = formed (is_some (find_opcode rows n Immediate)) h; straight = refl; known = λ l. refl; rises = λ low high es h. h }
 
+-- an instruction on a byte of page zero is plain
 pub zero_page : (n : Mnemonic) (p : ℕ) → Is n ZeroPage → IsPlain (at_zero n p)
 zero_page n p h = record { form = formed (is_some (find_opcode rows n ZeroPage)) h; straight = refl; known = λ l. refl; rises = λ low high es h. h }
 
+-- an instruction with an address is plain
 pub absolute : (n : Mnemonic) (p : ℕ) → Is n Absolute → IsPlain (at n p)
 absolute n p h = record { form = formed (is_some (find_opcode rows n Absolute)) h; straight = refl; known = λ l. refl; rises = λ low high es h. h }
 
+-- an instruction on a word's low byte is plain
 pub low_byte : (n : Mnemonic) (a : Source) → Is n Immediate → Is n Absolute → IsPlain (low_of n a)
 low_byte n (FixedWord w) h k = immediate n (w % 256) h
 low_byte n (AtAddress p) h k = absolute n p k
 
+-- an instruction on a word's high byte is plain
 pub high_byte : (n : Mnemonic) (a : Source) → Is n Immediate → Is n Absolute → IsPlain (high_of n a)
 high_byte n (FixedWord w) h k = immediate n (w / 256) h
 high_byte n (AtAddress p) h k = absolute n (p + 1) k
 
--- one item and those behind it
+-- one item and those after it
 infixr 5 ◌▹◌
 pub ◌▹◌ : {P Q : Type 0} → P → Q → P × Q
 p ▹ q = (p, q)
@@ -109,6 +119,7 @@ halvings_plain : (k : ℕ) → ArePlain (halvings k)
 halvings_plain zero = tt
 halvings_plain (suc k) = plain_append (halvings k) halved (halvings_plain k) (immediate Cmp 128 refl ▹ accumulator Ror refl ▹ zero_page Ror LEFT refl ▹ tt)
 
+-- the items of a quotient by shifts are plain
 pub shifted_plain : (k : ℕ) (a : Source) (to : ℕ) → ArePlain (shifted k a to)
 shifted_plain k a to =
     plain_append (raised k a) (halvings (suc k) ++ high_first to) (raised_plain k a)
@@ -134,6 +145,7 @@ bits_plain (suc k) factor a = by (bits_plain k (factor / 2) a) (nat_lt factor 2)
     by h true = tt
     by h false = plain_append (by_bits k (factor / 2) a) (by_bit (nat_eq (factor % 2) 1) a) h (bit_plain (nat_eq (factor % 2) 1) a)
 
+-- the items of a product by a constant's bits are plain
 pub times_plain : (factor : ℕ) (a : Source) (to : ℕ) → ArePlain (times factor a to)
 times_plain factor a to =
     (high_byte Lda a refl refl ▹ zero_page Sta LEFT refl ▹ low_byte Lda a refl refl ▹ plain_append (by_bits 15 factor a) (low_first to) (bits_plain 15 factor a)

@@ -51,6 +51,7 @@ range_split : (xs ys : List Instr) → AreInRange 256 (xs ++ ys) → AreInRange 
 range_split [] ys h = (tt, h)
 range_split (x ∷ xs) ys h = let rest = range_split xs ys h.1 in ((h.0, rest.0), rest.1)
 
+-- groups whose instructions are in range are in range
 pub groups_in_range : (gs : List Group) (is : List Instr) → expand_all gs ≡ is → AreInRange 256 is → AreGroupsInRange gs
 groups_in_range gs is e h = by gs (subst (AreInRange 256) (sym e) h)
   where

@@ -43,7 +43,7 @@ use Rattle.tb_settling.specs.Settled.{AllKnown}
 use Rattle.tb_templates.proofs.Listed.{tested_by, by_poll}
 use Rattle.tb_templates.proofs.Plain.{lifted_plain, plain_known, times_plain, shifted_plain}
 
--- ── lists one behind the other ──
+-- ── lists one after another ──
 pub labels_split : (labels : List (Name × ℕ)) (a : ℕ) (xs ys : List Entry) → LabelsAt labels a (xs ++ ys) → LabelsAt labels a xs × LabelsAt labels (a + size xs) ys
 labels_split labels a [] ys h = (tt, subst (λ b. LabelsAt labels b ys) (let e : a ≡ a + 0 = omega arith in e) h)
 labels_split labels a (x ∷ xs) ys h =
@@ -54,7 +54,7 @@ known_append : (labels : List (Name × ℕ)) (xs ys : List Entry) → AllKnown l
 known_append labels [] ys h k = k
 known_append labels (x ∷ xs) ys h k = (h.0, known_append labels xs ys h.1 k)
 
--- one fact and the facts behind it
+-- one fact and the facts after it
 infixr 5 ◌▹◌
 ◌▹◌ : {P Q : Type 0} → P → Q → P × Q
 p ▹ q = (p, q)
@@ -134,7 +134,7 @@ module _ (labels : List (Name × ℕ)) (ns : List ℕ) (known : Known labels ns)
       (low_label (target.Inside inner.Text n i) of ▹ refl ▹ high_label (target.Inside inner.Text n i) of ▹ refl ▹ refl ▹ refl ▹ refl ▹
       to_label (target.Inside inner.Behind n i) behind ▹ refl ▹ refl ▹ refl ▹ tt)
 
-  -- by either mode of a place
+  -- in either mode for an address
   on_known : (m : Mnemonic) (p : ℕ) → unknown_fault labels (on m p) ≡ None
   on_known m p = by (nat_lt p 256)
     where
@@ -202,7 +202,7 @@ module _ (labels : List (Name × ℕ)) (ns : List ℕ) (known : Known labels ns)
   calculated_known n Multiply a b to = multiplied_known (scaling a b) a b to
   calculated_known n Divide a b to = divided_known n (shifts b) a b to
 
-  -- the label of a change in place stands in its code
+  -- the label of a change in place is in its code
   changed_known : (at : ℕ) (c : Change) (p : ℕ) (skip : Target) → LabelsAt labels at (changed c p skip) → AllKnown labels (changed c p skip)
   changed_known at Increment p skip h = (refl ▹ to_label skip (ap is_some h.1.1.1.0) ▹ refl ▹ refl ▹ tt)
   changed_known at Decrement p skip h = (refl ▹ to_label skip (ap is_some h.1.1.1.0) ▹ refl ▹ refl ▹ refl ▹ tt)
@@ -241,7 +241,7 @@ module _ (labels : List (Name × ℕ)) (ns : List ℕ) (known : Known labels ns)
   unequal_known : (a b : Source) (stays next : Target) → Stands labels stays → Stands labels next → AllKnown labels (unequal a b stays next)
   unequal_known a b stays next s t = (low_known Lda a ▹ low_known Cmp b ▹ to_label stays s ▹ high_known Lda a ▹ high_known Cmp b ▹ to_label next t ▹ refl ▹ tt)
 
-  -- the label of a test, where it has one, stands in its code
+  -- the label of a test, if it has one, is in its code
   unequal_skip : (a : ℕ) (l r : Source) (skip next : Target) → LabelsAt labels a (unequal l r skip next) → Stands labels skip
   unequal_skip a (FixedWord v) (FixedWord w) skip next h = ap is_some h.1.1.1.1.1.1.0
   unequal_skip a (FixedWord v) (AtAddress q) skip next h = ap is_some h.1.1.1.1.1.1.0
@@ -396,7 +396,7 @@ broken_stand labels a (m ∷ ms) h = λ n e. by n (nat_eq m n) refl e (broken_st
     by n true e k rest = subst (λ m. Stands labels (target.Break m)) (let same : m ≡ n = grind (arith, nat_tests, e) in same) (ap is_some h.0)
     by n false e k rest = rest k
 
--- what is done for the STOP key stands, of lines that ask for it behind some of them or behind them all
+-- what is done for the STOP key is in the code: after some of the lines that ask for it, or after all of them
 done_stand : (labels : List (Name × ℕ)) (a : ℕ) (t : Bool) (ms ks : List ℕ) → LabelsAt labels a (done_behind t ms)
     → BreaksStand labels (left_behind t ms ++ ks) → BreaksStand labels (ms ++ ks)
 done_stand labels a true ms ks h b = λ n. either (Stands labels (target.Break n)) ms ks n (broken_stand labels a ms h n) (b n)

@@ -18,7 +18,7 @@ word_value l p = 4096 * digit_value (slice_index l p) + 256 * digit_value (slice
 abbrev pub key : List ℕ → ℕ
 key l = ((slice_index l 0 * 65536 + word_value l 1) * 65536 + word_value l 5) * 256 + slice_index l 9
 
--- where the labels of group i of line n lie
+-- the numbers of the labels of group i of line n begin here
 abbrev pub base : ℕ → ℕ → ℕ
 base n i = ((76 * 65536 + n) * 65536 + i) * 256
 
@@ -37,16 +37,19 @@ word_back n h =
     let d = digit_back (n % 16) (omega arith) in
     omega (arith, a, b, c, d, h)
 
+-- the number of a line's label
 pub line_key : (n : ℕ) → n < 65536 → key (label_of (Line n)).letters.items ≡ base n 0
 line_key n h = let e = word_back n h in omega (arith, e)
 
+-- the number of a label inside a group
 pub inside_key : (inner : Inner) (n i : ℕ) → n < 65536 → i < 65536 → key (label_of (Inside inner n i)).letters.items ≡ base n i + letter_of inner
 inside_key inner n i h k = let e = word_back n h in let f = word_back i k in omega (arith, e, f)
 
--- where what is done for the STOP key in line n lies, below all other labels
+-- the number of the label for the STOP key in line n, below those of all other labels
 abbrev pub break_base : ℕ → ℕ
 break_base n = (66 * 65536 + n) * 65536 * 256
 
+-- the number of a label for the STOP key
 pub break_key : (n : ℕ) → n < 65536 → key (label_of (Break n)).letters.items ≡ break_base n
 break_key n h = let e = word_back n h in omega (arith, e)
 
@@ -62,6 +65,7 @@ Rising low (label n ∷ es) high = (low ≤ key_of n) × Rising (key_of n + 1) e
 Rising low (bytes bs ∷ es) high = Rising low es high
 Rising low (word o ∷ es) high = Rising low es high
 
+-- labels that rise from one number rise from any lower one
 pub rising_lower : (low low' high : ℕ) (es : List Entry) → low ≤ low' → Rising low' es high → Rising low es high
 rising_lower low low' high [] l h = omega (arith, l, h)
 rising_lower low low' high (instr n m o ∷ es) l h = rising_lower low low' high es l h
@@ -69,6 +73,7 @@ rising_lower low low' high (label n ∷ es) l h = (omega (arith, l, h.0), h.1)
 rising_lower low low' high (bytes bs ∷ es) l h = rising_lower low low' high es l h
 rising_lower low low' high (word o ∷ es) l h = rising_lower low low' high es l h
 
+-- rising labels before rising labels rise
 pub rising_append : (low middle high : ℕ) (xs ys : List Entry) → Rising low xs middle → Rising middle ys high → Rising low (xs ++ ys) high
 rising_append low middle high [] ys h k = rising_lower low middle high ys h k
 rising_append low middle high (instr n m o ∷ xs) ys h k = rising_append low middle high xs ys h k

@@ -18,7 +18,7 @@ use Rattle.tb_templates.specs.Program.{line_code}
 abbrev items : ℕ → Statement → List Entry
 items n c = line_code (10 ∷ 20 ∷ 30 ∷ []) 1 (record { number = n; content = lowered.list_code c })
 
--- 10 LET A=B+1: the variables stand at $C000 and $C002, the line's number at $C03A
+-- 10 LET A=B+1: the variables are at $C000 and $C002, the line's number at $C03A
 sum : items 10 (Let 0 (Binary Add (Variable 1) (Number 1)))
     ≡ here (Line 10) ∷ call 0xFFE4 ∷ const Cmp 3 ∷ branch Beq (Break 10)
     ∷ alone Clc ∷ at Lda 0xC002 ∷ const Adc 1 ∷ at Sta 0xC000 ∷ at Lda 0xC003 ∷ const Adc 0 ∷ at Sta 0xC001 ∷ []
@@ -30,28 +30,28 @@ negation : items 10 (Let 1 (Negate (Variable 0)))
     ∷ alone Sec ∷ const Lda 0 ∷ at Sbc 0xC000 ∷ at Sta 0xC002 ∷ const Lda 0 ∷ at Sbc 0xC001 ∷ at Sta 0xC003 ∷ []
 negation = refl
 
--- 10 LET A=RND(6), which cannot fault and of which the first state is 1: the two go to $FB and $FD, the number comes at $C066
+-- 10 LET A=RND(6), which cannot fault and of which the first state is 1: the two go to $FB and $FD, the number is left at $C066
 draw : items 10 (Let 0 (Random (Number 6)))
     ≡ here (Line 10) ∷ call 0xFFE4 ∷ const Cmp 3 ∷ branch Beq (Break 10)
     ∷ const Lda 6 ∷ at_zero Sta 0xFB ∷ const Lda 0 ∷ at_zero Sta 0xFC ∷ const Lda 1 ∷ at_zero Sta 0xFD ∷ const Lda 0 ∷ at_zero Sta 0xFE ∷ call RANDOM_AT
     ∷ at Lda 0xC066 ∷ at Sta 0xC000 ∷ at Lda 0xC067 ∷ at Sta 0xC001 ∷ []
 draw = refl
 
--- 20 GOSUB A: the line is searched for, and line 30 noted
+-- 20 GOSUB A: the line is searched for, and the return to line 30 put on the list
 subroutine : items 20 (Gosub (Variable 0))
     ≡ here (Line 20) ∷ call 0xFFE4 ∷ const Cmp 3 ∷ branch Beq (Break 20)
     ∷ const Lda 20 ∷ at Sta 0xC03A ∷ const Lda 0 ∷ at Sta 0xC03B ∷ at Lda 0xC000 ∷ at Sta 0xC068 ∷ at Lda 0xC001 ∷ at Sta 0xC069 ∷ find
     ∷ (address (Line 30) LEFT ++ (call PUSH_AT ∷ jump_through))
 subroutine = refl
 
--- 20 IF A<B END: the line is left where A is not below B
+-- 20 IF A<B END: the line is left if A is not below B
 test : items 20 (If (Variable 0) Lt (Variable 1) End)
     ≡ here (Line 20) ∷ call 0xFFE4 ∷ const Cmp 3 ∷ branch Beq (Break 20)
     ∷ at Lda 0xC000 ∷ at Cmp 0xC002 ∷ at Lda 0xC001 ∷ at Sbc 0xC003 ∷ branch Bvc (Inside Skip 20 1) ∷ const Eor 128 ∷ here (Inside Skip 20 1) ∷ branch Bpl (Line 30)
     ∷ alone Rts ∷ []
 test = refl
 
--- 20 IF A<B GOTO 10: straight to line 10 where A is below B, and else on into line 30
+-- 20 IF A<B GOTO 10: straight to line 10 if A is below B, and else on into line 30
 straight : items 20 (If (Variable 0) Lt (Variable 1) (Goto (Number 10)))
     ≡ here (Line 20) ∷ call 0xFFE4 ∷ const Cmp 3 ∷ branch Beq (Break 20)
     ∷ at Lda 0xC000 ∷ at Cmp 0xC002 ∷ at Lda 0xC001 ∷ at Sbc 0xC003 ∷ branch Bvc (Inside Skip 20 1) ∷ const Eor 128 ∷ here (Inside Skip 20 1) ∷ branch Bmi (Line 10) ∷ []
@@ -106,7 +106,7 @@ below_greatest : items 20 (If (Variable 0) Lt (Number 32767) End)
     ∷ at Lda 0xC000 ∷ const Cmp 255 ∷ at Lda 0xC001 ∷ const Eor 128 ∷ const Sbc 255 ∷ branch Bcs (Line 30) ∷ alone Rts ∷ []
 below_greatest = refl
 
--- 20 IF A>32767 END: the greatest word has none behind it
+-- 20 IF A>32767 END: there is no greater word to compare with
 above_greatest : items 20 (If (Variable 0) Gt (Number 32767) End)
     ≡ here (Line 20) ∷ call 0xFFE4 ∷ const Cmp 3 ∷ branch Beq (Break 20)
     ∷ const Lda 255 ∷ at Cmp 0xC000 ∷ const Lda 127 ∷ at Sbc 0xC001 ∷ branch Bvc (Inside Skip 20 1) ∷ const Eor 128 ∷ here (Inside Skip 20 1) ∷ branch Bpl (Line 30)
@@ -131,7 +131,7 @@ by_sign : items 20 (If (Variable 0) Ge (Number 0) (Goto (Number 10)))
     ∷ at Lda 0xC001 ∷ branch Bpl (Line 10) ∷ []
 by_sign = refl
 
--- 30 PRINT A/B: the operands go to $FB and $FD, the quotient comes at $FB, slot 0 stands at $C040
+-- 30 PRINT A/B: the operands go to $FB and $FD, the quotient is left at $FB, slot 0 is at $C040
 quotient : items 30 (Print (Value (Binary Divide (Variable 0) (Variable 1)) ∷ []) true)
     ≡ here (Line 30) ∷ call 0xFFE4 ∷ const Cmp 3 ∷ branch Beq (Break 30)
     ∷ const Lda 30 ∷ at Sta 0xC03A ∷ const Lda 0 ∷ at Sta 0xC03B
@@ -140,7 +140,7 @@ quotient : items 30 (Print (Value (Binary Divide (Variable 0) (Variable 1)) ∷ 
     ∷ at Lda 0xC040 ∷ at_zero Sta 0xFB ∷ at Lda 0xC041 ∷ at_zero Sta 0xFC ∷ call NUMBER_AT ∷ const Lda 0 ∷ at Sta 0xC034 ∷ const Lda 13 ∷ call 0xFFD2 ∷ []
 quotient = refl
 
--- 10 PRINT: the column is 0 behind a 13, which goes to the service that sends bytes
+-- 10 PRINT: the column is 0 after a 13, which goes to the service that sends bytes
 newline : items 10 (Print [] true)
     ≡ here (Line 10) ∷ call 0xFFE4 ∷ const Cmp 3 ∷ branch Beq (Break 10)
     ∷ const Lda 0 ∷ at Sta 0xC034 ∷ const Lda 13 ∷ call 0xFFD2 ∷ []
@@ -167,7 +167,7 @@ stepped : items 10 (Let 0 (Binary Add (Binary Add (Variable 1) (Variable 2)) (Nu
     ∷ at Inc 0xC000 ∷ branch Bne (Inside Behind 10 1) ∷ at Inc 0xC001 ∷ here (Inside Behind 10 1) ∷ []
 stepped = refl
 
--- 10 LET A=B-B/3*3: the remainder's size comes at $C066, and is below 0 where B is
+-- 10 LET A=B-B/3*3: the remainder's size is left at $C066, and is negated if B is below 0
 remainder : items 10 (Let 0 (Binary Subtract (Variable 1) (Binary Multiply (Binary Divide (Variable 1) (Number 3)) (Number 3))))
     ≡ here (Line 10) ∷ call 0xFFE4 ∷ const Cmp 3 ∷ branch Beq (Break 10)
     ∷ at Lda 0xC002 ∷ at_zero Sta 0xFB ∷ at Lda 0xC003 ∷ at_zero Sta 0xFC ∷ const Lda 3 ∷ at_zero Sta 0xFD ∷ const Lda 0 ∷ at_zero Sta 0xFE ∷ call DIVIDE_AT
@@ -175,12 +175,12 @@ remainder : items 10 (Let 0 (Binary Subtract (Variable 1) (Binary Multiply (Bina
     ∷ here (Inside Skip 10 1) ∷ at Lda 0xC066 ∷ at Sta 0xC000 ∷ at Lda 0xC067 ∷ at Sta 0xC001 ∷ []
 remainder = refl
 
--- 20 IF A=A/2*2 GOTO 10: the multiple may stand on the right too
+-- 20 IF A=A/2*2 GOTO 10: the multiple may be on the right too
 even : items 20 (If (Variable 0) Eq (Binary Multiply (Binary Divide (Variable 0) (Number 2)) (Number 2)) (Goto (Number 10)))
     ≡ here (Line 20) ∷ call 0xFFE4 ∷ const Cmp 3 ∷ branch Beq (Break 20) ∷ at Lda 0xC000 ∷ const And 1 ∷ branch Beq (Line 10) ∷ []
 even = refl
 
--- 10 LET A=A+1: one more where it stands
+-- 10 LET A=A+1: one more in place
 increment : items 10 (Let 0 (Binary Add (Variable 0) (Number 1)))
     ≡ here (Line 10) ∷ call 0xFFE4 ∷ const Cmp 3 ∷ branch Beq (Break 10)
     ∷ at Inc 0xC000 ∷ branch Bne (Inside Skip 10 1) ∷ at Inc 0xC001 ∷ here (Inside Skip 10 1) ∷ []
@@ -217,13 +217,13 @@ double : items 10 (Let 0 (Binary Multiply (Number 2) (Variable 0)))
     ∷ at Asl 0xC000 ∷ at Rol 0xC001 ∷ []
 double = refl
 
--- 20 IF A/4*4=A GOTO 10: straight to line 10 where the two lowest bits are 0
+-- 20 IF A/4*4=A GOTO 10: straight to line 10 if the two lowest bits are 0
 by_four : items 20 (If (Binary Multiply (Binary Divide (Variable 0) (Number 4)) (Number 4)) Eq (Variable 0) (Goto (Number 10)))
     ≡ here (Line 20) ∷ call 0xFFE4 ∷ const Cmp 3 ∷ branch Beq (Break 20)
     ∷ at Lda 0xC000 ∷ const And 3 ∷ branch Beq (Line 10) ∷ []
 by_four = refl
 
--- 20 IF A/B*B<>A END: one division, which notes its line, and on to line 30 where its remainder is 0
+-- 20 IF A/B*B<>A END: one division, which sets its line, and on to line 30 if its remainder is 0
 divided : items 20 (If (Binary Multiply (Binary Divide (Variable 0) (Variable 1)) (Variable 1)) Ne (Variable 0) End)
     ≡ here (Line 20) ∷ call 0xFFE4 ∷ const Cmp 3 ∷ branch Beq (Break 20)
     ∷ const Lda 20 ∷ at Sta 0xC03A ∷ const Lda 0 ∷ at Sta 0xC03B
@@ -231,7 +231,7 @@ divided : items 20 (If (Binary Multiply (Binary Divide (Variable 0) (Variable 1)
     ∷ at Lda 0xC066 ∷ at Ora 0xC067 ∷ branch Beq (Line 30) ∷ alone Rts ∷ []
 divided = refl
 
--- the divisors 2 to 256 that are powers of two are told by bits; 1, 3 and 512 are not
+-- the divisors 2 to 256 that are powers of two are tested by bits; 1, 3 and 512 are not
 masks : (mask_of 1 ≡ None) × (mask_of 2 ≡ Some 1) × (mask_of 3 ≡ None) × (mask_of 256 ≡ Some 255) × (mask_of 512 ≡ None)
 masks = (refl, refl, refl, refl, refl)
 

@@ -1,4 +1,4 @@
--- A search by halves in line numbers that rise finds a number where it is one of them.
+-- A search by halves in line numbers that rise finds a number if it is one of them.
 use Rattle.std.proofs.Common.{◌≡◌, ℕ, zero, suc, ◌+◌, ◌<◌, ◌≤◌, Bool, true, false, List, [], ◌∷◌, length, refl, sym, ap, arith, get_or, Result, Ok, Err}
 use Rattle.std.specs.Prelude.{◌||◌, nat_eq, nat_lt, is_ok}
 use Rattle.std.specs.Ordering.{nat_cmp}
@@ -9,7 +9,7 @@ use Rattle.std.proofs.lemmas.Bool.{or_right}
 use Rattle.tb_meaning.specs.Control.{has_line}
 use Rattle.tb_templates.specs.Program.{RisingFrom}
 
--- each of them is at least the lowest
+-- each of the numbers is at least the lowest
 at_least : (low : ℕ) (ns : List ℕ) (i : ℕ) → RisingFrom low ns → i < length ns → low ≤ get_or ns i 0
 at_least low [] i r h = absurd (let no : ⊥ = omega (arith, h) in no)
 at_least low (n ∷ ns) zero r h = r.0
@@ -35,6 +35,7 @@ absent (n ∷ ns) x none = by (nat_eq n x) refl (absent ns x (λ k h e. none (su
     by true e rest = absurd (none 0 (omega arith) (let same : n ≡ x = grind (arith, nat_tests, e) in same))
     by false e rest = rest
 
+-- a binary search finds a line number exactly if there is one
 pub found : (low : ℕ) (ns : List ℕ) → RisingFrom low ns → (x : ℕ) (r : Result ℕ ℕ) → IsBinarySearchResult (λ y. nat_cmp y x) ns r → is_ok r ≡ has_line ns x
 found low ns rising x (Ok i) h = let s = searched ns x (Ok i) h (rises low ns rising) in sym (there ns i x s.0 s.1)
 found low ns rising x (Err i) h = sym (absent ns x (λ k l e. other k l e (nat_lt k i) refl (searched ns x (Err i) h (rises low ns rising))))

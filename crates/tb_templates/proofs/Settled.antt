@@ -1,4 +1,4 @@
--- The settled items of a program: where its lines and labels stand among them.
+-- The settled items of a program: where its lines and labels are among them.
 use Rattle.std.proofs.Common.{◌≡◌, ℕ, ◌+◌, ◌≤◌, List, [], ◌∷◌, ◌++◌, ap, sym, subst, ◌∙◌, arith, refl, Bool, true, false, inl, inr, Some}
 use Rattle.std.specs.Prelude.{◌&&◌, unwrap_or}
 use Rattle.std.specs.List.{list_all}
@@ -22,11 +22,12 @@ use Rattle.tb_templates.proofs.Rising.{key_of}
 use Rattle.tb_templates.proofs.Woven.{lowest, Woven, labels_hold}
 use Rattle.tb_templates.proofs.Taken.{block_size}
 
--- ── settled items, one list behind the other ──
+-- ── settled items, one list after another ──
 -- the items of the forms of two lists
 pub joined_items : (a : ℕ) (fs front back : List Form) → fs ≡ front ++ back → items_from a fs ≡ items_from a front ++ items_from (a + forms_size front) back
 joined_items a fs front back e = ap (items_from a) e ∙ items_append a front back
 
+-- the size of two lists of forms is the sum of their sizes
 pub total_size : (a : ℕ) (fs front back : List Form) → fs ≡ front ++ back → forms_size fs ≡ forms_size front + forms_size back
 total_size a fs front back e =
     let b = a + forms_size front in
@@ -47,7 +48,7 @@ pub straight_items : (a : ℕ) (es : List Entry) (fs : List Form) → list_all i
 straight_items a es fs h of = ap (items_from a) (straight_forms es fs h of) ∙ items_kept a es
 
 -- ── the order of labels ──
--- settled items have the labels of what they stand for, so these rise in the same way
+-- settled items have the labels of what they came from, so these rise in the same way
 woven_settled : (a low breaks : ℕ) (es : List Entry) (fs : List Form) → AreFormsOf es fs → Woven low breaks es → Woven low breaks (items_from a fs)
 woven_settled a low breaks [] [] h r = r
 woven_settled a low breaks [] (f ∷ fs) h r = absurd h
@@ -68,7 +69,7 @@ woven_settled a low breaks (bytes bs ∷ es) (long k l ∷ fs) h r = absurd (let
 woven_settled a low breaks (word o ∷ es) (long k l ∷ fs) h r = absurd (let no : ⊥ = cc in no)
 
 -- ── lines ──
--- a line's label stands where its code does
+-- a line's label is the address of its code
 pub line_at : (labels : List (Name × ℕ)) (ns : List ℕ) (seed a : ℕ) (line : Numbered (List Instr)) (fs : List Form)
     → AreFormsOf (line_code ns seed line) fs → LabelsAt labels a (items_from a fs) → address_in labels (label_of (Line line.number)) ≡ Some a
 line_at labels ns seed a line [] h l = absurd h
@@ -87,6 +88,7 @@ rows_straight : (ns : List ℕ) → list_all is_straight (rows_code ns) ≡ true
 rows_straight [] = refl
 rows_straight (n ∷ ns) = rows_straight ns
 
+-- what is done for the STOP key has no branches to labels
 pub broken_straight : (ns : List ℕ) → list_all is_straight (all_broken ns) ≡ true
 broken_straight [] = refl
 broken_straight (n ∷ ns) = broken_straight ns
@@ -113,6 +115,7 @@ pub record Sections (seed : ℕ) (code : SlotCode) (items : List Entry) (labels 
   pub past : unwrap_or (address_in labels (label_of Past)) 0 ≡ LINES_AT + forms_size lines
   pub table : address_in labels (label_of Table) ≡ Some (LINES_AT + forms_size lines + size (past_code (numbers code)) + size (last_broken code) + size (find_code (numbers code)))
 
+-- the settled items of a program consist of these sections
 pub sections : (seed : ℕ) (code : SlotCode) → AreCodable code → RisingFrom 0 (numbers code) → (items : List Entry)
     → IsSettled PROLOGUE_AT (program_code seed code) items → Sections seed code items (labels_from PROLOGUE_AT items)
 sections seed code lists rises items settled =

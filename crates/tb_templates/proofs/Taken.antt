@@ -62,7 +62,7 @@ program_most seed code =
     omega (arith, a, b, c, d, e, f, g, h)
 
 -- ── what settling needs ──
--- each label of a program stands for the place of its item
+-- each label of a program gives the address of its item
 pub program_labels : (seed : ℕ) (code : SlotCode) → RisingFrom 0 (numbers code) → AreCodable code
     → LabelsAt (labels_from PROLOGUE_AT (program_code seed code)) PROLOGUE_AT (program_code seed code)
 program_labels seed code r c = labels_hold PROLOGUE_AT lowest 0 [] (program_code seed code) tt (program_woven seed code r c)

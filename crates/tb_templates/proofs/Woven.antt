@@ -1,5 +1,5 @@
 -- The labels of a program's code: those of what is done for the STOP key rise, and so do all others between them. So
--- none stands twice, and each stands for its place.
+-- no label is there twice, and each gives its own address.
 use Rattle.std.proofs.Common.{◌≡◌, ◌⊎◌, ℕ, ◌+◌, ◌<◌, ◌≤◌, Bool, true, false, List, [], ◌∷◌, ◌++◌, refl, sym, ap}
 use Rattle.std.proofs.Common.{◌∙◌, arith, inl, inr, Some, None, subst, append_assoc, cond}
 use Rattle.std.specs.Prelude.{◌||◌}
@@ -17,7 +17,7 @@ use Rattle.tb_templates.specs.Layout.{LabelsAt}
 use Rattle.tb_templates.specs.Program.{RisingFrom}
 use Rattle.tb_templates.proofs.Rising.{key, key_of, base, break_base, break_key, Rising}
 
--- where the labels of lines begin; those of what is done for the STOP key lie below
+-- where the numbers of lines' labels begin; those of what is done for the STOP key lie below
 abbrev pub lowest : ℕ
 lowest = base 0 0
 
@@ -29,6 +29,7 @@ Woven low breaks (label n ∷ es) = ((lowest ≤ key_of n) × (low ≤ key_of n)
 Woven low breaks (bytes bs ∷ es) = Woven low breaks es
 Woven low breaks (word o ∷ es) = Woven low breaks es
 
+-- labels that rise from two numbers rise from any lower ones
 pub woven_lower : (low low' breaks breaks' : ℕ) (es : List Entry) → low ≤ low' → breaks ≤ breaks' → Woven low' breaks' es → Woven low breaks es
 woven_lower low low' breaks breaks' [] l k h = tt
 woven_lower low low' breaks breaks' (instr n m o ∷ es) l k h = woven_lower low low' breaks breaks' es l k h
@@ -57,8 +58,8 @@ broken_woven low from (n ∷ ns) ms ys r f =
       woven_lower low low (key_of (label_of (Break n)) + 1) (break_base (n + 1)) (all_broken ns ++ ys) (omega arith) (omega (arith, k)) (broken_woven low (n + 1) ns ms ys r.2 f),
     )
 
--- ── labels before and behind ──
--- a number that none has from these two on, and one that none has below them
+-- ── labels before and after ──
+-- a number that no label has from these two on, and one that no label has below them
 abbrev IsFrom : ℕ → ℕ → ℕ → Type 0
 IsFrom low breaks k = ((lowest ≤ k) × (low ≤ k)) ⊎ ((k < lowest) × (breaks ≤ k))
 
@@ -89,7 +90,7 @@ other n m unlike = by (same_name n m) refl
     by true e = absurd (unlike (same_key n m e))
     by false e = refl
 
--- ── no name stands twice ──
+-- ── no name is there twice ──
 abbrev AreFrom : ℕ → ℕ → List Name → Type 0
 AreFrom low breaks [] = Unit {0}
 AreFrom low breaks (n ∷ ns) = IsFrom low breaks (key_of n) × AreFrom low breaks ns
@@ -110,6 +111,7 @@ none_of : (low breaks : ℕ) (n : Name) (ns : List Name) → IsBelow low breaks 
 none_of low breaks n [] b h = refl
 none_of low breaks n (m ∷ ns) b h = ap (λ t. t || list_any (same_name n) ns) (other n m (differ low breaks (key_of n) (key_of m) b h.0)) ∙ none_of low breaks n ns b h.1
 
+-- labels that rise are distinct
 pub distinct : (low breaks : ℕ) (es : List Entry) → Woven low breaks es → AreDistinct (names_of es)
 distinct low breaks [] r = tt
 distinct low breaks (instr n m o ∷ es) r = distinct low breaks es r
@@ -118,7 +120,7 @@ distinct low breaks (label n ∷ es) (inr r) = (none_of low (key_of n + 1) n (na
 distinct low breaks (bytes bs ∷ es) r = distinct low breaks es r
 distinct low breaks (word o ∷ es) r = distinct low breaks es r
 
--- ── each label stands for its place ──
+-- ── each label gives its address ──
 abbrev AreBelow : ℕ → ℕ → List (Name × ℕ) → Type 0
 AreBelow low breaks [] = Unit {0}
 AreBelow low breaks (p ∷ ps) = IsBelow low breaks (key_of p.0) × AreBelow low breaks ps
@@ -145,7 +147,7 @@ moved at before e es h =
     let k : at + size (before ++ e ∷ []) ≡ at + size before + size_of e = (let q = size_push before e in omega (arith, q)) in
     subst (λ a. LabelsAt (labels_from at (before ++ e ∷ es)) a es) k (subst (λ l. LabelsAt (labels_from at l) (at + size (before ++ e ∷ [])) es) (append_assoc before (e ∷ []) es) h)
 
--- where the labels of a list rise so from behind those before, each stands for its place
+-- if the labels of a list rise in this way from those before it, each gives the address of its item
 pub labels_hold : (at low breaks : ℕ) (before es : List Entry) → AreBelow low breaks (labels_from at before) → Woven low breaks es
     → LabelsAt (labels_from at (before ++ es)) (at + size before) es
 labels_hold at low breaks before [] b r = tt

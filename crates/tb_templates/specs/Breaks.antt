@@ -1,4 +1,4 @@
--- The STOP key: it is asked for at the beginning of each line, and what is done for it stands out of the way.
+-- The STOP key: it is asked for at the beginning of each line, and what is done for it is out of the way.
 use Rattle.std.specs.Prelude.{ℕ, Bool, true, false, ◌||◌, List, [], ◌∷◌, ◌++◌}
 use Rattle.tb_opcodes.specs.declared.Mnemonic.TheVariants.{Beq, Cmp, Jsr}
 use Rattle.tb_asm.specs.Layout.{Entry}
@@ -9,7 +9,7 @@ use Rattle.tb_kernal.specs.declared.rom.TheConstants.{GETIN}
 use Rattle.tb_templates.specs.declared.labels.Target.TheVariants.{Break}
 use Rattle.tb_templates.specs.Templates.{at, const, branch, here, faulted}
 
--- takes an answer at the beginning of line n; for that of the STOP key, 3, it goes elsewhere
+-- takes an answer at the beginning of line n; if it is the STOP key's, 3, it branches elsewhere
 abbrev pub polled : ℕ → List Entry
 polled n = at Jsr GETIN ∷ const Cmp 3 ∷ branch Beq (Break n) ∷ []
 
@@ -17,7 +17,7 @@ polled n = at Jsr GETIN ∷ const Cmp 3 ∷ branch Beq (Break n) ∷ []
 abbrev pub broken : ℕ → List Entry
 broken n = here (Break n) ∷ faulted n 0
 
--- in each of these lines
+-- what is done for the STOP key in each of these lines
 abbrev pub all_broken : List ℕ → List Entry
 all_broken [] = []
 all_broken (n ∷ ns) = broken n ++ all_broken ns
@@ -36,23 +36,23 @@ always_leaves Return = true
 always_leaves End = true
 always_leaves _ = false
 
--- whether a group does: a test doesn't
+-- whether a group leaves the line in any case: a test doesn't
 abbrev pub leaves : Group → Bool
 leaves (Use how a) = leaves_by how
 leaves (Single i) = always_leaves i
 leaves _ = false
 
--- whether one of these groups does, so that none of them goes on into what is behind them
+-- whether one of these groups leaves the line, so that none of them goes on into what follows them
 abbrev pub some_leaves : List Group → Bool
 some_leaves [] = false
 some_leaves (g ∷ gs) = leaves g || some_leaves gs
 
--- whether a line's list does not go on into what is behind it
+-- whether a line's list does not go on into what follows it
 abbrev pub ends_away : List Instr → Bool
 ends_away (Poll ∷ is) = some_leaves (select is)
 ends_away is = some_leaves (select is)
 
--- of lines that ask for the STOP key, what is done for it stands behind one that ends away, and they are done with
+-- what is done for the STOP key in lines that ask for it comes after a line that ends away, and none of them still asks
 abbrev pub done_behind : Bool → List ℕ → List Entry
 done_behind true ns = all_broken ns
 done_behind false ns = []

@@ -25,11 +25,11 @@ use Rattle.tb_templates.specs.InPlace.{Change, change_of, changed}
 use Rattle.tb_templates.specs.Masks.{mask, lowest_bits}
 
 -- ── words ──
--- a word to a place
+-- a word to an address
 abbrev pub brought : Source → ℕ → List Entry
 brought a to = low_of Lda a ∷ on Sta to ∷ high_of Lda a ∷ on Sta (to + 1) ∷ []
 
--- two words joined byte by byte, with C from the low bytes to the high ones
+-- two words combined byte by byte, with C from the low bytes to the high ones
 abbrev pub joined : Mnemonic → Source → Source → ℕ → List Entry
 joined mnemonic a b to = low_of Lda a ∷ low_of mnemonic b ∷ at Sta to ∷ high_of Lda a ∷ high_of mnemonic b ∷ at Sta (to + 1) ∷ []
 
@@ -41,16 +41,16 @@ summed a b to = alone Clc ∷ joined Adc a b to
 abbrev pub taken : Source → Source → ℕ → List Entry
 taken a b to = alone Sec ∷ joined Sbc a b to
 
--- what a routine makes of two words, from where it leaves it
+-- what a routine computes from two words, from where it leaves the result
 abbrev pub handed : ℕ → ℕ → Source → Source → ℕ → List Entry
 handed routine from a b to = brought a LEFT ++ (brought b RIGHT ++ (call routine ∷ copied from to))
 
--- code with the line's number set before it where it may fault
+-- code with the line's number set before it if it may fault
 abbrev pub lined : Bool → ℕ → List Entry → List Entry
 lined true n es = constant n LINE ++ es
 lined false n es = es
 
--- whether a division by this word may fault, and whether a draw below it may: of a constant that is known
+-- whether a division by this word may fault, and whether a draw below it may: known if it is a constant
 abbrev pub may_be_zero : Source → Bool
 may_be_zero (FixedWord w) = nat_eq w 0
 may_be_zero (AtAddress p) = true
@@ -59,7 +59,7 @@ abbrev pub may_have_none : Source → Bool
 may_have_none (FixedWord w) = nat_eq w 0 || nat_le 32768 w
 may_have_none (AtAddress p) = true
 
--- a product: of a constant and a word by the constant's bits, where they are few, and else by the routine
+-- a product: of a constant and a word by the constant's bits, if they are few, and else by the routine
 abbrev pub multiplied : Option (ℕ × Source) → Source → Source → ℕ → List Entry
 multiplied (Some scaled) a b to = times scaled.0 scaled.1 to
 multiplied None a b to = handed MULTIPLY_AT RESULT a b to
@@ -76,7 +76,7 @@ calculated n Subtract a b to = taken a b to
 calculated n Multiply a b to = multiplied (scaling a b) a b to
 calculated n Divide a b to = divided n (shifts b) a b to
 
--- the same: where it changes a word in place, there
+-- a calculation, by changing a word in place if it is such a change
 abbrev pub changed_or : Option Change → ℕ → Target → Operator → Source → Source → ℕ → List Entry
 changed_or (Some change) n skip op a b to = changed change to skip
 changed_or None n skip op a b to = calculated n op a b to
@@ -84,11 +84,11 @@ changed_or None n skip op a b to = calculated n op a b to
 abbrev pub computed : ℕ → Target → Operator → Source → Source → ℕ → List Entry
 computed n skip op a b to = changed_or (change_of op a b to) n skip op a b to
 
--- a calculation whose result goes to a place, and goes on there by a constant
+-- a calculation whose result goes to an address, and goes on there by a constant
 abbrev pub stepped : ℕ → (skip behind : Target) → Operator → Source → Source → Operator → Source → ℕ → List Entry
 stepped n skip behind op a b by c to = computed n skip op a b to ++ computed n behind by (AtAddress to) c to
 
--- a word made of one in line n: 0 minus it, or a random number below it, where the first state is the seed
+-- a word made of one in line n: 0 minus it, or a random number below it; the seed is the first RND state
 abbrev pub converted : ℕ → ℕ → Conversion → Source → ℕ → List Entry
 converted n seed Negated a to = taken (FixedWord 0) a to
 converted n seed Drawn a to = lined (may_have_none a) n (handed RANDOM_AT RESULT a (FixedWord seed) to)
@@ -104,15 +104,15 @@ used n next AsLine a = searched n a ++ jump_through
 used n next AsSubroutine a = searched n a ++ (return_address next ++ jump_through)
 
 -- ── tests ──
--- stays where both bytes are equal
+-- goes on in the line if both bytes are equal
 abbrev pub equal : Source → Source → Target → List Entry
 equal a b next = low_of Lda a ∷ low_of Cmp b ∷ branch Bne next ∷ high_of Lda a ∷ high_of Cmp b ∷ branch Bne next ∷ []
 
--- stays where one of the two bytes differs
+-- goes on in the line if one of the two bytes differs
 abbrev pub unequal : Source → Source → Target → Target → List Entry
 unequal a b stays next = low_of Lda a ∷ low_of Cmp b ∷ branch Bne stays ∷ high_of Lda a ∷ high_of Cmp b ∷ branch Beq next ∷ here stays ∷ []
 
--- leaves the line unless two words are so related
+-- leaves the line unless two words are in this relation
 abbrev pub tested : Rel → Source → Source → Target → Target → List Entry
 tested Eq a b skip next = equal a b next
 tested Ne a b skip next = unequal a b skip next
@@ -121,22 +121,22 @@ tested Ge a b skip next = ordered NotBelow a b skip next
 tested Gt a b skip next = ordered Below b a skip next
 tested Le a b skip next = ordered NotBelow b a skip next
 
--- from line n straight to a line where two words are so related, and else on to the next line, which is behind; where the
+-- from line n straight to a line if two words are in this relation, and else on to the next line, which follows; if the
 -- program has no such line, the test and then fault 1
 abbrev pub gone : ℕ → Rel → Source → Source → Target → Target → Bool → ℕ → List Entry
 gone n rel a b skip next true to = tested (denied rel) a b skip (Line to)
 gone n rel a b skip next false to = tested rel a b skip next ++ faulted n 1
 
 -- ── divisibility ──
--- the size of a division's remainder, of which Z is whether it is 0
+-- the size of a division's remainder, with Z set if it is 0
 abbrev pub told : List Entry
 told = call DIVIDE_AT ∷ at Lda RESULT ∷ at Ora (RESULT + 1) ∷ []
 
--- the same of a word over another one
+-- the same for a word divided by another one
 abbrev pub remainder : Source → Source → List Entry
 remainder a b = brought a LEFT ++ (brought b RIGHT ++ told)
 
--- of line n, in Z whether a divisor divides a word: by the word's lowest bits where that is a power of two
+-- in line n, Z tells whether a divisor divides a word: by the word's lowest bits if that is a power of two
 abbrev pub left_over : ℕ → Option ℕ → Source → Source → List Entry
 left_over n (Some bits) a b = lowest_bits bits a
 left_over n None a b = lined (may_be_zero b) n (remainder a b)
@@ -146,26 +146,26 @@ abbrev pub unless : Divisibility → Mnemonic
 unless Divisible = Bne
 unless Indivisible = Beq
 
--- leaves line n unless a word is a multiple of a divisor, or unless it is none
+-- leaves line n unless a word is a multiple of a divisor, or unless it is not
 abbrev pub divided_by : ℕ → Divisibility → Source → Source → Target → List Entry
 divided_by n how a b next = left_over n (mask b) a b ++ (branch (unless how) next ∷ [])
 
--- straight to a line where it is so, as `gone` does
+-- straight to a line if the word is what is asked for, as `gone` does
 abbrev pub divided_gone : ℕ → Divisibility → Source → Source → Target → Bool → ℕ → List Entry
 divided_gone n how a b next true to = divided_by n (contrary how) a b (Line to)
 divided_gone n how a b next false to = divided_by n how a b next ++ faulted n 1
 
--- to a line, if to one
+-- a test by a divisor that leads to a line, if there is one
 abbrev pub divides : List ℕ → ℕ → Divisibility → Source → Source → Option ℕ → List Entry
 divides numbers n how a b None = divided_by n how a b (next_line numbers n)
 divides numbers n how a b (Some to) = divided_gone n how a b (next_line numbers n) (has_line numbers to) to
 
--- ── what is left over ──
+-- ── remainders ──
 -- the routine divides a word of line n by another one, and leaves the remainder's size
 abbrev pub asked_rest : ℕ → Source → Source → List Entry
 asked_rest n a b = lined (may_be_zero b) n (brought a LEFT ++ (brought b RIGHT ++ (call DIVIDE_AT ∷ [])))
 
--- it goes to a place with the sign of the word that was divided
+-- the remainder goes to an address, with the sign of the word that was divided
 abbrev pub signed_rest : Target → Source → ℕ → List Entry
 signed_rest skip a to = high_of Lda a ∷ branch Bpl skip ∷ (taken (FixedWord 0) (AtAddress RESULT) RESULT ++ (here skip ∷ copied RESULT to))
 
@@ -179,11 +179,11 @@ may_fault (Input x) = true
 may_fault Poll = true
 may_fault _ = false
 
--- the code of a single instruction, with the line's number before it where it may fault
+-- the code of a single instruction, with the line's number before it if it may fault
 abbrev pub single : List ℕ → ℕ → ℕ → Instr → List Entry
 single numbers n i c = if may_fault c then constant n LINE ++ template numbers n i c else template numbers n i c
 
--- the code of group i of line n, from 1 on, where the program has these numbers and the option's RND state is the seed
+-- the code of group i of line n, from 1 on, if the program has these numbers and the option's RND state is the seed
 abbrev pub group_template : List ℕ → ℕ → ℕ → ℕ → Group → List Entry
 group_template numbers seed n i (Calculate op a b d) = computed n (Inside Skip n i) op (source_of (slot_of d) a) (source_of (slot_of d + 1) b) (destination_at d)
 group_template numbers seed n i (Stepped op a b by w x) = stepped n (Inside Skip n i) (Inside Behind n i) op (source_of 0 a) (source_of 1 b) by (source_of 1 (Constant w)) (var_at x)

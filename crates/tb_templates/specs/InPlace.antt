@@ -1,4 +1,4 @@
--- Code that changes a word where it stands: by a constant that is added or subtracted, to its half or to its double.
+-- Code that changes a word in place: by a constant that is added or subtracted, to its half or to its double.
 use Rattle.std.specs.Prelude.{ℕ, ◌+◌, ◌-◌, List, [], ◌∷◌, ◌++◌, if◌then◌else◌, nat_eq, nat_lt, Option, Some, None}
 use Rattle.tb_opcodes.specs.declared.Mnemonic.{Mnemonic}
 use Rattle.tb_opcodes.specs.declared.Mnemonic.TheVariants.{Adc, Asl, Bcc, Bcs, Bne, Clc, Dec, Inc, Lda, Rol, Ror, Sbc, Sec, Sta}
@@ -13,15 +13,15 @@ pub use Rattle.tb_templates.specs.declared.in_place.Change.{Change}
 pub use Rattle.tb_templates.specs.declared.in_place.Change.TheVariants.{Increment, Decrement, Raise, Lower, Halve, Double}
 
 -- ── which change a calculation is ──
--- a constant that is added: by less than 256, or by so much less
+-- a constant that is added: fewer than 256 more, or fewer than 256 less
 abbrev pub raising : ℕ → Option Change
 raising w = if nat_eq w 1 then Some Increment else if nat_eq w 65535 then Some Decrement else if nat_lt w 256 then Some (Raise w) else if nat_lt 65280 w then Some (Lower (65536 - w)) else None
 
--- one that is subtracted
+-- a constant that is subtracted
 abbrev pub lowering : ℕ → Option Change
 lowering w = if nat_eq w 1 then Some Decrement else if nat_eq w 65535 then Some Increment else if nat_lt w 256 then Some (Lower w) else if nat_lt 65280 w then Some (Raise (65536 - w)) else None
 
--- a word with a constant behind it
+-- a word with a constant after it
 abbrev pub with_right : Operator → ℕ → Option Change
 with_right Add w = raising w
 with_right Subtract w = lowering w
@@ -35,7 +35,7 @@ with_left Subtract v = None
 with_left Multiply v = if nat_eq v 2 then Some Double else None
 with_left Divide v = None
 
--- of a word at a place with a constant, where the result goes to that place
+-- the change of a word at an address by a constant, if the result goes to that address
 abbrev pub change_of : Operator → Source → Source → ℕ → Option Change
 change_of op (AtAddress p) (FixedWord w) to = if nat_eq p to then with_right op w else None
 change_of op (FixedWord v) (AtAddress q) to = if nat_eq q to then with_left op v else None
@@ -43,15 +43,15 @@ change_of op (FixedWord v) (FixedWord w) to = None
 change_of op (AtAddress p) (AtAddress q) to = None
 
 -- ── its code ──
--- the high byte of a word is counted up or down, but where the branch is taken
+-- the high byte of a word is counted up or down, unless the branch is taken
 abbrev pub counted : Mnemonic → Target → Mnemonic → ℕ → List Entry
 counted leaves skip counts p = branch leaves skip ∷ at counts (p + 1) ∷ here skip ∷ []
 
--- one more, where C is set
+-- one more if C is set
 abbrev pub one_more : ℕ → List Entry
 one_more p = at Lda p ∷ const Adc 0 ∷ at Sta p ∷ at Lda (p + 1) ∷ const Adc 0 ∷ at Sta (p + 1) ∷ []
 
--- a word is shifted to the right with C its sign, where a negative one is raised by one first: so it is rounded toward zero
+-- a word is shifted to the right with C its sign, and a negative one is raised by one first: so it is rounded toward zero
 abbrev pub half_in_place : ℕ → Target → List Entry
 half_in_place p skip = at Lda (p + 1) ∷ on_a Asl ∷ branch Bcc skip ∷ (one_more p ++ (on_a Asl ∷ here skip ∷ at Ror (p + 1) ∷ at Ror p ∷ []))
 
@@ -59,7 +59,7 @@ half_in_place p skip = at Lda (p + 1) ∷ on_a Asl ∷ branch Bcc skip ∷ (one_
 abbrev pub doubled_in_place : ℕ → List Entry
 doubled_in_place p = at Asl p ∷ at Rol (p + 1) ∷ []
 
--- the word at a place
+-- the word at an address, changed
 abbrev pub changed : Change → ℕ → Target → List Entry
 changed Increment p skip = at Inc p ∷ counted Bne skip Inc p
 changed Decrement p skip = at Lda p ∷ (counted Bne skip Dec p ++ (at Dec p ∷ []))

@@ -11,16 +11,16 @@ use Rattle.tb_templates.specs.declared.labels.Target.TheVariants.{Line, Inside, 
 abbrev pub named : List ℕ → Name
 named letters = record { letters = record { items = letters } }
 
--- the letter of what stands inside a line's code
+-- the letter of an address inside a line's code
 abbrev pub letter_of : Inner → ℕ
 letter_of Text = 84
 letter_of Behind = 85
 letter_of Skip = 83
 
--- A line is L and its number; a place in the code of its group i has the index, from 1 on, and a letter behind. What is
--- done for the STOP key in a line is B and its number. Fault 7, the search in the line table and the table itself are
--- words. In a program's code the labels rise in the order of letters, those with B among themselves and all others: so
--- the search is called SEEK here, and the table TROW.
+-- A line is L and its number; an address in the code of its group i has the index, from 1 on, and a letter after it. What
+-- is done for the STOP key in a line is B and its number. Fault 7, the search in the line table and the table itself are
+-- words. In a program's code the labels rise in the order of letters, those with B among themselves and all others among
+-- themselves: so the search is called SEEK here, and the table TROW.
 abbrev pub label_of : Target → Name
 label_of (Line n) = named (76 ∷ four_digits n [])
 label_of (Inside inner n i) = named (76 ∷ four_digits n (four_digits i (letter_of inner ∷ [])))

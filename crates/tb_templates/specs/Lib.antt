@@ -1,12 +1,27 @@
+-- ── pieces ──
+-- the labels of a program's code
 pub mod Labels
+-- single instructions, and the pieces of code that all templates share
 pub mod Templates
+-- where operands come from, and where results go
 pub mod Sources
+-- ── words ──
+-- products with a constant and quotients by shifts
 pub mod Scaled
+-- words that are changed in place
 pub mod InPlace
+-- multiples of a power of two, by the lowest bits
 pub mod Masks
+-- the order of two signed words
 pub mod Orders
+-- ── groups and programs ──
+-- the code of each group
 pub mod GroupTemplates
+-- the STOP key
 pub mod Breaks
+-- the code of a whole program
 pub mod Program
+-- how many bytes the code takes at most
 pub mod Sizes
+-- the addresses of a list of items
 pub mod Layout

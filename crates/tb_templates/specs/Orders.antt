@@ -1,4 +1,4 @@
--- How the order of two signed words is told, and its code.
+-- How the order of two signed words is decided, and the code for it.
 use Rattle.std.specs.Prelude.{ℕ, ◌+◌, ◌/◌, ◌%◌, List, [], ◌∷◌, ◌++◌, if◌then◌else◌, nat_eq}
 use Rattle.tb_opcodes.specs.declared.Mnemonic.{Mnemonic}
 use Rattle.tb_opcodes.specs.declared.Mnemonic.TheVariants.{Bcc, Bcs, Bmi, Bpl, Bvc, Cmp, Eor, Lda, Sbc}
@@ -11,12 +11,12 @@ pub use Rattle.tb_templates.specs.declared.orders.Side.TheVariants.{Below, NotBe
 pub use Rattle.tb_templates.specs.declared.orders.Order.{Order}
 pub use Rattle.tb_templates.specs.declared.orders.Order.TheVariants.{BySign, ByConstant, ByDifference}
 
--- ── how it is told ──
--- by a word against a constant, of which the sign is enough where that is 0
+-- ── how it is decided ──
+-- by a word against a constant; if that is 0, the sign is enough
 abbrev pub against : Side → Source → ℕ → Order
 against side a w = if nat_eq w 0 then BySign side a else ByConstant side a w
 
--- whether a word is below the one at a place: a constant is where that is not below the constant's next one
+-- whether a word is below the one at an address: for a constant, whether that one is not below the constant's successor
 abbrev pub before_word : Source → ℕ → Order
 before_word (FixedWord v) q = if nat_eq v 32767 then ByDifference (FixedWord v) (AtAddress q) else against NotBelow (AtAddress q) ((v + 1) % 65536)
 before_word (AtAddress p) q = ByDifference (AtAddress p) (AtAddress q)
@@ -26,14 +26,14 @@ abbrev pub order_of : Source → Source → Order
 order_of a (FixedWord w) = against Below a w
 order_of a (AtAddress q) = before_word a q
 
--- its words stand at places whose next ones are addresses too
+-- the high bytes of its words are at addresses too
 abbrev pub AreWhole : Order → Type 0
 AreWhole (BySign side a) = IsWhole a
 AreWhole (ByConstant side a w) = IsWhole a
 AreWhole (ByDifference a b) = IsWhole a × IsWhole b
 
 -- ── its code ──
--- the side on which a word is, where it is on this side of another one or, if that is wanted, where it is not
+-- the other side; and the side that is wanted, or the other one
 abbrev pub other_side : Side → Side
 other_side Below = NotBelow
 other_side NotBelow = Below
@@ -51,20 +51,20 @@ abbrev pub unless_carry : Side → Mnemonic
 unless_carry Below = Bcs
 unless_carry NotBelow = Bcc
 
--- N is whether a word is below 0
+-- N tells whether a word is below 0
 abbrev pub signed : Side → Source → Target → List Entry
 signed side a next = high_of Lda a ∷ branch (unless_negative side) next ∷ []
 
--- C is whether a word is at least a constant: with their highest bits turned they are compared as if they had no sign
+-- C tells whether a word is at least a constant: with their highest bits turned they are compared as if they had no sign
 abbrev pub lifted : Source → ℕ → List Entry
 lifted a w = low_of Lda a ∷ const Cmp (w % 256) ∷ high_of Lda a ∷ const Eor 128 ∷ const Sbc ((w / 256 + 128) % 256) ∷ []
 
--- N behind the difference of two signed words, turned where V is set, is whether a is below b
+-- N after the difference of two signed words, turned if V is set, tells whether a is below b
 abbrev pub weighed : Side → Source → Source → Target → Target → List Entry
 weighed side a b skip next =
     low_of Lda a ∷ low_of Cmp b ∷ high_of Lda a ∷ high_of Sbc b ∷ branch Bvc skip ∷ const Eor 128 ∷ here skip ∷ branch (unless_negative side) next ∷ []
 
--- leaves unless a word is on the wanted side of another one, by how that is told
+-- leaves unless a word is on the wanted side of another one, by how that is decided
 abbrev pub ordered_by : Order → Side → Target → Target → List Entry
 ordered_by (BySign side a) wanted skip next = signed (wanted_side wanted side) a next
 ordered_by (ByConstant side a w) wanted skip next = lifted a w ++ (branch (unless_carry (wanted_side wanted side)) next ∷ [])

@@ -18,7 +18,7 @@ use Rattle.tb_templates.specs.Templates.{at, here, constant, address, faulted, n
 use Rattle.tb_templates.specs.GroupTemplates.{group_template}
 use Rattle.tb_templates.specs.Breaks.{polled, all_broken, ends_away, done_behind, left_behind}
 
--- the groups of a line from group i on, one behind the other
+-- the groups of a line from group i on, one after another
 abbrev pub rest_code : List ℕ → ℕ → ℕ → ℕ → List Group → List Entry
 rest_code ns seed n i [] = []
 rest_code ns seed n i (g ∷ gs) = group_template ns seed n i g ++ rest_code ns seed n (i + 1) gs
@@ -28,19 +28,19 @@ abbrev pub list_code : List ℕ → ℕ → ℕ → List Instr → List Entry
 list_code ns seed n (Poll ∷ is) = polled n ++ rest_code ns seed n 1 (select is)
 list_code ns seed n is = rest_code ns seed n 1 (select is)
 
--- a line at its label; behind its list it falls into what is behind it
+-- a line at its label; after its list it falls into what follows it
 abbrev pub line_code : List ℕ → ℕ → Numbered (List Instr) → List Entry
 line_code ns seed line = here (Line line.number) ∷ list_code ns seed line.number line.content
 
--- the code of lines, one behind the other, where the lines with these numbers before them ask for the STOP key: what is
--- done for it in them stands behind the first line that ends away
+-- the code of lines, one after another, if the lines with these numbers before them ask for the STOP key: what is
+-- done for it in them comes after the first line that ends away
 abbrev pub lines_code : List ℕ → ℕ → List ℕ → SlotCode → List Entry
 lines_code ns seed asking [] = []
 lines_code ns seed asking (line ∷ lines) =
     let all = asking ++ line.number ∷ [] in let away = ends_away line.content in
     line_code ns seed line ++ (done_behind away all ++ lines_code ns seed (left_behind away all) lines)
 
--- the lines behind which none ends away
+-- the lines after which none ends away
 abbrev pub still_asking : List ℕ → SlotCode → List ℕ
 still_asking asking [] = asking
 still_asking asking (line ∷ lines) = still_asking (left_behind (ends_away line.content) (asking ++ line.number ∷ [])) lines
@@ -82,7 +82,7 @@ abbrev pub AreCodable : SlotCode → Type 0
 AreCodable [] = Unit {0}
 AreCodable (line ∷ lines) = AreInRange 256 line.content × (length line.content < 65536) × AreCodable lines
 
--- line numbers that rise from one on, and are words
+-- line numbers that rise from a number on, and are words
 abbrev pub RisingFrom : ℕ → List ℕ → Type 0
 RisingFrom low [] = Unit {0}
 RisingFrom low (n ∷ ns) = (low ≤ n) × (n < 65536) × RisingFrom (n + 1) ns
@@ -92,7 +92,7 @@ abbrev pub first_of : SlotCode → Target
 first_of [] = Past
 first_of (line ∷ lines) = Line line.number
 
--- behind each of these lines of a program comes the next of them
+-- after each of these lines of a program comes the next of them
 abbrev pub AreInTurn : List ℕ → SlotCode → Type 0
 AreInTurn ns [] = Unit {0}
 AreInTurn ns (line ∷ lines) = (first_of lines ≡ next_line ns line.number) × AreInTurn ns lines

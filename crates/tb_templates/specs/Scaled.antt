@@ -21,12 +21,12 @@ at_zero mnemonic place = instr mnemonic ZeroPage (Byte place)
 -- ── over a power of two ──
 -- the word's low byte is in LEFT, its high byte in A
 
--- for 2^(k + 1) k, where it is one from 2 to 64
+-- for 2^(k + 1) from 2 to 64, k
 abbrev pub shifts_of : ℕ → Option ℕ
 shifts_of w = if nat_eq w 2 then Some 0 else if nat_eq w 4 then Some 1 else if nat_eq w 8 then Some 2 else if nat_eq w 16 then Some 3
     else if nat_eq w 32 then Some 4 else if nat_eq w 64 then Some 5 else None
 
--- so for a divisor
+-- k, if a divisor is such a constant
 abbrev pub shifts : Source → Option ℕ
 shifts (FixedWord w) = shifts_of w
 shifts (AtAddress p) = None
@@ -35,12 +35,12 @@ shifts (AtAddress p) = None
 abbrev pub all_but_lowest : ℕ → ℕ
 all_but_lowest k = 2 ^ (k + 1) - 2
 
--- the low byte of a word, and where C is set, 2^(k + 1) - 1 more
+-- the low byte of a word, and 2^(k + 1) - 1 more if C is set
 abbrev pub rounded : ℕ → Source → List Entry
 rounded zero a = low_of Lda a ∷ const Adc 0 ∷ []
 rounded (suc k) a = const Lda 0 ∷ const Adc 255 ∷ const And (all_but_lowest (suc k)) ∷ const Eor (all_but_lowest (suc k)) ∷ low_of Adc a ∷ []
 
--- a word, and where it is negative 2^(k + 1) - 1 more: so the shifts round it toward zero
+-- a word, and 2^(k + 1) - 1 more if it is negative: so the shifts round it toward zero
 abbrev pub raised : ℕ → Source → List Entry
 raised k a = high_of Lda a ∷ const Cmp 128 ∷ (rounded k a ++ (at_zero Sta LEFT ∷ high_of Lda a ∷ const Adc 0 ∷ []))
 
@@ -48,12 +48,12 @@ raised k a = high_of Lda a ∷ const Cmp 128 ∷ (rounded k a ++ (at_zero Sta LE
 abbrev pub halved : List Entry
 halved = const Cmp 128 ∷ on_a Ror ∷ at_zero Ror LEFT ∷ []
 
--- so many times
+-- shifted this many times
 abbrev pub halvings : ℕ → List Entry
 halvings zero = []
 halvings (suc k) = halvings k ++ halved
 
--- to its place
+-- the word is stored at its address
 abbrev pub high_first : ℕ → List Entry
 high_first to = at Sta (to + 1) ∷ at_zero Lda LEFT ∷ at Sta to ∷ []
 
@@ -68,21 +68,21 @@ shifted k a to = raised k a ++ (halvings (suc k) ++ high_first to)
 abbrev pub doubled : List Entry
 doubled = on_a Asl ∷ at_zero Rol LEFT ∷ []
 
--- and a word more
+-- the product so far and a word more
 abbrev pub increased : Source → List Entry
 increased a = alone Clc ∷ low_of Adc a ∷ alone Tax ∷ at_zero Lda LEFT ∷ high_of Adc a ∷ at_zero Sta LEFT ∷ alone Txa ∷ []
 
--- by a bit of the factor
+-- the product so far, on by one bit of the factor
 abbrev pub by_bit : Bool → Source → List Entry
 by_bit false a = doubled
 by_bit true a = doubled ++ increased a
 
--- by at most so many bits of a factor, those below its highest one
+-- the product by at most this many bits of a factor, those below its highest one
 abbrev pub by_bits : ℕ → ℕ → Source → List Entry
 by_bits zero factor a = []
 by_bits (suc k) factor a = if nat_lt factor 2 then [] else by_bits k (factor / 2) a ++ by_bit (nat_eq (factor % 2) 1) a
 
--- the bytes that it takes at most
+-- the number of bytes that this takes at most
 abbrev pub bits_size : ℕ → ℕ → ℕ
 bits_size zero factor = 0
 bits_size (suc k) factor = if nat_lt factor 2 then 0 else bits_size k (factor / 2) + (if nat_eq (factor % 2) 1 then 16 else 3)
@@ -100,7 +100,7 @@ scaling a (FixedWord w) = with_factor w a
 scaling (FixedWord v) (AtAddress q) = with_factor v (AtAddress q)
 scaling (AtAddress p) (AtAddress q) = None
 
--- to its place
+-- the product is stored at its address
 abbrev pub low_first : ℕ → List Entry
 low_first to = at Sta to ∷ at_zero Lda LEFT ∷ at Sta (to + 1) ∷ []
 

@@ -28,22 +28,22 @@ room (CallTo target) = 59
 room Return = 51
 room End = 1
 
--- of a list
+-- the same for a list
 abbrev pub list_room : List Instr → ℕ
 list_room [] = 0
 list_room (i ∷ is) = room i + list_room is
 
--- of a program's lines with their entries in the line table, 4 bytes each, and what is done for the STOP key, 9 each
+-- the same for a program's lines with their entries in the line table, 4 bytes each, and the STOP key's code, 9 each
 abbrev pub lines_room : SlotCode → ℕ
 lines_room [] = 0
 lines_room (line ∷ lines) = 13 + list_room line.content + lines_room lines
 
--- of fault 7 and the search
+-- the same for fault 7 and the search
 abbrev pub rest_room : ℕ
 rest_room = 32
 
 -- ── zones ──
--- a comma stands behind a text or a value of its own, so that these pay for it; the Bool says whether one stands before
+-- a comma follows a text or a value of its own, so that these pay for it; the Bool says whether one comes before
 abbrev pub AreApart : Bool → List Item → Type 0
 AreApart behind [] = Unit {0}
 AreApart true (Zone ∷ items) = AreApart false items
@@ -51,13 +51,13 @@ AreApart false (Zone ∷ items) = ⊥
 AreApart behind (Text bs ∷ items) = AreApart true items
 AreApart behind (Value e ∷ items) = AreApart true items
 
--- in a PRINT, alone or behind IFs, each comma stands behind a text or a value of its own
+-- in a PRINT, alone or after IFs, each comma follows a text or a value of its own
 abbrev pub IsSpaced : Statement → Type 0
 IsSpaced (Print items ends) = AreApart false items
 IsSpaced (If l rel r c) = IsSpaced c
 IsSpaced _ = Unit {0}
 
--- so it is in the statement of each line
+-- this holds for the statement of each line
 abbrev pub AreSpaced : Program → Type 0
 AreSpaced [] = Unit {0}
 AreSpaced (line ∷ lines) = IsSpaced line.content × AreSpaced lines

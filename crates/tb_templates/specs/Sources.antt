@@ -10,7 +10,7 @@ pub use Rattle.tb_templates.specs.declared.sources.Source.{Source}
 pub use Rattle.tb_templates.specs.declared.sources.Words.{Words}
 pub use Rattle.tb_templates.specs.declared.sources.Source.TheVariants.{FixedWord, AtAddress}
 
--- where an operand comes from that belongs into slot k
+-- where the operand for slot k comes from
 abbrev pub source_of : ℕ → Operand → Source
 source_of k (Constant w) = FixedWord (word w)
 source_of k (Variable x) = AtAddress (var_at x)
@@ -31,12 +31,12 @@ abbrev pub destination_at : Destination → ℕ
 destination_at (IntoSlot k) = slot_at k
 destination_at (IntoHome home) = home_at home
 
--- the place of a word's high byte is an address too
+-- the word's high byte is at an address too
 abbrev pub IsWhole : Source → Type 0
 IsWhole (FixedWord w) = Unit {0}
 IsWhole (AtAddress p) = p + 1 < 65536
 
--- and so it is with two words
+-- the same for two words
 abbrev pub AreWhole : Words → Type 0
 AreWhole words = IsWhole words.left × IsWhole words.right
 

@@ -1,4 +1,4 @@
--- The code of slot instructions that stand alone, as items of the assembler.
+-- The code of single slot instructions, as items of the assembler.
 use Rattle.std.specs.Prelude.{ℕ, ◌+◌, ◌*◌, ◌/◌, ◌%◌, List, [], ◌∷◌, ◌++◌, length, nat_lt, if◌then◌else◌}
 use Rattle.tb_opcodes.specs.declared.Mnemonic.{Mnemonic}
 use Rattle.tb_opcodes.specs.declared.Mnemonic.TheVariants.{Beq, Bne, Dex, Inc, Jmp, Jsr, Lda, Ldx, Ldy, Rts, Sta, Stx}
@@ -17,11 +17,11 @@ use Rattle.tb_templates.specs.declared.labels.Target.{Target}
 use Rattle.tb_templates.specs.declared.labels.Target.TheVariants as target
 use Rattle.tb_templates.specs.Labels.{label_of}
 
--- where variable x stands
+-- the address of variable x
 abbrev pub var_at : ℕ → ℕ
 var_at x = VARS + 2 * x
 
--- where slot k stands
+-- the address of slot k
 abbrev pub slot_at : ℕ → ℕ
 slot_at k = SLOTS + 2 * k
 
@@ -41,7 +41,7 @@ operand_at address = if nat_lt address 256 then Byte address else Word address
 abbrev pub on : Mnemonic → ℕ → Entry
 on mnemonic address = instr mnemonic (mode_at address) (operand_at address)
 
--- an instruction on the byte behind an address by X
+-- an instruction on the byte X after an address
 abbrev pub by_x : Mnemonic → ℕ → Entry
 by_x mnemonic address = instr mnemonic AbsoluteX (Word address)
 
@@ -77,7 +77,7 @@ abbrev pub call : ℕ → Entry
 call routine = at Jsr routine
 
 -- ── pieces ──
--- copies a word to a place behind page zero
+-- copies a word to an address above page zero
 abbrev pub copied : ℕ → ℕ → List Entry
 copied from to = on Lda from ∷ at Sta to ∷ on Lda (from + 1) ∷ at Sta (to + 1) ∷ []
 
@@ -89,7 +89,7 @@ constant w to = const Lda (w % 256) ∷ at Sta to ∷ const Lda (w / 256) ∷ at
 abbrev pub address : Target → ℕ → List Entry
 address of to = low_part of ∷ instr Sta ZeroPage (Byte to) ∷ high_part of ∷ instr Sta ZeroPage (Byte (to + 1)) ∷ []
 
--- goes on where a note or the search said
+-- goes on at the address in the result: a return or the search's answer
 abbrev pub jump_through : List Entry
 jump_through = instr Jmp Indirect (Word RESULT) ∷ []
 
@@ -101,7 +101,7 @@ faulted n k = const Ldx (n % 256) ∷ const Ldy (n / 256) ∷ const Lda k ∷ at
 abbrev pub find : Entry
 find = instr Jsr Absolute (Label (label_of target.Find))
 
--- notes the next line on the return list
+-- puts the return to the next line on the return list
 abbrev pub return_address : Target → List Entry
 return_address next = address next LEFT ++ (call PUSH_AT ∷ [])
 
@@ -109,7 +109,7 @@ return_address next = address next LEFT ++ (call PUSH_AT ∷ [])
 abbrev pub by_zero : Mnemonic → ℕ → Target → List Entry
 by_zero mnemonic place to = at Ldx place ∷ branch mnemonic to ∷ []
 
--- a note's two bytes go behind the others, and the low byte of their count goes up
+-- a return's two bytes go after the others, and the low byte of their count goes up
 abbrev pub return_stored : Target → List Entry
 return_stored next = at Ldx NOTES ∷ low_part next ∷ by_x Sta RETURN_LOW ∷ high_part next ∷ by_x Sta RETURN_HIGH ∷ at Inc NOTES ∷ []
 
@@ -117,15 +117,15 @@ return_stored next = at Ldx NOTES ∷ low_part next ∷ by_x Sta RETURN_LOW ∷ 
 abbrev pub carried : Target → List Entry
 carried skip = branch Bne skip ∷ at Inc (NOTES + 1) ∷ here skip ∷ []
 
--- notes the next line in line where the count of notes has a low byte alone; else it goes to `over`
+-- puts the return on the list in line if the count of returns fits in its low byte; else it goes to `over`
 abbrev pub held : (next skip over : Target) → List Entry
 held next skip over = by_zero Bne (NOTES + 1) over ++ (return_stored next ++ carried skip)
 
--- X is the low byte of the count of notes: it goes down, and the newest note's two bytes go to the result
+-- X is the low byte of the count of returns: it goes down, and the newest return's two bytes go to the result
 abbrev pub return_taken : List Entry
 return_taken = alone Dex ∷ at Stx NOTES ∷ by_x Lda RETURN_LOW ∷ at Sta RESULT ∷ by_x Lda RETURN_HIGH ∷ at Sta (RESULT + 1) ∷ []
 
--- takes the newest note in line and goes on there, where it is one of the first 255; else it goes to `over`
+-- takes the newest return in line and goes on there, if it is one of the first 255; else it goes to `over`
 abbrev pub taken_back : Target → List Entry
 taken_back over = by_zero Bne (NOTES + 1) over ++ (by_zero Beq NOTES over ++ (return_taken ++ jump_through))
 
@@ -142,39 +142,39 @@ abbrev pub text : Target → Target → List ℕ → List Entry
 text of behind bs = address of POINTER ++ (text_call (length bs) ++ inline of behind bs)
 
 -- ── templates ──
--- the code of a place: its line, or what stands behind the last one
+-- the label of a place: its line, or what follows the last one
 abbrev pub target_of : Place → Target
 target_of (At n) = target.Line n
 target_of Past = target.Past
 
--- the line behind line n
+-- the line after line n
 abbrev pub next_line : List ℕ → ℕ → Target
 next_line numbers n = target_of (next_after numbers n)
 
--- goes from line n to a constant line; fault 1 where the program has no such line
+-- goes from line n to a constant line; fault 1 if the program has no such line
 abbrev pub jump_to : List ℕ → ℕ → ℕ → List Entry
 jump_to numbers n to = if has_line numbers to then jump (target.Line to) ∷ [] else faulted n 1
 
--- notes the next line and goes from line n to another; the routine may fault, and so the line's number is set before it
+-- puts the return on the list and goes from line n to another; the routine may fault, so the line's number is set first
 abbrev pub called : ℕ → ℕ → (next skip over : Target) → List Entry
 called n to next skip over =
     held next skip over ++ (jump (target.Line to) ∷ here over ∷ (constant n LINE ++ (return_address next ++ (jump (target.Line to) ∷ []))))
 
--- the same in group i, to a constant line; fault 1 where the program has no such line
+-- the same in group i, to a constant line; fault 1 if the program has no such line
 abbrev pub call_to : List ℕ → ℕ → ℕ → ℕ → Target → List Entry
 call_to numbers n i to next =
     if has_line numbers to then called n to next (target.Inside inner.Skip n i) (target.Inside inner.Behind n i) else faulted n 1
 
--- goes from line n to where the newest note says
+-- goes from line n to the newest return
 abbrev pub returned : ℕ → Target → List Entry
 returned n over = taken_back over ++ (here over ∷ (constant n LINE ++ (call POP_AT ∷ jump_through)))
 
--- a 13 is sent, behind which the column is 0
+-- a 13 is sent, after which the column is 0
 abbrev pub newline : List Entry
 newline = const Lda 0 ∷ at Sta COLUMN ∷ const Lda 13 ∷ call CHROUT ∷ []
 
--- the code of a single instruction, which is group i of line n, where the program has these numbers. What has another
--- kind of group has no code here.
+-- the code of a single instruction, which is group i of line n, if the program has these numbers. An instruction of
+-- another kind of group has no code here.
 abbrev pub template : List ℕ → ℕ → ℕ → Instr → List Entry
 template numbers n i (Put k w) = constant (word w) (slot_at k)
 template numbers n i (Load k x) = copied (var_at x) (slot_at k)

@@ -1,4 +1,4 @@
-//! The STOP key: it is asked for at the beginning of each line, and what is done for it stands out of the way.
+//! The STOP key: it is asked for at the beginning of each line, and what is done for it is out of the way.
 ghost use Rattle.std.specs.Prelude.{◌≡◌, OnOk, ◌++◌, map};
 ghost use Rattle.tb_asm.specs.Layout.{entry_of};
 ghost use Rattle.tb_lower.specs.PlainData.{instr_of};
@@ -20,7 +20,7 @@ const STOP: u8 = 3;
 // The fault of the STOP key.
 const BREAK: u8 = 0;
 
-/// Takes an answer at the beginning of a line; for that of the STOP key it goes elsewhere.
+/// Takes an answer at the beginning of a line; if it is the STOP key's, it branches elsewhere.
 pub fn put_polled(items: &mut Vec<Item>, line: u16) -> Result<(), AllocError>
     ensures { OnOk result (map entry_of items.new.items ≡ map entry_of items.old.items ++ breaks.polled line) }
 {

@@ -1,4 +1,4 @@
-//! Tests whether a divisor divides a word, and what it leaves over.
+//! Tests whether a divisor divides a word, and remainders.
 ghost use Rattle.std.specs.Prelude.{◌≡◌, ◌+◌, ◌<◌, OnOk, [], ◌∷◌, ◌++◌, map};
 ghost use Rattle.tb_asm.specs.Layout.{entry_of};
 ghost use Rattle.tb_meaning.specs.Control.{has_line};
@@ -25,7 +25,7 @@ use tb_opcodes::Mnemonic;
 use tb_runtime16::{LEFT, RESULT, RIGHT, Routine};
 use tb_selection::Divisibility;
 
-// For a power of two from 2 to 256 the one less.
+// For a power of two from 2 to 256, that power minus one.
 fn mask_of(divisor: u16) -> Option<u8>
     ensures { result ≡ masks.mask_of divisor }
 {
@@ -42,7 +42,7 @@ fn mask_of(divisor: u16) -> Option<u8>
     }
 }
 
-// For a divisor that is such a power the bits that its multiples don't have.
+// For a divisor that is such a power, the bits that its multiples don't have.
 fn mask(divisor: Source) -> Option<u8>
     ensures { result ≡ masks.mask divisor }
 {
@@ -69,7 +69,7 @@ fn put_told(items: &mut Vec<Item>) -> Result<(), AllocError>
     put_at(items, Mnemonic::Ora, RESULT + 1)
 }
 
-// The same of a word over another one.
+// The same for a word divided by another one.
 fn put_remainder(items: &mut Vec<Item>, words: Words) -> Result<(), AllocError>
     requires { AreWhole words }
     ensures { OnOk result (map entry_of items.new.items ≡ map entry_of items.old.items ++ groups.remainder words.left words.right) }
@@ -90,7 +90,7 @@ fn put_remainder_in(items: &mut Vec<Item>, line: u16, words: Words) -> Result<()
     Ok(())
 }
 
-// What a divisor leaves of a word.
+// The remainder of a word by a divisor, or its lowest bits, as a test needs it.
 fn put_left_over(items: &mut Vec<Item>, line: u16, words: Words) -> Result<(), AllocError>
     requires { AreWhole words }
     ensures { OnOk result (map entry_of items.new.items ≡ map entry_of items.old.items ++ groups.left_over line (masks.mask words.right) words.left words.right) }
@@ -121,7 +121,7 @@ fn contrary(how: Divisibility) -> Divisibility
     }
 }
 
-// Leaves a line unless a word is a multiple of a divisor, or unless it is none.
+// Leaves a line unless a word is a multiple of a divisor, or unless it is not.
 fn put_divided_by(
     items: &mut Vec<Item>,
     line: u16,
@@ -137,7 +137,7 @@ fn put_divided_by(
     Ok(())
 }
 
-// The same, and then a fault for want of a line.
+// The same, and then a fault for lack of a line.
 fn put_divided_lost(
     items: &mut Vec<Item>,
     spot: Spot,
@@ -152,7 +152,7 @@ fn put_divided_lost(
     Ok(())
 }
 
-// Goes straight to a line where a word is what is asked for. Where there is no such line, it is fault 1.
+// Goes straight to a line if a word is what is asked for. If there is no such line, it is fault 1.
 fn put_divided_gone(
     items: &mut Vec<Item>,
     numbers: &[u16],
@@ -173,7 +173,7 @@ fn put_divided_gone(
     }
 }
 
-/// A test whether a divisor divides a word, that goes to a line, if to one.
+/// A test whether a divisor divides a word, which leads to a line if `to` names one.
 pub fn put_divides(
     items: &mut Vec<Item>,
     numbers: &[u16],
@@ -214,14 +214,14 @@ fn put_asked_rest(items: &mut Vec<Item>, line: u16, words: Words) -> Result<(), 
     Ok(())
 }
 
-// The remainder is below 0 where the word that was divided is.
+// The remainder is negated, for a word below 0 that was divided.
 fn put_rest_taken(items: &mut Vec<Item>) -> Result<(), AllocError>
     ensures { OnOk result (map entry_of items.new.items ≡ map entry_of items.old.items ++ groups.taken (sources.FixedWord 0) (sources.AtAddress places.RESULT) places.RESULT) }
 {
     put_taken(items, against_none(Source::AtAddress(RESULT)), RESULT)
 }
 
-// A remainder's size goes to a place with the sign of the word that was divided.
+// A remainder's size goes to an address with the sign of the word that was divided.
 fn put_signed_rest(
     items: &mut Vec<Item>,
     skip: Target,
@@ -239,7 +239,7 @@ fn put_signed_rest(
     Ok(())
 }
 
-/// What a divisor leaves of a word, with that word's sign.
+/// The remainder of a word by a divisor, with that word's sign.
 pub fn put_remains(
     items: &mut Vec<Item>,
     spot: Spot,

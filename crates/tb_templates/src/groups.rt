@@ -40,7 +40,7 @@ use tb_selection::{Conversion, Group, Operand, Usage};
 use tb_syntax::Operator;
 use tb_words::Rel;
 
-/// A word to a place.
+/// A word to an address.
 pub fn put_brought(items: &mut Vec<Item>, word: Source, to: u16) -> Result<(), AllocError>
     requires { IsWhole word × (to < 65535) }
     ensures { OnOk result (map entry_of items.new.items ≡ map entry_of items.old.items ++ groups.brought word to) }
@@ -51,7 +51,7 @@ pub fn put_brought(items: &mut Vec<Item>, word: Source, to: u16) -> Result<(), A
     put_on(items, Mnemonic::Sta, to + 1)
 }
 
-// Two words joined byte by byte.
+// Two words combined byte by byte.
 fn put_joined(
     items: &mut Vec<Item>,
     mnemonic: Mnemonic,
@@ -87,7 +87,7 @@ pub fn put_taken(items: &mut Vec<Item>, words: Words, to: u16) -> Result<(), All
     put_joined(items, Mnemonic::Sbc, words, to)
 }
 
-// What a routine makes of two words, from where it leaves it.
+// What a routine computes from two words, from where it leaves the result.
 fn put_handed(
     items: &mut Vec<Item>,
     routine: Routine,
@@ -105,7 +105,7 @@ fn put_handed(
     Ok(())
 }
 
-/// The line's number, where what follows may fault.
+/// The line's number, if what follows may fault.
 pub fn put_lined(items: &mut Vec<Item>, may_fault: bool, line: u16) -> Result<(), AllocError>
     ensures { OnOk result (map entry_of items.new.items ≡ map entry_of items.old.items ++ groups.lined may_fault line []) }
 {
@@ -166,7 +166,7 @@ fn put_drawn(
     Ok(())
 }
 
-// A product: of a constant and a word by the constant's bits, where they are few.
+// A product: of a constant and a word by the constant's bits, if they are few.
 fn put_multiplied(items: &mut Vec<Item>, words: Words, to: u16) -> Result<(), AllocError>
     requires { AreWhole words × (to < 65535) }
     ensures { OnOk result (map entry_of items.new.items ≡ map entry_of items.old.items ++ groups.multiplied (scaling words.left words.right) words.left words.right to) }
@@ -207,7 +207,7 @@ fn put_calculated(
     }
 }
 
-// The same; where it changes a word in place, there.
+// As `put_calculated`, but in place if a template for that exists.
 fn put_computed(
     items: &mut Vec<Item>,
     line: u16,
@@ -225,7 +225,7 @@ fn put_computed(
     }
 }
 
-// A word at a place goes on there by a constant.
+// A word at an address goes on there by a constant.
 fn put_going_on(
     items: &mut Vec<Item>,
     spot: Spot,
@@ -260,7 +260,7 @@ fn put_stepped(
     Ok(())
 }
 
-// A word made of one in a line; the seed is the option's RND state.
+// A word made of another one in a line; the seed is the option's RND state.
 fn put_converted(
     items: &mut Vec<Item>,
     line: u16,
@@ -299,7 +299,7 @@ fn put_sent(items: &mut Vec<Item>, word: Source) -> Result<(), AllocError>
     Ok(())
 }
 
-// The line of a number is gone to.
+// Goes to the line of a number.
 fn put_gone_to(items: &mut Vec<Item>, line: u16, word: Source) -> Result<(), AllocError>
     requires { IsWhole word }
     ensures { OnOk result (map entry_of items.new.items ≡ map entry_of items.old.items ++ (groups.searched line word ++ templates.jump_through)) }
@@ -309,7 +309,7 @@ fn put_gone_to(items: &mut Vec<Item>, line: u16, word: Source) -> Result<(), All
     Ok(())
 }
 
-// The line of a number is called.
+// Calls the line of a number.
 fn put_called(
     items: &mut Vec<Item>,
     line: u16,
@@ -343,7 +343,7 @@ fn put_used(
     }
 }
 
-// Stays where both bytes are equal.
+// Goes on in the line if both bytes are equal.
 fn put_equal(items: &mut Vec<Item>, words: Words, next: Target) -> Result<(), AllocError>
     requires { AreWhole words }
     ensures { OnOk result (map entry_of items.new.items ≡ map entry_of items.old.items ++ groups.equal words.left words.right next) }
@@ -356,7 +356,7 @@ fn put_equal(items: &mut Vec<Item>, words: Words, next: Target) -> Result<(), Al
     put_branch(items, Mnemonic::Bne, next)
 }
 
-// Stays where one of the two bytes differs.
+// Goes on in the line if one of the two bytes differs.
 fn put_unequal(
     items: &mut Vec<Item>,
     words: Words,
@@ -375,7 +375,7 @@ fn put_unequal(
     put_here(items, stays)
 }
 
-// Leaves the line unless two words are so related.
+// Leaves the line unless two words are in this relation.
 fn put_tested(
     items: &mut Vec<Item>,
     rel: Rel,
@@ -396,7 +396,7 @@ fn put_tested(
     }
 }
 
-// The relation that holds where this one does not.
+// The relation that holds if this one does not.
 fn denied(rel: Rel) -> Rel
     ensures { result ≡ selection.denied rel }
 {
@@ -410,7 +410,7 @@ fn denied(rel: Rel) -> Rel
     }
 }
 
-// Leaves the line unless two words are so related, and else faults for want of a line.
+// Leaves the line unless two words are in this relation, and else faults for lack of a line.
 fn put_lost(items: &mut Vec<Item>, spot: Spot, rel: Rel, words: Words) -> Result<(), AllocError>
     requires { AreWhole words }
     ensures { OnOk result (map entry_of items.new.items ≡ map entry_of items.old.items ++ (groups.tested rel words.left words.right (Inside Skip spot.line spot.index) spot.next ++ templates.faulted spot.line 1)) }
@@ -420,7 +420,7 @@ fn put_lost(items: &mut Vec<Item>, spot: Spot, rel: Rel, words: Words) -> Result
     Ok(())
 }
 
-// Goes straight to a line where two words are so related. Where there is no such line, it is fault 1.
+// Goes straight to a line if two words are in this relation. If there is no such line, it is fault 1.
 fn put_gone(
     items: &mut Vec<Item>,
     numbers: &[u16],
@@ -447,7 +447,7 @@ fn may_fault(instruction: &SlotInstr) -> bool
     matches!(instruction, SlotInstr::Input(_) | SlotInstr::Poll)
 }
 
-// A single instruction; where a routine that it calls may fault, it sets the line's number first.
+// A single instruction; if a routine that it calls may fault, it sets the line's number first.
 fn put_single(
     items: &mut Vec<Item>,
     numbers: &[u16],

@@ -1,4 +1,4 @@
-//! Words that are changed where they stand: by a constant, to their half or to their double.
+//! Words that are changed in place: by a constant, to their half or to their double.
 ghost use Rattle.std.specs.Prelude.{◌≡◌, ◌<◌, OnOk, ◌++◌, map};
 ghost use Rattle.tb_asm.specs.Layout.{entry_of};
 ghost use Rattle.tb_templates.specs.InPlace as in_place;
@@ -12,16 +12,16 @@ use tb_asm::Item;
 use tb_opcodes::Mnemonic;
 use tb_syntax::Operator;
 
-/// What a calculation with a constant does to a word, where the result goes to the word's place.
+/// What a calculation with a constant does to a word, if the result goes to the word's own address.
 #[derive(Clone, Copy, Debug, Drop)]
 pub enum Change {
     /// It is one more.
     Increment,
     /// It is one less.
     Decrement,
-    /// It is so much more.
+    /// It is this much more.
     Raise(u8),
-    /// It is so much less.
+    /// It is this much less.
     Lower(u8),
     /// It is half as much.
     Halve,
@@ -29,7 +29,7 @@ pub enum Change {
     Double,
 }
 
-// By a constant that is added.
+// The change by a constant that is added.
 fn raising(constant: u16) -> Option<Change>
     ensures { result ≡ in_place.raising constant }
 {
@@ -46,7 +46,7 @@ fn raising(constant: u16) -> Option<Change>
     }
 }
 
-// By a constant that is subtracted.
+// The change by a constant that is subtracted.
 fn lowering(constant: u16) -> Option<Change>
     ensures { result ≡ in_place.lowering constant }
 {
@@ -63,7 +63,7 @@ fn lowering(constant: u16) -> Option<Change>
     }
 }
 
-// Of a word with a constant behind it.
+// The change of a word with a constant after it.
 fn with_right(operator: Operator, constant: u16) -> Option<Change>
     ensures { result ≡ in_place.with_right operator constant }
 {
@@ -75,7 +75,7 @@ fn with_right(operator: Operator, constant: u16) -> Option<Change>
     }
 }
 
-// Of a word with a constant before it.
+// The change of a word with a constant before it.
 fn with_left(operator: Operator, constant: u16) -> Option<Change>
     ensures { result ≡ in_place.with_left operator constant }
 {
@@ -86,7 +86,7 @@ fn with_left(operator: Operator, constant: u16) -> Option<Change>
     }
 }
 
-/// The change that a calculation is of a word at a place with a constant, where the result goes to that place.
+/// The change that a calculation makes to a word at an address with a constant, if the result goes to that address.
 pub fn change_of(operator: Operator, left: Source, right: Source, to: u16) -> Option<Change>
     ensures { result ≡ in_place.change_of operator left right to }
 {
@@ -101,7 +101,7 @@ pub fn change_of(operator: Operator, left: Source, right: Source, to: u16) -> Op
     }
 }
 
-// The high byte of a word is counted up or down, but where the branch is taken.
+// The high byte of a word is counted up or down, unless the branch is taken.
 fn put_counted(
     items: &mut Vec<Item>,
     leaves: Mnemonic,
@@ -136,7 +136,7 @@ fn put_decremented(items: &mut Vec<Item>, address: u16, skip: Target) -> Result<
     put_at(items, Mnemonic::Dec, address)
 }
 
-// So much more.
+// More by a byte.
 fn put_raised_by(
     items: &mut Vec<Item>,
     by: u8,
@@ -153,7 +153,7 @@ fn put_raised_by(
     put_counted(items, Mnemonic::Bcc, skip, Mnemonic::Inc, address)
 }
 
-// So much less.
+// Less by a byte.
 fn put_lowered_by(
     items: &mut Vec<Item>,
     by: u8,
@@ -170,7 +170,7 @@ fn put_lowered_by(
     put_counted(items, Mnemonic::Bcs, skip, Mnemonic::Dec, address)
 }
 
-// One more, where C is set.
+// One more if C is set.
 fn put_one_more(items: &mut Vec<Item>, address: u16) -> Result<(), AllocError>
     requires { address < 65535 }
     ensures { OnOk result (map entry_of items.new.items ≡ map entry_of items.old.items ++ in_place.one_more address) }
@@ -207,7 +207,7 @@ fn put_doubled_in_place(items: &mut Vec<Item>, address: u16) -> Result<(), Alloc
     put_at(items, Mnemonic::Rol, address + 1)
 }
 
-/// The word at a place is changed; where a change has a branch, it skips to this label.
+/// The word at an address is changed; if a change has a branch, it skips to this label.
 pub fn put_changed(
     items: &mut Vec<Item>,
     change: Change,

@@ -1,4 +1,4 @@
-//! The places of a program's code that have a label.
+//! The addresses of a program's code that have a label.
 ghost use Rattle.std.specs.Prelude.{◌≡◌, ◌<◌, ◌≤◌, ◌+◌, ◌∷◌, ◌++◌, []};
 ghost use Rattle.arrayvec.specs.ArrayVec.{array_vec_len};
 ghost use Rattle.tb_words.specs.Hexadecimal.{four_digits};
@@ -8,27 +8,27 @@ use arrayvec::ArrayVec;
 use tb_asm::Name;
 use tb_words::hex_digits;
 
-/// A place inside the code of a group.
+/// An address inside the code of a group.
 #[derive(Clone, Copy, Debug, PartialEq, Eq, Drop)]
 pub enum Inner {
     /// A text.
     Text,
-    /// What is behind a text, or behind what is done in line.
+    /// What follows a text, or what is done in line.
     Behind,
     /// What a branch skips to.
     Skip,
 }
 
-/// A place that code goes to or speaks of.
+/// An address that code goes to or reads.
 #[derive(Clone, Copy, Debug, PartialEq, Eq, Drop)]
 pub enum Target {
     /// The line of this number.
     Line(u16),
-    /// A place in the code of a group: the line's number and the group's index, from 1 on.
+    /// An address in the code of a group: the line's number and the group's index, from 1 on.
     Inside(Inner, u16, u16),
     /// What is done for the STOP key in the line of this number.
     Break(u16),
-    /// Fault 7, behind the last line.
+    /// Fault 7, after the last line.
     Past,
     /// The search in the line table.
     Find,
@@ -36,7 +36,7 @@ pub enum Target {
     Table,
 }
 
-/// Its label: `L` or `B` and hexadecimal digits, or a word.
+/// The label of a target: `L` or `B` and hexadecimal digits, or a word.
 pub fn label(target: Target) -> Name
     ensures { result ≡ label_of target }
 {
@@ -84,7 +84,7 @@ fn inner_label(inner: Inner, line: u16, group: u16) -> Name
     Name { letters }
 }
 
-// The letter of a place inside a line's code.
+// The letter of an address inside a line's code.
 fn letter(inner: Inner) -> u8
     ensures { result ≡ letter_of inner }
 {

@@ -1,4 +1,6 @@
 //! The code of groups of slot instructions and of whole programs, as items of the assembler.
+//!
+//! Each function `put_..` appends its items to the list that it is given; it fails only if memory runs out.
 #![tactic(auto)]
 
 mod breaks;

@@ -25,7 +25,7 @@ pub enum Side {
     NotBelow,
 }
 
-/// How it is told whether a word is below another one.
+/// How it is decided whether a word is below another one.
 #[derive(Clone, Copy, Debug, Drop)]
 pub enum Order {
     /// By the sign of a word: where this one is, seen from 0.
@@ -49,7 +49,7 @@ fn against(side: Side, word: Source, constant: u16) -> Order
     }
 }
 
-// Whether a word is below the one at a place.
+// Whether a word is below the one at an address.
 fn before_word(left: Source, place: u16) -> Order
     requires whole { IsWhole left }
     requires below { place + 1 < 65536 }
@@ -87,7 +87,7 @@ fn other_side(side: Side) -> Side
     }
 }
 
-// The side itself, or where what it tells is not wanted, the other one.
+// The side itself if what it tells is wanted, else the other one.
 fn wanted_side(wanted: Side, side: Side) -> Side
     ensures { result ≡ orders.wanted_side wanted side }
 {
@@ -97,7 +97,7 @@ fn wanted_side(wanted: Side, side: Side) -> Side
     }
 }
 
-// The branch that leaves unless a word is on a side of another one, where N tells that it is below.
+// The branch that leaves unless a word is on a side of another one, if N tells that it is below.
 fn unless_negative(side: Side) -> Mnemonic
     ensures { result ≡ orders.unless_negative side }
 {
@@ -107,7 +107,7 @@ fn unless_negative(side: Side) -> Mnemonic
     }
 }
 
-// The same where C tells that it is not below.
+// The same if C tells that it is not below.
 fn unless_carry(side: Side) -> Mnemonic
     ensures { result ≡ orders.unless_carry side }
 {

@@ -28,7 +28,7 @@ pub fn put_at(items: &mut Vec<Item>, mnemonic: Mnemonic, address: u16) -> Result
     )
 }
 
-/// An instruction on the byte at an address, in page zero by the mode that it has of its own.
+/// An instruction on the byte at an address, in the mode of page zero if it is there.
 pub fn put_on(items: &mut Vec<Item>, mnemonic: Mnemonic, address: u16) -> Result<(), AllocError>
     ensures { OnOk result (map entry_of items.new.items ≡ map entry_of items.old.items ++ templates.on mnemonic address ∷ []) }
 {
@@ -40,7 +40,7 @@ pub fn put_on(items: &mut Vec<Item>, mnemonic: Mnemonic, address: u16) -> Result
     }
 }
 
-/// An instruction on the byte behind an address by X.
+/// An instruction on the byte X after an address.
 pub fn put_by_x(items: &mut Vec<Item>, mnemonic: Mnemonic, address: u16) -> Result<(), AllocError>
     ensures { OnOk result (map entry_of items.new.items ≡ map entry_of items.old.items ++ templates.by_x mnemonic address ∷ []) }
 {
@@ -60,7 +60,7 @@ pub fn put_low_part(items: &mut Vec<Item>, of: Target) -> Result<(), AllocError>
     )
 }
 
-/// A load of its high byte.
+/// A load of the high byte of a label's address.
 pub fn put_high_part(items: &mut Vec<Item>, of: Target) -> Result<(), AllocError>
     ensures { OnOk result (map entry_of items.new.items ≡ map entry_of items.old.items ++ templates.high_part of ∷ []) }
 {
@@ -124,7 +124,7 @@ pub fn put_call(items: &mut Vec<Item>, routine: Routine) -> Result<(), AllocErro
     put_at(items, Mnemonic::Jsr, entry(routine))
 }
 
-/// Copies a word to a place behind page zero.
+/// Copies a word to an address above page zero.
 pub fn put_copied(items: &mut Vec<Item>, from: u16, to: u16) -> Result<(), AllocError>
     requires { (from < 65535) × (to < 65535) }
     ensures { OnOk result (map entry_of items.new.items ≡ map entry_of items.old.items ++ templates.copied from to) }
@@ -163,7 +163,7 @@ pub fn put_address(items: &mut Vec<Item>, of: Target, to: u8) -> Result<(), Allo
     )
 }
 
-/// Notes the next line on the return list.
+/// Puts the return to the next line on the return list.
 pub fn put_return(items: &mut Vec<Item>, next: Target) -> Result<(), AllocError>
     ensures { OnOk result (map entry_of items.new.items ≡ map entry_of items.old.items ++ templates.return_address next) }
 {
@@ -185,7 +185,7 @@ pub fn put_find(items: &mut Vec<Item>) -> Result<(), AllocError>
     )
 }
 
-/// Goes on where a note or the search said.
+/// Goes on at the address in the result: a return or the search's answer.
 pub fn put_jump_through(items: &mut Vec<Item>) -> Result<(), AllocError>
     ensures { OnOk result (map entry_of items.new.items ≡ map entry_of items.old.items ++ templates.jump_through) }
 {

@@ -28,13 +28,13 @@ use tb_opcodes::Mnemonic;
 use tb_runtime16::{BLOCK_AT, COUNT, LINE, LINES_AT, Routine, TABLE, block, entry};
 use tb_selection::select;
 
-// About the most items that lines have in the mean; only the speed hangs on it.
+// A rough mean of the number of items that a line has; it only affects speed.
 const ITEMS_IN_A_LINE: usize = 32;
 
 // The fault of a program that runs past its last line.
 const RUN_PAST: u8 = 7;
 
-/// The items of a program, from the block's address on; the seed is the option's RND state.
+/// The items of a program, from the block's address on; the seed is the option's RND state. Fails if memory runs out.
 pub fn program_items(alloc: Global, seed: u16, code: &SlotCode) -> Result<Vec<Item>, AllocError>
     requires lists { AreCodable (code_of code.now) }
     requires lines { length (code_of code.now) < 65536 }
@@ -74,15 +74,15 @@ fn put_block(items: &mut Vec<Item>) -> Result<(), AllocError>
     put(items, Item::Bytes(zeros(alloc, gap)?))
 }
 
-// So many zero bytes.
+// This many zero bytes.
 fn zeros(alloc: Global, count: usize) -> Result<Vec<u8>, AllocError>
     ensures { IfOk result (λ v. v.items ≡ replicate count 0) }
 {
     Vec::from_elem(alloc, 0u8, count)
 }
 
-// The lines in order. Behind one that ends away stands what is done for the STOP key in the lines up to it; the numbers
-// of those behind the last such line come back.
+// The lines in order. After one that ends away comes what is done for the STOP key in the lines up to it; the result is
+// the numbers of the lines after the last such line.
 fn put_lines(
     items: &mut Vec<Item>,
     numbers: &[u16],
@@ -109,7 +109,7 @@ fn put_lines(
     Ok(asking)
 }
 
-// The place of the first of these lines, or past them.
+// The label of the first of these lines, or of what follows the last line.
 fn first_of(lines: &[SlotLine]) -> Target
     ensures { result ≡ first_of (code_of lines.now) }
 {
@@ -194,7 +194,7 @@ fn put_past(items: &mut Vec<Item>, numbers: &[u16]) -> Result<(), AllocError>
     Ok(())
 }
 
-// The last number; 0 where there is none.
+// The last number; 0 if there is none.
 fn last(numbers: &[u16]) -> u16
     ensures { result ≡ highest numbers.now }
 {

@@ -38,7 +38,7 @@ fn put_at_left(items: &mut Vec<Item>, mnemonic: Mnemonic) -> Result<(), AllocErr
     )
 }
 
-// How often a word is halved once more, where this divisor is a power of two.
+// How many times more than once a word is halved, if this divisor is a power of two from 2 to 64.
 fn shifts_of(divisor: u16) -> Option<u8>
     ensures shifts { result ≡ scaled.shifts_of divisor }
     ensures few { IfSome result (λ more. more < 6) }
@@ -54,7 +54,7 @@ fn shifts_of(divisor: u16) -> Option<u8>
     }
 }
 
-/// For a divisor that is the constant 2^(k + 1) k, where shifts are worth it.
+/// For a divisor that is the constant 2^(k + 1) from 2 to 64, k, 0 to 5: shifts are worth it then.
 pub fn shifts(divisor: Source) -> Option<u8>
     ensures shifts { result ≡ scaled.shifts divisor }
     ensures few { IfSome result (λ more. more < 6) }
@@ -65,7 +65,7 @@ pub fn shifts(divisor: Source) -> Option<u8>
     }
 }
 
-// The low byte of a word, and where C is set, what rounds it up.
+// The low byte of a word, and what rounds it up if C is set.
 fn put_rounded(items: &mut Vec<Item>, more: u8, word: Source) -> Result<(), AllocError>
     requires { more < 6 }
     ensures { OnOk result (map entry_of items.new.items ≡ map entry_of items.old.items ++ scaled.rounded more word) }
@@ -82,7 +82,7 @@ fn put_rounded(items: &mut Vec<Item>, more: u8, word: Source) -> Result<(), Allo
     put_low(items, Mnemonic::Adc, word)
 }
 
-// A word, rounded up where it is negative.
+// A word, rounded up if it is negative.
 fn put_raised(items: &mut Vec<Item>, more: u8, word: Source) -> Result<(), AllocError>
     requires more { more < 6 }
     requires whole { IsWhole word }
@@ -105,7 +105,7 @@ fn put_halved(items: &mut Vec<Item>) -> Result<(), AllocError>
     put_at_left(items, Mnemonic::Ror)
 }
 
-// So often.
+// A word is shifted this many times.
 fn put_halvings(items: &mut Vec<Item>, count: u8) -> Result<(), AllocError>
     ensures { OnOk result (map entry_of items.new.items ≡ map entry_of items.old.items ++ scaled.halvings count) }
 {
@@ -115,7 +115,7 @@ fn put_halvings(items: &mut Vec<Item>, count: u8) -> Result<(), AllocError>
     Ok(())
 }
 
-// The word whose high byte is in A goes to its place.
+// The word whose high byte is in A is stored at its address.
 fn put_high_first(items: &mut Vec<Item>, to: u16) -> Result<(), AllocError>
     requires { to < 65535 }
     ensures { OnOk result (map entry_of items.new.items ≡ map entry_of items.old.items ++ scaled.high_first to) }
@@ -158,7 +158,7 @@ fn put_increased(items: &mut Vec<Item>, word: Source) -> Result<(), AllocError>
     put_alone(items, Mnemonic::Txa)
 }
 
-// The product so far by a bit of the factor.
+// The product so far, on by one bit of the factor.
 fn put_by_bit(items: &mut Vec<Item>, bit: bool, word: Source) -> Result<(), AllocError>
     requires { IsWhole word }
     ensures { OnOk result (map entry_of items.new.items ≡ map entry_of items.old.items ++ scaled.by_bit bit word) }
@@ -182,7 +182,7 @@ fn put_by_bits(items: &mut Vec<Item>, factor: u16, word: Source) -> Result<(), A
     put_by_bit(items, factor % 2 == 1, word)
 }
 
-// The bytes that the bits of a factor take at most.
+// The number of bytes that the bits of a factor take at most.
 #[tactic(auto, using(crate::proofs::Bits::few_bytes, crate::proofs::Bits::half_size))]
 fn bits_size(factor: u16) -> u16
     ensures size { result ≡ scaled.bits_size 15 factor }
@@ -211,7 +211,7 @@ pub fn scaling(left: Source, right: Source) -> Option<(u16, Source)>
     }
 }
 
-// The word whose low byte is in A goes to its place.
+// The word whose low byte is in A is stored at its address.
 fn put_low_first(items: &mut Vec<Item>, to: u16) -> Result<(), AllocError>
     requires { to < 65535 }
     ensures { OnOk result (map entry_of items.new.items ≡ map entry_of items.old.items ++ scaled.low_first to) }

@@ -21,7 +21,7 @@ use tb_words::Letter;
 pub enum Source {
     /// It is this constant.
     FixedWord(u16),
-    /// It stands here, low byte first.
+    /// It is at this address, low byte first.
     AtAddress(u16),
 }
 
@@ -44,7 +44,7 @@ pub fn turned(words: Words) -> Words
     }
 }
 
-/// A word that is taken from 0.
+/// 0 and a word, which is to be subtracted from it.
 pub fn against_none(word: Source) -> Words
     ensures { (result.left ≡ sources.FixedWord 0) × (result.right ≡ word) }
 {
@@ -54,7 +54,7 @@ pub fn against_none(word: Source) -> Words
     }
 }
 
-/// Where a variable stands.
+/// The address of a variable.
 pub fn variable_at(letter: Letter) -> u16
     ensures at { result ≡ var_at (letter_index letter) }
     ensures below { result < 65000 }
@@ -62,7 +62,7 @@ pub fn variable_at(letter: Letter) -> u16
     VARS + 2 * letter.index() as u16
 }
 
-/// Where a slot stands.
+/// The address of a slot.
 pub fn slot_address(slot: u8) -> u16
     requires { slot < 16 }
     ensures at { result ≡ slot_at slot }
@@ -71,7 +71,7 @@ pub fn slot_address(slot: u8) -> u16
     SLOTS + 2 * u16::from(slot)
 }
 
-/// Where an operand comes from that belongs into this slot.
+/// Where the operand for this slot comes from.
 pub fn source_of(slot: u8, operand: Operand) -> Source
     requires { slot < 16 }
     ensures source { result ≡ sources.source_of slot (operand_of operand) }
@@ -95,7 +95,7 @@ fn tested_source(tested: Tested) -> Source
     }
 }
 
-/// Where two operands come from that belong into a slot and the one behind it.
+/// Where the operands for a slot and the next one come from.
 pub fn words_of(slot: u8, left: Operand, right: Operand) -> Words
     requires { slot < 15 }
     ensures left { result.left ≡ sources.source_of slot (operand_of left) }
@@ -131,7 +131,7 @@ pub fn home_at(home: Home) -> u16
     }
 }
 
-/// The slot in which a result is worked out.
+/// The slot in which a result is computed.
 pub fn slot_of(destination: Destination) -> u8
     ensures { result ≡ groups.slot_of (destination_of destination) }
 {

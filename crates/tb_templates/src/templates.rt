@@ -1,4 +1,4 @@
-//! The code of slot instructions that stand alone.
+//! The code of single slot instructions.
 ghost use Rattle.std.specs.Prelude.{◌≡◌, ◌+◌, ◌<◌, ◌≤◌, OnOk, [], ◌∷◌, ◌++◌, map, length};
 ghost use Rattle.tb_asm.specs.Layout as layout;
 ghost use Rattle.tb_asm.specs.Layout.{entry_of};
@@ -28,10 +28,10 @@ use tb_runtime16::{
     COLUMN, LENGTH, LINE, NOTES, POINTER, RESULT, RETURN_HIGH, RETURN_LOW, Routine,
 };
 
-/// The fault of a line that is not there.
+/// The fault of a line that does not exist.
 pub const NO_LINE: u8 = 1;
 
-/// Where a group stands: its line, its index in the line, from 1 on, and the place of the line behind.
+/// Where a group is: its line, its index in the line, from 1 on, and the label of the next line.
 #[derive(Clone, Copy, Debug, Drop)]
 pub struct Spot {
     pub line: u16,
@@ -55,7 +55,7 @@ impl Spot {
     }
 }
 
-// A 13 is sent, behind which the column is 0.
+// A 13 is sent, after which the column is 0.
 fn put_newline(items: &mut Vec<Item>) -> Result<(), AllocError>
     ensures { OnOk result (map entry_of items.new.items ≡ map entry_of items.old.items ++ templates.newline) }
 {
@@ -144,7 +144,7 @@ fn put_by_zero(
     put_branch(items, mnemonic, to)
 }
 
-// A note's two bytes go behind the others, and the low byte of their count goes up.
+// A return's two bytes go after the others, and the low byte of their count goes up.
 fn put_return_stored(items: &mut Vec<Item>, next: Target) -> Result<(), AllocError>
     ensures { OnOk result (map entry_of items.new.items ≡ map entry_of items.old.items ++ templates.return_stored next) }
 {
@@ -165,7 +165,7 @@ fn put_carried(items: &mut Vec<Item>, skip: Target) -> Result<(), AllocError>
     put_here(items, skip)
 }
 
-// Notes the next line in line where the count of notes has a low byte alone.
+// Puts the return to the next line on the list in line, if the count of returns fits in its low byte.
 fn put_returned_to(
     items: &mut Vec<Item>,
     next: Target,
@@ -180,7 +180,7 @@ fn put_returned_to(
     Ok(())
 }
 
-// X is the low byte of the count of notes: it goes down, and the newest note's two bytes go to the result.
+// X is the low byte of the count of returns: it goes down, and the newest return's two bytes go to the result.
 fn put_return_taken(items: &mut Vec<Item>) -> Result<(), AllocError>
     ensures { OnOk result (map entry_of items.new.items ≡ map entry_of items.old.items ++ templates.return_taken) }
 {
@@ -192,7 +192,7 @@ fn put_return_taken(items: &mut Vec<Item>) -> Result<(), AllocError>
     put_at(items, Mnemonic::Sta, RESULT + 1)
 }
 
-// Takes the newest note in line and goes on there, where it is one of the first 255.
+// Takes the newest return in line and goes on there, if it is one of the first 255.
 fn put_taken_back(items: &mut Vec<Item>, over: Target) -> Result<(), AllocError>
     ensures { OnOk result (map entry_of items.new.items ≡ map entry_of items.old.items ++ templates.taken_back over) }
 {
@@ -203,7 +203,7 @@ fn put_taken_back(items: &mut Vec<Item>, over: Target) -> Result<(), AllocError>
     Ok(())
 }
 
-// Notes the next line by the routine and goes from a line to another.
+// Puts the return on the list by the routine and goes from a line to another.
 fn put_line_called_by_routine(
     items: &mut Vec<Item>,
     line: u16,
@@ -218,7 +218,7 @@ fn put_line_called_by_routine(
     Ok(())
 }
 
-// Notes the next line and goes from a line to another.
+// Puts the return on the list and goes from a line to another.
 fn put_line_called(
     items: &mut Vec<Item>,
     line: u16,
@@ -254,7 +254,7 @@ fn put_call_to(
     }
 }
 
-// Takes the newest note by the routine and goes on there.
+// Takes the newest return by the routine and goes on there.
 fn put_returned_by_routine(items: &mut Vec<Item>, line: u16) -> Result<(), AllocError>
     ensures { OnOk result (map entry_of items.new.items ≡ map entry_of items.old.items ++ (templates.constant line places.LINE ++ (templates.call places.POP_AT ∷ templates.jump_through))) }
 {
@@ -264,7 +264,7 @@ fn put_returned_by_routine(items: &mut Vec<Item>, line: u16) -> Result<(), Alloc
     Ok(())
 }
 
-// Goes from a line to where the newest note says.
+// Goes from a line to the newest return.
 fn put_returned(items: &mut Vec<Item>, line: u16, over: Target) -> Result<(), AllocError>
     ensures { OnOk result (map entry_of items.new.items ≡ map entry_of items.old.items ++ templates.returned line over) }
 {
@@ -274,8 +274,8 @@ fn put_returned(items: &mut Vec<Item>, line: u16, over: Target) -> Result<(), Al
     Ok(())
 }
 
-/// The code of a single instruction of a program with these numbers. Of one that has another kind of group nothing is
-/// written.
+/// The code of a single instruction of a program with these numbers. For an instruction of another kind of group nothing
+/// is written.
 pub fn put_instruction(
     items: &mut Vec<Item>,
     numbers: &[u16],
