@@ -7,16 +7,16 @@ use Rattle.tb_parser.specs.declared.errors.SourceErrorKind.TheVariants as source
 use Rattle.tb_compile_errors.specs.declared.refusals.CompileError.{CompileError}
 use Rattle.tb_compile_errors.specs.declared.refusals.CompileError.TheVariants.{Source, Lower, NoMemory}
 
--- want of memory is one answer, wherever it came from
+-- running out of memory is one answer, wherever it happened
 abbrev pub of_kind : SourceErrorKind → SourceError → CompileError
 of_kind source_kind.NoMemory e = NoMemory
 of_kind k e = Source e
 
--- the refusal of a source where its text was refused
+-- the refusal of a source whose text was refused
 abbrev pub of_source : SourceError → CompileError
 of_source e = of_kind e.kind e
 
--- the refusal of a source where lowering was refused: an expression that is too deep, or want of memory
+-- the refusal of a source whose lowering was refused: an expression that is too deep, or no memory
 abbrev pub of_lower : LowerError → CompileError
 of_lower deep.NoMemory = NoMemory
 of_lower (deep.TooDeep n) = Lower (deep.TooDeep n)

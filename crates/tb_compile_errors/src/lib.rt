@@ -1,4 +1,4 @@
-//! Why a source text is not compiled. It stands apart from the compiler, so that what only says so does not stand on it.
+//! Why a source text is not compiled: a crate of its own, so that what only reports refusals needs no compiler.
 #![tactic(auto)]
 
 mod refusals;

@@ -6,14 +6,14 @@ use std::alloc::AllocError;
 use tb_lower::LowerError;
 use tb_parser::{SourceError, SourceErrorKind};
 
-/// Why a source text is not compiled, in the order in which it is looked for.
+/// Why a source text is not compiled, in the order of the checks.
 #[derive(Clone, Copy, Debug, PartialEq, Eq)]
 pub enum CompileError {
-    /// It is no program.
+    /// The text is not a program.
     Source(SourceError),
     /// An expression needs too many slots.
     Lower(LowerError),
-    /// The program's cost, in bytes, is above 37,888.
+    /// The program's cost, in bytes, which is above 37,888.
     TooLarge(u32),
     /// Memory ran out.
     NoMemory,
