@@ -23,16 +23,17 @@ piece_length : (p : Piece) → length (piece_bytes p) ≡ piece_size p
 piece_length (Code is) = flat_length is
 piece_length (Text bs) = refl
 
+-- the bytes of pieces are as many as their sizes say
 pub pieces_length : (ps : List Piece) → length (pieces_bytes ps) ≡ pieces_size ps
 pieces_length [] = refl
 pieces_length (p ∷ ps) = length-append (piece_bytes p) (pieces_bytes ps) ∙ ap (λ n. n + length (pieces_bytes ps)) (piece_length p) ∙ ap (λ n. piece_size p + n) (pieces_length ps)
 
--- what stands in code that is bytes is bytes
+-- what is read in code that is bytes is bytes
 shown_bytes : (code : Part) → ((a b : ℕ) → code a ≡ Some b → b < 256) → (at : ℕ) (bs : List ℕ) → Bytes code at bs → AreBytes bs
 shown_bytes code small at [] h = tt
 shown_bytes code small at (b ∷ bs) h = (small at b h.0, shown_bytes code small ((at + 1) % 65536) bs h.1)
 
--- the bytes behind the first ones, below the end of the program
+-- the bytes after the first ones, below the end of the program
 pub behind : (code : Part) (at : ℕ) (a b : List ℕ) → at + length a ≤ highest_code → Bytes code at (a ++ b) → Bytes code (at + length a) b
 behind code at a b r h = subst (λ p. Bytes code p b) (let e : (at + length a) % 65536 ≡ at + length a = omega (arith, r) in e) (bytes_back code at a b (omega (arith, r)) h)
 

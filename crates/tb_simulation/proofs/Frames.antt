@@ -1,4 +1,4 @@
--- What stays of the meaning's state when bytes are written.
+-- What is kept of the meaning's state when bytes are written.
 use Rattle.std.proofs.Common.{◌≡◌, ◌≢◌, ℕ, suc, ◌+◌, ◌/◌, ◌%◌, ◌≤◌, ◌<◌, Bool, true, false, List, [], ◌∷◌, length}
 use Rattle.std.proofs.Common.{refl, sym, ap, ◌∙◌, subst, arith, eqb, if◌then◌else◌}
 use Rattle.std.proofs.lemmas.List.{length-map}
@@ -19,37 +19,44 @@ use Rattle.std.proofs.lemmas.Bool.Decides.{nat_tests}
 pub word_kept : (m m' : ℕ → ℕ) (a w : ℕ) → m' a ≡ m a → m' (a + 1) ≡ m (a + 1) → WordAt m a w → WordAt m' a w
 word_kept m m' a w e e' h = record { low = e ∙ h.low; high = e' ∙ h.high; small = h.small }
 
+-- a word that is written leaves all other addresses
 pub put_away : (m : ℕ → ℕ) (at lo hi a : ℕ) → a ≢ at → a ≢ at + 1 → put_word m at lo hi a ≡ m a
 put_away m at lo hi a n n' = put_other (with_byte m at lo) (at + 1) hi a n' ∙ put_other m at lo a n
 
+-- the low byte of a word that is written
 pub put_low : (m : ℕ → ℕ) (at lo hi : ℕ) → put_word m at lo hi at ≡ lo
 put_low m at lo hi = put_other (with_byte m at lo) (at + 1) hi at (λ e. omega (arith, e)) ∙ put_same m at lo at refl
 
+-- the high byte of a word that is written
 pub put_high : (m : ℕ → ℕ) (at lo hi : ℕ) → put_word m at lo hi (at + 1) ≡ hi
 put_high m at lo hi = put_same (with_byte m at lo) (at + 1) hi (at + 1) refl
 
+-- a word that is written is there
 pub word_put : (m : ℕ → ℕ) (at lo hi w : ℕ) → lo ≡ w % 256 → hi ≡ w / 256 → w < 65536 → WordAt (put_word m at lo hi) at w
 word_put m at lo hi w e e' h = record { low = put_low m at lo hi ∙ e; high = put_high m at lo hi ∙ e'; small = h }
 
+-- a word elsewhere is kept
 pub word_away : (m : ℕ → ℕ) (at lo hi a w : ℕ) → a ≢ at → a ≢ at + 1 → a + 1 ≢ at → WordAt m a w → WordAt (put_word m at lo hi) a w
 word_away m at lo hi a w n n' n'' h = word_kept m (put_word m at lo hi) a w (put_away m at lo hi a n n') (put_away m at lo hi (a + 1) n'' (λ e. n (omega (arith, e)))) h
 
--- ---- owned places
+-- ---- owned addresses
 pub low_is_state : (a : ℕ) → 0xC000 ≤ a → a ≤ 0xC061 → is_state a ≡ true
 low_is_state a lo hi = grind (arith, nat_tests)
 
+-- the return list belongs to the state
 pub return_is_state : (a : ℕ) → 0xC100 ≤ a → a ≤ 0xC4F3 → is_state a ≡ true
 return_is_state a lo hi = grind (arith, nat_tests)
 
 -- ---- parts of the state
--- two memories agree on the single bytes but for the line's number
+-- two memories agree on the single bytes except the line's number
 abbrev pub SameSingles : (ℕ → ℕ) → (ℕ → ℕ) → Type 0
 SameSingles m m' = (a : ℕ) → 0xC035 ≤ a → a ≤ 0xC03F → a ≢ LINE → a ≢ LINE + 1 → m' a ≡ m a
 
--- two memories agree from a place to another
+-- two memories agree from one address to another
 abbrev pub Same : (ℕ → ℕ) → (ℕ → ℕ) → ℕ → ℕ → Type 0
 Same m m' lo hi = (a : ℕ) → lo ≤ a → a ≤ hi → m' a ≡ m a
 
+-- a memory that agrees on the return list has the same return addresses
 pub returns_are_kept : (m m' : ℕ → ℕ) (ns : List ℕ) → length ns ≤ 500 → Same m m' 0xC100 0xC4F3 → AreReturns m ns → AreReturns m' ns
 returns_are_kept m m' [] few s h = tt
 returns_are_kept m m' (n ∷ ns) few s h = (
@@ -57,11 +64,12 @@ returns_are_kept m m' (n ∷ ns) few s h = (
   returns_are_kept m m' ns (omega (arith, few)) s h.1,
 )
 
+-- the same for the addresses of places
 pub returns_kept : (ly : Layout) (m m' : ℕ → ℕ) (ps : List Place) → length ps ≤ 500 → Same m m' 0xC100 0xC4F3 → AreReturns m (return_addresses ly ps)
     → AreReturns m' (return_addresses ly ps)
 returns_kept ly m m' ps few s h = returns_are_kept m m' (return_addresses ly ps) (omega (arith, few, length-map ps (place_address ly))) s h
 
--- the column behind bytes that are sent
+-- the column after bytes that are sent
 pub column_mod : (c : ℕ) (t : List ℕ) → column_after (c % 256) t % 256 ≡ column_after c t % 256
 column_mod c [] = omega arith
 column_mod c (b ∷ bs) = go (λ k. column_mod k bs) (eqb b 13)
@@ -97,7 +105,7 @@ module _ (ly : Layout) (s : State) (m m' : ℕ → ℕ) (h : HoldsState ly s m) 
         all_vars = h.all_vars;
       }
 
-  -- the list of notes is another one
+  -- the return list is another one
   state_with_return : (place : Place) (ps : List Place) → length ps ≤ 500 → WordAt m' NOTES (length ps) → AreReturns m' (return_addresses ly ps)
       → ((a : ℕ) → 0xC000 ≤ a → a ≤ 0xC061 → a ≢ NOTES → a ≢ NOTES + 1 → m' a ≡ m a) → HoldsState ly (record s { place = place; returns = ps }) m'
   state_with_return place ps few count returns low =
@@ -114,7 +122,7 @@ module _ (ly : Layout) (s : State) (m m' : ℕ → ℕ) (h : HoldsState ly s m) 
         all_vars = h.all_vars;
       }
 
-  -- the newest note is taken away
+  -- the newest return is taken away
   pub state_popped : (p : Place) (ps : List Place) → s.returns ≡ p ∷ ps → WordAt m' NOTES (length ps) → ((a : ℕ) → is_state a ≡ true → a ≢ NOTES
       → a ≢ NOTES + 1 → m' a ≡ m a) → HoldsState ly (record s { place = p; returns = ps }) m'
   state_popped p ps q count e =
@@ -159,7 +167,7 @@ module _ (ly : Layout) (s : State) (m m' : ℕ → ℕ) (h : HoldsState ly s m) 
         all_vars = h.all_vars;
       }
 
-  -- a note more
+  -- one more return
   pub state_pushed : (to p : Place) → length s.returns < 500 → WordAt m' NOTES (suc (length s.returns)) → AreReturns m' (return_addresses ly (p ∷ s.returns))
       → ((a : ℕ) → 0xC000 ≤ a → a ≤ 0xC061 → a ≢ NOTES → a ≢ NOTES + 1 → m' a ≡ m a) → HoldsState ly (record s { place = to; returns = p ∷ s.returns }) m'
   state_pushed to p few count return_address low = state_with_return to (p ∷ s.returns) few count return_address low

@@ -28,7 +28,7 @@ use Rattle.tb_simulation.proofs.Strides.{IsStride}
 use Rattle.tb_simulation.proofs.Joins.{IsEnd, end_stays, R, Law, Runs, under_way_runs, reaches, fine, ended}
 
 -- ---- the start
--- a byte that is no line's first one is one of the program's
+-- a byte that is not a line's first one is one of the program's
 pub inner_within : (ly : Layout) (code : Part) → PartHolds (inner ly code) code
 inner_within ly code a b e = go (is_start ly.start ly.numbers a) e
   where
@@ -49,7 +49,7 @@ not_wrong_at_end Faulted t w h k = let no : Returned ≡ WentWrong w = sym h ∙
 not_wrong_at_end steps.Waits t w h k = let no : WaitsForKey ≡ WentWrong w = sym h ∙ k in cc
 
 module _ (place : ℕ) (bytes : List ℕ) (from : 0x0800 ≤ place) (to : place + length bytes ≤ 0xa000) (ly : Layout) where
-  -- a start's setup: all the program's bytes, and those that are no line's first one
+  -- a start's setup: all the program's bytes, and those that are not a line's first one
   abbrev pub setup : machine.State → Setup
   setup s = setup_of (inner ly (part_at place bytes)) (part_at place bytes) s
 
@@ -57,12 +57,15 @@ module _ (place : ℕ) (bytes : List ℕ) (from : 0x0800 ≤ place) (to : place 
   rest_length s = length_from s.mem (0x0101 + s.regs.s + 1 + 1) (253 - s.regs.s)
 
   module _ (s : machine.State) (h : Starts place bytes s) where
+    -- a started machine looks like the view of its start
     pub begins_so : At (setup s) (view_of s) s
     begins_so = at_start place bytes from to (inner ly (part_at place bytes)) (inner_within ly (part_at place bytes)) s h.start
 
+    -- a start has room for 16 bytes below its stack pointer
     pub room_so : Fits (setup s) 16
     room_so = let k : Fits (setup s) 18 = fits_start place bytes from to (inner ly (part_at place bytes)) (inner_within ly (part_at place bytes)) s h.start in omega (arith, k)
 
+    -- the stack pointer and what is kept above it fill page one
     pub above_so : (setup s).home_s + length (setup s).rest ≡ 255
     above_so = (homed_start place bytes from to (inner ly (part_at place bytes)) (inner_within ly (part_at place bytes)) s h.start).above
 
@@ -139,7 +142,7 @@ module _ (place : ℕ) (bytes : List ℕ) (from : 0x0800 ≤ place) (to : place 
             ∙ append_assoc s.sent a.so_far a.to_come ∙ ap (λ l. s.sent ++ l) (sym a.whole) ∙ append-nil s.sent ∙ h.start.nothing_sent,
       )
 
-      -- behind it
+      -- after the prologue
       module _ (es : List Event) (l : all_lawful es s ≡ true) (a : Arrived (Among f (Opened M sc s)) [] n s es) where
         silent : (run a.before s).sent ≡ []
         silent = a.sent ∙ append-nil s.sent ∙ h.start.nothing_sent
@@ -182,9 +185,11 @@ module _ (place : ℕ) (bytes : List ℕ) (from : 0x0800 ≤ place) (to : place 
                 let q = subst (λ t. (t.sent ≡ out) × Ends why t) same_end p in
                 (q.0, ended f (above_so s h) why (run es s) q.1)
 
+      -- the machine is sound after every lawful list of events
       pub sound : (es : List Event) → all_lawful es s ≡ true → IsSound program seed s (run es s)
       sound es l = ⊎_elim (λ a. late es l a) (λ a. early es a) ((opening s h).reaches.leads s (begins_so s h) es l)
 
+      -- after enough Go events the machine has done what the source does in m lines
       pub paces : (es : List Event) → all_lawful es s ≡ true → (m : ℕ) → n + m * (longest sc + 1) * limit k ≤ goes es → HasDone (source_run program seed s.text s.answers m) (run es s)
       paces es l m le = ⊎_elim (λ a. passed es l a m le) (λ a. absurd (let no : ⊥ = omega (arith, a.few, le) in no)) ((opening s h).reaches.leads s (begins_so s h) es l)
 

@@ -26,7 +26,7 @@ pub data Way (A B W : machine.State → Type 0) (t : List ℕ) (n : ℕ) (x : ma
   on_way : OnTheWay W t n x es → Way A B W t n x es
   there : Arrived B t n x es → Way A B W t n x es
 
--- the entry set A reaches the goal set B within n events of its own, sending t, all states on the way in W
+-- the entry set A reaches the goal set B within n events of the program's own, sending t, with all states on the way in W
 abbrev pub Reaches : (A B W : machine.State → Type 0) → List ℕ → ℕ → Type 0
 Reaches A B W t n = (x : machine.State) → A x → (es : List Event) → all_lawful es x ≡ true → Way A B W t n x es
 
@@ -38,13 +38,15 @@ sends_more : (es : List Event) (x : machine.State) → IsPrefix x.sent (run es x
 sends_more [] x = ([], append-nil x.sent)
 sends_more (e ∷ es) x = prefix_trans _ _ _ (sends_on e x) (sends_more es (happens x e))
 
--- the events behind the first ones
+-- the events after the first ones
 pub lawful_back : (front back es : List Event) (x : machine.State) → front ++ back ≡ es → all_lawful es x ≡ true → all_lawful back (run front x) ≡ true
 lawful_back front back es x e h = lawful_after front back x (ap (λ l. all_lawful l x) e ∙ h)
 
+-- running the front and then the back is running the whole list
 pub run_back : (front back es : List Event) (x : machine.State) → front ++ back ≡ es → run back (run front x) ≡ run es x
 run_back front back es x e = sym (run_append front back x) ∙ ap (λ l. run l x) e
 
+-- the Go events of front and back add up
 pub goes_back : (front back es : List Event) → front ++ back ≡ es → goes es ≡ goes front + goes back
 goes_back front back es e = ap goes (sym e) ∙ goes_append front back
 
@@ -57,6 +59,7 @@ module _ (IsEnd : End → machine.State → Type 0)
   Goal (Goes c t) x = R c x
   Goal (Stops why t) x = IsEnd why x
 
+  -- a machine at an end stays there, whatever the lawful events, and sends nothing
   pub ends_stay : (why : End) (es : List Event) (x : machine.State) → all_lawful es x ≡ true → IsEnd why x → IsEnd why (run es x) × ((run es x).sent ≡ x.sent)
   ends_stay why [] x h end = (end, refl)
   ends_stay why (e ∷ es) x h end =
@@ -65,13 +68,13 @@ module _ (IsEnd : End → machine.State → Type 0)
       let more = ends_stay why es (happens x e) l.1 one.0 in
       (more.0, more.1 ∙ one.1)
 
-  -- how a machine stands to a run: at its state, behind it on the way, or at its end
+  -- how a machine is related to a run: at its state, on the way after it, or at its end
   pub data Stands (r : Run SlotState) (y : machine.State) : Type 0 where
     at : (c : SlotState) → r ≡ GoesOn c y.sent → R c y → Stands r y
     behind : W y → IsPrefix y.sent (sent_by r) → Stands r y
     over : (why : End) → r ≡ Over why y.sent → IsEnd why y → Stands r y
 
-  -- a machine has passed a run: what the run sent was sent, and where it is over the machine is
+  -- a machine has passed a run: what the run sent was sent, and if the run is over the machine is too
   abbrev pub Passes : Run SlotState → machine.State → Type 0
   Passes (GoesOn c out) y = IsPrefix out y.sent
   Passes (Over why out) y = (y.sent ≡ out) × IsEnd why y
@@ -81,7 +84,7 @@ module _ (IsEnd : End → machine.State → Type 0)
     joined_sent out (Goes c t) = refl
     joined_sent out (Stops why t) = refl
 
-    -- never wrong, and what was sent is that of a run: by the number of the program's own events
+    -- never wrong, and what was sent is what a run sent: by induction on the number of the program's own events
     pub stands : (fuel : ℕ) (c : SlotState) (x : machine.State) (es : List Event) → goes es < fuel → R c x → all_lawful es x ≡ true → (k : ℕ)
         × Stands (advance_by step k (GoesOn c x.sent)) (run es x)
     stands zero c x es lt r h = absurd (omega arith)
@@ -134,7 +137,7 @@ module _ (IsEnd : End → machine.State → Type 0)
             subst (λ y. Passes (advance_by step k (joined x.sent (step c))) y) (run_back a.before a.after es x (sym a.split))
             (past_goal (step c) a.before a.after (sym a.split) a.few a.there a.sent (λ c' r' h' le'. next c' (run a.before x) a.after r' h' le'))
 
--- so the machine keeps the program that the slot code follows
+-- the machine keeps the program that the slot code follows
 module _ (IsEnd : End → machine.State → Type 0)
     (end_stays : (why : End) (e : Event) (x : machine.State) → is_lawful x e ≡ true → IsEnd why x → IsEnd why (happens x e) × ((happens x e).sent ≡ x.sent))
     (program : Program) (code : SlotCode) (follows : Follows program code) (step : SlotState → Step SlotState) (stride : IsStride code step)
@@ -173,7 +176,7 @@ module _ (IsEnd : End → machine.State → Type 0)
               (subst (λ o. Stands IsEnd end_stays step R W limit (advance_by step s.0 (GoesOn entry o)) y) silent s.1)),
         )
 
-    -- what the source has sent or done after m lines, the machine has after so many events of its own
+    -- what the source has sent or done after m lines, the machine has after a number of the program's own events
     abbrev pub HasPassed : Run State → machine.State → Type 0
     HasPassed (GoesOn s out) y = IsPrefix out y.sent
     HasPassed (Over why out) y = (y.sent ≡ out) × IsEnd why y
@@ -182,11 +185,12 @@ module _ (IsEnd : End → machine.State → Type 0)
     passed_by m b (GoesOn s out) r y h p = subst (λ q. Passes IsEnd end_stays step R W limit q y) h.2 p
     passed_by m b (Over why out) r y h p = subst (λ q. Passes IsEnd end_stays step R W limit q y) h.0 p
 
-    -- a run that meets the source's stands outside a list
+    -- a run that meets the source's is outside a list
     outside : (m b : ℕ) (source : Run State) (r : Run SlotState) → Meets m source r b → IsOutside r
     outside m b (GoesOn s out) r h = subst IsOutside (sym h.2) refl
     outside m b (Over why out) r h = subst IsOutside (sym h.0) tt
 
+    -- after enough Go events the machine has passed the source's run of m lines
     pub paced : (m : ℕ) → m * (longest code + 1) * limit ≤ goes es → HasPassed (source_run program seed text answers m) (run es x)
     paced m le =
         let y = run es x in

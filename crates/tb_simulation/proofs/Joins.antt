@@ -42,6 +42,7 @@ pub record Runs (f : Setup) (s : machine.State) : Type 0 where
   pub not_below : f.low ≤ s.regs.s
   pub not_above : s.regs.s + length f.rest ≤ 255
 
+-- a machine that is under way runs within its part of the stack
 pub under_way_runs : (f : Setup) (s : machine.State) → UnderWay f s → Runs f s
 under_way_runs f s k = record { runs = k.runs; not_below = k.not_below; not_above = k.not_above }
 
@@ -70,6 +71,7 @@ module _ (f : Setup) (above : f.home_s + length f.rest ≡ 255) where
   waits_so : (s : machine.State) → Among f Waiting s → Among f IsWaiting s
   waits_so s h = (h.0, h.1, h.2.waits)
 
+  -- at an end, each lawful event keeps the machine there and sends nothing
   pub end_stays : (why : End) (e : Event) (s : machine.State) → is_lawful s e ≡ true → IsEnd why s → IsEnd why (happens s e) × ((happens s e).sent ≡ s.sent)
   end_stays Ended e s l h = (home_rests f above).stays s h e l
   end_stays Faulted e s l h = (home_rests f above).stays s h e l
@@ -98,6 +100,7 @@ module _ (f : Setup) (above : f.home_s + length f.rest ≡ 255) where
     goal (Stops Faulted t) s h = h
     goal (Stops steps.Waits t) s h = h
 
+    -- the law of the steps gives what the induction needs: each state reaches the next one's
     pub reaches : Law → (c : SlotState) → Reaches (R c) (Goal (step c)) (UnderWay f) (sent_in (step c)) limit
     reaches law c s h es l = ⊎_elim yet (⊎_elim arrived (λ a. on_way a)) (law_leads f h.0 (Leads f M (step c)) (sent_in (step c)) limit c.rest (law c h.0 h.2) s h.1 es l)
       where
@@ -107,6 +110,6 @@ module _ (f : Setup) (above : f.home_s + length f.rest ≡ 255) where
         arrived : Arrived (Among f (Leads f M (step c))) (sent_in (step c)) limit s es → keeps.Way (R c) (Goal (step c)) (UnderWay f) (sent_in (step c)) limit s es
         arrived a = there (record { before = a.before; after = a.after; split = a.split; some = a.some; few = a.few; there = goal (step c) (run a.before s) a.there; sent = a.sent })
 
-    -- where a law is, the machine runs
+    -- when a law begins, the machine runs
     pub fine : Law → (c : SlotState) (s : machine.State) → R c s → Runs f s
     fine law c s h = law_runs f h.0 (Leads f M (step c)) (sent_in (step c)) limit c.rest (law c h.0 h.2) s h.1

@@ -1,4 +1,4 @@
--- Where the machine stands at a line's start, the program is at that line.
+-- When the machine is at a line's start, the program is at that line.
 use Rattle.std.proofs.Common.{◌≡◌, ℕ, ◌+◌, ◌*◌, ◌≤◌, ◌<◌, Bool, true, false, ◌||◌, nat_eq, slice_index, List, [], ◌∷◌}
 use Rattle.std.proofs.Common.{◌++◌, length, refl, sym, ap, ◌∙◌, subst, ⊎_elim, arith, eqb, append-nil, append_assoc, Option, Some, None}
 use Rattle.std.proofs.Common.{if◌then◌else◌}
@@ -41,7 +41,7 @@ use Rattle.tb_simulation.proofs.Frames.{returns_kept, word_kept}
 use Rattle.tb_simulation.proofs.Joins.{IsEnd, end_stays, R, LawAt, reaches, sent_in}
 use Rattle.tb_simulation.proofs.Headline.{setup, begins_so, above_so, Opened, OpeningLaw, StepLaws}
 
--- whether a state stands at a line's start
+-- 1 if a state is at a line's start, else 0
 abbrev pub starts : Layout → machine.State → ℕ
 starts ly s = count 1 (is_start ly.start ly.numbers s.regs.pc)
 
@@ -58,6 +58,7 @@ service_above a q some = ⊎_elim (λ lt. (let no : None ≡ Some q = sym (none 
         ∙ ap (λ b. if b then Some Chrin else (if eqb a 0xFFE4 then Some Getin else None)) (ne_eqb a 0xFFCF (λ e. omega (arith, e, lt)))
         ∙ ap (λ b. if b then Some Getin else None) (ne_eqb a 0xFFE4 (λ e. omega (arith, e, lt)))
 
+-- the inner bytes are not a line's first ones
 pub not_inner : (ly : Layout) (code : Part) (a b : ℕ) → inner ly code a ≡ Some b → is_start ly.start ly.numbers a ≡ false
 not_inner ly code a b e = go (is_start ly.start ly.numbers a) e
   where
@@ -85,7 +86,7 @@ has_content (l ∷ ls) n e = go (nat_eq l.number n) (has_content ls n) e
     go true later e = (l.content, refl)
     go false later e = later e
 
--- where the lines of a program begin: below $A000, no two at one place, and none where fault 7 does
+-- where the lines of a program begin: below $A000, no two at one address, and none at that of fault 7
 pub record AreApart (ly : Layout) (sc : SlotCode) : Type 0 where
   pub numbered : numbers sc ≡ ly.numbers
   pub absent : (n : ℕ) → content_at sc n ≡ None → ly.start n ≡ ly.past
@@ -93,7 +94,7 @@ pub record AreApart (ly : Layout) (sc : SlotCode) : Type 0 where
   pub past : is_start ly.start ly.numbers ly.past ≡ false
   pub distinct : (n m : ℕ) → has_line ly.numbers n ≡ true → has_line ly.numbers m ≡ true → ly.start n ≡ ly.start m → n ≡ m
 
--- what stands in a view where a run is between lines
+-- what a view has when a run is between lines
 pub record Known (ly : Layout) (s : State) (w : View) : Type 0 where
   pub pc : w.regs.pc ≡ place_address ly s.place
   pub vars : (x : ℕ) → x < 26 → WordAt w.mem (var_at x) (slice_index s.vars x)
@@ -178,7 +179,7 @@ module _ (place : ℕ) (bytes : List ℕ) (from : 0x0800 ≤ place) (to : place 
   abbrev pub met : List Event → ℕ
   met es = lines.met (starts ly) es s
 
-  -- at the start of a line, m having begun before: the program has done m lines and is at that one
+  -- at the start of a line, m lines having begun before: the program has done m lines and is at that one
   pub record LineBegun (m : ℕ) (t : machine.State) : Type 0 where
     pub state : State
     pub number : ℕ
@@ -212,6 +213,7 @@ module _ (place : ℕ) (bytes : List ℕ) (from : 0x0800 ≤ place) (to : place 
         few = there.few;
       }
 
+  -- a machine at a line's start has begun as many lines before as the program has done
   pub at_line : (es : List Event) → all_lawful es s ≡ true → starts ly (run es s) ≡ 1 → LineBegun (met es) (run es s)
   at_line es l one = by (counted es l)
     where
@@ -228,7 +230,7 @@ module _ (place : ℕ) (bytes : List ℕ) (from : 0x0800 ≤ place) (to : place 
           let sum : lines.met (starts ly) back y ≡ met es = omega (arith, v, ap met (sym eq), lines.met_append (starts ly) front back s) in
           subst (λ m. LineBegun m (run es s)) sum (subst (λ t. LineBegun (lines.met (starts ly) back y) t) join (line_begun (lines.met (starts ly) back y) (run back y) a))
 
-  -- an instruction of the program's own that begins a line, m having begun before, within a bound
+  -- an instruction of the program's own that begins a line, m lines having begun before, within a bound
   pub record LineComes (m bound : ℕ) (es : List Event) : Type 0 where
     pub front : List Event
     pub event : Event
@@ -239,6 +241,7 @@ module _ (place : ℕ) (bytes : List ℕ) (from : 0x0800 ≤ place) (to : place 
     pub starts_here : starts ly (run front s) ≡ 1
     pub begun : met front ≡ m
 
+  -- if the source goes on at a line after m lines, the machine begins it within a bound
   pub line_comes : (m : ℕ) (state : State) (out : List ℕ) (number : ℕ) (is : List Instr) → source_run program seed s.text s.answers m
       ≡ GoesOn state out → state.place ≡ control.At number → content_at sc number ≡ Some is → (es : List Event) → all_lawful es s ≡ true
       → n + (m * (longest sc + 1) * limit k + 1) ≤ goes es → LineComes m (n + (m * (longest sc + 1) * limit k + 1)) es

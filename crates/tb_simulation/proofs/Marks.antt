@@ -29,7 +29,7 @@ use Rattle.tb_simulation.proofs.Headline.{OpeningLaw, StepLaws}
 use Rattle.tb_simulation.proofs.LineStarts as one
 use Rattle.tb_simulation.proofs.LineStarts.{AreApart, Known, starts, found_start, has_content}
 
--- the two ways of counting
+-- the two ways of counting agree
 same_begun : (ly : Layout) (es : List Event) (s : machine.State) → lines.met (starts ly) es s ≡ begun ly.start ly.numbers es s
 same_begun ly [] s = refl
 same_begun ly (Go k ∷ es) s = ap (λ n. (if is_start ly.start ly.numbers s.regs.pc then 1 else 0) + n) (same_begun ly es (happens s (Go k)))
@@ -42,7 +42,7 @@ at_one : (b : Bool) → count 1 b ≡ 1 → b ≡ true
 at_one true e = refl
 at_one false e = absurd (let no : ⊥ = omega (arith, e) in no)
 
--- the places to return to, by the notes in memory
+-- the places to return to, by the returns in memory
 returns_held : (ly : Layout) (m : ℕ → ℕ) (ps : List Place) → is_start ly.start ly.numbers ly.past ≡ false → AllHave ly.numbers ps
     → AreReturns m (return_addresses ly ps) → HoldsReturns ly.start ly.numbers m ps
 returns_held ly m [] past have held = tt
@@ -71,6 +71,7 @@ module _ (place : ℕ) (bytes : List ℕ) (from : 0x0800 ≤ place) (to : place 
   lined : (number : ℕ) → has_line (numbers program) number ≡ true → (is : List Instr) × (content_at sc number ≡ Some is)
   lined number has = has_content sc number (ap (λ ns. has_line ns number) follows.same_numbers ∙ has)
 
+  -- a machine at the address of a line's start begins that line
   pub at_line : (s : machine.State) (h : Starts place bytes s) (es : List Event) → all_lawful es s ≡ true → (number : ℕ)
       → has_line (numbers program) number ≡ true → (run es s).regs.pc ≡ ly.start number → BeginsLine program ly.seed ly.start s
       (begun ly.start (numbers program) es s) number (run es s)
@@ -100,6 +101,7 @@ module _ (place : ℕ) (bytes : List ℕ) (from : 0x0800 ≤ place) (to : place 
             (returns_held ly y.mem b.state.returns apart.past (subst (λ ns. AllHave ns b.state.returns) (sym same_numbers) led.returns) b.held);
       })
 
+  -- if the source goes on at a line after m lines, the machine comes to it within a bound
   pub comes : (s : machine.State) (h : Starts place bytes s) (m : ℕ) (state : State) (out : List ℕ) (number : ℕ)
       → source_run program ly.seed s.text s.answers m ≡ GoesOn state out → state.place ≡ At number → (es : List Event) → all_lawful es s ≡ true
       → bound (length s.text) m ≤ goes es → LineComes program ly.start s m (bound (length s.text) m) es

@@ -1,4 +1,4 @@
--- How a view of the machine stands for a state of the slot code.
+-- How a view of the machine represents a state of the slot code.
 use Rattle.std.specs.Prelude.{◌≡◌, ℕ, ◌%◌, ◌≤◌, ◌<◌, Bool, false, List, [], ◌∷◌, length, map, slice_index}
 use Rattle.tb_cpu.specs.Effects.{bit}
 use Rattle.tb_reaching.specs.View.{View, Setup}
@@ -36,13 +36,13 @@ pub record Carrying (at : ℕ) (bs : List ℕ) (m : ℕ → ℕ) (text answers :
   pub here : Here at bs m text answers w
   pub carry : w.regs.flags.c ≡ c
 
--- the keyboard's text is at most so long, and it and the answers are bytes
+-- the keyboard's text has at most this length, and it and the answers are bytes
 pub record Typable (keys : ℕ) (text answers : List ℕ) : Type 0 where
   pub short : length text ≤ keys
   pub text_bytes : AreBytes text
   pub answer_bytes : AreBytes answers
 
--- a run stands at the beginning of a place, the memory holding its state
+-- a run is at the beginning of a place, and the memory holds its state
 pub record Opens (ly : Layout) (f : Setup) (lo hi : ℕ) (keys : ℕ) (s : State) (w : View) : Type 0 where
   pub pc : w.regs.pc ≡ place_address ly s.place
   pub stack : w.stack ≡ lo ∷ hi ∷ []

@@ -1,4 +1,4 @@
--- What the prologue leaves stands for the start of a program's run.
+-- What the prologue leaves represents the start of a program's run.
 use Rattle.std.proofs.Common.{◌≡◌, ℕ, ◌+◌, ◌≤◌, ◌<◌, true, length, refl, sym, ◌∙◌, subst, arith}
 use Rattle.std.specs.Prelude.{replicate}
 use Rattle.std.proofs.lemmas.Bool.Decides.{nat_tests}
@@ -18,7 +18,7 @@ use Rattle.tb_runtime16.specs.Routines.{WordAt, first}
 use Rattle.tb_runtime16.specs.Ends.{Begun, is_cleared}
 use Rattle.tb_simulation.proofs.Mirrors.{Opens}
 
--- nothing is known of the slots
+-- nothing is known about the slots
 abbrev pub some_slots : Slots
 some_slots = record { words = replicate 16 0; held = 0 }
 
@@ -30,6 +30,7 @@ zero_word m at l h = record { low = l; high = h; small = omega arith }
 
 module _ (ly : Layout) (f : Setup) (sc : SlotCode) (numbered : numbers sc ≡ ly.numbers) (first_at : place_address ly (first_place (numbers sc)) ≡ LINES_AT)
     (seed_small : ly.seed < 65536) (s : machine.State) (text : AreBytes s.text) (answers : AreBytes s.answers) (w : View) (b : Begun f s w) where
+  -- after the prologue the memory holds the state at the start
   pub opened : Opens ly f (home_low s) (home_high s) (length s.text) (start (numbers sc) ly.seed s.text s.answers) w
   opened = record {
     pc = b.pc ∙ sym first_at;

@@ -1,4 +1,4 @@
--- Pieces of code at any address, on data at any place.
+-- Pieces of code at any address, on data at any address.
 use Rattle.std.proofs.Common.{◌≡◌, ℕ, ◌+◌, ◌/◌, ◌%◌, ◌≤◌, Bool, true, false, List, [], ◌∷◌, ◌++◌, length, refl, sym, ap, subst, arith, leb, Some, None, Ok}
 use Rattle.tb_simulation.proofs.Mirrors.{Carrying}
 use Rattle.tb_simulation.proofs.Resolved.{call, constant, highest_code, jump, jump_through, pointed}
@@ -28,6 +28,7 @@ put_word m at lo hi = with_byte (with_byte m at lo) (at + 1) hi
 pub moves_then : (f : Setup) (p q r : View → Type 0) (t u : List ℕ) (n k : ℕ) → Moves f p q t n → Moves f q r u k → Moves f p r (t ++ u) (n + k)
 moves_then f p q r t u n k a b w h = chained f w q r t u n k (a w h) b
 
+-- a larger bound and a larger goal
 pub moves_looser : (f : Setup) (p q r : View → Type 0) (t : List ℕ) (n k : ℕ) → n ≤ k → ((w : View) → q w → r w) → Moves f p q t n → Moves f p r t k
 moves_looser f p q r t n k le g a w h = looser f w q r t n k le g (a w h)
 
@@ -38,6 +39,7 @@ in_data a lo hi = grind (arith, nat_tests)
 abbrev pub InData : ℕ → Type 0
 InData a = (is_data a ≡ true) × (is_data (a + 1) ≡ true)
 
+-- a word within the data
 pub word_in_data : (a : ℕ) → 0xC000 ≤ a → a ≤ 0xCFFE → InData a
 word_in_data a lo hi = (in_data a lo (omega (arith, hi)), in_data (a + 1) (omega (arith, lo)) (omega (arith, hi)))
 
@@ -48,7 +50,7 @@ called at bs r =
     ap (λ p. p % 256 ∷ p / 256 ∷ bs) e
 
 module _ (f : Setup) (room : ℕ) (fits : Fits f room) where
-  -- a read of data at a place that a proof gives
+  -- a read of data at an address that a proof gives
   pub loads : (k p : ℕ) (mn : Mnemonic) (v : View) (r : Regs) (q : View → Type 0) (t : List ℕ) (n : ℕ) → find_row rows k ≡ Some (mn, Absolute)
       → (k == 0) ≡ false → kind_of mn ≡ Plain → leb (length v.stack) room ≡ true → Bytes f.code v.regs.pc (instr_bytes (ins k p)) → is_data p ≡ true
       → executed mn (advanced v.regs Absolute) (λ a. Ok (v.mem p)) p ≡ Ok (r, []) → Comes f (record v { regs = with_s v.regs.s r }) q t n → Comes f v q t (1 + n)
@@ -80,6 +82,7 @@ module _ (f : Setup) (room : ℕ) (fits : Fits f room) where
       placing f room fits (ins 0x8D p) v (record v { regs = advanced v.regs Absolute; mem = with_byte v.mem p v.regs.a }) q t n small b
       (stores_at f.code room (ins 0x8D p) v Sta Absolute p refl refl refl refl refl v.regs.a dp refl) next
 
+  -- a write of A to page zero
   pub stores_short : (p : ℕ) (v : View) (q : View → Type 0) (t : List ℕ) (n : ℕ) → leb (length v.stack) room ≡ true
       → Bytes f.code v.regs.pc (instr_bytes (ins 0x85 p)) → is_data p ≡ true
       → Comes f (record v { regs = advanced v.regs ZeroPage; mem = with_byte v.mem p v.regs.a }) q t n → Comes f v q t (1 + n)
@@ -87,7 +90,7 @@ module _ (f : Setup) (room : ℕ) (fits : Fits f room) where
       placing f room fits (ins 0x85 p) v (record v { regs = advanced v.regs ZeroPage; mem = with_byte v.mem p v.regs.a }) q t n small b
       (stores_at f.code room (ins 0x85 p) v Sta ZeroPage p refl refl refl refl refl v.regs.a dp refl) next
 
-  -- a byte of data is changed where it stands, as the last of a piece
+  -- a byte of data is changed in place, as the last instruction of a piece
   pub changes_last : (k p c : ℕ) (mn : Mnemonic) (v : View) (r : Regs) (q : View → Type 0) → find_row rows k ≡ Some (mn, Absolute) → (k == 0) ≡ false
       → kind_of mn ≡ Plain → leb (length v.stack) room ≡ true → Bytes f.code v.regs.pc (instr_bytes (ins k p)) → is_data p ≡ true
       → executed mn (advanced v.regs Absolute) (λ a. Ok (v.mem p)) p ≡ stored r p c → q (record v { regs = with_s v.regs.s r; mem = with_byte v.mem p c }) → Comes f v q [] 1
@@ -110,12 +113,14 @@ module _ (f : Setup) (room : ℕ) (fits : Fits f room) where
         answers = g;
       })
 
+  -- a write of A, as the last instruction of a piece
   pub stores_last : (p : ℕ) (v : View) (q : View → Type 0) → leb (length v.stack) room ≡ true → Bytes f.code v.regs.pc (instr_bytes (ins 0x8D p))
       → is_data p ≡ true → q (record v { regs = advanced v.regs Absolute; mem = with_byte v.mem p v.regs.a }) → Comes f v q [] 1
   stores_last p v q small b dp x =
       placed_last f room fits (ins 0x8D p) v (record v { regs = advanced v.regs Absolute; mem = with_byte v.mem p v.regs.a }) q small b
       (stores_at f.code room (ins 0x8D p) v Sta Absolute p refl refl refl refl refl v.regs.a dp refl) x
 
+  -- a write of A to page zero, as the last instruction of a piece
   pub stores_short_last : (p : ℕ) (v : View) (q : View → Type 0) → leb (length v.stack) room ≡ true
       → Bytes f.code v.regs.pc (instr_bytes (ins 0x85 p)) → is_data p ≡ true → q (record v { regs = advanced v.regs ZeroPage; mem = with_byte v.mem p v.regs.a }) → Comes f v q [] 1
   stores_short_last p v q small b dp x =
@@ -146,6 +151,7 @@ module _ (f : Setup) (room : ℕ) (fits : Fits f room) where
       (subst (λ a. Comes f (view a w.regs.x w.regs.y w.regs.flags.n w.regs.flags.v w.regs.flags.i w.regs.flags.z w.regs.flags.c at bs m text answers) q t l) (sym e.number) (h _ _ _ _ _ _ _)))
 
   module _ (at : ℕ) (bs : List ℕ) (m : ℕ → ℕ) (text answers : List ℕ) (small : leb (length bs) room ≡ true) where
+    -- a constant word is stored
     pub sets : (k to : ℕ) → at + 10 ≤ highest_code → InData to → Stands f.code at (constant k to) → Moves f (Here at bs m text answers)
         (Here (at + 10) bs (put_word m to (k % 256) (k / 256)) text answers) [] 4
     sets k to r dt st = whatever at bs m text answers _ [] 4 (λ a x y n v i z c.
@@ -171,12 +177,13 @@ module _ (f : Setup) (room : ℕ) (fits : Fits f room) where
         placed_last f room fits (ins 0x4C to) (view a x y n v i z c at bs m text answers) _ _ small st.0 refl
         (record { pc = refl; stack = refl; binary = refl; mem = refl; text = refl; answers = refl }))
 
+    -- a jump through the result
     pub jumps_through : (to : ℕ) → WordAt m RESULT to → Stands f.code at jump_through → Moves f (Here at bs m text answers) (Here to bs m text answers) [] 1
     jumps_through to is st = whatever at bs m text answers _ [] 1 (λ a x y n v i z c.
         placed_last f room fits (ins 0x6C RESULT) (view a x y n v i z c at bs m text answers) _ _ small st.0 refl
         (record { pc = omega (arith, is.low, is.high); stack = refl; binary = refl; mem = refl; text = refl; answers = refl }))
 
-    -- a call, which returns behind it
+    -- a call, which returns to what follows it
     pub calls : (to : ℕ) → leb (length (0 ∷ 0 ∷ bs)) room ≡ true → at + 3 ≤ highest_code → Stands f.code at (call to)
         → Moves f (Here at bs m text answers) (Here to ((at + 2) % 256 ∷ (at + 2) / 256 ∷ bs) m text answers) [] 1
     calls to deep r st = whatever at bs m text answers _ [] 1 (λ a x y n v i z c.

@@ -1,4 +1,4 @@
--- The place of a source's run, and its notes, are lines of the program.
+-- The place of a source's run, and its returns, are lines of the program.
 use Rattle.std.proofs.Common.{◌≡◌, ℕ, zero, suc, Bool, true, false, ◌||◌, List, [], ◌∷◌, length, refl, ap, subst, Option, Some, None}
 use Rattle.std.specs.Prelude.{if◌then◌else◌, nat_lt, nat_eq}
 use Rattle.std.proofs.lemmas.Bool.{eq-eqb}
@@ -26,7 +26,7 @@ module _ (ns : List ℕ) where
     pub here : HasLine s.place
     pub returns : AllHave s.returns
 
-  -- so is where a step leads
+  -- the same for where a step leads
   abbrev Leads : Step State → Type 0
   Leads (Goes s t) = IsPlaced s
   Leads (Stops why t) = Unit {0}
@@ -159,6 +159,7 @@ module _ (program : Program) where
   first_led [] = tt
   first_led (n ∷ ns) = ap (λ b. b || has_line ns n) (eq-eqb n n refl)
 
+  -- a run of the source is always at a line of the program, or past the last one
   pub at_lines : (seed : ℕ) (text answers : List ℕ) (m : ℕ) (s : State) (out : List ℕ) → source_run program seed text answers m ≡ GoesOn s out → IsPlaced (numbers program) s
   at_lines seed text answers m s out e =
       (subst Ran e (runs m (GoesOn (start (numbers program) seed text answers) []) (record { ran = record { here = first_led (numbers program); returns = tt } }))).ran

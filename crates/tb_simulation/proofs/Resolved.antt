@@ -1,4 +1,4 @@
--- The templates as instructions at their places, each label's number put in.
+-- The templates as instructions at their addresses, with each label's number put in.
 use Rattle.std.specs.Prelude.{Bool, true, false, ℕ, ◌+◌, ◌/◌, ◌%◌, ◌≤◌, List, [], ◌∷◌, length, nat_lt, if◌then◌else◌}
 use Rattle.tb_reaching.specs.View.{Part}
 use Rattle.tb_reaching.specs.View.{Bytes}
@@ -17,7 +17,7 @@ abbrev pub size : List Instr → ℕ
 size [] = 0
 size (i ∷ is) = length (instr_bytes i) + size is
 
--- the opcode of an instruction on the byte at a place, of the one for page zero and the one for places behind it
+-- the opcode of an instruction on the byte at an address: the one for page zero, or the one for addresses above it
 abbrev pub opcode_at : (page_zero behind place : ℕ) → ℕ
 opcode_at page_zero behind place = if nat_lt place 256 then page_zero else behind
 
@@ -27,7 +27,7 @@ lda_at place = ins (opcode_at 0xA5 0xAD place) place
 abbrev pub sta_at : ℕ → Instr
 sta_at place = ins (opcode_at 0x85 0x8D place) place
 
--- copies a word to a place behind page zero
+-- copies a word to an address above page zero
 abbrev pub copied : ℕ → ℕ → List Instr
 copied from to = lda_at from ∷ ins 0x8D to ∷ lda_at (from + 1) ∷ ins 0x8D (to + 1) ∷ []
 
@@ -45,7 +45,7 @@ call to = ins 0x20 to ∷ []
 abbrev pub jump : ℕ → List Instr
 jump to = ins 0x4C to ∷ []
 
--- to where a word points
+-- on to where a word points
 abbrev pub jump_through : List Instr
 jump_through = ins 0x6C RESULT ∷ []
 
@@ -80,7 +80,7 @@ abbrev pub jump_to : Layout → ℕ → Bool → ℕ → List Piece
 jump_to ly n true target = Code (jump (ly.start target)) ∷ []
 jump_to ly n false target = Code (faulting n 1) ∷ []
 
--- the code of an instruction of line n, at an address. What has another kind of group, or branches, has no code here.
+-- the code of an instruction of line n, at an address. An instruction of another kind of group, or with branches, has none here.
 abbrev pub template : Layout → ℕ → ℕ → slots.Instr → List Piece
 template ly n at (slots.Put k w) = Code (constant (word w) (slot_at k)) ∷ []
 template ly n at (slots.Load k x) = Code (copied (var_at x) (slot_at k)) ∷ []
@@ -103,7 +103,7 @@ template ly n at (slots.CallTo target) = []
 template ly n at slots.Poll = Code (call POLL_AT) ∷ []
 template ly n at slots.End = Code (ins 0x60 0 ∷ []) ∷ []
 
--- ---- where it stands
+-- ---- its address
 abbrev pub highest_code : ℕ
 highest_code = 0xA000
 
@@ -111,7 +111,7 @@ abbrev pub PieceLies : Part → ℕ → Piece → Type 0
 PieceLies code at (Code is) = Stands code at is
 PieceLies code at (Text bs) = Bytes code at bs × AreBytes bs
 
--- pieces one behind the other
+-- pieces one after another
 abbrev pub Lies : Part → ℕ → List Piece → Type 0
 Lies code at [] = Unit {0}
 Lies code at (p ∷ ps) = (at + piece_size p ≤ highest_code) × PieceLies code at p × Lies code (at + piece_size p) ps

@@ -1,4 +1,4 @@
--- Two ways of telling where lines begin, alike for the program's own lines.
+-- Two functions that say where lines begin, and agree on the program's own lines.
 use Rattle.std.proofs.Common.{◌≡◌, ℕ, ◌+◌, true, ◌||◌, List, [], ◌∷◌, length, refl, sym, ap, ◌∙◌, subst}
 use Rattle.std.specs.Prelude.{if◌then◌else◌, nat_eq}
 use Rattle.std.proofs.lemmas.Bool.{eq-eqb}
@@ -32,7 +32,7 @@ module _ (start other : ℕ → ℕ) where
       λ i. (if here i then 1 else 0) + rest i
   same_begun ns h (Interrupt ws ∷ es) s = same_begun ns h es (happens s (Interrupt ws))
 
-  -- what stands for a place does so by either
+  -- the address of a place is the same by either
   stands_for : (ns : List ℕ) → Agree ns → (p : Place) (a : ℕ) → StandsFor start ns p a → StandsFor other ns p a
   stands_for ns h (At n) a there = (there.0, there.1 ∙ h n there.0)
   stands_for ns h Past a none = sym (same_is_start ns h a) ∙ none
@@ -53,6 +53,7 @@ module _ (start other : ℕ → ℕ) where
     returns = returns_held (numbers p) h t.mem b.state.returns b.returns;
   }
 
+  -- the promise on line starts for one function gives that for the other
   pub told_so : (place : ℕ) (bytes : List ℕ) (p : Program) (seed : ℕ) → Agree (numbers p) → MarksLines place bytes p seed start → MarksLines place bytes p seed other
   told_so place bytes p seed h marks = record {
     begins = λ s b es l n has pc.

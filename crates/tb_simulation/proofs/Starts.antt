@@ -20,26 +20,27 @@ use Rattle.tb_simulation.proofs.Inductions.{Way, still, on_way, there, Reaches, 
 use Rattle.tb_simulation.proofs.Inductions as keeps
 use Rattle.tb_simulation.proofs.Strides.{IsStride, IsOutside, found_line, lines_at, passed}
 
--- a number where a test holds
+-- a number if a test holds, else 0
 abbrev pub count : ℕ → Bool → ℕ
 count n b = if b then n else 0
 
--- an event counts where it is the program's own
+-- an event counts if it is the program's own
 first_counts : (e : Event) (es : List Event) → goes (e ∷ es) ≡ count 1 (is_own e) + goes es
 first_counts (Go k) es = omega arith
 first_counts (Interrupt ws) es = omega arith
 
 module _ (starts : machine.State → ℕ) where
-  -- how many starts of lines are met where an event of the machine's own comes
+  -- how many starts of lines are met when an event of the machine's own comes
   abbrev pub met : List Event → machine.State → ℕ
   met [] x = 0
   met (e ∷ es) x = count (starts x) (is_own e) + met es (happens x e)
 
+  -- the starts met in two lists of events add up
   pub met_append : (es fs : List Event) (x : machine.State) → met (es ++ fs) x ≡ met es x + met fs (run es x)
   met_append [] fs x = omega arith
   met_append (e ∷ es) fs x = omega (arith, met_append es fs (happens x e))
 
-  -- in W, or in B after a front of the events, or what is wanted is known
+  -- in W, or in B after a front of the events, or the answer is known
   data Met (W B : machine.State → Type 0) (Z : Type 0) (room used : ℕ) (x : machine.State) (es : List Event) : Type 0 where
     on : W (run es x) → used + goes es < room → Met W B Z room used x es
     at : (front back : List Event) → front ++ back ≡ es → used + goes front ≤ room → B (run front x) → Met W B Z room used x es
@@ -89,7 +90,7 @@ module _ (starts : machine.State → ℕ) where
       now (known z) next = z
 
   -- ── a law with its line starts ──
-  -- from A, where `first` lines begin, to B: at A, on the way, or there, with the beginnings met
+  -- from A, where `first` lines begin, to B: at A, on the way, or there, with the beginnings that were met
   pub data Counted (A B W : machine.State → Type 0) (t : List ℕ) (first n : ℕ) (x : machine.State) (es : List Event) : Type 0 where
     before : goes es ≡ 0 → A (run es x) → (run es x).sent ≡ x.sent → met es x ≡ 0 → Counted A B W t first n x es
     between : W (run es x) → met es x ≡ first → goes es < n → Counted A B W t first n x es
@@ -112,6 +113,7 @@ module _ (starts : machine.State → ℕ) where
         behind (e ∷ front) back (ap (λ l. e ∷ l) q) (omega (arith, g, some, first_counts e front)) (omega (arith, g, few, first_counts e front)) b
         (all ∙ ap (λ l. l ++ t) same) (omega (arith, s, v))
 
+    -- a law that counts no line on the way counts those at its entry
     pub counted : (es : List Event) (x : machine.State) → A x → all_lawful es x ≡ true → Counted A B W t first n x es
     counted [] x a l = before refl a refl refl
     counted (e ∷ es) x a l = by (is_own e) refl (λ not_go. let k = keeps_entry e x not_go ok.0 a in shift e es x not_go k.1 (counted es (happens x e) k.0 ok.1))
@@ -147,7 +149,7 @@ module _ (starts : machine.State → ℕ) where
 
 -- ── the slot code's runs ──
 
--- where a state stands at a line
+-- when a state is at a line
 is_line : (code : SlotCode) (q : Rest) (p : Place) → lines_at code q p ≡ 1 → (n : ℕ) × (is : List Instr) × (q ≡ Whole) × (p ≡ At n) × (content_at code n ≡ Some is)
 is_line code (Left n is) p e = absurd (let no : ⊥ = omega (arith, e) in no)
 is_line code Whole Past e = absurd (let no : ⊥ = omega (arith, e) in no)
@@ -230,7 +232,7 @@ module _ (IsEnd : End → machine.State → Type 0)
   met_sum : (front back es : List Event) (x : machine.State) → front ++ back ≡ es → met starts es x ≡ met starts front x + met starts back (run front x)
   met_sum front back es x e = ap (λ l. met starts l x) (sym e) ∙ met_append starts front back x
 
-  -- a machine at the state of a run after k steps, b lines having begun
+  -- a machine at the state of a run after k steps, with b lines begun
   record Stood (r : Run SlotState) (y : machine.State) (b : ℕ) : Type 0 where
     k : ℕ
     c : SlotState
@@ -270,7 +272,7 @@ module _ (IsEnd : End → machine.State → Type 0)
       by (between w v few) next = absurd (let no : ⊥ = omega (arith, one, no_start _ w) in no)
       by (behind front back eq some few goal same v) next = past_goal (step c) refl front back eq some goal same v next
 
-  -- the machine comes to the state after k steps of a run
+  -- the machine reaches the state after k steps of a run
   record Come (r : Run SlotState) (c : SlotState) (out : List ℕ) (k : ℕ) (x : machine.State) (es : List Event) : Type 0 where
     front : List Event
     back : List Event
@@ -372,7 +374,7 @@ module _ (IsEnd : End → machine.State → Type 0)
     pub place : state.place ≡ At number
     pub found : content_at code number ≡ Some list
 
-  -- an event of the machine's own that begins a line, m having begun before it
+  -- an event of the machine's own that begins a line, m lines having begun before it
   pub record Begins (seed : ℕ) (text answers : List ℕ) (m bound : ℕ) (x : machine.State) (es : List Event) : Type 0 where
     pub front : List Event
     pub event : Event
@@ -388,7 +390,7 @@ module _ (IsEnd : End → machine.State → Type 0)
     abbrev first : SlotState
     first = record { state = start (numbers code) seed text answers; rest = Whole; slots = slots }
 
-    -- at a line's start, m of them having been met, m lines are done
+    -- at a line's start, m starts having been met, m lines are done
     pub at_line : (es : List Event) → all_lawful es x ≡ true → starts (run es x) ≡ 1 → AtLine seed text answers (met starts es x) (run es x)
     at_line es l one =
         let s = stood (suc (goes es)) first x es (omega arith) entered l one in
@@ -410,7 +412,7 @@ module _ (IsEnd : End → machine.State → Type 0)
           found = w.4;
         }
 
-    -- where the source goes on at a line after m, the machine begins it within a bound
+    -- if the source goes on at a line after m lines, the machine begins it within a bound
     pub line_comes : (m : ℕ) (s : State) (out : List ℕ) (n : ℕ) (is : List Instr) → source_run program seed text answers m ≡ GoesOn s out
         → s.place ≡ At n → content_at code n ≡ Some is → (es : List Event) → all_lawful es x ≡ true → m * (longest code + 1) * limit + 1 ≤ goes es
         → Begins seed text answers m (m * (longest code + 1) * limit + 1) x es

@@ -19,7 +19,7 @@ abbrev pub passed : (SlotState → Step SlotState) → ℕ → Run SlotState →
 passed step zero r = 0
 passed step (suc k) r = begins_in r + passed step k (advance step r)
 
--- a run is over, or stands between lists
+-- a run is over, or is between lists
 abbrev pub IsOutside : Run SlotState → Type 0
 IsOutside (GoesOn c out) = c.rest ≡ Whole
 IsOutside (Over why out) = Unit {0}
@@ -37,8 +37,8 @@ pub record OfInstrs (code : SlotCode) (step : SlotState → Step SlotState) (k :
   pub same : advance_by step count r ≡ advance_by (slot_step code) k r
   pub begun : passed step count r ≡ beginnings code k r
 
--- a step of slot instructions: a state that goes on is at the beginning of a line where it is at that of a list, each run
--- by steps is a run by instructions, and comes wherever that one stands outside a list
+-- a step of slot instructions: a state that goes on is at the beginning of a line when it is at that of a list, each run
+-- by steps is a run by instructions, and comes wherever that run is outside a list
 pub record IsStride (code : SlotCode) (step : SlotState → Step SlotState) : Type 0 where
   pub begins_line : (c d : SlotState) (t : List ℕ) → step c ≡ Goes d t → begins c.rest c.state.place ≡ lines_at code c.rest c.state.place
   pub reached : (j : ℕ) (r : Run SlotState) → AsInstrs code step j r

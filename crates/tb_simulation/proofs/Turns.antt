@@ -1,10 +1,10 @@
--- What a turn of INPUT leaves of the text.
+-- What a turn of INPUT leaves of the keyboard's text.
 use Rattle.std.proofs.Common.{◌-◌, ℕ, suc, ◌≤◌, Bool, true, false, ◌&&◌, ◌||◌, if◌then◌else◌, List, [], ◌∷◌, length, arith}
 use Rattle.std.specs.Prelude.{nat_eq, nat_le}
 use Rattle.tb_meaning.specs.Input.{Bad, Digits, Dry, Got, Nothing, Reading, Sign, Turn, number_end, signed_turn, turn, with_digit}
 use Rattle.tb_opcodes.specs.Bytes.{AreBytes}
 
--- a turn leaves bytes, at most so many
+-- a turn leaves bytes, at most this many
 abbrev pub Leaves : ℕ → Turn → Type 0
 Leaves k (Got v stays left) = (length left ≤ k) × AreBytes left
 Leaves k Bad = Unit {0}
@@ -32,6 +32,7 @@ short_signed k Nothing t h = h
 short_signed k (Sign negative) t h = record { few = tt }
 short_signed k (Digits negative n) t h = record { few = tt }
 
+-- a turn leaves no more bytes than there were
 pub turn_short : (text : List ℕ) (r : Reading) → AreBytes text → Short (length text) (turn r text)
 turn_short [] r h = record { few = tt }
 turn_short (b ∷ text) r h =

@@ -1,4 +1,4 @@
--- Where the code of a program lies in its image.
+-- The addresses of a program's code in its image.
 use Rattle.std.specs.Prelude.{ℕ, ◌+◌, ◌≤◌, Bool, false, ◌||◌, nat_eq, if◌then◌else◌, List, [], ◌∷◌}
 use Rattle.tb_asm.specs.declared.names.Name.{Name}
 use Rattle.tb_asm.specs.declared.items.Operand.TheVariants.{Label}
@@ -14,13 +14,13 @@ use Rattle.tb_reaching.specs.View.{Bytes}
 
 -- ---- items in the code
 
--- the bytes of these items stand from an address on, and each of their labels stands for its place
+-- the bytes of these items are there from an address on, and each of their labels gives its address
 pub record Lies (code : Part) (labels : List (Name × ℕ)) (at : ℕ) (es : List Entry) : Type 0 where
   pub bytes : Bytes code at (bytes_from labels at es)
   pub labelled : LabelsAt labels at es
   pub below : at + size es ≤ 0xa000
 
--- ---- the places of a program
+-- ---- the addresses of a program
 
 -- the numbers of its lines, where each line, fault 7, the search and the line table begin, and the option's RND state
 pub record Layout : Type 0 where
@@ -31,15 +31,15 @@ pub record Layout : Type 0 where
   pub table : ℕ
   pub seed : ℕ
 
--- what a label stands for
+-- the address of a label
 abbrev pub label_address : List (Name × ℕ) → Target → ℕ
 label_address labels t = number_in labels (Label (label_of t))
 
--- a number without a line stands for the place of fault 7
+-- a number without a line has the address of fault 7
 abbrev pub start_at : List (Name × ℕ) → List ℕ → ℕ → ℕ
 start_at labels ns n = if has_line ns n then label_address labels (target.Line n) else label_address labels target.Past
 
--- the places of a program with these line numbers by the addresses of its labels, with the option's RND state
+-- the addresses of a program with these line numbers by those of its labels, with the option's RND state
 abbrev pub layout_of : List (Name × ℕ) → List ℕ → ℕ → Layout
 layout_of labels ns seed = record {
   numbers = ns;
@@ -55,7 +55,7 @@ abbrev pub place_address : Layout → Place → ℕ
 place_address ly (At n) = ly.start n
 place_address ly Past = ly.past
 
--- where the first line above n begins, or fault 7 where there is none
+-- where the first line above n begins, or fault 7 if there is none
 abbrev pub next_at : Layout → ℕ → ℕ
 next_at ly n = place_address ly (next_after ly.numbers n)
 
@@ -64,6 +64,6 @@ abbrev pub is_start : (ℕ → ℕ) → List ℕ → ℕ → Bool
 is_start start [] a = false
 is_start start (n ∷ ns) a = nat_eq a (start n) || is_start start ns a
 
--- the program's bytes but for the first one of each line
+-- the program's bytes without the first one of each line
 abbrev pub inner : Layout → Part → Part
 inner ly code = without (is_start ly.start ly.numbers) code
