@@ -1,4 +1,4 @@
--- Where the settled code of a program lies in its image.
+-- The addresses of a program's settled code in its image.
 use Rattle.std.specs.Prelude.{◌≡◌, ◌⊎◌, ℕ, ◌+◌, ◌≤◌, ◌<◌, true, false, List, [], ◌∷◌, length, Some}
 use Rattle.tb_asm.specs.declared.names.Name.{Name}
 use Rattle.tb_asm.specs.Layout.{Entry, size}
@@ -28,8 +28,8 @@ abbrev pub IsClear : List (Name × ℕ) → List ℕ → ℕ → List Entry → 
 IsClear labels ns at es =
     (n : ℕ) → has_line ns n ≡ true → (label_address labels (target.Line n) < at) ⊎ (at + size es ≤ label_address labels (target.Line n))
 
--- a line's settled code, which has bytes, lies at its label, its branches reach, the next line's code or fault 7 comes behind it unless it
--- ends away, and no line begins inside it but itself
+-- a line's settled code, which has bytes, lies at its label; its branches reach; the next line's code or fault 7 follows it
+-- unless it ends away; and no line begins inside it but itself
 pub record LineLies (labels : List (Name × ℕ)) (code : Part) (ns : List ℕ) (seed n : ℕ) (is : List Instr) : Type 0 where
   pub forms : List Form
   pub of : AreFormsOf (line_code ns seed (record { number = n; content = is })) forms
@@ -56,7 +56,7 @@ pub record Laid (labels : List (Name × ℕ)) (seed : ℕ) (code : Part) (progra
   pub find_clear : IsClear labels (numbers program) (label_address labels target.Find) (find_code (numbers program))
   pub table : Lies code labels (label_address labels target.Table) (table_code (numbers program))
   pub table_clear : IsClear labels (numbers program) (label_address labels target.Table) (table_code (numbers program))
-  -- the lines begin behind the block
+  -- the lines begin after the block
   pub first : place_address (layout_of labels (numbers program) seed) (first_place (numbers program)) ≡ LINES_AT
   pub some : 1 ≤ length (numbers program)
   pub rising : AreRising (numbers program)

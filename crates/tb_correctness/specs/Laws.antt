@@ -11,7 +11,7 @@ use Rattle.tb_simulation.specs.Layout.{layout_of}
 use Rattle.tb_correctness.specs.Laid.{ArePolled, Laid}
 use Rattle.tb_simulation.specs.LineStarts.{MarksLines}
 
--- bytes at a place hold the routine block and the settled code of the program's slot code, the labels where they stand;
+-- bytes from an address on hold the routine block and the settled code of the program's slot code, with the labels right;
 -- each of its lists takes an answer first and reads nothing that it doesn't write
 pub record IsImage (place : ℕ) (bytes : List ℕ) (labels : List (Name × ℕ)) (seed : ℕ) (program : Program) (code : SlotCode) : Type 0 where
   pub from : 0x0800 ≤ place
@@ -26,7 +26,7 @@ abbrev pub KeepingLaw : Type 0
 KeepingLaw = (place : ℕ) (bytes : List ℕ) (labels : List (Name × ℕ)) (seed : ℕ) (program : Program) (code : SlotCode)
     → IsImage place bytes labels seed program code → Keeps place bytes program seed
 
--- every image of a program marks the program's lines, each at the address that its label stands for
+-- every image of a program marks the program's lines, each at the address of its label
 abbrev pub MarkingLaw : Type 0
 MarkingLaw = (place : ℕ) (bytes : List ℕ) (labels : List (Name × ℕ)) (seed : ℕ) (program : Program) (code : SlotCode)
     → IsImage place bytes labels seed program code → MarksLines place bytes program seed (layout_of labels (numbers code) seed).start

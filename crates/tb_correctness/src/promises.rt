@@ -6,7 +6,7 @@ pub fn keeps()
     ensures { KeepingLaw }
 {}
 
-/// Where an image of a program begins a line, the program does.
+/// When an image of a program begins a line, the program does.
 pub fn marks_lines()
     ensures { MarkingLaw }
 {}

@@ -50,7 +50,7 @@ module _ (around : Surroundings) (fits : Fits around.f 16) (limit : ℕ) (rs : S
     number : WordAt m LINE n
     number = numbered h
 
-    -- the state behind a number that was read, without and with it
+    -- the state after a number was read, without and with it
     abbrev read_state : Bool → List ℕ → State
     read_state stays left = record s { open_line = stays; column = column_after s.column (prompt o ++ line_end stays); text = left }
 
@@ -84,6 +84,7 @@ module _ (around : Surroundings) (fits : Fits around.f 16) (limit : ℕ) (rs : S
           homed = homed_kept m m' (g.gives.others HOME_S refl) c.homed;
         }
 
+    -- INPUT reads a number into its variable
     pub input_law : (stays : Bool) (v : ℕ) (left : List ℕ) → turn Nothing s.text ≡ Got v stays left
         → Comes f w (Matches around (line code n is (given_state stays v left) r)) (prompt o ++ line_end stays) (9 + limit)
     input_law stays v left got =
@@ -111,12 +112,14 @@ module _ (around : Surroundings) (fits : Fits around.f 16) (limit : ℕ) (rs : S
         (omega (arith, fit))) (λ e. omega (arith, e, fit)) lies.2.1 u
         (back_here _ _ left w.answers _ u g (behind_call at lies.0)))))))
 
+    -- INPUT of a bad byte is fault 6
     pub input_fails : turn Nothing s.text ≡ Bad → Comes f w (IsHome f) (prompt o ++ fault_text 6 n) (9 + limit)
     input_fails bad =
         let t = prompt o ++ fault_text 6 n in
         looser f w _ _ t (4 + (1 + limit)) (9 + limit) (omega arith) (λ u x. x)
         (asks _ t limit (rs.input_fails _ _ m s.text w.answers o n is_open (omega (arith, c.state.column)) h.short.text_bytes h.short.short bad number c.homed))
 
+    -- INPUT waits if the text ends before a number
     pub input_waits : turn Nothing s.text ≡ Dry → Comes f w Waiting (prompt o) (9 + limit)
     input_waits dry =
         looser f w _ _ (prompt o) (4 + (1 + limit)) (9 + limit) (omega arith) (λ u x. x)
@@ -132,6 +135,7 @@ module _ (around : Surroundings) (fits : Fits around.f 16) (limit : ℕ) (rs : S
     answered_state : (left : List ℕ) (m : ℕ → ℕ) → HoldsState ly s m → HoldsState ly (record s { answers = left }) m
     answered_state left m hs = record { vars = hs.vars; column = hs.column; opened = hs.opened; seeded = hs.seeded; count = hs.count; returns = hs.returns; few = hs.few; all_vars = hs.all_vars }
 
+    -- a poll takes an answer and goes on
     pub poll_law : (left : List ℕ) → drop 1 s.answers ≡ left → AreBytes left → nat_eq (first_or_zero s.answers) 3 ≡ false
         → Comes f w (Matches around (line code n is (record s { answers = left }) r)) [] (5 + limit)
     poll_law left q small other =
@@ -148,6 +152,7 @@ module _ (around : Surroundings) (fits : Fits around.f 16) (limit : ℕ) (rs : S
         (back_here _ (w.regs.pc + 13) w.text (drop 1 w.answers) _ v g (behind_call at lies.0 ∙ (let e : at + 3 ≡ w.regs.pc + 13 = omega arith in e))))
         (rs.poll _ _ polled w.text w.answers n (subst AreBytes (sym h.answers) h.short.answer_bytes) (ap (λ l. nat_eq (first_or_zero l) 3) h.answers ∙ other) (numbered h) kept_polled.homed u e))))
 
+    -- a poll whose answer is 3 is fault 0
     pub poll_breaks : nat_eq (first_or_zero s.answers) 3 ≡ true → Comes f w (IsHome f) (fault_text 0 n) (5 + limit)
     poll_breaks three =
         let lies = h.lies.2 in

@@ -1,4 +1,4 @@
--- The laws of GOSUB to a constant line and of RETURN: in line where the count of notes has a low byte alone, and else
+-- The laws of GOSUB to a constant line and of RETURN: in line if the count of returns fits in its low byte, and else
 -- by the routines.
 use Rattle.std.proofs.Common.{◌≡◌, ◌≢◌, ◌⊎◌, inl, inr, ℕ, suc, ◌+◌, ◌/◌, ◌%◌, ◌≤◌, ◌<◌, Bool, true, false, List, []}
 use Rattle.std.proofs.Common.{◌∷◌, length, refl, sym, ◌∙◌, subst, arith, eqb, ⊎_elim}
@@ -42,7 +42,7 @@ module _ (around : Surroundings) (fits : Fits around.f 16) (limit : ℕ) (rs : S
   abbrev start : ℕ
   start = w.regs.pc
 
-  -- the notes, and the high byte of their count
+  -- the returns, and the high byte of their count
   abbrev returns : List ℕ
   returns = return_addresses ly s.returns
 
@@ -57,7 +57,7 @@ module _ (around : Surroundings) (fits : Fits around.f 16) (limit : ℕ) (rs : S
     call_lies : (b : Bool) → has_line ly.numbers t ≡ b → Lies f.code start (call_code ly n start h.first h.second b t)
     call_lies b e = subst (λ b. Lies f.code start (call_code ly n start h.first h.second b t)) e h.lies
 
-    -- no such line
+    -- there is no such line
     pub call_to_fails : has_line ly.numbers t ≡ false → Comes f w (IsHome f) (fault_text 1 n) (4 + limit)
     call_to_fails lost = faults_at around fits limit rs n 1 h.small (omega arith) start w.mem w.text w.answers (call_lies false lost) h.homed w (here h)
 
@@ -74,7 +74,7 @@ module _ (around : Surroundings) (fits : Fits around.f 16) (limit : ℕ) (rs : S
       return_small : return_address < 65536
       return_small = laid.places (next_after ly.numbers n)
 
-      -- where it notes, asks for a carry, goes on, and calls the routine
+      -- where the return is stored, the carry is tested, the line is gone to, and the routine is called
       abbrev storing : ℕ
       storing = start + 3 + way_size first
 
@@ -102,14 +102,14 @@ module _ (around : Surroundings) (fits : Fits around.f 16) (limit : ℕ) (rs : S
       onward : Lies f.code going (going_code ly n t)
       onward = raising.1.2
 
-      -- the state behind it
+      -- the state after it
       abbrev called : State
       called = record s { place = At t; returns = next_after ly.numbers n ∷ s.returns }
 
       abbrev Ends : View → Type 0
       Ends u = Matches around (record { state = called; rest = Whole; slots = r }) u
 
-      -- a memory with the note, from where it goes on
+      -- a memory with the return, from where the line is gone to
       goes : (at : ℕ) (m : ℕ → ℕ) → length s.returns < deepest → WordAt m NOTES (suc (length s.returns)) → AreReturns m (return_address ∷ returns)
           → ((a : ℕ) → 0xC000 ≤ a → a ≤ 0xC061 → a ≢ NOTES → a ≢ NOTES + 1 → m a ≡ w.mem a) → (u : View) → Here (ly.start t) own m w.text w.answers u → Ends u
       goes at m few count held others =
@@ -200,11 +200,13 @@ module _ (around : Surroundings) (fits : Fits around.f 16) (limit : ℕ) (rs : S
           (jumps f 16 fits (at + 8 + 3) own x.mem w.text w.answers refl (ly.start t) routine.2.2.2.1 x
           (back_here _ _ w.text w.answers _ x g (behind_call (at + 8) routine.2.2.0))))))
 
+      -- GOSUB to a line that there is, with room on the return list
       pub call_to_found : nat_lt (length s.returns) deepest ≡ true → Comes f w Ends [] (13 + limit)
       call_to_found free =
           let room : length s.returns < deepest = omega (arith, ltb-true _ _ free) in
           ⊎_elim (λ near. looser f w _ _ [] 13 (13 + limit) (omega arith) (λ u x. x) (in_line near room)) (λ far. pushes far room) (cases_eq page 0)
 
+      -- GOSUB with a full return list is fault 4
       pub call_to_full : nat_lt (length s.returns) deepest ≡ false → Comes f w (IsHome f) (fault_text 4 n) (12 + limit)
       call_to_full full =
           let c = kept_two in
@@ -221,7 +223,7 @@ module _ (around : Surroundings) (fits : Fits around.f 16) (limit : ℕ) (rs : S
     abbrev other_way : Way
     other_way = h.second
 
-    -- where it asks for the low byte, takes the note, and calls the routine
+    -- where the low byte is tested, the return is taken, and the routine is called
     abbrev low_at : ℕ
     low_at = some_at one_way start
 
@@ -324,11 +326,13 @@ module _ (around : Surroundings) (fits : Fits around.f 16) (limit : ℕ) (rs : S
           h.text h.answers h.short)
           (jumps_through f 16 fits (taking + 16) own _ w.text w.answers refl (place_address ly p) d.result taking_lies.2.1 u e))))
 
+      -- RETURN goes on at the newest return
       pub return_law : Comes f w Returns [] (13 + limit)
       return_law =
           ⊎_elim (λ near. looser f w _ _ [] 13 (13 + limit) (omega arith) (λ u x. x) (takes near))
           (λ far. looser f w _ _ [] (12 + limit) (13 + limit) (omega arith) (λ u x. x) (pops (inl far))) (cases_eq page 0)
 
+    -- RETURN with an empty return list is fault 5
     pub return_fails : s.returns ≡ [] → Comes f w (IsHome f) (fault_text 5 n) (11 + limit)
     return_fails q =
         let count : WordAt m NOTES 0 = subst (λ l. WordAt m NOTES (length l)) q c.state.count in

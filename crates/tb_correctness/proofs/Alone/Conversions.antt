@@ -59,6 +59,7 @@ module _ (around : Surroundings) (fits : Fits around.f 16) (code : SlotCode) (n 
   asked : (what : Conversion) → StandsIn a k (live (spread_convert what a d is))
   asked what = word_asked k a (convert what k) (kept d ++ is) (convert_reads what k (kept d ++ is))
 
+  -- the law of a negation
   pub negate_law : Begins Negated → ConvertLeads Negated 7
   negate_law h =
       let fit = convert_fits Negated a d h.ranged in
@@ -81,7 +82,7 @@ module _ (around : Surroundings) (fits : Fits around.f 16) (code : SlotCode) (n 
     abbrev js : List Instr
     js = spread_convert IsDrawn a d is
 
-    -- whether it may fault; behind the line's number, where it may
+    -- whether it may fault; after the line's number, if it may
     abbrev risky : Bool
     risky = may_have_none src
 
@@ -105,7 +106,7 @@ module _ (around : Surroundings) (fits : Fits around.f 16) (code : SlotCode) (n 
     rest : GroupsLie ly f.code n (at + pieces_size (routine RANDOM_AT RESULT src (FixedWord ly.seed) (destination_at d))) (select is)
     rest = rest_by h risky code_of h.rest
 
-    -- the state behind it
+    -- the state after it
     abbrev drawn : State
     drawn = record s { seed = seed_after s.seed }
 
@@ -120,6 +121,7 @@ module _ (around : Surroundings) (fits : Fits around.f 16) (code : SlotCode) (n 
           homed = homed_kept m' m'' (g.others HOME_S refl refl refl) q.homed;
         }
 
+    -- the law of RND with a good bound
     pub draw_law : (nat_eq x 0 || nat_le 32768 x) ≡ false → ConvertLeads IsDrawn (17 + limit)
     draw_law good =
         subst (λ x. Comes f w (Target around x) (sent_in x) (17 + limit)) (sym (draw_goes code n a d is s r h.read.all_words fit.slot good))
@@ -142,6 +144,7 @@ module _ (around : Surroundings) (fits : Fits around.f 16) (code : SlotCode) (n 
     never k (Variable x) e = absurd (true≢false e)
     never k InSlot e = absurd (true≢false e)
 
+    -- RND with a bad bound is fault 3
     pub draw_fails_law : (nat_eq x 0 || nat_le 32768 x) ≡ true → ConvertLeads IsDrawn (17 + limit)
     draw_fails_law bad =
         subst (λ x. Comes f w (Target around x) (sent_in x) (17 + limit)) (sym (draw_fails code n a d is s r h.read.all_words fit.slot bad))

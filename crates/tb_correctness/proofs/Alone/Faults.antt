@@ -12,6 +12,7 @@ use Rattle.tb_correctness.proofs.Relation.Surroundings.{Serves, Surroundings}
 module _ (around : Surroundings) (fits : Fits around.f 16) (limit : ℕ) (rs : Serves around limit) where
   open around use {f, lo, hi}
 
+  -- a fault that the line's code hands over sends its text and ends the program
   pub faults_at : (n k : ℕ) → n < 65536 → k < 10 → (at : ℕ) (m : ℕ → ℕ) (text answers : List ℕ) → Lies f.code at (Code (faulting n k) ∷ [])
       → Entered f lo hi m → Moves f (Here at (lo ∷ hi ∷ []) m text answers) (IsHome f) (fault_text k n) (4 + limit)
   faults_at n k small few at m text answers lies homed =

@@ -1,4 +1,4 @@
--- The laws of jumps to a line whose number a word is.
+-- The laws of jumps to a line whose number is a word.
 use Rattle.std.proofs.Common.{◌≡◌, ℕ, suc, ◌+◌, ◌/◌, ◌%◌, ◌<◌, true, false, List, [], ◌∷◌, length, refl, sym, ◌∙◌, subst, arith}
 use Rattle.std.specs.Prelude.{nat_lt}
 use Rattle.std.proofs.lemmas.Bool.{ltb-true, ltb-false}
@@ -123,7 +123,7 @@ module _ (around : Surroundings) (fits : Fits around.f 16) (limit : ℕ) (rs : S
     counted : WordAt sought COUNT (length ly.numbers)
     counted = word_put three COUNT (length ly.numbers % 256) (length ly.numbers / 256) _ refl refl laid.count_small
 
-    -- behind the search, with the line's address
+    -- after the search, with the line's address
     finds : has_line ly.numbers wish ≡ true → (q : View → Type 0) (t : List ℕ) (k : ℕ) → ((u : View) → Kept around asked s r u.mem
         → WordAt u.mem LINE n → WordAt u.mem RESULT (ly.start wish) → Here (call_at + 3) own u.mem w.text w.answers u → Comes f u q t k)
         → Comes f w q t (4 + (4 + (1 + (4 + (4 + (1 + (limit + k)))))))
@@ -142,18 +142,19 @@ module _ (around : Surroundings) (fits : Fits around.f 16) (limit : ℕ) (rs : S
     abbrev place : ℕ
     place = fetched s r 0 a
 
-    -- the slots behind it
+    -- the slots after it
     abbrev slots : Slots
     slots = with_fetched s r 0 a
 
     all_slots : length r.words ≡ 16 → length slots.words ≡ 16
     all_slots e = fetched_length s r 0 a ∙ e
 
-    -- behind the search
+    -- the address after the search
     abbrev found_at : ℕ
     found_at = at + size (brought (source_of 0 a) WANTED) + 3
 
     module _ (h : Ready around n (Use AsLine a) (spread_use AsLine a is) is s r w) where
+      -- GOTO a computed line that there is
       pub jump_found : has_line ly.numbers place ≡ true → Comes f w (Matches around (record { state = record s { place = At place }; rest = Whole; slots = slots })) [] (19 + limit)
       jump_found found =
           looser f w _ _ [] (4 + (4 + (1 + (4 + (4 + (1 + (limit + 1))))))) (19 + limit) (omega arith) (λ u x. x)
@@ -163,11 +164,12 @@ module _ (around : Surroundings) (fits : Fits around.f 16) (limit : ℕ) (rs : S
           (state_placed ly (At place) s u.mem c.state) (all_slots h.read.all_words) c.homed h.text h.answers h.short)
           (jumps_through f 16 fits found_at own u.mem w.text w.answers refl (ly.start place) result h.lies.2.2.2.1 u e)))
 
+      -- GOTO a computed line that there is not is fault 1
       pub jump_fails : has_line ly.numbers place ≡ false → Comes f w (IsHome f) (fault_text 1 n) (19 + limit)
       jump_fails lost = looser f w _ _ (fault_text 1 n) (4 + (4 + (1 + (4 + (4 + (1 + limit)))))) (19 + limit) (omega arith) (λ u x. x) (lost_line AsLine a (Code jump_through ∷ []) h h.lies lost)
 
     module _ (h : Ready around n (Use AsSubroutine a) (spread_use AsSubroutine a is) is s r w) where
-      -- the template behind the search
+      -- the template after the search
       abbrev behind : List Piece
       behind = Code (pointed (next_at ly n) LEFT) ∷ Code (call PUSH_AT) ∷ Code jump_through ∷ []
 
@@ -177,7 +179,7 @@ module _ (around : Surroundings) (fits : Fits around.f 16) (limit : ℕ) (rs : S
       abbrev returning : View → ℕ → ℕ
       returning u = put_word u.mem LEFT (next_at ly n % 256) (next_at ly n / 256)
 
-      -- up to Push, where the line was found
+      -- up to Push, if the line was found
       calls_push : has_line ly.numbers place ≡ true → (q : View → Type 0) (t : List ℕ) (b : ℕ)
           → ((u : View) → WordAt (returning u) RESULT (ly.start place) → WordAt (returning u) LINE n → Kept around calls_for s r (returning u)
           → Moves f (Here PUSH_AT ((found_at + 8 + 2) % 256 ∷ (found_at + 8 + 2) / 256 ∷ own) (returning u) w.text w.answers) q t b)
@@ -192,6 +194,7 @@ module _ (around : Surroundings) (fits : Fits around.f 16) (limit : ℕ) (rs : S
           (word_away u.mem LEFT _ _ LINE n (λ e. omega (arith, e)) (λ e. omega (arith, e)) (λ e. omega (arith, e)) l)
           (kept_put around calls_for s r u.mem LEFT _ _ h.some_read refl refl c))))
 
+      -- GOSUB to a computed line that there is, with room on the return list
       pub call_found : has_line ly.numbers place ≡ true → nat_lt (length s.returns) deepest ≡ true
           → Comes f w (Matches around (record {
             state = record s { place = At place; returns = next_after ly.numbers n ∷ s.returns };
@@ -217,6 +220,7 @@ module _ (around : Surroundings) (fits : Fits around.f 16) (limit : ℕ) (rs : S
           (g.memory.others RESULT refl) (g.memory.others (RESULT + 1) refl) result) h.lies.2.2.2.2.2.1 x
           (back_here _ _ w.text w.answers _ x g (behind_call (found_at + 8) h.lies.2.2.2.2.0))))))
 
+      -- GOSUB to a computed line with a full return list is fault 4
       pub call_full : has_line ly.numbers place ≡ true → nat_lt (length s.returns) deepest ≡ false → Comes f w (IsHome f) (fault_text 4 n) (34 + (limit + limit))
       call_full found full =
           let t = fault_text 4 n in
@@ -225,5 +229,6 @@ module _ (around : Surroundings) (fits : Fits around.f 16) (limit : ℕ) (rs : S
           (subst (λ k. WordAt (returning u) NOTES k) (sym (length-map s.returns (place_address ly))) c.state.count) c.state.returns
           (omega (arith, ltb-false _ _ full, c.state.few, length-map s.returns (place_address ly))) l c.homed))
 
+      -- GOSUB to a computed line that there is not is fault 1
       pub call_fails : has_line ly.numbers place ≡ false → Comes f w (IsHome f) (fault_text 1 n) (19 + limit)
       call_fails lost = looser f w _ _ (fault_text 1 n) (4 + (4 + (1 + (4 + (4 + (1 + limit)))))) (19 + limit) (omega arith) (λ u x. x) (lost_line AsSubroutine a behind h h.lies lost)

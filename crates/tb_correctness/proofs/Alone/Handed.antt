@@ -1,4 +1,4 @@
--- A routine that is handed two words and gives one: up to its call, and behind it.
+-- A routine that is handed two words and gives one: up to its call, and after it.
 use Rattle.std.proofs.Common.{◌≡◌, ◌≢◌, ℕ, ◌+◌, ◌/◌, ◌%◌, List, [], ◌∷◌, refl, ◌∙◌, subst, arith}
 use Rattle.tb_meaning.specs.Control.{State}
 use Rattle.tb_lower.specs.Slots.{Instr, Slots, SlotCode, with_word}
@@ -31,6 +31,7 @@ use Rattle.tb_correctness.proofs.Relation.Surroundings.{Surroundings}
 abbrev pub Gives : ℕ → Type 0
 Gives from = InData from × ((d : Destination) → DestFits d → from + 1 ≢ destination_at d)
 
+-- LEFT is such an address
 pub left_gives : Gives LEFT
 left_gives = ((refl, refl), apart)
   where
@@ -39,6 +40,7 @@ left_gives = ((refl, refl), apart)
     apart (IntoHome (IntoVariable x)) fit e = omega (arith, e)
     apart (IntoHome IntoHeld) fit e = omega (arith, e)
 
+-- RESULT is such an address
 pub result_gives : Gives RESULT
 result_gives = ((refl, refl), apart)
   where
@@ -66,7 +68,7 @@ module _ {around : Surroundings} (fits : Fits around.f 16) {n : ℕ} {g : Group}
     pub line : WordAt m LINE n → WordAt m' LINE n
     pub kept : Kept around (live js) s r m'
 
-  -- its two words, its call and what is behind it
+  -- its two words, its call and what follows it
   module _ (entry at : ℕ) (a b : Source) (tail : List Piece) (m : ℕ → ℕ) (c : Kept around (live js) s r m)
       (lies : Lies f.code at (Code (brought a LEFT) ∷ Code (brought b RIGHT) ∷ Code (call entry) ∷ tail)) (x y : ℕ) (ga : Grounded a LEFT)
       (gb : Grounded b RIGHT) (ha : SourceHolds m a x) (hb : (m' : ℕ → ℕ) → Kept around (live js) s r m' → SourceHolds m' b y) where
@@ -107,10 +109,11 @@ module _ {around : Surroundings} (fits : Fits around.f 16) {n : ℕ} {g : Group}
         chained f u _ q [] t 4 (1 + k) (brings f 16 fits second_at own one w.text w.answers refl b RIGHT lies.2.0 gb (refl, refl) lies.2.1 u e) (λ u e.
         chained f u _ q [] t 1 k (calls f 16 fits call_at own two w.text w.answers refl entry refl lies.2.2.0 lies.2.2.1 u e) (next two handed))))
 
+    -- the call returns to what follows it
     pub comes_back : back_at ((call_at + 2) % 256) ((call_at + 2) / 256) ≡ call_at + 3
     comes_back = behind_call call_at lies.2.2.0
 
-  -- the same with its result taken to where it goes
+  -- the same with its result copied to where it goes
   module _ (entry from at : ℕ) (a b : Source) (d : Destination) (m : ℕ → ℕ) (c : Kept around (live js) s r m)
       (lies : Lies f.code at (routine entry from a b (destination_at d))) (x y : ℕ) (ga : Grounded a LEFT) (gb : Grounded b RIGHT)
       (ha : SourceHolds m a x) (hb : (m' : ℕ → ℕ) → Kept around (live js) s r m' → SourceHolds m' b y) where
@@ -120,6 +123,7 @@ module _ {around : Surroundings} (fits : Fits around.f 16) {n : ℕ} {g : Group}
     abbrev place : ℕ
     place = at + size (brought a LEFT) + size (brought b RIGHT)
 
+    -- up to the routine's entry, with both words handed over
     pub asks : (q : View → Type 0) (t : List ℕ) (k : ℕ)
         → ((m' : ℕ → ℕ) → Handed m x y m' → Moves f (Here entry ((place + 2) % 256 ∷ (place + 2) / 256 ∷ own) m' w.text w.answers) q t k)
         → Moves f (Here at own m w.text w.answers) q t (9 + k)
@@ -131,7 +135,7 @@ module _ {around : Surroundings} (fits : Fits around.f 16) {n : ℕ} {g : Group}
     behind_is : at + pieces_size (routine entry from a b (destination_at d)) ≡ end_at
     behind_is = let e : at + (size (brought a LEFT) + (size (brought b RIGHT) + (3 + (size (copied from (destination_at d)) + 0)))) ≡ end_at = omega arith in e
 
-    -- and on, where it gives a word
+    -- and on, if it gives a word
     pub gives : (code : SlotCode) (s' : State) (q : Slots) (v limit : ℕ) → Gives from → DestFits d → Lasting (live js) d is r q
         → GroupsLie ly f.code n (at + pieces_size (routine entry from a b (destination_at d))) (select is) → w.text ≡ s'.text → w.answers ≡ s'.answers
         → Typable keys s'.text s'.answers → ((l k : ℕ) (m' : ℕ → ℕ) → Handed m x y m' → Moves f (Here entry (l ∷ k ∷ own) m' w.text w.answers)

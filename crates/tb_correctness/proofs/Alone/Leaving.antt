@@ -21,6 +21,7 @@ use Rattle.tb_correctness.proofs.Relation.Surroundings.{Serves, Surroundings}
 module _ (around : Surroundings) (fits : Fits around.f 16) where
   open around use {ly, f, lo, hi}
 
+  -- the law of END
   pub end_law : (n : ℕ) (is : List Instr) (s : State) (r : Slots) (w : View) → Ready around n (Single End) (End ∷ is) is s r w → Comes f w (IsHome f) [] 1
   end_law n is s r w h =
       whatever f 16 fits w.regs.pc (lo ∷ hi ∷ []) w.mem w.text w.answers (IsHome f) [] 1 (λ a x y n v i z c.
@@ -31,7 +32,7 @@ module _ (around : Surroundings) (fits : Fits around.f 16) where
     abbrev own : List ℕ
     own = lo ∷ hi ∷ []
 
-    -- no such line
+    -- there is no such line
     faults : (i : Instr) (h : Ready around n (Single i) (i ∷ is) is s r w) → Lies f.code w.regs.pc (Code (faulting n 1) ∷ []) → Comes f w (IsHome f) (fault_text 1 n) (4 + limit)
     faults i h lies = faults_at around fits limit rs n 1 h.small (omega arith) w.regs.pc w.mem w.text w.answers lies h.homed w (here h)
 
@@ -39,6 +40,7 @@ module _ (around : Surroundings) (fits : Fits around.f 16) where
       jump_lies : (b : Bool) → has_line ly.numbers t ≡ b → Lies f.code w.regs.pc (jump_to ly n b t)
       jump_lies b e = subst (λ b. Lies f.code w.regs.pc (jump_to ly n b t)) e h.lies
 
+      -- a jump to a line that there is
       pub to_found : has_line ly.numbers t ≡ true → Comes f w (Matches around (record { state = record s { place = At t }; rest = Whole; slots = r })) [] 1
       to_found found =
           let lies = jump_lies true found in
@@ -46,5 +48,6 @@ module _ (around : Surroundings) (fits : Fits around.f 16) where
           (arrived around (record s { place = At t }) r (ly.start t) w.mem w.text w.answers refl (state_placed ly (At t) s w.mem h.state) h.read.all_words h.homed h.text h.answers h.short)
           (jumps f 16 fits w.regs.pc own w.mem w.text w.answers refl (ly.start t) lies.1 w (here h))
 
+      -- a jump to a line that there is not is fault 1
       pub to_fails : has_line ly.numbers t ≡ false → Comes f w (IsHome f) (fault_text 1 n) (4 + limit)
       to_fails lost = faults (JumpTo t) h (jump_lies false lost)

@@ -36,10 +36,11 @@ use Rattle.tb_correctness.proofs.Relation.Surroundings.{Surroundings}
 abbrev pub spread_move : Operand → Home → List Instr → List Instr
 spread_move a home is = fetch 0 a ++ keep home ∷ is
 
+-- the group's instructions, bracketed to the right
 pub spread_move_is : (a : Operand) (home : Home) (is : List Instr) → expand (Move a home) ++ is ≡ spread_move a home is
 spread_move_is a home is = append_assoc (fetch 0 a) (keep home ∷ []) is
 
--- the slots behind it
+-- the slots after it
 abbrev pub moved : State → Slots → Operand → Home → Slots
 moved s r a home = slots_landed (IntoHome home) (fetched s r 0 a) (with_fetched s r 0 a)
 
@@ -68,7 +69,7 @@ moved_length : (s : State) (r : Slots) (a : Operand) (home : Home) → length (m
 moved_length s r a (IntoVariable x) = fetched_length s r 0 a
 moved_length s r a IntoHeld = fetched_length s r 0 a
 
--- a slot that is read behind it stands before it, and is the same
+-- a slot that is read after it was read before it, and is the same
 slot_kept : (a : Operand) (home : Home) (is : List Instr) (s : State) (r : Slots) (m : ℕ → ℕ) (k : ℕ) → omits_only_dead (Move a home) (live is) ≡ true
     → HoldsLive (live (spread_move a home is)) r m → k < (live is).slots → WordAt m (slot_at k) (slice_index (moved s r a home).words k)
 slot_kept (Constant w) home is s r m k f h lt = absurd (omega (arith, lt, leb-true _ _ f))
@@ -122,6 +123,7 @@ module _ (around : Surroundings) (fits : Fits around.f 16) (code : SlotCode) (n 
       few : (live is).slots ≤ 16
       few = h.few_behind
 
+  -- the law of a move
   pub move_law : Comes f w (Target around (steps code (expand (Move a home)) (line code n (spread_move a home is) s r)))
       (sent_in (steps code (expand (Move a home)) (line code n (spread_move a home is) s r))) 4
   move_law =

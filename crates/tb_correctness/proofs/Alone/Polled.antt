@@ -1,4 +1,4 @@
--- The law of a line's beginning: an answer is taken in line; LINE is left alone.
+-- The law of a line's beginning: an answer is taken in line; LINE is unchanged.
 use Rattle.std.proofs.Common.{◌≡◌, ℕ, ◌+◌, ◌/◌, ◌%◌, ◌≤◌, ◌<◌, cond, Bool, true, false, if◌then◌else◌, List, [], ◌∷◌}
 use Rattle.std.proofs.Common.{drop, refl, sym, ap, ◌∙◌, subst, arith, eqb, Option, Some, None, inl, inr}
 use Rattle.std.specs.Prelude.{nat_eq}
@@ -88,7 +88,7 @@ module _ (around : Surroundings) (fits : Fits around.f 16) (limit : ℕ) (rs : S
     abbrev way : Way
     way = lies.0
 
-    -- its branch, what is behind it, and where it leads
+    -- its branch, what follows it, and where it leads
     abbrev near : ℕ
     near = at + 3 + 2
 
@@ -104,7 +104,7 @@ module _ (around : Surroundings) (fits : Fits around.f 16) (limit : ℕ) (rs : S
     rest : GroupsLie ly f.code n onward (select is)
     rest = subst (λ p. GroupsLie ly f.code n p (select is)) (let e : at + 5 + way_size way ≡ onward = omega arith in e) lies.7
 
-    -- behind the comparison
+    -- after the comparison
     compared : (z : Bool) → eqb stop 3 ≡ z → stop < 256 → Moves f (WithA (at + 3) stop own w.mem s.text (drop 1 s.answers)) (Flagged near own w.mem s.text (drop 1 s.answers) z) [] 1
     compared z e lt u g = looser f u _ _ [] 1 1 (omega arith)
         (λ v k. record { here = k.here; zero = k.zero ∙ same_byte stop 3 lt (omega arith) ∙ e })
@@ -216,6 +216,6 @@ module _ (around : Surroundings) (fits : Fits around.f 16) (limit : ℕ) (rs : S
         no_line (h.pc ∙ ap (place_address ly) here)
         (ap (λ p. first code (select (ahead code Whole p)) whole) here ∙ ap (λ p. instr_at code Whole p s r) here)
 
-    -- the law where nothing of a line is left to be done
+    -- the law if nothing of a line is left to be done
     pub lines_law : LawAt Whole f w (Target around (first_group code whole)) (sent_in (first_group code whole)) (34 + (limit + limit))
     lines_law = by_place s.place refl

@@ -26,6 +26,7 @@ module _ (around : Surroundings) (fits : Fits around.f 16) (code : SlotCode) (n 
   abbrev own : List ℕ
   own = lo ∷ hi ∷ []
 
+  -- the law of Put
   pub put_law : (k v : ℕ) → Ready around n (Single (Put k v)) (Put k v ∷ is) is s r w → Comes f w (Matches around (line code n is s (with_word r k (word v)))) [] 4
   put_law k v h =
       let fit = h.ranged.0.0 in
@@ -37,6 +38,7 @@ module _ (around : Surroundings) (fits : Fits around.f 16) (code : SlotCode) (n 
       lasting : Lasting (live (Put k v ∷ is)) (IntoSlot k) is r r
       lasting = record { all = refl; same_held = refl; dead = tt; others = λ j lt ne. (written_reads j k (live is) lt ne, refl); held = λ q. q }
 
+  -- the law of Load
   pub load_law : (k x : ℕ) → Ready around n (Single (Load k x)) (Load k x ∷ is) is s r w → Comes f w (Matches around (line code n is s (with_word r k (slice_index s.vars x)))) [] 4
   load_law k x h =
       let fit = h.ranged.0 in

@@ -1,4 +1,4 @@
--- A note that is stored or taken in line: the code's pieces, and what they leave in memory.
+-- A return that is stored or taken in line: the code's pieces, and what they leave in memory.
 use Rattle.std.proofs.Common.{◌≡◌, ◌≢◌, ℕ, suc, ◌+◌, ◌/◌, ◌%◌, ◌≤◌, ◌<◌, Bool, true, false, cond, List, [], ◌∷◌}
 use Rattle.std.proofs.Common.{length, refl, sym, ap, ◌∙◌, subst, arith, leb, eqb, Ok}
 use Rattle.std.proofs.lemmas.Bool.Decides.{nat_tests}
@@ -36,7 +36,7 @@ module _ (f : Setup) (room : ℕ) (fits : Fits f room) (bs : List ℕ) (m : ℕ 
       (subst (λ m. Comes f (view w.regs.a w.regs.x w.regs.y w.regs.flags.n w.regs.flags.v w.regs.flags.i w.regs.flags.z w.regs.flags.c at bs m text answers) q t l) (sym e.here.mem)
       (subst (λ x. Comes f (view w.regs.a x w.regs.y w.regs.flags.n w.regs.flags.v w.regs.flags.i w.regs.flags.z w.regs.flags.c at bs m text answers) q t l) (sym e.index) (h _ _ _ _ _ _ _)))
 
-  -- a byte of data in X, and whether it is 0
+  -- a byte of data in X, with Z telling whether it is 0
   record Loaded (at x : ℕ) (w : View) : Type 0 where
     indexed : Indexed at x w
     zero : w.regs.flags.z ≡ eqb x 0
@@ -69,7 +69,7 @@ module _ (f : Setup) (room : ℕ) (fits : Fits f room) (bs : List ℕ) (m : ℕ 
       looser f u _ _ [] 2 2 (omega arith) (λ v k. record { here = k.here; index = k.index ∙ g.indexed.index })
       (branches f room fits bs m text answers small (at + 3) way Zero wanted t to room_behind.0 reach lies.2.1 u g.indexed.here (g.zero ∙ e)))
 
-  -- ---- a note's bytes by X
+  -- ---- a return's bytes by X
   stores_by_x : (base p : ℕ) (v : View) (q : View → Type 0) (t : List ℕ) (n : ℕ) → leb (length v.stack) room ≡ true
       → Bytes f.code v.regs.pc (instr_bytes (ins 0x9D base)) → (base + v.regs.x) % 65536 ≡ p → is_data p ≡ true
       → Comes f (record v { regs = advanced v.regs AbsoluteX; mem = with_byte v.mem p v.regs.a }) q t n → Comes f v q t (1 + n)
@@ -92,6 +92,7 @@ module _ (f : Setup) (room : ℕ) (fits : Fits f room) (bs : List ℕ) (m : ℕ 
     abbrev pub counted : ℕ → ℕ
     counted = with_byte with_return NOTES ((with_return NOTES + 1) % 256)
 
+    -- the piece that stores a return
     pub stores_return : at + 16 ≤ highest_code → Stands f.code at (return_stored l h) → Moves f (Here at bs m text answers)
         (Flagged (at + 16) bs counted text answers (eqb ((with_return NOTES + 1) % 256) 0)) [] 6
     stores_return r st = whatever f room fits at bs m text answers _ [] 6 (λ a x y n v i z c.
@@ -114,7 +115,7 @@ module _ (f : Setup) (room : ℕ) (fits : Fits f room) (bs : List ℕ) (m : ℕ 
       (record { pc = omega (arith, r); stack = refl; binary = refl; mem = refl; text = refl; answers = refl }))
 
   module _ (at x : ℕ) (few : x < 256) where
-    -- the count's low byte less one, and memory with it, and then with the note's bytes as the result
+    -- the count's low byte less one, and memory with it, and then with the return's bytes as the result
     abbrev pub left : ℕ
     left = (x + 255) % 256
 
@@ -127,6 +128,7 @@ module _ (f : Setup) (room : ℕ) (fits : Fits f room) (bs : List ℕ) (m : ℕ 
     abbrev pub taken : ℕ → ℕ
     taken = with_byte half_taken (RESULT + 1) (half_taken (RETURN_HIGH + left))
 
+    -- the piece that takes a return
     pub takes_return : at + 16 ≤ highest_code → Stands f.code at return_taken → Moves f (Indexed at x) (Here (at + 16) bs taken text answers) [] 6
     takes_return r st = whatever_x at x _ [] 6 (λ a y n v i z c.
         placing f room fits (ins 0xCA 0) (view a x y n v i z c at bs m text answers) _ _ [] 5 small st.0 refl
@@ -141,7 +143,7 @@ module _ (f : Setup) (room : ℕ) (fits : Fits f room) (bs : List ℕ) (m : ℕ 
         (record { pc = omega (arith, r); stack = refl; binary = refl; mem = refl; text = refl; answers = refl })))))))
 
 -- ---- what they leave in memory
--- what changes no byte of the first notes leaves them
+-- memory that agrees on the bytes of the first returns has them too
 returns_same : (m k : ℕ → ℕ) (ns : List ℕ) → ((j : ℕ) → j < length ns → (k (RETURN_LOW + j) ≡ m (RETURN_LOW + j)) × (k (RETURN_HIGH + j) ≡ m (RETURN_HIGH + j)))
     → AreReturns m ns → AreReturns k ns
 returns_same m k [] e h = tt
@@ -149,7 +151,7 @@ returns_same m k (n ∷ ns) e h =
     let s = e (length ns) (omega arith) in
     (record { low = s.0 ∙ h.0.low; high = s.1 ∙ h.0.high; small = h.0.small }, returns_same m k ns (λ j p. e j (omega (arith, p))) h.1)
 
--- memory with a note more than another
+-- memory with one return more than another
 pub record Added (m : ℕ → ℕ) (return_address : ℕ) (ns : List ℕ) (m' : ℕ → ℕ) : Type 0 where
   pub count : WordAt m' NOTES (suc (length ns))
   pub held : AreReturns m' (return_address ∷ ns)
@@ -162,6 +164,7 @@ module _ (m : ℕ → ℕ) (return_address : ℕ) (ns : List ℕ) (word : return
   index : m NOTES ≡ length ns
   index = omega (arith, count.low, few)
 
+  -- the count's low byte is a byte
   pub index_small : m NOTES < 256
   index_small = omega (arith, index, few)
 
@@ -199,7 +202,7 @@ module _ (m : ℕ → ℕ) (return_address : ℕ) (ns : List ℕ) (word : return
   high_byte : two (NOTES + 1) ≡ 0
   high_byte = apart (NOTES + 1) (λ e. omega (arith, e)) (λ e. omega (arith, e)) ∙ near
 
-  -- what then changes the count only
+  -- what then changes only the count
   with_count : (m' : ℕ → ℕ) → ((a : ℕ) → a ≢ NOTES → a ≢ NOTES + 1 → m' a ≡ two a) → WordAt m' NOTES (suc (length ns)) → Added m return_address ns m'
   with_count m' e c = record {
     count = c;
@@ -219,13 +222,14 @@ module _ (m : ℕ → ℕ) (return_address : ℕ) (ns : List ℕ) (word : return
   goes_up : three NOTES ≡ (length ns + 1) % 256
   goes_up = put_same two NOTES _ NOTES refl ∙ ap (λ k. (k + 1) % 256) low_byte
 
-  -- the count has no carry, or has one
+  -- the count has no carry
   pub added : eqb ((two NOTES + 1) % 256) 0 ≡ false → Added m return_address ns three
   added e = with_count three (λ a n n'. put_other two NOTES _ a n) (record { low = omega (arith, goes_up); high = omega (arith, stays, some); small = omega (arith, few) })
     where
       some : length ns + 1 < 256
       some = let no : (length ns + 1) % 256 ≢ 0 = λ z. grind (arith, nat_tests, e, low_byte, z) in omega (arith, no, few)
 
+  -- the count has a carry
   pub carried : eqb ((two NOTES + 1) % 256) 0 ≡ true → Added m return_address ns (with_byte three (NOTES + 1) ((three (NOTES + 1) + 1) % 256))
   carried e =
       with_count (with_byte three (NOTES + 1) ((three (NOTES + 1) + 1) % 256)) (λ a n n'. put_other three (NOTES + 1) _ a n' ∙ put_other two NOTES _ a n)
@@ -238,7 +242,7 @@ module _ (m : ℕ → ℕ) (return_address : ℕ) (ns : List ℕ) (word : return
       full : length ns + 1 ≡ 256
       full = let z : (length ns + 1) % 256 ≡ 0 = grind (arith, nat_tests, e, low_byte) in omega (arith, z, few)
 
--- memory with a note less, which is the result
+-- memory with one return less, which is the result
 pub record Dropped (m : ℕ → ℕ) (return_address : ℕ) (ns : List ℕ) (m' : ℕ → ℕ) : Type 0 where
   pub result : WordAt m' RESULT return_address
   pub count : WordAt m' NOTES (length ns)
@@ -255,6 +259,7 @@ module _ (m : ℕ → ℕ) (return_address : ℕ) (ns : List ℕ) (count : WordA
   pub some : x ≡ suc (length ns)
   some = omega (arith, count.low, few_left)
 
+  -- the count's low byte is a byte
   pub some_small : x < 256
   some_small = omega (arith, some, few_left)
 
@@ -281,6 +286,7 @@ module _ (m : ℕ → ℕ) (return_address : ℕ) (ns : List ℕ) (count : WordA
       put_other first RESULT _ (RETURN_HIGH + down) (λ e. omega (arith, e)) ∙ put_other m NOTES down (RETURN_HIGH + down) (λ e. omega (arith, e))
       ∙ ap (λ j. m (RETURN_HIGH + j)) down_is ∙ held.0.high
 
+  -- the newest return was dropped from the list
   pub dropped : Dropped m return_address ns third
   dropped = record {
     result = record {

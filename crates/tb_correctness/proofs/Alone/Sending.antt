@@ -43,11 +43,11 @@ module _ (around : Surroundings) (fits : Fits around.f 16) (limit : ℕ) (rs : S
   abbrev own : List ℕ
   own = lo ∷ hi ∷ []
 
-  -- where bytes were sent
+  -- the state after bytes were sent
   abbrev sent : List ℕ → State
   sent t = record s { column = column_after s.column t }
 
-  -- behind the call of a routine that sends bytes
+  -- after the call of a routine that sends bytes
   told_lands : (g : Group) (js : List Instr) (h : Ready around n g js is s r w) (r' : Slots) → ((m : ℕ → ℕ) → HoldsLive (live js) r m
       → HoldsLive (live is) r' m) → (t : List ℕ) (at back : ℕ) (m : ℕ → ℕ) → GroupsLie ly f.code n at (select is) → Kept around (live js) s r m
       → back ≡ at → (v : View) → Leaves back own w.text w.answers (Sent is_scratch m t) v → Matches around (line code n is (sent t) r') v
@@ -93,6 +93,7 @@ module _ (around : Surroundings) (fits : Fits around.f 16) (limit : ℕ) (rs : S
       c'.homed h.text h.answers h.short v (moved _ _ own _ w.text w.answers v e (omega arith)))
       (jumps f 16 fits (w.regs.pc + 16) own u.mem w.text w.answers refl (w.regs.pc + 19 + length t) lies.2.1 u (back_here _ (w.regs.pc + 16) w.text w.answers _ u g e0))))
 
+  -- the law of a text
   pub text_law : (t : List ℕ) → Ready around n (Single (SendText t)) (SendText t ∷ is) is s r w → Comes f w (Matches around (line code n is (sent t) r)) t (8 + limit)
   text_law t h =
       let m = with_byte w.mem 0xFB ((w.regs.pc + 19) % 256) in
@@ -113,6 +114,7 @@ module _ (around : Surroundings) (fits : Fits around.f 16) (limit : ℕ) (rs : S
       returns_to at b = let e : (((((((((at + 2) % 65536 + 2) % 65536 + 2) % 65536 + 2) % 65536 + 2) % 65536) + 3) % 65536 + 3) % 65536 + 65535) %
           65536 ≡ at + 15 = omega arith in ap (λ p. back_at (p % 256) (p / 256)) e ∙ (let e' : back_at ((at + 15) % 256) ((at + 15) / 256) ≡ at + 16 = omega arith in e')
 
+  -- the law of a zone
   pub zone_law : Ready around n (Single SendZone) (SendZone ∷ is) is s r w → Comes f w (Matches around (line code n is (sent (zone s.column)) r)) (zone s.column) (1 + limit)
   zone_law h =
       let same : zone (w.mem COLUMN) ≡ zone s.column = ap zone' h.state.column ∙ zone_mod s.column in
@@ -128,6 +130,7 @@ module _ (around : Surroundings) (fits : Fits around.f 16) (limit : ℕ) (rs : S
       zone_mod : (c : ℕ) → zone (c % 256) ≡ zone c
       zone_mod c = ap (λ k. replicate (8 - k) 32) (let e : c % 256 % 8 ≡ c % 8 = omega arith in e)
 
+  -- the law of a number
   pub number_law : (a : Operand) → Ready around n (Use AsNumber a) (spread_use AsNumber a is) is s r w
       → Comes f w (Matches around (line code n is (sent (digits_of (fetched s r 0 a))) (with_fetched s r 0 a))) (digits_of (fetched s r 0 a)) (5 + limit)
   number_law a h =

@@ -77,6 +77,7 @@ module _ (around : Surroundings) (fits : Fits around.f 16) (limit : ℕ) (rs : S
         (ap (drop 1) e ∙ sym e) h.short.answer_bytes (ap (λ l. nat_eq (first_or_zero l) 3) e))
     by_answers h (a ∷ l) e = by_break h a l e (nat_eq a 3) refl
 
+    -- the law of each instruction that is a group of its own
     pub act_law : (i : Instr) → alone i ≡ Single i → Begins i → Leads w (settled n is r (act ly.numbers n i s r))
     act_law (Put k v) a h = looser f w _ _ [] 4 most (omega arith) (λ u x. x) (put_law around fits code n is s r w k v h)
     act_law (Load k x) a h = looser f w _ _ [] 4 most (omega arith) (λ u x. x) (load_law around fits code n is s r w k x h)

@@ -1,4 +1,4 @@
--- The laws of uses of a word: as a number that is sent, or as a line that is gone to or called.
+-- The laws of uses of a word: as a number that is sent, or as the number of a line for GOTO or GOSUB.
 use Rattle.std.proofs.Common.{◌≡◌, ℕ, ◌+◌, Bool, true, false, if◌then◌else◌, List, [], ◌∷◌, length, refl, sym, subst, arith}
 use Rattle.std.specs.Prelude.{nat_lt}
 use Rattle.tb_words.specs.Words.{digits_of}
@@ -28,7 +28,7 @@ module _ (around : Surroundings) (fits : Fits around.f 16) (limit : ℕ) (rs : S
   abbrev Begins : Usage → Type 0
   Begins how = Ready around n (Use how a) (spread_use how a is) is s r w
 
-  -- the word, and the slots behind it
+  -- the word, and the slots after it
   abbrev x : ℕ
   x = fetched s r 0 a
 
@@ -52,6 +52,7 @@ module _ (around : Surroundings) (fits : Fits around.f 16) (limit : ℕ) (rs : S
   does AsLine h = by_line h (has_line ly.numbers x) refl
   does AsSubroutine h = by_room h (has_line ly.numbers x) (nat_lt (length s.returns) deepest) refl refl
 
+  -- the law of each use of a word
   pub use_law : (how : Usage) → Begins how → Leads around fits limit rs code laid w (steps code (expand (Use how a)) (line code n (spread_use how a is) s r))
   use_law how h =
       subst (λ x. Leads around fits limit rs code laid w x) (sym (use_steps code n how a is s r h.read.all_words))

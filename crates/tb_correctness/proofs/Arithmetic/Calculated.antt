@@ -1,4 +1,4 @@
--- What the law of every calculation stands on: its words, where they stand, and its result where it goes.
+-- What the law of every calculation is built on: its words, where they are, and its result where it goes.
 use Rattle.std.proofs.Common.{◌≡◌, ℕ, [], List, None, Some, ap, arith, subst, sym, ◌%◌, ◌+◌, ◌/◌, ◌<◌, ◌∷◌, ◌≢◌, ◌≤◌}
 use Rattle.tb_syntax.specs.declared.expressions.Operator.TheVariants as op
 use Rattle.std.proofs.lemmas.Bool.{ne_eqb}
@@ -49,7 +49,7 @@ calculation a b d s r = record {
   to = destination_at d;
 }
 
--- what a division gives where it gives a word
+-- what a division gives, if it gives a word
 pub quotient_is : (x y : ℕ) → y ≢ 0 → apply op.Divide x y ≡ Some (quotient x y)
 quotient_is x y some = ap (λ t. if t then None else Some (quotient x y)) (ne_eqb y 0 some)
 
@@ -58,19 +58,23 @@ module _ {around : Surroundings} {n : ℕ} {op : Operator} {a b : Operand} {d : 
   open around use {ly, f, lo, hi}
   open calculation a b d s r use {k, x, y, left, right, to}
 
+  -- the operands and the destination of a calculation are in range
   pub fit : CalcFits a b d
   fit = calc_fits op a b d h.ranged
 
-  -- its words stand where its sources say, and apart from what the routines take
+  -- its words are where its sources say, and apart from what the routines take
   pub left_holds : (m : ℕ → ℕ) → Kept around (live (spread op a b d is)) s r m → SourceHolds m left x
   left_holds m c = operand_held ly s (live (spread op a b d is)) r m k a c.state c.read fit.left (left_asked op a b d is)
 
+  -- its right word is where its source says
   pub right_holds : (m : ℕ → ℕ) → Kept around (live (spread op a b d is)) s r m → SourceHolds m right y
   right_holds m c = operand_held ly s (live (spread op a b d is)) r m (k + 1) b c.state c.read fit.right (right_asked op a b d is)
 
+  -- its left source is apart from LEFT
   pub left_apart : Grounded left LEFT
   left_apart = operand_apart k a LEFT (omega arith) (omega (arith, fit.slot)) fit.left
 
+  -- its right source is apart from each address below the data
   pub right_apart : (p : ℕ) → p ≤ 0xC000 → Grounded right p
   right_apart p e = operand_apart (k + 1) b p e fit.slot fit.right
 
@@ -80,7 +84,7 @@ module _ {around : Surroundings} {n : ℕ} {op : Operator} {a b : Operand} {d : 
     Leads j = Comes f w (Target around (steps code (expand (Calculate op a b d)) (line code n (spread op a b d is) s r)))
         (sent_in (steps code (expand (Calculate op a b d)) (line code n (spread op a b d is) s r))) j
 
-    -- by its result
+    -- the law of a calculation with a result
     pub leads_on : (v j : ℕ) → apply op x y ≡ Some v → Comes f w (Matches around (line code n is (landed d v s) (calculated s r a b d v))) [] j → Leads j
     leads_on v j e c = subst (λ z. Comes f w (Target around z) (sent_in z) j) (sym (calculate_goes code n op a b d is s r h.read.all_words fit.slot v e)) c
 
@@ -92,7 +96,7 @@ module _ {around : Surroundings} {n : ℕ} {op : Operator} {a b : Operand} {d : 
         (with_fetched s (with_fetched s r k a) (k + 1) b) v l g at m w.text w.answers low high small fit.dest
         (calculate_lasting op a b d is s r h.free) rest c h.text h.answers h.short
 
-    -- a routine gets both words, and its answer goes there
+    -- a routine gets both words, and its answer goes to the destination
     pub on_two : (fits : Fits f 16) (entry from at : ℕ) (m : ℕ → ℕ) → Kept around (live (spread op a b d is)) s r m
         → Lies f.code at (routine entry from left right to) → (v limit : ℕ) → Gives from → GroupsLie ly f.code n (at + pieces_size (routine entry from left right to)) (select is)
         → ((l g : ℕ) (m' : ℕ → ℕ) → Handed fits h m x y m' → Moves f (Here entry (l ∷ g ∷ lo ∷ hi ∷ []) m' w.text w.answers) (Given fits h from (back_at l g) s v) [] limit)

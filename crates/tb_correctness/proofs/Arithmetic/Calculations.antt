@@ -33,6 +33,7 @@ added_word al ah bl bh a b p q s t ra rb =
     let c = one_carry (al + bl + 0) (omega (arith, p, s)) in
     (omega (arith, p, s), omega (arith, c, p, q, s, t, ra, rb))
 
+-- the difference of two words, by bytes
 pub subtracted_word : (al ah bl bh a b : ℕ) → al ≡ a % 256 → ah ≡ a / 256 → bl ≡ b % 256 → bh ≡ b / 256 → a < 65536 → b < 65536
     → ((al + 256 - (bl + 0)) % 256 ≡ word (a + (65536 - b)) % 256) × ((ah + 256 - (bh + bit (not (nat_le (bl + 0) al)))) % 256 ≡ word (a + (65536 - b)) / 256)
 subtracted_word al ah bl bh a b p q s t ra rb = (omega (arith, p, s, rb), go (nat_le (bl + 0) al) refl)
@@ -59,6 +60,7 @@ module _ {around : Surroundings} {n : ℕ} {a b : Operand} {d : Destination} {is
   open around use {ly, f, lo, hi}
   open calculation a b d s r use {k, x, y, left, right, to}
 
+  -- the law of a sum
   pub add_law : Lies f.code w.regs.pc (calc_code n op.Add left right to) → GroupsLie ly f.code n (w.regs.pc + pieces_size (calc_code n op.Add left right to)) (select is) → Leads h code 7
   add_law lies rest =
       let p = left_holds h w.mem (kept h) in
@@ -74,6 +76,7 @@ module _ {around : Surroundings} {n : ℕ} {a b : Operand} {d : Destination} {is
   open around use {ly, f, lo, hi}
   open calculation a b d s r use {k, x, y, left, right, to}
 
+  -- the law of a difference
   pub subtract_law : Lies f.code w.regs.pc (calc_code n op.Subtract left right to)
       → GroupsLie ly f.code n (w.regs.pc + pieces_size (calc_code n op.Subtract left right to)) (select is) → Leads h code 7
   subtract_law lies rest =

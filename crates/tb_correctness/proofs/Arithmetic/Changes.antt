@@ -27,12 +27,12 @@ IsByte (Raise c) = c < 256
 IsByte (Lower c) = c < 256
 IsByte _ = Unit {0}
 
--- a change makes of a word what a function with the constant w does
+-- a change does to a word what a function with the constant w does
 pub record Computes (c : Change) (w : ℕ) (of : ℕ → Option ℕ) : Type 0 where
   pub few : IsByte c
   pub is : w < 65536 → (x : ℕ) → of x ≡ Some (changed c x)
 
--- so where there is one
+-- the same for a change, if there is one
 abbrev IfAny : Option Change → ℕ → (ℕ → Option ℕ) → Type 0
 IfAny (Some c) w of = Computes c w of
 IfAny None w of = Unit {0}
@@ -74,12 +74,13 @@ left_is Subtract v = tt
 left_is Multiply v = doubling_is v (λ x. apply Multiply v x) (λ e x. to_some _ _ (ap (λ u. word (u * x)) e))
 left_is Divide v = tt
 
--- a change of the word at a place with a constant
+-- a change of the word at an address by a constant
 pub data IsChange (op : Operator) (a b : Source) (to : ℕ) : Option Change → Type 0 where
   of_left : (w : ℕ) (c : Change) → a ≡ AtAddress to → b ≡ FixedWord w → Computes c w (λ x. apply op x w) → IsChange op a b to (Some c)
   of_right : (v : ℕ) (c : Change) → a ≡ FixedWord v → b ≡ AtAddress to → Computes c v (λ x. apply op v x) → IsChange op a b to (Some c)
   elsewhere : IsChange op a b to None
 
+-- `change_of` finds a change only if the calculation is one
 pub change_is : (op : Operator) (a b : Source) (to : ℕ) → IsChange op a b to (change_of op a b to)
 change_is op (AtAddress p) (FixedWord w) to = by (nat_eq p to) refl (with_right op w) (right_is op w)
   where

@@ -1,4 +1,4 @@
--- The laws of products and quotients, by routines, or where one word is a constant by its bits and by shifts.
+-- The laws of products and quotients: by routines, or, if one word is a constant, by its bits and by shifts.
 use Rattle.std.proofs.Common.{◌≡◌, ◌≢◌, ℕ, ◌+◌, ◌*◌, ◌^◌, ◌≤◌, ◌<◌, true, false, true≢false, List, refl, sym, ap}
 use Rattle.std.proofs.Common.{◌∙◌, subst, arith, Option, ⊎_elim, mul_comm}
 use Rattle.std.specs.Prelude.{nat_le}
@@ -46,6 +46,7 @@ module _ {around : Surroundings} (fits : Fits around.f 16) (limit : ℕ) (rs : S
   open around use {ly, f}
   open calculation a b d s r use {y, left, right, to}
 
+  -- the law of a quotient, by shifts or by the routine
   pub quotient_law : (o : Option ℕ) → IsShifting right o → Lies f.code w.regs.pc (quotient_code n o left right to)
       → GroupsLie ly f.code n (w.regs.pc + pieces_size (quotient_code n o left right to)) (select is) → Leads h code (17 + limit)
   quotient_law _ (by_shifts v j e few power) lies rest =
@@ -65,6 +66,7 @@ module _ {around : Surroundings} (fits : Fits around.f 16) (limit : ℕ) (rs : S
   above_one : (v : ℕ) → is_factor v ≡ true → 2 ≤ v
   above_one v e = leb-true 2 v (and_parts (nat_le 2 v) (nat_le (bits_size 15 v) 60) e).0
 
+  -- the law of a product, by a constant's bits or by the routine
   pub product_law : (o : Option (ℕ × Source)) → IsScaling left right o → Lies f.code w.regs.pc (product_code o left right to)
       → GroupsLie ly f.code n (w.regs.pc + pieces_size (product_code o left right to)) (select is) → Leads h code (13 + limit)
   product_law _ (by_right v e good) lies rest =

@@ -37,7 +37,7 @@ module _ {around : Surroundings} (fits : Fits around.f 16) (limit : ℕ) (rs : S
   open around use {ly, f}
   open calculation a b d s r use {k, x, y, left, right, to}
 
-  -- whether it may fault; behind the line's number, where it may
+  -- whether it may fault; after the line's number, if it may
   abbrev risky : Bool
   risky = may_be_zero right
 
@@ -52,6 +52,7 @@ module _ {around : Surroundings} (fits : Fits around.f 16) (limit : ℕ) (rs : S
   none_is : y ≡ 0 → apply op.Divide x y ≡ None
   none_is zero = ap (λ t. if t then None else Some (quotient x y)) (eq-eqb y 0 zero)
 
+  -- the law of a division
   pub divide_law : y ≢ 0 → Leads h code (17 + limit)
   divide_law some =
       leads_on h code (quotient x y) (17 + limit) (quotient_is x y some)
@@ -72,6 +73,7 @@ module _ {around : Surroundings} (fits : Fits around.f 16) (limit : ℕ) (rs : S
   never k (Variable x) e = absurd (true≢false e)
   never k InSlot e = absurd (true≢false e)
 
+  -- a division by 0 is fault 2
   pub divide_fails : y ≡ 0 → Leads h code (17 + limit)
   divide_fails zero =
       subst (λ x. Comes f w (Target around x) (sent_in x) (17 + limit)) (sym (calculate_fails code n op.Divide a b d is s r h.read.all_words (fit h).slot (none_is zero)))

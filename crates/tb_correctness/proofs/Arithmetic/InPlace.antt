@@ -43,7 +43,7 @@ use Rattle.tb_correctness.proofs.Relation.Surroundings.{Surroundings}
 use Rattle.tb_correctness.proofs.Arithmetic.Calculated.{Leads, calculation, fit, leads_on, left_holds, result_lands, right_holds}
 
 -- ---- bytes written
--- a byte that is there already
+-- a byte that is written over itself
 put_back : (m : ℕ → ℕ) (p b : ℕ) → b ≡ m p → with_byte m p b ≡ m
 put_back m p b e = λ i. λ a. by a (eqb a p) refl i
   where
@@ -63,7 +63,7 @@ put_over m p l h k j = λ i. λ a. by a (eqb a (p + 1)) (eqb a p) i
 both_put : (m : ℕ → ℕ) (p l h v : ℕ) → l ≡ v % 256 → h ≡ v / 256 → put_word m p l h ≡ put_word m p (v % 256) (v / 256)
 both_put m p l h v e e' = λ i. put_word m p (e i) (e' i)
 
--- the low byte alone, where the high one stands
+-- the low byte alone, if the high one is right already
 low_put : (m : ℕ → ℕ) (p l v : ℕ) → l ≡ v % 256 → m (p + 1) ≡ v / 256 → with_byte m p l ≡ put_word m p (v % 256) (v / 256)
 low_put m p l v e e' =
     sym (put_back (with_byte m p l) (p + 1) (v / 256) (sym e' ∙ sym (put_other m p l (p + 1) (λ q. omega (arith, q)))))
@@ -82,7 +82,7 @@ high_bit h small = ⊎_elim
     (cases_lt h 128)
 
 module _ (f : Setup) (room : ℕ) (fits : Fits f room) (at : ℕ) (bs : List ℕ) (m : ℕ → ℕ) (text answers : List ℕ) (small : leb (length bs) room ≡ true) where
-  -- ---- single instructions on a byte at a place
+  -- ---- single instructions on a byte at an address
   -- one more, and one less
   counts_up : (p : ℕ) → is_data p ≡ true → at + 3 ≤ highest_code → Bytes f.code at (instr_bytes (ins 0xEE p)) → Moves f (Here at bs m text answers)
       (Flagged (at + 3) bs (with_byte m p ((m p + 1) % 256)) text answers (eqb ((m p + 1) % 256) 0)) [] 1
@@ -162,7 +162,7 @@ module _ (f : Setup) (room : ℕ) (fits : Fits f room) (at : ℕ) (bs : List ℕ
         carry = refl;
       }))
 
-  -- A goes to a place and stays, and its sign goes to C
+  -- A goes to an address and stays, and its sign goes to C
   keeps_a : (p a : ℕ) (c : Bool) → is_data p ≡ true → at + 3 ≤ highest_code → Bytes f.code at (instr_bytes (ins 0x8D p))
       → Moves f (Known at a c bs m text answers) (WithA (at + 3) a bs (with_byte m p a) text answers) [] 1
   keeps_a p a c d r st = whatever_known f room fits at a c bs m text answers _ [] 1 (λ x y n v i z.
@@ -196,7 +196,7 @@ module _ (f : Setup) (room : ℕ) (fits : Fits f room) (at : ℕ) (bs : List ℕ
 
 module _ (f : Setup) (room : ℕ) (fits : Fits f room) (bs text answers : List ℕ) (small : leb (length bs) room ≡ true) where
   -- ---- code with a branch over a part of it
-  -- what stands behind the branch, and where the branch leads by its flag
+  -- what follows the branch, and where the branch leads by its flag
   pub record Forked (first : Way) (at : ℕ) (before : List machine.Instr) (which : Flag) (wanted : Bool) (skipped back : List machine.Instr) : Type 0 where
     pub stands : Stands f.code (at + size before + way_size first) skipped
     pub behind_stands : Stands f.code (over_at first at before skipped) back
@@ -205,6 +205,7 @@ module _ (f : Setup) (room : ℕ) (fits : Fits f room) (bs text answers : List �
     pub leads : (m : ℕ → ℕ) (t : Bool) (w : View) → Here (at + size before) bs m text answers w → asked_in which w ≡ t
         → Comes f w (Led f room fits bs m text answers small w (cond (is_taken wanted t) (over_at first at before skipped) (at + size before + way_size first))) [] 2
 
+  -- code with a branch over a part of it, from its instructions and the branch's reach
   pub forked : (first : Way) (at : ℕ) (before : List machine.Instr) (which : Flag) (wanted : Bool) (skipped back : List machine.Instr)
       → Lies f.code at (over_code first at before which wanted skipped back) → OverReaches first at before skipped
       → Forked first at before which wanted skipped back
@@ -220,9 +221,9 @@ module _ (f : Setup) (room : ℕ) (fits : Fits f room) (bs text answers : List �
   here_at : (p q : ℕ) (m : ℕ → ℕ) (w : View) → p ≡ q → Here p bs m text answers w → Here q bs m text answers w
   here_at p q m w e h = subst (λ a. Here a bs m text answers w) e h
 
-  -- ---- the changes of a word x that stands at a place p
+  -- ---- the changes of a word x at an address p
   module _ (first : Way) (at p : ℕ) (d : InData p) (m : ℕ → ℕ) (x : ℕ) (hs : SourceHolds m (AtAddress p) x) where
-    -- the word v stands there, and the rest as it was
+    -- the word v is at p, and the rest is unchanged
     abbrev Stored : (to v : ℕ) → View → Type 0
     Stored to v = Here to bs (put_word m p (v % 256) (v / 256)) text answers
 
@@ -238,7 +239,7 @@ module _ (f : Setup) (room : ℕ) (fits : Fits f room) (bs text answers : List �
     apart : p + 1 ≢ p
     apart q = omega (arith, q)
 
-    -- what stands behind a byte that is written
+    -- the other byte is unchanged by the one that is written
     other : (b : ℕ) → with_byte m p b (p + 1) ≡ m (p + 1)
     other b = put_other m p b (p + 1) apart
 
@@ -426,7 +427,7 @@ module _ (f : Setup) (room : ℕ) (fits : Fits f room) (bs text answers : List �
         high = (λ i. 2 * (other l ∙ hi) i % 256 + bit (has_bit (lo i) 128)) ∙ double_high x hs.small
 
     -- ---- half
-    -- behind the branch: a word y with its sign in C is shifted to the right
+    -- after the branch: a word y with its sign in C is shifted to the right
     shifts_right : (at to y : ℕ) (k : ℕ → ℕ) (c : Bool) → at + 6 ≤ highest_code → at + 6 ≡ to → Stands f.code at (turned_right p) → k p ≡ y % 256
         → k (p + 1) ≡ y / 256 → y < 65536 → c ≡ nat_le 128 (y / 256)
         → Moves f (Carrying at bs k text answers c) (Here to bs (put_word k p (halve y % 256) (halve y / 256)) text answers) [] 2
@@ -482,7 +483,7 @@ module _ (f : Setup) (room : ℕ) (fits : Fits f room) (bs text answers : List �
         half_is : (t : Bool) → nat_le 32768 x ≡ t → halve (word (x + more 0 t)) ≡ quotient x 2
         half_is t e = ap (λ t. halve (word (x + more 0 t))) (sym e) ∙ halves_are 0 x (omega arith) hs.small
 
-        -- one that is
+        -- a negative word
         l : ℕ
         l = (m p + 0 + 1) % 256
 
@@ -564,6 +565,7 @@ module _ (f : Setup) (room : ℕ) (fits : Fits f room) (bs text answers : List �
     changes Halve few lies reach = halves lies reach
     changes Double few lies reach = doubles lies
 
+-- a word that is changed is a word
 pub changed_small : (c : Change) (x : ℕ) → x < 65536 → changed c x < 65536
 changed_small Increment x h = omega arith
 changed_small Decrement x h = omega arith
@@ -577,7 +579,7 @@ module _ {around : Surroundings} (fits : Fits around.f 16) (code : SlotCode) {n 
   open around use {ly, f}
   open calculation a b d s r use {x, y, left, right, to}
 
-  -- the word z at the place is changed
+  -- the word z at the address is changed
   change_law : (c : Change) (first : Way) (z : ℕ) → IsByte c → SourceHolds w.mem (AtAddress to) z → apply op x y ≡ Some (changed c z)
       → Lies f.code w.regs.pc (change_code first w.regs.pc c to) → GroupsLie ly f.code n (w.regs.pc + pieces_size (change_code first w.regs.pc c to))
       (select is) → ChangeReaches first w.regs.pc c to → Leads h code 16

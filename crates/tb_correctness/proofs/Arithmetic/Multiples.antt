@@ -1,4 +1,4 @@
--- The law of a product with a constant, which is made by the constant's bits.
+-- The law of a product with a constant, which is computed by the constant's bits.
 use Rattle.std.proofs.Common.{◌≡◌, ◌≢◌, ℕ, zero, suc, ◌+◌, ◌*◌, ◌/◌, ◌%◌, ◌≤◌, ◌<◌, Bool, true, false, List, []}
 use Rattle.std.proofs.Common.{◌∷◌, ◌++◌, length, refl, sym, ap, ◌∙◌, subst, arith, leb}
 use Rattle.std.specs.Prelude.{if◌then◌else◌, nat_eq, nat_lt}
@@ -87,7 +87,7 @@ module _ (f : Setup) (room : ℕ) (fits : Fits f room) (bs : List ℕ) (m : ℕ 
         })
         (increases f room fits at bs w.mem text answers small w.regs.a a r (low_read a LEFT ga) (high_read a LEFT ga) st w (record { here = e.here; number = refl }))
 
-    -- by a bit
+    -- the product after a bit
     abbrev by : Bool → ℕ → ℕ
     by false v = word (2 * v)
     by true v = word (word (2 * v) + x)
@@ -114,7 +114,7 @@ module _ (f : Setup) (room : ℕ) (fits : Fits f room) (bs : List ℕ) (m : ℕ 
     one_times : (factor : ℕ) → factor ≡ 1 → x ≡ word (x * factor)
     one_times factor e = let s : word (x * 1) ≡ x = (let h = ha.small in omega (arith, h)) in sym s ∙ ap (λ n. word (x * n)) (sym e)
 
-    -- by the bits of a factor, and then
+    -- by the bits of a factor, and then a law
     bits_then : (k factor at : ℕ) → 1 ≤ factor → factor < pow2 (suc k) → at + size (by_bits k factor a) ≤ highest_code
         → Stands f.code at (by_bits k factor a) → (q : View → Type 0) (n : ℕ)
         → Moves f (LowInA (at + size (by_bits k factor a)) (word (x * factor))) q [] n → Moves f (LowInA at x) q [] (9 * k + n)
@@ -167,9 +167,11 @@ module _ (f : Setup) (room : ℕ) (fits : Fits f room) (bs : List ℕ) (m : ℕ 
       s2 : Stands f.code p1 (by_bits 15 factor a) × Stands f.code p2 (low_first to)
       s2 = stands_split f.code p1 (by_bits 15 factor a) _ (omega (arith, r, sizes)) s1.1
 
+      -- the code that stores the product is there
       pub last_stands : Stands f.code p2 (low_first to)
       last_stands = s2.1
 
+      -- that code ends the product's
       pub end_is : p2 + 8 ≡ at + size (times factor a to)
       end_is = omega (arith, sizes)
 
@@ -188,6 +190,7 @@ module _ (f : Setup) (room : ℕ) (fits : Fits f room) (bs : List ℕ) (m : ℕ 
         others = λ p n. ap (λ m. m p) g.here.mem ∙ still p n;
       }
 
+      -- a word times a factor, and then a law
       pub multiplies_then : (q : View → Type 0) (j : ℕ) → Moves f (LowInA p2 (word (x * factor))) q [] j → Moves f (Here at bs m text answers) q [] (138 + j)
       multiplies_then q j next w e =
           let all : pow2 16 ≡ 65536 = refl in
@@ -227,6 +230,7 @@ module _ {around : Surroundings} (fits : Fits around.f 16) (code : SlotCode) {n 
       (ends_low f 16 fits at own u.mem w.text w.answers refl u.regs.a to (let e = end_here in omega (arith, e, lies.0)) (dest_beyond d (fit h).dest)
       (last_stands f 16 fits own w.mem w.text w.answers refl c z gc away hc w.regs.pc factor some few to lies.0 lies.1) u (record { here = g.here; number = refl }))
 
+  -- the law of a product by bits
   pub times_law : product ≡ word (z * factor) → Leads h code 141
   times_law same =
       leads_on h code product 141 refl

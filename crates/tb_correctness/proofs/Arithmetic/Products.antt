@@ -1,4 +1,4 @@
--- The law of a product, which can't fault: LINE is left alone.
+-- The law of a product, which can't fault: LINE is unchanged.
 use Rattle.std.proofs.Common.{ℕ, ◌+◌, ◌*◌, List, [], refl, arith}
 use Rattle.tb_words.specs.Words.{word}
 use Rattle.tb_syntax.specs.declared.expressions.Operator.TheVariants as op
@@ -26,6 +26,7 @@ module _ {around : Surroundings} (fits : Fits around.f 16) (limit : ℕ) (rs : S
   open around use {ly, f}
   open calculation a b d s r use {x, y, left, right, to}
 
+  -- the law of a product by the routine
   pub multiply_law : Lies f.code w.regs.pc (routine MULTIPLY_AT RESULT left right to)
       → GroupsLie ly f.code n (w.regs.pc + pieces_size (routine MULTIPLY_AT RESULT left right to)) (select is) → Leads h code (13 + limit)
   multiply_law lies rest =

@@ -1,4 +1,4 @@
--- A word's quotient times the divisor is the word again where nothing is left over, and where that is seen.
+-- A word's quotient times the divisor is the word again if the remainder is 0, and how that is seen.
 use Rattle.std.proofs.Common.{◌≡◌, ◌≢◌, ℕ, zero, suc, ◌+◌, ◌-◌, ◌*◌, ◌/◌, ◌%◌, ◌^◌, ◌≤◌, ◌<◌, Bool, true, false}
 use Rattle.std.proofs.Common.{refl, sym, ap, ◌∙◌, arith, eqb, bit_and, ◌⊎◌, inl, inr, ⊎_elim, mul_comm}
 use Rattle.std.specs.Prelude.{if◌then◌else◌, nat_eq, bit_or}
@@ -18,7 +18,7 @@ times_sum u v b = grind arith
 none_times : (b : ℕ) → 0 * b ≡ 0
 none_times b = grind arith
 
--- what is left of a number up to 65,536, times another one, and times what is left of that
+-- the rest of a number up to 65,536, times another one, and times the rest of that one
 one_turned : (u q b : ℕ) → u + q ≡ 65536 → u * b + q * b ≡ 65536 * b
 one_turned u q b e = sym (sum_times u q b) ∙ ap (λ n. n * b) e
 
@@ -39,7 +39,7 @@ has_sign x h false e = (refl, omega (arith, ltb-false 32767 x e))
 turned_is : (q : ℕ) → q ≤ 32768 → (negated (word q) + q ≡ 65536) ⊎ ((negated (word q) ≡ 0) × (q ≡ 0))
 turned_is q few = ⊎_elim (λ z. inr (omega (arith, z), z)) (λ n. inl (omega (arith, n, few))) (cases_eq q 0)
 
--- a quotient times the divisor has the sign of what was divided
+-- a quotient times the divisor has the sign of the dividend
 product_sign : (s t : Bool) (b q y : ℕ) → HasSign t b y → q ≤ 32768 → q * b ≤ 32768 → word (with_sign (differ s t) q * y) ≡ with_sign s (q * b)
 product_sign false false b q y h few room =
     let e : word q ≡ q = omega (arith, few) in ap word ((λ i. e i * h.0 i))
@@ -60,7 +60,7 @@ product_sign false true b q y h few room = ⊎_elim
 decide : (b r : ℕ) → (b ≡ 0 → r ≡ 0) → (r ≡ 0 → b ≡ 0) → eqb b 0 ≡ nat_eq r 0
 decide b r on back = ⊎_elim (λ z. eq-eqb b 0 z ∙ sym (eq-eqb r 0 (on z))) (λ n. ne_eqb b 0 n ∙ sym (ne_eqb r 0 (λ z. n (back z)))) (cases_eq b 0)
 
--- a part with a sign is the whole with that sign where nothing else is left
+-- a part with a sign is the whole with that sign if nothing else is left
 part_is : (s : Bool) (a x p r : ℕ) → HasSign s a x → p + r ≡ a → nat_eq (with_sign s p) x ≡ nat_eq r 0
 part_is true a x p r h e = ⊎_elim
     (λ z. eq-eqb _ _ (omega (arith, h.0, h.1, h.2, e, z)) ∙ sym (eq-eqb r 0 z))
@@ -97,11 +97,11 @@ product_of s t a b x y hx hy some =
 again : (s t : Bool) (a b x y : ℕ) → HasSign s a x → HasSign t b y → y ≢ 0 → nat_eq (word (with_sign (differ s t) (a / b) * y)) x ≡ nat_eq (a % b) 0
 again s t a b x y hx hy some = let p = product_of s t a b x y hx hy some in ap (λ n. nat_eq n x) p.is ∙ part_is s a x (a / b * b) (a % b) hx p.whole
 
--- a word's quotient times the divisor is the word where the remainder is 0
+-- a word's quotient times the divisor is the word if the remainder is 0
 pub multiple_is : (x y : ℕ) → x < 65536 → y < 65536 → y ≢ 0 → nat_eq (word (quotient x y * y)) x ≡ nat_eq (magnitude x % magnitude y) 0
 multiple_is x y hx hy some = again (is_negative x) (is_negative y) (magnitude x) (magnitude y) x y (has_sign x hx (is_negative x) refl) (has_sign y hy (is_negative y) refl) some
 
--- ---- what is left of a word where that product is taken
+-- ---- the word less that product
 -- a size with a sign, turned by a subtraction from 0
 abbrev pub turned_size : Bool → ℕ → ℕ
 turned_size true r = word (0 + (65536 - r))
@@ -118,8 +118,8 @@ left_of s t a b x y hx hy some = let p = product_of s t a b x y hx hy some in ap
 pub rest_is : (x y : ℕ) → x < 65536 → y < 65536 → y ≢ 0 → word (x + (65536 - word (quotient x y * y))) ≡ turned_size (is_negative x) (magnitude x % magnitude y)
 rest_is x y hx hy some = left_of (is_negative x) (is_negative y) (magnitude x) (magnitude y) x y (has_sign x hx (is_negative x) refl) (has_sign y hy (is_negative y) refl) some
 
--- ---- where it is seen
--- both bytes of a word are 0 where it is
+-- ---- how it is seen
+-- both bytes of a word are 0 if it is 0
 pub either_byte : (v : ℕ) → eqb (bit_or (v % 256) (v / 256)) 0 ≡ nat_eq v 0
 either_byte v = decide (bit_or (v % 256) (v / 256)) v
     (λ z. omega (arith, z, le_or_l (v % 256) (v / 256), le_or_r (v % 256) (v / 256)))
@@ -132,7 +132,7 @@ sizes x h = by (is_negative x)
     by true = inr (omega (arith, h))
     by false = inl refl
 
--- the lowest bits of a word tell a multiple of a power of two
+-- the lowest bits of a word tell whether it is a multiple of a power of two
 bits_tell : (k : ℕ) → k < 8 → (x m : ℕ) → (m ≡ x) ⊎ (m + x ≡ 65536) → eqb (bit_and (x % 256) (2 ^ (k + 1) - 1)) 0 ≡ nat_eq (m % 2 ^ (k + 1)) 0
 bits_tell zero few x m h = decide _ _ (λ z. ⊎_elim (λ e. omega (arith, e, z, and_numeral (x % 256) 0 refl))
     (λ e. omega (arith, e, z, and_numeral (x % 256) 0 refl)) h) (λ z. ⊎_elim (λ e. omega (arith, e, z, and_numeral (x % 256) 0 refl))
@@ -160,6 +160,7 @@ bits_tell (suc (suc (suc (suc (suc (suc (suc zero))))))) few x m h =
     (λ z. ⊎_elim (λ e. omega (arith, e, z, and_numeral (x % 256) 254 refl)) (λ e. omega (arith, e, z, and_numeral (x % 256) 254 refl)) h)
 bits_tell (suc (suc (suc (suc (suc (suc (suc (suc k)))))))) few x m h = absurd (omega (arith, few))
 
+-- a mask is a byte
 pub mask_small : (k : ℕ) → k < 8 → (2 ^ (k + 1) - 1) % 256 ≡ 2 ^ (k + 1) - 1
 mask_small zero few = refl
 mask_small (suc zero) few = refl
@@ -171,6 +172,7 @@ mask_small (suc (suc (suc (suc (suc (suc zero)))))) few = refl
 mask_small (suc (suc (suc (suc (suc (suc (suc zero))))))) few = refl
 mask_small (suc (suc (suc (suc (suc (suc (suc (suc k)))))))) few = absurd (omega (arith, few))
 
+-- a power of two is not 0
 pub some_power : (k : ℕ) → k < 8 → 2 ^ (k + 1) ≢ 0
 some_power zero few = λ z. omega (arith, z)
 some_power (suc zero) few = λ z. omega (arith, z)
@@ -182,6 +184,7 @@ some_power (suc (suc (suc (suc (suc (suc zero)))))) few = λ z. omega (arith, z)
 some_power (suc (suc (suc (suc (suc (suc (suc zero))))))) few = λ z. omega (arith, z)
 some_power (suc (suc (suc (suc (suc (suc (suc (suc k)))))))) few = absurd (omega (arith, few))
 
+-- the lowest bits of a word are 0 exactly if the power of two divides it
 pub lowest_bits_are : (k : ℕ) → k < 8 → (x : ℕ) → x < 65536 → eqb (bit_and (x % 256) (2 ^ (k + 1) - 1)) 0 ≡ nat_eq (magnitude x % magnitude (2 ^ (k + 1))) 0
 lowest_bits_are zero few x h = bits_tell 0 few x (magnitude x) (sizes x h)
 lowest_bits_are (suc zero) few x h = bits_tell 1 few x (magnitude x) (sizes x h)

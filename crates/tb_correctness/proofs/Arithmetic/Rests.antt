@@ -1,4 +1,4 @@
--- The law of what is left over of a variable: its slot instructions and its code give the remainder's size with its sign.
+-- The law of a variable's remainder: its slot instructions and its code give the remainder's size with its sign.
 use Rattle.std.proofs.Common.{◌≡◌, ◌≢◌, ℕ, ◌+◌, ◌-◌, ◌*◌, ◌/◌, ◌%◌, ◌<◌, Bool, true, false, List, [], ◌∷◌, ◌++◌}
 use Rattle.std.proofs.Common.{length, refl, sym, ap, ◌∙◌, subst, arith, ⊎_elim, Some, length-set}
 use Rattle.std.specs.Prelude.{slice_index, nat_lt}
@@ -55,6 +55,7 @@ use Rattle.tb_correctness.proofs.Relation.Surroundings.{Serves, Surroundings}
 abbrev pub spread_remains : ℕ → Operand → Destination → List Instr → List Instr
 spread_remains v d to is = Load (slot_of to) v ∷ multiple (slot_of to + 1) v d (Compute op.Subtract (slot_of to) ∷ (kept to ++ is))
 
+-- the group's instructions, bracketed to the right
 pub spread_remains_is : (v : ℕ) (d : Operand) (to : Destination) (is : List Instr) → expand (Remains v d to) ++ is ≡ spread_remains v d to is
 spread_remains_is v (Constant w) to is = refl
 spread_remains_is v (Variable x) to is = refl
@@ -119,7 +120,7 @@ module _ (code : SlotCode) (n v : ℕ) (d : Operand) (to : Destination) (is : Li
   abbrev less_behind : List Instr
   less_behind = Compute op.Subtract slot ∷ (kept to ++ is)
 
-  -- where the divisor is a word
+  -- if the divisor is not 0
   remains_goes : divisor ≢ 0 → steps code (expand (Remains v d to)) (line code n (spread_remains v d to is) s r)
       ≡ Goes (line code n is (landed to left_over s) (slots_landed to left_over (with_word both slot left_over))) []
   remains_goes some =
@@ -128,7 +129,7 @@ module _ (code : SlotCode) (n v : ℕ) (d : Operand) (to : Destination) (is : Li
       ∙ multiple_next code n (slot + 1) v d s loaded loaded_length room less less_behind (λ e. some (sym divisor_is ∙ e))
       ∙ ends code n (Compute op.Subtract slot) to is s s both left_over (omega (arith, both_length, room)) (ap (λ o. into n slot (given o s.seed) s both) got)
 
-  -- and where it is 0
+  -- if it is 0
   remains_fails : divisor ≡ 0 → steps code (expand (Remains v d to)) (line code n (spread_remains v d to is) s r) ≡ Stops Faulted (fault_text 2 n)
   remains_fails zero =
       fetches code n slot (Variable v) (multiple (slot + 1) v d less) (multiple (slot + 1) v d less_behind) s r
@@ -151,7 +152,7 @@ module _ (v : ℕ) (d : Operand) (to : Destination) (is : List Instr) where
       (λ q. omega (arith, q, lt)))
       (λ q. omega (arith, q, lt))
 
-  -- a divisor that stands in its slot is read there
+  -- a divisor that is in its slot is read there
   divisor_read : StandsIn d (slot_of to + 2) (live (spread_remains v d to is))
   divisor_read = by d
     where
@@ -244,7 +245,7 @@ module _ (around : Surroundings) (fits : Fits around.f 16) (code : SlotCode) (li
   first : Kept around (live js) s r w.mem
   first = kept_first h
 
-  -- whether it may fault; behind the line's number, where it may
+  -- whether it may fault; after the line's number, if it may
   abbrev risky : Bool
   risky = may_be_zero b
 
@@ -253,7 +254,7 @@ module _ (around : Surroundings) (fits : Fits around.f 16) (code : SlotCode) (li
   abbrev asking : List Piece
   asking = Code (brought a LEFT) ∷ Code (brought b RIGHT) ∷ Code (call DIVIDE_AT) ∷ []
 
-  -- behind the call
+  -- after the call
   abbrev middle : ℕ
   middle = rest_at n w.regs.pc a b
 
@@ -275,7 +276,7 @@ module _ (around : Surroundings) (fits : Fits around.f 16) (code : SlotCode) (li
   middle_is : at + size (brought a LEFT) + size (brought b RIGHT) + 3 ≡ middle
   middle_is = let e = end_by h risky asking in omega (arith, e)
 
-  -- the remainder's size stands in RESULT
+  -- the remainder's size is in RESULT
   record Told (u : View) : Type 0 where
     here : Here middle own u.mem w.text w.answers u
     result : WordAt u.mem RESULT rest_size
@@ -325,7 +326,7 @@ module _ (around : Surroundings) (fits : Fits around.f 16) (code : SlotCode) (li
       (remains_lasting v d to is code n s r h.read.all_words fit.room h.free) h.rest c h.text h.answers h.short u (moved _ end own _ w.text w.answers u e end_is))
       (copies f 16 fits copy_at own m w.text w.answers refl RESULT dest fork.ends result_gives.0 (dest_in_data to fit.dest) (result_gives.1 to fit.dest) fork.behind_stands)
 
-  -- where it is taken from 0
+  -- where it is negated
   abbrev turned_at : ℕ
   turned_at = middle + size (sign_looked_at a) + way_size h.first
 
@@ -373,6 +374,7 @@ module _ (around : Surroundings) (fits : Fits around.f 16) (code : SlotCode) (li
   abbrev pub RemainsLeads : Step SlotState → Type 0
   RemainsLeads z = Comes f w (Target around z) (sent_in z) (34 + (limit + limit))
 
+  -- the law of a remainder
   pub remains_law : RemainsLeads (steps code (expand (Remains v d to)) (line code n js s r))
   remains_law = ⊎_elim
       (λ zero. subst RemainsLeads (sym (remains_fails code n v d to is s r h.read.all_words fit.room zero))

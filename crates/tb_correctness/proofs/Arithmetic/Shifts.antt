@@ -1,4 +1,4 @@
--- The law of a quotient over a power of two, which is made by shifts and can't fault.
+-- The law of a quotient over a power of two, which is computed by shifts and can't fault.
 use Rattle.std.proofs.Common.{◌≡◌, ◌≢◌, ℕ, zero, suc, ◌+◌, ◌*◌, ◌/◌, ◌%◌, ◌^◌, ◌≤◌, ◌<◌, Bool, true, List, []}
 use Rattle.std.proofs.Common.{◌∷◌, ◌++◌, length, refl, sym, ap, ◌∙◌, subst, arith, leb}
 use Rattle.std.specs.Prelude.{nat_le, nat_lt}
@@ -57,7 +57,7 @@ module _ (f : Setup) (room : ℕ) (fits : Fits f room) (bs : List ℕ) (m : ℕ 
       })
       (halves f room fits at bs w.mem text answers small h r st w (record { here = e.here; number = refl }))
 
-  -- so many halves, and then
+  -- this many halvings, and then a law
   halves_then : (k at v : ℕ) → at + size (halvings k) ≤ highest_code → Stands f.code at (halvings k) → (q : View → Type 0) (n : ℕ)
       → Moves f (HighInA (at + size (halvings k)) (halve_times k v)) q [] n → Moves f (HighInA at v) q [] (3 * k + n)
   halves_then zero at v r st q n next w e =
@@ -82,7 +82,7 @@ module _ (f : Setup) (room : ℕ) (fits : Fits f room) (bs : List ℕ) (m : ℕ 
         let e4 = size_append (halvings (suc k)) (high_first to) in
         omega (arith, e1, e2, e3, e4)
 
-    -- the places of its parts
+    -- the addresses of its parts
     abbrev p1 : ℕ
     p1 = at + size (signed a)
 
@@ -107,9 +107,11 @@ module _ (f : Setup) (room : ℕ) (fits : Fits f room) (bs : List ℕ) (m : ℕ 
     s4 : Stands f.code p3 (halvings (suc k)) × Stands f.code p4 (high_first to)
     s4 = stands_split f.code p3 (halvings (suc k)) _ (omega (arith, r, sizes)) s3.1
 
+    -- the code that stores the quotient is there
     pub last_stands : Stands f.code p4 (high_first to)
     last_stands = s4.1
 
+    -- that code ends the quotient's
     pub end_is : p4 + 8 ≡ at + size (shifted k a to)
     end_is = omega (arith, sizes)
 
@@ -122,7 +124,7 @@ module _ (f : Setup) (room : ℕ) (fits : Fits f room) (bs : List ℕ) (m : ℕ 
     same_sign : c ≡ nat_le 32768 x
     same_sign = ap (nat_le 128) ha.high_byte ∙ sign_is x ha.small
 
-    -- the word raised where it is negative
+    -- the word raised if it is negative
     raised_here : (u : View) → WithA p3 ((value m (high a) + bit (nat_lt 255 (value m (low a) + n))) % 256) bs
         (with_byte m LEFT ((value m (low a) + n) % 256)) text answers u → HighInA p3 (word (x + more k (nat_le 32768 x))) u
     raised_here u g =
@@ -135,6 +137,7 @@ module _ (f : Setup) (room : ℕ) (fits : Fits f room) (bs : List ℕ) (m : ℕ 
           others = λ p n. ap (λ m. m p) g.here.mem ∙ put_other m LEFT l p n;
         }
 
+    -- a word over 2^(k + 1), and then a law
     pub divides_then : (q : View → Type 0) (j : ℕ) → Moves f (HighInA p4 (quotient x (2 ^ (k + 1)))) q [] j → Moves f (Here at bs m text answers) q [] (28 + j)
     divides_then q j next w e =
         let there : halve_times (suc k) (word (x + more k (nat_le 32768 x))) ≡ quotient x (2 ^ (k + 1)) = halves_are k x few ha.small in
@@ -179,6 +182,7 @@ module _ {around : Surroundings} (fits : Fits around.f 16) (code : SlotCode) {n 
       (ends_high f 16 fits at own u.mem w.text w.answers refl u.regs.a to (let e = end_here in omega (arith, e, lies.0)) (dest_beyond d (fit h).dest)
       (last_stands f 16 fits own w.mem w.text w.answers refl w.regs.pc left x (left_apart h) ha j few to lies.0 lies.1) u (record { here = g.here; number = refl }))
 
+  -- the law of a quotient by shifts
   pub shift_law : y ≡ 2 ^ (j + 1) → y ≢ 0 → Leads h code 31
   shift_law power some =
       leads_on h code v 31 (quotient_is x y some)

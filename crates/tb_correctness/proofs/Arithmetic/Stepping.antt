@@ -1,4 +1,4 @@
--- A calculation that goes on by a constant is two: its result goes to a variable, and the variable is then calculated with
+-- A calculation that goes on by a constant is two calculations: its result goes to a variable, which is then calculated with
 -- that constant.
 use Rattle.std.proofs.Common.{◌≡◌, ℕ, ◌+◌, ◌≤◌, ◌<◌, true, if◌then◌else◌, List, [], ◌∷◌, ◌++◌, length, max, refl, sym, ap}
 use Rattle.std.proofs.Common.{◌∙◌, subst, arith, Option, Some, None, length-set, append_assoc}
@@ -33,7 +33,7 @@ use Rattle.tb_correctness.proofs.Slots.SlotSide.{acts, both_length, fetched, fet
 use Rattle.tb_correctness.proofs.Testing.TestLaws.{lies_parts}
 use Rattle.tb_correctness.proofs.Relation.Surroundings.{Surroundings}
 
--- ---- the two
+-- ---- the two calculations
 abbrev pub home : ℕ → Destination
 home x = IntoHome (IntoVariable x)
 
@@ -43,7 +43,7 @@ first_of op a b x = Calculate op a b (home x)
 abbrev pub second_of : Operator → ℕ → ℕ → Group
 second_of by w x = Calculate by (Variable x) (Constant w) (home x)
 
--- the list behind the first one
+-- the list after the first one
 abbrev pub behind_first : Operator → ℕ → ℕ → List Instr → List Instr
 behind_first by w x is = Load 0 x ∷ Put 1 w ∷ Compute by 0 ∷ Store x ∷ is
 
@@ -54,12 +54,13 @@ tail op by w x is = Compute op 0 ∷ Put 1 w ∷ Compute by 0 ∷ Store x ∷ is
 abbrev pub spread_stepped : Operator → Operand → Operand → Operator → ℕ → ℕ → List Instr → List Instr
 spread_stepped op a b by w x is = fetch 0 a ++ (fetch 1 b ++ tail op by w x is)
 
+-- the group's instructions, bracketed to the right
 pub spread_stepped_is : (op : Operator) (a b : Operand) (by : Operator) (w x : ℕ) (is : List Instr) → expand (Stepped op a b by w x) ++ is ≡ spread_stepped op a b by w x is
 spread_stepped_is op a b by w x is =
     append_assoc (fetch 0 a) (fetch 1 b ++ tail op by w x []) is ∙ ap (λ l. fetch 0 a ++ l) (append_assoc (fetch 1 b) (tail op by w x []) is)
 
--- ---- the groups behind the first one
--- a group that is none of those that become one with others
+-- ---- the groups after the first one
+-- a group that is not among those that become one with others
 pub fused_by : (g : Group) (gs : List Group) → quotient_in g ≡ None → held_in g ≡ None → loaded_in g ≡ None → fused g gs ≡ g ∷ gs
 fused_by g [] q h l = refl
 fused_by g (b ∷ []) q h l = refl
@@ -80,7 +81,7 @@ stored_alone : (x : ℕ) (gs : List Group) → attach (Store x) gs ≡ Move InSl
 stored_alone x [] = refl
 stored_alone x (g ∷ gs) = fused_by (Move InSlot (IntoVariable x)) (g ∷ gs) refl refl refl
 
--- an instruction that becomes one group with a calculation behind it
+-- an instruction that becomes one group with a calculation after it
 attached : (i : Instr) (g : Group) (by : Operator) (a b : Operand) (x : ℕ) (gs : List Group) → merged i g ≡ Some (Calculate by a b (home x))
     → nat_le (live (expand_all gs)).slots 0 ≡ true → attach i (g ∷ gs) ≡ Calculate by a b (home x) ∷ gs
 attached i g by a b x gs e free =
@@ -88,6 +89,7 @@ attached i g by a b x gs e free =
     ∙ ap (λ t. tried (provided (t && true) (Calculate by a b (home x))) i g gs) free
     ∙ fused_by (Calculate by a b (home x)) gs (no_quotient by a b (IntoVariable x)) refl refl
 
+-- the groups after the first one begin with the second one
 pub second_selected : (by : Operator) (w x : ℕ) (is : List Instr) → nat_le (live is).slots 0 ≡ true → select (behind_first by w x is) ≡ second_of by w x ∷ select is
 second_selected by w x is free =
     let gs = select is in
@@ -98,13 +100,14 @@ second_selected by w x is free =
     ∙ attached (Load 0 x) (Calculate by InSlot (Constant w) (home x)) by (Variable x) (Constant w) x gs refl none
 
 -- ---- what is read
--- how many slots are, by how many are behind it
+-- how many slots are read, by how many are read after it
 abbrev before_second : ℕ → ℕ
 before_second l = if nat_eq (if nat_eq (max 2 (max 1 l)) 2 then 1 else max 2 (max 1 l)) 1 then 0 else (if nat_eq (max 2 (max 1 l)) 2 then 1 else max 2 (max 1 l))
 
 abbrev before_tail : ℕ → ℕ
 before_tail l = max 2 (if nat_eq (max 2 (max 1 l)) 2 then 1 else max 2 (max 1 l))
 
+-- nothing is read before the second one if nothing is read after it
 pub second_live : (by : Operator) (w x : ℕ) (is : List Instr) → (live is).slots ≡ 0 → (live (behind_first by w x is)).slots ≡ 0
 second_live by w x is e = ap before_second e
 
@@ -116,6 +119,7 @@ fetch_live k (Constant w) xs ys e = ap (written k) e
 fetch_live k (Variable x) xs ys e = ap (written k) e
 fetch_live k InSlot xs ys e = e
 
+-- the group reads what its first calculation reads
 pub same_live : (op : Operator) (a b : Operand) (by : Operator) (w x : ℕ) (is : List Instr) → (live is).slots ≡ 0
     → live (spread_stepped op a b by w x is) ≡ live (spread op a b (home x) (behind_first by w x is))
 same_live op a b by w x is e = fetch_live 0 a _ _ (fetch_live 1 b _ _ (tails_live op by w x is e))
@@ -158,7 +162,7 @@ module _ (code : SlotCode) (n : ℕ) (op : Operator) (a b : Operand) (by : Opera
   abbrev right : ℕ
   right = fetched s r 1 b
 
-  -- the slots behind both operands, the result, the constant and the whole
+  -- the slots after both operands, the result, the constant and the whole
   abbrev both : Slots
   both = with_fetched s (with_fetched s r 0 a) 1 b
 
@@ -177,6 +181,7 @@ module _ (code : SlotCode) (n : ℕ) (op : Operator) (a b : Operand) (by : Opera
   constant_length : (v : ℕ) → length (with_constant v).words ≡ 16
   constant_length v = length-set (resulted v).words 1 (word w) ∙ length-set both.words 0 v ∙ length_both
 
+  -- there are still 16 slots
   pub stepped_length : (v u : ℕ) → length (stepped_slots v u).words ≡ 16
   stepped_length v u = length-set (with_constant v).words 0 u ∙ constant_length v
 
@@ -188,6 +193,7 @@ module _ (code : SlotCode) (n : ℕ) (op : Operator) (a b : Operand) (by : Opera
       ap (λ x. apply op x (slice_index both.words 1)) (left_is code n op a b (IntoSlot 0) is s r all (omega arith))
       ∙ ap (λ y. apply op left y) (right_is code n op a b (IntoSlot 0) is s r all (omega arith)) ∙ e
 
+  -- a fault of the first calculation is the group's
   pub first_fails : apply op left right ≡ None → steps code (expand (Stepped op a b by w x)) (line code n js s r) ≡ Stops Faulted (fault_text 2 n)
   first_fails e = so_far (tail op by w x []) (tail op by w x is) ∙ stops code n (Compute op 0) (Put 1 w ∷ Compute by 0 ∷ Store x ∷ [])
       (Put 1 w ∷ Compute by 0 ∷ Store x ∷ is) s both (fault_text 2 n) (ap (λ o. into n 0 (given o s.seed) s both) (got None e))
@@ -209,10 +215,12 @@ module _ (code : SlotCode) (n : ℕ) (op : Operator) (a b : Operand) (by : Opera
     got_on : (o : Option ℕ) → apply by v (word w) ≡ o → apply by (slice_index (with_constant v).words 0) (slice_index (with_constant v).words 1) ≡ o
     got_on o q = (λ i. apply by (result_stands i) (constant_stands i)) ∙ q
 
+    -- a fault of the second calculation is the group's
     pub second_fails : apply by v (word w) ≡ None → steps code (expand (Stepped op a b by w x)) (line code n js s r) ≡ Stops Faulted (fault_text 2 n)
     second_fails q = first_done ∙ stops code n (Compute by 0) (Store x ∷ []) (Store x ∷ is) s (with_constant v) (fault_text 2 n)
         (ap (λ o. into n 0 (given o s.seed) s (with_constant v)) (got_on None q))
 
+    -- what both calculations do is what the group does
     pub stepped_goes : (u : ℕ) → apply by v (word w) ≡ Some u → steps code (expand (Stepped op a b by w x)) (line code n js s r)
         ≡ Goes (line code n is (meaning.stored x u s) (stepped_slots v u)) []
     stepped_goes u q =
@@ -245,6 +253,7 @@ module _ (around : Surroundings) (n : ℕ) (op : Operator) (a b : Operand) (by :
   abbrev second_code : List Piece
   second_code = group_code ly n next h.second h.second second_group
 
+  -- nothing is read after it
   pub none_read : (live is).slots ≡ 0
   none_read = let q = leb-true (live is).slots 0 h.free in omega (arith, q)
 
@@ -262,7 +271,7 @@ module _ (around : Surroundings) (n : ℕ) (op : Operator) (a b : Operand) (by :
   behind_ranged [] at g = tt
   behind_ranged (g ∷ gs) at k = k.2
 
-  -- the first of the two begins there, with the second one behind it
+  -- the first of the two begins there, with the second one after it
   pub first_ready : Ready around n first_group (spread op a b (home x) (behind_first by w x is)) (behind_first by w x is) s r u
   first_ready =
       let same = same_live op a b by w x is none_read in
@@ -299,7 +308,7 @@ module _ (around : Surroundings) (n : ℕ) (op : Operator) (a b : Operand) (by :
         short = h.short;
       }
 
--- behind both it matches what the one leads to
+-- after both, the view matches what the one group leads to
 pub matches_again : (around : Surroundings) (code : SlotCode) (n x u v : ℕ) (is : List Instr) (s : State) (p q : Slots) (w : View) → (live is).slots
     ≡ 0 → p.held ≡ q.held → length q.words ≡ 16 → Matches around (line code n is (meaning.stored x v (meaning.stored x u s)) p) w
     → Matches around (line code n is (meaning.stored x v s) q) w

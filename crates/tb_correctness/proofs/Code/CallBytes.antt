@@ -104,7 +104,7 @@ module _ (labels : List (Name × ℕ)) (ns : List ℕ) (seed n : ℕ) (seed_smal
     unfolding opcodes.encoded
     call_bytes routine = record { same = λ a. refl }
 
-    -- forms that emit a call of a line, by whether there is one, by the ways of its branches, which reach
+    -- forms that emit a call of a line, by whether there is one, by the ways of its branches, all of which reach
     abbrev CallEmitted : (at to : ℕ) → Bool → List Form → Type 0
     CallEmitted at to has fs = (first second : Way) × Emits labels at fs (coded.call_code ly n at first second has to) × coded.CallReaches first second at has
 
@@ -115,7 +115,7 @@ module _ (labels : List (Name × ℕ)) (ns : List ℕ) (seed n : ℕ) (seed_smal
       going_bytes : AllEncode labels going (resolved.jump (ly.start to))
       going_bytes = record { same = λ a. jump_bytes labels ns seed a (target.Line to) _ (start_of_line labels ns seed to has) }
 
-      -- behind its branches
+      -- what follows its branches
       abbrev pushing : List Entry
       pushing = product.constant n LINE ++ (product.return_address (next_line ns n) ++ going)
 
@@ -200,7 +200,7 @@ module _ (labels : List (Name × ℕ)) (ns : List ℕ) (seed n : ℕ) (seed_smal
     )
 
     module _ (over : Name) where
-      -- behind its branches
+      -- what follows its branches
       abbrev popping : List Entry
       popping = product.constant n LINE ++ (product.call POP_AT ∷ product.jump_through)
 

@@ -1,4 +1,4 @@
--- The bytes of calculations, of those too that change a word in place, whatever the way of the branch.
+-- The bytes of calculations, also of those that change a word in place, whatever the way of the branch.
 use Rattle.std.proofs.Common.{◌≡◌, ℕ, ◌+◌, ◌/◌, ◌%◌, ◌<◌, Bool, true, false, List, [], ◌∷◌, ◌++◌, map, refl, sym, ap, ◌∙◌, subst, arith, Option}
 use Rattle.std.specs.Prelude.{◌&&◌}
 use Rattle.std.specs.List.{list_all}
@@ -178,6 +178,7 @@ module _ (labels : List (Name × ℕ)) where
     pub emits : Emits labels at fs (coded.stepped_code first second n at op a b by c to)
     pub reach : coded.StepReaches first second n at op a b by c to
 
+  -- the forms of a result that goes on by a constant emit its code
   pub stepped_emitted : (n at : ℕ) (skip behind : Target) (op : Operator) (a b : Source) (by : Operator) (c : Source) (to : ℕ) → n < 65536 → IsWord a
       → IsWord b → IsWord c → (fs : List Form)
       → AreFormsOf (items.stepped n skip behind op a b by c to) fs → Rest labels at fs → StepEmitted n at op a b by c to fs
@@ -195,12 +196,13 @@ module _ (labels : List (Name × ℕ)) where
         reach = (e.2, g.2);
       }
 
-  -- ---- what is left over
+  -- ---- remainders
   pub record RestEmitted (n at : ℕ) (a b : Source) (to : ℕ) (fs : List Form) : Type 0 where
     pub first : Way
     pub emits : Emits labels at fs (coded.remains_code first n at a b to)
     pub reach : coded.RestReaches first n at a b
 
+  -- the forms of a remainder emit its code
   pub remains_emitted : (n at : ℕ) (skip : Target) (a b : Source) (to : ℕ) → n < 65536 → IsWord a → IsWord b → (fs : List Form)
       → AreFormsOf (items.remains n skip a b to) fs → Rest labels at fs → RestEmitted n at a b to fs
   remains_emitted n at skip a b to small u v fs h r =

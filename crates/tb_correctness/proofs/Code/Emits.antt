@@ -26,6 +26,7 @@ abbrev pub formed : Way → Mnemonic → Name → Form
 formed Short n l = kept (instr n Relative (Label l))
 formed Long n l = long n l
 
+-- the form of a branch has the size of its way
 pub formed_size : (way : Way) (n : Mnemonic) (l : Name) → form_size (formed way n l) ≡ way_size way
 formed_size Short n l = refl
 formed_size Long n l = refl
@@ -35,6 +36,7 @@ pub record Formed (n : Mnemonic) (l : Name) (f : Form) : Type 0 where
   pub way : Way
   pub is : f ≡ formed way n l
 
+-- each form of a branch is one by a way
 pub branch_formed : (n : Mnemonic) (l : Name) (f : Form) → IsFormOf (instr n Relative (Label l)) f → Formed n l f
 branch_formed n l (kept e) h = record { way = Short; is = ap kept h }
 branch_formed n l (long m k) h = record { way = Long; is = ap (λ o. by o) (sym h) }
@@ -60,10 +62,11 @@ module _ (labels : List (Name × ℕ)) where
   pub record Emits (at : ℕ) (fs : List Form) (ps : List Piece) : Type 0 where
     pub bytes : bytes_from labels at (items_from at fs) ≡ pieces_bytes ps
 
-  -- so they are as long
+  -- they are as long
   pub emitted_size : {at : ℕ} {fs : List Form} {ps : List Piece} → Emits at fs ps → forms_size fs ≡ pieces_size ps
   emitted_size {at} {fs} {ps} h = sym (items_size at fs) ∙ sym (all_size labels at (items_from at fs)) ∙ ap length h.bytes ∙ pieces_length ps
 
+  -- the bytes of two lists of forms are those of the first and then those of the second
   pub bytes_behind : (at : ℕ) (fs gs : List Form) → bytes_from labels at (items_from at (fs ++ gs)) ≡ bytes_from labels at (items_from at fs)
       ++ bytes_from labels (at + forms_size fs) (items_from (at + forms_size fs) gs)
   bytes_behind at fs gs =
@@ -75,6 +78,7 @@ module _ (labels : List (Name × ℕ)) where
   pieces_behind [] qs = refl
   pieces_behind (p ∷ ps) qs = ap (λ t. piece_bytes p ++ t) (pieces_behind ps qs) ∙ sym (append_assoc (piece_bytes p) (pieces_bytes ps) (pieces_bytes qs))
 
+  -- forms that emit pieces, before forms that emit pieces
   pub emits_append : {at : ℕ} {fs gs : List Form} {ps qs : List Piece} → Emits at fs ps → Emits (at + pieces_size ps) gs qs → Emits at (fs ++ gs) (ps ++ qs)
   emits_append {at} {fs} {gs} {ps} {qs} h k = record {
     bytes =
@@ -84,10 +88,11 @@ module _ (labels : List (Name × ℕ)) where
         ∙ sym (pieces_behind ps qs);
   }
 
+  -- no forms emit no pieces
   pub ends : {at : ℕ} → Emits at [] []
   ends = record { bytes = refl }
 
-  -- instructions that stand as they are: their bytes are those of the items
+  -- instructions without branches: their bytes are those of the items
   pub block : {at : ℕ} {fs : List Form} {ps : List Piece} (es : List Entry) (is : List Instr) → bytes_from labels at es ≡ flat is
       → Emits (at + resolved.size is) fs ps → Emits at (map kept es ++ fs) (Code is ∷ ps)
   block {at} {fs} {ps} es is h k =
@@ -125,6 +130,7 @@ module _ (labels : List (Name × ℕ)) where
       over Zero false = λ i. 0xf0 ∷ three i ∷ 0x4c ∷ h i % 256 ∷ h i / 256 ∷ []
       over Zero true = λ i. 0xd0 ∷ three i ∷ 0x4c ∷ h i % 256 ∷ h i / 256 ∷ []
 
+  -- a branch before forms that emit pieces
   pub branches : {at to : ℕ} {fs : List Form} {ps : List Piece} (way : Way) (which : Flag) (wanted : Bool) (l : Name) → at + 5 < 65536 → number_in labels (Label l) ≡ to
       → Emits (at + way_size way) fs ps → Emits at (formed way (branch_by which wanted) l ∷ fs) (Code (branch_code way (branch_on which wanted) at to) ∷ ps)
   branches {at} {to} {fs} {ps} way which wanted l small h k =
@@ -138,7 +144,7 @@ module _ (labels : List (Name × ℕ)) where
       emits_append one (subst (λ n. Emits (at + n) fs ps) (sym long) k)
 
   -- ---- reach
-  -- a branch that reaches its label goes to that label's place
+  -- a branch that reaches its label goes to that label's address
   pub reaches : (way : Way) (n : Mnemonic) (at to : ℕ) (l : Name) (es : List Entry) → address_in labels l ≡ Some to → to ≤ highest_code
       → some_branch_far labels at (items_at at (formed way n l) ++ es) ≡ false → BranchReaches way at to
   reaches Short n at to l es h top near = (by (is_near (distance at to)) (first (is_far labels at (instr n Relative (Label l))) _ near (ap (is_beyond at) h)), top)

@@ -54,20 +54,20 @@ use Rattle.tb_correctness.proofs.Code.ItemBytes.{rest_before, rest_behind, sourc
 use Rattle.tb_correctness.proofs.Code.TestBytes.{equal_emitted, unequal_emitted, compared_emitted}
 
 -- ---- groups
--- forms that emit a test whose branches go to a place, by their ways, which reach
+-- forms that emit a test whose branches go to an address, by their ways, all of which reach
 pub record TestEmitted (labels : List (Name × ℕ)) (r : Rel) (at : ℕ) (a b : Source) (to : ℕ) (fs : List Form) : Type 0 where
   pub first : Way
   pub second : Way
   pub emits : Emits labels at fs (test_code r first second at a b to)
   pub reach : TestReaches r first second at a b to
 
--- the same of a test by a divisor of line n
+-- the same for a test by a divisor of line n
 pub record DividedEmitted (labels : List (Name × ℕ)) (n at : ℕ) (how : Divisibility) (a b : Source) (to : ℕ) (fs : List Form) : Type 0 where
   pub first : Way
   pub emits : Emits labels at fs (coded.divided_code n at first how a b to)
   pub reach : coded.DividedReaches n at first a b to
 
--- forms that emit a group by the ways of its branches, which reach
+-- forms that emit a group by the ways of its branches, all of which reach
 pub record GroupEmitted (labels : List (Name × ℕ)) (ly : Layout) (n at : ℕ) (g : Group) (fs : List Form) : Type 0 where
   pub first : Way
   pub second : Way
@@ -91,7 +91,7 @@ module _ (labels : List (Name × ℕ)) (ns : List ℕ) (seed n : ℕ) (seed_smal
     next_small : next_at ly n < 65536
     next_small = omega (arith, top)
 
-    -- a single instruction, with the line's number set before it where it may fault
+    -- a single instruction, with the line's number set before it if it may fault
     abbrev alone_items : ℕ → slots.Instr → Bool → List Entry
     alone_items i c t = if t then product.constant n LINE ++ product.template ns n i c else product.template ns n i c
 
@@ -246,7 +246,7 @@ module _ (labels : List (Name × ℕ)) (ns : List ℕ) (seed n : ℕ) (seed_smal
     divides_emitted at how x y xw yw None fs h r = let e = divided_emitted (next_at ly n) (next_line ns n) there top x y xw yw how at fs h r in (e.first, e.emits, e.reach)
     divides_emitted at how x y xw yw (Some to) fs h r = divided_gone at how x y xw yw to (has_line ns to) refl fs h r
 
-    -- the search in the line table for a word, and what is behind it
+    -- the search in the line table for a word, and what follows it
     searched_emits : {at : ℕ} {fs : List Form} {ps : List Piece} (x : Source) → IsWord x
         → Emits labels (at + 10 + resolved.size (coded.brought x WANTED) + 3) fs ps → Emits labels at (map kept (items.searched n x) ++ fs) (coded.searched ly n x ps)
     unfolding opcodes.encoded
@@ -320,7 +320,7 @@ module _ (labels : List (Name × ℕ)) (ns : List ℕ) (seed n : ℕ) (seed_smal
         record { first = e.0; second = e.1; emits = e.2; reach = e.3 })
 
   -- ---- the poll at a line's beginning
-  -- the forms of a poll behind its call, with the label for the STOP key, emit it by the way of its branch, which reaches
+  -- the forms of a poll after its call, with the label for the STOP key, emit it by the way of its branch, which reaches
   pub record PollEmitted (at stop : ℕ) (fs : List Form) : Type 0 where
     pub way : Way
     pub emits : Emits labels at fs (coded.poll_code at way stop)
@@ -333,6 +333,7 @@ module _ (labels : List (Name × ℕ)) (ns : List ℕ) (seed n : ℕ) (seed_smal
   unfolding opcodes.encoded
   stop_asked_bytes = record { same = λ a. refl }
 
+  -- the forms of a poll emit its code
   pub poll_emitted : (at stop : ℕ) (l : Name) (fs : List Form) → address_in labels l ≡ Some stop → stop ≤ highest_code
       → AreFormsOf (stop_asked ++ (instr Beq Relative (Label l) ∷ [])) fs → Rest labels at fs → PollEmitted at stop fs
   poll_emitted at stop l fs there top h r =

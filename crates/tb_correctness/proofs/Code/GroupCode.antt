@@ -1,4 +1,4 @@
--- The code of groups as instructions at their places.
+-- The code of groups as instructions at their addresses.
 use Rattle.std.specs.Prelude.{◌≡◌, ℕ, zero, suc, ◌+◌, ◌/◌, ◌%◌, ◌≤◌, ◌<◌, List, [], ◌∷◌, ◌++◌, length, Bool, true}
 use Rattle.std.specs.Prelude.{false, not, if◌then◌else◌, bit_xor, nat_eq, nat_lt, Option, Some, None}
 use Rattle.tb_asm.specs.Layout.{distance, is_near}
@@ -61,11 +61,11 @@ taken a b to = ins 0x38 0 ∷ lda (low a) ∷ sbc (low b) ∷ ins 0x8D to ∷ ld
 abbrev pub weighed : Byte → Byte → List Instr
 weighed a b = lda a ∷ cmp b ∷ []
 
--- a routine's result is taken from where the routine leaves it
+-- a routine's result is copied from where the routine leaves it
 abbrev pub routine : ℕ → ℕ → Source → Source → ℕ → List Piece
 routine entry from a b to = Code (brought a LEFT) ∷ Code (brought b RIGHT) ∷ Code (call entry) ∷ Code (copied from to) ∷ []
 
--- code with LINE set before it where it may fault
+-- code with LINE set before it if it may fault
 abbrev pub lined_code : Bool → ℕ → List Piece → List Piece
 lined_code true n ps = Code (constant n LINE) ∷ ps
 lined_code false n ps = ps
@@ -118,7 +118,7 @@ low_first to = ins 0x8D to ∷ ins 0xA5 LEFT ∷ ins 0x8D (to + 1) ∷ []
 abbrev pub times : ℕ → Source → ℕ → List Instr
 times factor a to = begun a ++ (by_bits 15 factor a ++ low_first to)
 
--- a product: of a constant and a word by the constant's bits, where they are few
+-- a product: of a constant and a word by the constant's bits, if they are few
 abbrev pub product_code : Option (ℕ × Source) → Source → Source → ℕ → List Piece
 product_code (Some scaled) a b to = Code (times scaled.0 scaled.1 to) ∷ []
 product_code None a b to = routine MULTIPLY_AT RESULT a b to
@@ -151,11 +151,11 @@ use_code ly n AsLine a = searched ly n a (Code jump_through ∷ [])
 use_code ly n AsSubroutine a = searched ly n a (Code (pointed (next_at ly n) LEFT) ∷ Code (call PUSH_AT) ∷ Code jump_through ∷ [])
 
 -- ---- branches
--- a flag that a branch asks
+-- a flag that a branch tests
 pub data Flag : Type 0 where
   Negative Overflow Carry Zero : Flag
 
--- the opcode of the branch that is taken where a flag has this value
+-- the opcode of the branch that is taken if a flag has this value
 abbrev pub branch_on : Flag → Bool → ℕ
 branch_on Negative false = 0x10
 branch_on Negative true = 0x30
@@ -170,7 +170,7 @@ branch_on Zero true = 0xF0
 abbrev pub opposite : ℕ → ℕ
 opposite opcode = bit_xor opcode 0x20
 
--- a branch goes to its place by itself, or over a jump that does
+-- a branch goes to its target by itself, or over a jump that does
 pub data Way : Type 0 where
   Short Long : Way
 
@@ -178,7 +178,7 @@ abbrev pub way_size : Way → ℕ
 way_size Short = 2
 way_size Long = 5
 
--- a branch at an address to a place
+-- a branch at an address to a target
 abbrev pub branch_code : Way → (opcode at to : ℕ) → List Instr
 branch_code Short opcode at to = ins opcode (distance at to % 256) ∷ []
 branch_code Long opcode at to = ins (opposite opcode) 3 ∷ jump to
@@ -189,11 +189,11 @@ BranchReaches Short at to = (is_near (distance at to) ≡ true) × (to ≤ highe
 BranchReaches Long at to = to ≤ highest_code
 
 -- ---- words changed in place
--- where a branch behind code leads, over code
+-- where a branch after code leads, over code
 abbrev pub over_at : Way → (at : ℕ) → (before skipped : List Instr) → ℕ
 over_at first at before skipped = at + size before + way_size first + size skipped
 
--- code, a branch over more of it, and what is behind that
+-- code, a branch over more of it, and what follows that
 abbrev pub over_code : Way → (at : ℕ) → (before : List Instr) → Flag → Bool → (skipped behind : List Instr) → List Piece
 over_code first at before which wanted skipped behind =
     Code before ∷ Code (branch_code first (branch_on which wanted) (at + size before) (over_at first at before skipped)) ∷ Code skipped ∷ Code behind ∷ []
@@ -201,7 +201,7 @@ over_code first at before which wanted skipped behind =
 abbrev pub OverReaches : Way → (at : ℕ) → (before skipped : List Instr) → Type 0
 OverReaches first at before skipped = BranchReaches first (at + size before) (over_at first at before skipped)
 
--- the low byte of the word at a place is so much more, or less
+-- a byte is added to the low byte of the word at an address, or subtracted from it
 abbrev pub low_raised : ℕ → ℕ → List Instr
 low_raised c p = ins 0x18 0 ∷ ins 0xAD p ∷ ins 0x69 c ∷ ins 0x8D p ∷ []
 
@@ -220,7 +220,7 @@ raised_by_sign p = ins 0xAD p ∷ ins 0x69 0 ∷ ins 0x8D p ∷ ins 0xAD (p + 1)
 abbrev pub turned_right : ℕ → List Instr
 turned_right p = ins 0x6E (p + 1) ∷ ins 0x6E p ∷ []
 
--- the word at a place
+-- the change of the word at an address
 abbrev pub change_code : Way → (at : ℕ) → Change → ℕ → List Piece
 change_code first at Increment p = over_code first at (ins 0xEE p ∷ []) Zero false (ins 0xEE (p + 1) ∷ []) []
 change_code first at Decrement p = over_code first at (ins 0xAD p ∷ []) Zero false (ins 0xCE (p + 1) ∷ []) (ins 0xCE p ∷ [])
@@ -237,7 +237,7 @@ ChangeReaches first at (Lower c) p = OverReaches first at (low_lowered c p) (ins
 ChangeReaches first at Halve p = OverReaches first at (sign_asked p) (raised_by_sign p)
 ChangeReaches first at Double p = Unit {0}
 
--- a calculation of line n: where it changes a word in place, there
+-- a calculation of line n: in place if it changes a word
 abbrev pub changed_or : Option Change → Way → (n at : ℕ) → Operator → Source → Source → ℕ → List Piece
 changed_or (Some c) first n at op a b to = change_code first at c to
 changed_or None first n at op a b to = calc_code n op a b to
@@ -254,12 +254,12 @@ computed_code first n at op a b to = changed_or (change_of op a b to) first n at
 abbrev pub second_at : Way → (at : ℕ) → Source → Source → ℕ
 second_at first at a b = at + size (weighed (low a) (low b)) + way_size first + size (weighed (high a) (high b))
 
--- where the first branch of such a test leads: out of the line, or behind the test where a difference is wanted
+-- where the first branch of such a test leads: out of the line, or past the test if a difference is wanted
 abbrev pub first_to : Bool → (first second : Way) (at : ℕ) → Source → Source → ℕ → ℕ
 first_to false first second at a b next = next
 first_to true first second at a b next = second_at first at a b + way_size second
 
--- on to the next line where two words differ, or, where a difference is wanted, where they are equal
+-- on to the next line if two words differ, or, if a difference is wanted, if they are equal
 abbrev pub equality_code : Bool → (first second : Way) (at : ℕ) → Source → Source → ℕ → List Piece
 equality_code differ first second at a b next =
     Code (weighed (low a) (low b))
@@ -272,7 +272,7 @@ abbrev pub EqualityReaches : Bool → (first second : Way) (at : ℕ) → Source
 EqualityReaches differ first second at a b next =
     BranchReaches first (at + size (weighed (low a) (low b))) (first_to differ first second at a b next) × BranchReaches second (second_at first at a b) next
 
--- the difference of two words, of which N and V are looked at
+-- the difference of two words, whose N and V are tested
 abbrev pub difference : Source → Source → List Instr
 difference a b = lda (low a) ∷ cmp (low b) ∷ lda (high a) ∷ sbc (high b) ∷ []
 
@@ -280,7 +280,7 @@ difference a b = lda (low a) ∷ cmp (low b) ∷ lda (high a) ∷ sbc (high b) �
 abbrev pub turned_at : Way → (at : ℕ) → Source → Source → ℕ
 turned_at first at a b = at + size (difference a b) + way_size first + 2
 
--- N, turned where V is set, is whether a is below b: on to the next line where it is not, or, where that is wanted, where it is
+-- N, turned if V is set, tells whether a is below b: on to the next line if it is not, or, if that is wanted, if it is
 abbrev pub weighing_code : Bool → (first second : Way) (at : ℕ) → Source → Source → ℕ → List Piece
 weighing_code below first second at a b next =
     Code (difference a b)
@@ -293,30 +293,30 @@ abbrev pub WeighingReaches : (first second : Way) (at : ℕ) → Source → Sour
 WeighingReaches first second at a b next =
     BranchReaches first (at + size (difference a b)) (turned_at first at a b) × BranchReaches second (turned_at first at a b) next
 
--- the same of a and 0: N behind the high byte is whether a is below
+-- the same for a and 0: N after the high byte tells whether a is below
 abbrev pub sign_code : Bool → (first : Way) (at : ℕ) → Source → ℕ → List Piece
 sign_code below first at a next = Code (lda (high a) ∷ []) ∷ Code (branch_code first (branch_on Negative below) (at + size (lda (high a) ∷ [])) next) ∷ []
 
 abbrev pub SignReaches : (first : Way) (at : ℕ) → Source → ℕ → Type 0
 SignReaches first at a next = BranchReaches first (at + size (lda (high a) ∷ [])) next
 
--- a word compared with a constant, the highest bits of both turned: C is whether the word is not below
+-- a word compared with a constant, the highest bits of both turned: C tells whether the word is not below
 abbrev pub lifted : Source → ℕ → List Instr
 lifted a w = lda (low a) ∷ cmp (Fixed (w % 256)) ∷ lda (high a) ∷ ins 0x49 128 ∷ sbc (Fixed ((w / 256 + 128) % 256)) ∷ []
 
--- on to the next line where it is not below, or, where that is wanted, where it is
+-- on to the next line if it is not below, or, if that is wanted, if it is
 abbrev pub against_code : Bool → (first : Way) (at : ℕ) → Source → ℕ → ℕ → List Piece
 against_code below first at a w next = Code (lifted a w) ∷ Code (branch_code first (branch_on Carry (not below)) (at + size (lifted a w)) next) ∷ []
 
 abbrev pub AgainstReaches : (first : Way) (at : ℕ) → Source → ℕ → ℕ → Type 0
 AgainstReaches first at a w next = BranchReaches first (at + size (lifted a w)) next
 
--- whether it is a word below another one that leaves, where a side is wanted
+-- whether a word that is below another one leaves, if a side is wanted
 abbrev pub leaves_below : Side → Bool
 leaves_below Below = false
 leaves_below NotBelow = true
 
--- a test for order, by how it is told
+-- a test for order, by how it is decided
 abbrev pub order_by : Order → Side → (first second : Way) (at next : ℕ) → List Piece
 order_by (BySign side a) wanted first second at next = sign_code (leaves_below (wanted_side wanted side)) first at a next
 order_by (ByConstant side a w) wanted first second at next = against_code (leaves_below (wanted_side wanted side)) first at a w next
@@ -350,7 +350,7 @@ TestReaches rel.Ge first second at a b next = OrderReaches first second at a b n
 TestReaches rel.Gt first second at a b next = OrderReaches first second at b a next
 TestReaches rel.Le first second at a b next = OrderReaches first second at b a next
 
--- straight to a line where a test holds, and else on to the next line, which is behind it; where there is no such line,
+-- straight to a line if a test holds, and else on to the next line, which follows; if there is no such line,
 -- the test and then fault 1
 abbrev pub go_code : Layout → (n at : ℕ) (first second : Way) → Rel → Source → Source → Bool → ℕ → List Piece
 go_code ly n at first second rel a b true to = test_code (denied rel) first second at a b (ly.start to)
@@ -371,7 +371,7 @@ told = ins 0xAD RESULT ∷ ins 0x0D (RESULT + 1) ∷ []
 abbrev pub remainder : Source → Source → List Piece
 remainder a b = Code (brought a LEFT) ∷ Code (brought b RIGHT) ∷ Code (call DIVIDE_AT) ∷ Code told ∷ []
 
--- in Z whether a divisor divides a word
+-- Z tells whether a divisor divides a word
 abbrev pub left_over : ℕ → Option ℕ → Source → Source → List Piece
 left_over n (Some bits) a b = Code (lowest_bits bits a) ∷ []
 left_over n None a b = lined_code (may_be_zero b) n (remainder a b)
@@ -391,7 +391,7 @@ divided_code n at first how a b next = left_over n (mask b) a b ++ (Code (branch
 abbrev pub DividedReaches : (n at : ℕ) → Way → Source → Source → ℕ → Type 0
 DividedReaches n at first a b next = BranchReaches first (divided_at n at a b) next
 
--- straight to a line, or, where there is no such line, to fault 1
+-- straight to a line, or, if there is no such line, to fault 1
 abbrev pub divided_go : Layout → (n at : ℕ) → Way → Divisibility → Source → Source → Bool → ℕ → List Piece
 divided_go ly n at first how a b true to = divided_code n at first (contrary how) a b (ly.start to)
 divided_go ly n at first how a b false to = divided_code n at first how a b (next_at ly n) ++ (Code (faulting n 1) ∷ [])
@@ -400,7 +400,7 @@ abbrev pub DividedGoes : Layout → (n at : ℕ) → Way → Source → Source �
 DividedGoes ly n at first a b true to = DividedReaches n at first a b (ly.start to)
 DividedGoes ly n at first a b false to = DividedReaches n at first a b (next_at ly n)
 
--- to a line, if to one
+-- a test by a divisor that leads to a line, if there is one
 abbrev pub divides_code : Layout → (n at : ℕ) → Way → Divisibility → Source → Source → Option ℕ → List Piece
 divides_code ly n at first how a b None = divided_code n at first how a b (next_at ly n)
 divides_code ly n at first how a b (Some to) = divided_go ly n at first how a b (has_line ly.numbers to) to
@@ -409,12 +409,12 @@ abbrev pub DividesReach : Layout → (n at : ℕ) → Way → Source → Source 
 DividesReach ly n at first a b None = DividedReaches n at first a b (next_at ly n)
 DividesReach ly n at first a b (Some to) = DividedGoes ly n at first a b (has_line ly.numbers to) to
 
--- ---- what is left over
--- a word over another one, by the routine
+-- ---- remainders
+-- a word divided by another one, by the routine
 abbrev pub rest_asked : ℕ → Source → Source → List Piece
 rest_asked n a b = lined_code (may_be_zero b) n (Code (brought a LEFT) ∷ Code (brought b RIGHT) ∷ Code (call DIVIDE_AT) ∷ [])
 
--- the sign of a word goes to N; what is taken from 0 where that is set; and what is copied behind it
+-- the sign of a word goes to N; what is negated if it is set; and what is copied after it
 abbrev pub sign_looked_at : Source → List Instr
 sign_looked_at a = lda (high a) ∷ []
 
@@ -434,7 +434,7 @@ abbrev pub RestReaches : Way → (n at : ℕ) → Source → Source → Type 0
 RestReaches first n at a b = OverReaches first (rest_at n at a b) (sign_looked_at a) rest_turned
 
 -- ---- a result that goes on by a constant
--- where it does
+-- the address of that second calculation
 abbrev pub going_at : Way → (n at : ℕ) → Operator → Source → Source → ℕ → ℕ
 going_at first n at op a b to = at + pieces_size (computed_code first n at op a b to)
 
@@ -446,19 +446,19 @@ StepReaches first second n at op a b by c to =
     ChangedReaches (change_of op a b to) first at to × ChangedReaches (change_of by (AtAddress to) c to) second (going_at first n at op a b to) to
 
 -- ---- GOSUB and RETURN in line
--- a byte goes to X, and to a flag whether it is 0
+-- a byte goes to X, and Z tells whether it is 0
 abbrev pub asked : ℕ → List Instr
 asked place = ins 0xAE place ∷ []
 
--- a note's two bytes go behind the others, and the low byte of their count goes up
+-- a return's two bytes go after the others, and the low byte of their count goes up
 abbrev pub return_stored : (low high : ℕ) → List Instr
 return_stored low high = ins 0xAE NOTES ∷ ins 0xA9 low ∷ ins 0x9D RETURN_LOW ∷ ins 0xA9 high ∷ ins 0x9D RETURN_HIGH ∷ ins 0xEE NOTES ∷ []
 
--- X is the low byte of the count of notes: it goes down, and the newest note's two bytes go to the result
+-- X is the low byte of the count of returns: it goes down, and the newest return's two bytes go to the result
 abbrev pub return_taken : List Instr
 return_taken = ins 0xCA 0 ∷ ins 0x8E NOTES ∷ ins 0xBD RETURN_LOW ∷ ins 0x8D RESULT ∷ ins 0xBD RETURN_HIGH ∷ ins 0x8D (RESULT + 1) ∷ []
 
--- where the second branch of a call is, where the next line is noted, and where the routine does it
+-- where the second branch of a call is, where the line is gone to in line, and where the routine is used
 abbrev pub counted_at : Way → ℕ → ℕ
 counted_at first at = at + 3 + way_size first + 16
 
@@ -468,19 +468,19 @@ held_at first second at = counted_at first at + way_size second + 3
 abbrev pub pushing_at : (first second : Way) → ℕ → ℕ
 pushing_at first second at = held_at first second at + 3
 
--- the next line is noted by the routine
+-- the return is put on the list by the routine
 abbrev pub pushing_code : Layout → ℕ → ℕ → List Piece
 pushing_code ly n to = Code (constant n LINE) ∷ Code (pointed (next_at ly n) LEFT) ∷ Code (call PUSH_AT) ∷ Code (jump (ly.start to)) ∷ []
 
--- the line is gone to
+-- a jump to the line
 abbrev pub going_code : Layout → ℕ → ℕ → List Piece
 going_code ly n to = Code (jump (ly.start to)) ∷ pushing_code ly n to
 
--- the count of notes has a carry
+-- the count of returns has a carry
 abbrev pub raising_code : Layout → ℕ → ℕ → List Piece
 raising_code ly n to = Code (ins 0xEE (NOTES + 1) ∷ []) ∷ going_code ly n to
 
--- the next line is noted in line
+-- the return is put on the list in line
 abbrev pub noting_code : Layout → (n at : ℕ) (first second : Way) → ℕ → List Piece
 noting_code ly n at first second to =
     Code (return_stored (next_at ly n % 256) (next_at ly n / 256))
@@ -492,7 +492,7 @@ abbrev pub called_code : Layout → (n at : ℕ) (first second : Way) → ℕ �
 called_code ly n at first second to =
     Code (asked (NOTES + 1)) ∷ Code (branch_code first (branch_on Zero false) (at + 3) (pushing_at first second at)) ∷ noting_code ly n at first second to
 
--- by whether there is such a line
+-- a call of a line, by whether there is one
 abbrev pub call_code : Layout → (n at : ℕ) (first second : Way) → Bool → ℕ → List Piece
 call_code ly n at first second true to = called_code ly n at first second to
 call_code ly n at first second false to = Code (faulting n 1) ∷ []
@@ -501,22 +501,22 @@ abbrev pub CallReaches : (first second : Way) → ℕ → Bool → Type 0
 CallReaches first second at true = BranchReaches first (at + 3) (pushing_at first second at) × BranchReaches second (counted_at first at) (held_at first second at)
 CallReaches first second at false = Unit {0}
 
--- where a return asks for the low byte, and where the routine takes the note
+-- where a return tests the low byte, and where the routine is used
 abbrev pub some_at : Way → ℕ → ℕ
 some_at first at = at + 3 + way_size first
 
 abbrev pub popping_at : (first second : Way) → ℕ → ℕ
 popping_at first second at = some_at first at + 3 + way_size second + 16 + 3
 
--- the newest note is taken by the routine
+-- the newest return is taken by the routine
 abbrev pub popping_code : ℕ → List Piece
 popping_code n = Code (constant n LINE) ∷ Code (call POP_AT) ∷ Code jump_through ∷ []
 
--- the newest note is taken in line
+-- the newest return is taken in line
 abbrev pub taking_code : ℕ → List Piece
 taking_code n = Code return_taken ∷ Code jump_through ∷ popping_code n
 
--- a return, behind the question for the count's high byte
+-- a return, after the test of the count's high byte
 abbrev pub low_code : (n at : ℕ) (first second : Way) → List Piece
 low_code n at first second =
     Code (asked NOTES) ∷ Code (branch_code second (branch_on Zero true) (some_at first at + 3) (popping_at first second at)) ∷ taking_code n
@@ -529,7 +529,7 @@ abbrev pub ReturnReaches : (first second : Way) → ℕ → Type 0
 ReturnReaches first second at = BranchReaches first (at + 3) (popping_at first second at) × BranchReaches second (some_at first at + 3) (popping_at first second at)
 
 -- ---- groups
--- whether an instruction alone has branches; a calculation may have one
+-- whether an instruction alone always has branches; and whether a group may have one
 abbrev pub has_branches : slots.Instr → Bool
 has_branches (slots.CallTo to) = true
 has_branches slots.Return = true
@@ -542,7 +542,7 @@ is_branching (Stepped op a b by w x) = true
 is_branching (Remains x d to) = true
 is_branching _ = false
 
--- the code of one that has, and that its branches reach
+-- the code of an instruction with branches, and that these reach
 abbrev pub branching_code : Layout → (n at : ℕ) (first second : Way) → slots.Instr → List Piece
 branching_code ly n at first second (slots.CallTo to) = call_code ly n at first second (has_line ly.numbers to) to
 branching_code ly n at first second slots.Return = returned_code n at first second
@@ -557,7 +557,7 @@ abbrev pub OnlyIf : Bool → Type 0 → Type 0
 OnlyIf true claim = claim
 OnlyIf false claim = Unit {0}
 
--- an instruction alone without branches, with LINE set before it where it may fault
+-- an instruction alone without branches, with LINE set before it if it may fault
 abbrev pub plain_code : Layout → ℕ → ℕ → slots.Instr → List Piece
 plain_code ly n at i = if may_fault i then Code (constant n LINE) ∷ template ly n (at + 10) i else template ly n at i
 
@@ -588,11 +588,11 @@ BranchesReach ly n at first second (Divides how x d side to) = DividesReach ly n
 BranchesReach ly n at first second (Single i) = OnlyIf (has_branches i) (BranchingReaches ly first second at i)
 BranchesReach ly n at first second _ = Unit {0}
 
--- what is said of what is behind a group, where its code may go on into that
+-- what is said of what follows a group, if its code may go on into that
 abbrev pub Behind : Group → Type 0 → Type 0
 Behind g claim = OnlyIf (not (leaves g)) claim
 
--- the groups of the rest of line n, behind which the next line begins where they go on into what is behind them
+-- the groups of the rest of line n, after which the next line begins if they go on into what follows them
 abbrev pub GroupsLie : Layout → Part → (n at : ℕ) → List Group → Type 0
 GroupsLie ly code n at [] = at ≡ next_at ly n
 GroupsLie ly code n at (g ∷ gs) =
@@ -600,11 +600,11 @@ GroupsLie ly code n at (g ∷ gs) =
     × Behind g (GroupsLie ly code n (at + pieces_size (group_code ly n at first second g)) gs) × BranchesReach ly n at first second g × (0x0800 ≤ at)
 
 -- ---- lines
--- behind the call of GETIN, at an address: the STOP key leads elsewhere
+-- after the call of GETIN, at an address: the STOP key leads elsewhere
 abbrev pub poll_code : (at : ℕ) → Way → ℕ → List Piece
 poll_code at way stop = Code (ins 0xC9 3 ∷ []) ∷ Code (branch_code way (branch_on Zero true) (at + 2) stop) ∷ []
 
--- what is done there for it in line n
+-- what is done for the STOP key in line n
 abbrev pub broken_code : ℕ → List Piece
 broken_code n = Code (faulting n 0) ∷ []
 
@@ -614,7 +614,7 @@ LineStands ly code whole n at is =
     (way : Way) × (stop : ℕ) × (at + 3 ≤ highest_code) × Stands whole at (call GETIN) × Lies code (at + 3) (poll_code (at + 3) way stop)
     × BranchReaches way (at + 5) stop × Lies code stop (broken_code n) × GroupsLie ly code n (at + 5 + way_size way) (select is)
 
--- a list that begins with a poll, the rest of which stands behind it
+-- a list that begins with a poll, with the code of the rest after it
 pub record PolledLine (ly : Layout) (code whole : Part) (n : ℕ) (js : List slots.Instr) : Type 0 where
   pub rest : List slots.Instr
   pub polled : js ≡ slots.Poll ∷ rest

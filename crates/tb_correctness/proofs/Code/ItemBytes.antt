@@ -1,4 +1,4 @@
--- The bytes of items without a branch, and forms cut behind such items and behind a branch.
+-- The bytes of items without a branch, and forms cut after such items and after a branch.
 use Rattle.std.proofs.Common.{◌≡◌, ℕ, ◌+◌, ◌/◌, ◌%◌, ◌≤◌, ◌<◌, Bool, true, false, ◌&&◌, List, [], ◌∷◌, ◌++◌, map}
 use Rattle.std.proofs.Common.{refl, sym, ap, ◌∙◌, subst, arith, Some, append_assoc, true≢false}
 use Rattle.std.specs.Prelude.{zero, suc, ◌-◌, ◌^◌, if◌then◌else◌, nat_eq, nat_lt, unwrap_or, Option, None}
@@ -48,24 +48,26 @@ use Rattle.tb_correctness.proofs.Code.Emits.{formed, formed_size, branch_formed,
 use Rattle.tb_simulation.proofs.Numbers.{constant_bytes, copied_bytes, store_bytes, low_byte, high_byte}
 
 -- ---- lists of forms, cut
--- items without a branch stand as they are before the others
+-- items without a branch are unchanged among the forms, before the others
 pub record Cut (xs ys : List Entry) (fs : List Form) : Type 0 where
   pub rest : List Form
   pub is : fs ≡ map kept xs ++ rest
   pub of : AreFormsOf ys rest
 
+-- the forms of items without a branch can be cut off
 pub cut : (xs ys : List Entry) (fs : List Form) → list_all is_straight xs ≡ true → AreFormsOf (xs ++ ys) fs → Cut xs ys fs
 cut xs ys fs s h =
     let t = split xs ys fs h in
     record { rest = t.back; is = t.are ∙ ap (λ k. k ++ t.back) (straight_forms xs t.front s t.of_front); of = t.of_back }
 
--- a branch to a label stands by a way before the others
+-- a branch to a label is among the forms by a way, before the others
 pub record CutBranch (n : Mnemonic) (l : Name) (ys : List Entry) (fs : List Form) : Type 0 where
   pub way : Way
   pub rest : List Form
   pub is : fs ≡ formed way n l ∷ rest
   pub of : AreFormsOf ys rest
 
+-- the form of a branch can be cut off
 pub cut_branch : (n : Mnemonic) (l : Name) (ys : List Entry) (fs : List Form) → AreFormsOf (instr n Relative (Label l) ∷ ys) fs → CutBranch n l ys fs
 cut_branch n l ys [] h = absurd h
 cut_branch n l ys (f ∷ fs) h = let b = branch_formed n l f h.0 in record { way = b.way; rest = fs; is = ap (λ g. g ∷ fs) b.is; of = h.1 }
@@ -75,11 +77,13 @@ abbrev pub IsWord : Source → Type 0
 IsWord (FixedWord w) = w < 65536
 IsWord (AtAddress p) = Unit {0}
 
+-- the source of an operand is a word
 pub source_word : (k : ℕ) (o : Operand) → IsWord (source_of k o)
 source_word k (Constant w) = omega arith
 source_word k (Variable x) = tt
 source_word k InSlot = tt
 
+-- the source of a test's left word is a word
 pub tested_word : (a : Tested) → IsWord (tested_source a)
 tested_word HeldBefore = tt
 tested_word (HeldNow a) = source_word 0 a
@@ -89,6 +93,7 @@ pub low_straight : (m : Mnemonic) (s : Source) → is_straight (items.low_of m s
 low_straight m (FixedWord w) = refl
 low_straight m (AtAddress p) = refl
 
+-- an instruction on a word's high byte has no branch
 pub high_straight : (m : Mnemonic) (s : Source) → is_straight (items.high_of m s) ≡ true
 high_straight m (FixedWord w) = refl
 high_straight m (AtAddress p) = refl
@@ -100,24 +105,30 @@ place_straight m p = by (nat_lt p 256)
     by true = refl
     by false = refl
 
+-- items without branches, before items without branches
 pub all_straight : (xs ys : List Entry) → list_all is_straight xs ≡ true → list_all is_straight ys ≡ true → list_all is_straight (xs ++ ys) ≡ true
 all_straight [] ys h k = k
 all_straight (x ∷ xs) ys h k = let t = and_parts (is_straight x) (list_all is_straight xs) h in λ i. t.0 i && all_straight xs ys t.1 k i
 
+-- a word brought to an address has no branch
 pub brought_straight : (s : Source) (to : ℕ) → list_all is_straight (items.brought s to) ≡ true
 brought_straight s to = λ i. low_straight Lda s i && (place_straight Sta to i && (high_straight Lda s i && (place_straight Sta (to + 1) i && true)))
 
+-- a word copied to an address has no branch
 pub copied_straight : (from to : ℕ) → list_all is_straight (product.copied from to) ≡ true
 copied_straight from to = λ i. place_straight Lda from i && (place_straight Lda (from + 1) i && true)
 
+-- two words combined byte by byte have no branch
 pub joined_straight : (m : Mnemonic) (s t : Source) (to : ℕ) → list_all is_straight (items.joined m s t to) ≡ true
 joined_straight m s t to = λ i. low_straight Lda s i && (low_straight m t i && (true && (high_straight Lda s i && (high_straight m t i && true))))
 
+-- a routine with its words has no branch
 pub handed_straight : (entry from : ℕ) (s t : Source) (to : ℕ) → list_all is_straight (items.handed entry from s t to) ≡ true
 handed_straight entry from s t to =
     all_straight (items.brought s LEFT) (items.brought t RIGHT ++ (product.call entry ∷ product.copied from to)) (brought_straight s LEFT)
     (all_straight (items.brought t RIGHT) (product.call entry ∷ product.copied from to) (brought_straight t RIGHT) (copied_straight from to))
 
+-- the line's number before items without branches has none
 pub lined_straight : (t : Bool) (n : ℕ) (es : List Entry) → list_all is_straight es ≡ true → list_all is_straight (items.lined t n es) ≡ true
 lined_straight true n es h = h
 lined_straight false n es h = h
@@ -130,6 +141,7 @@ quotient_straight : (n : ℕ) (o : Option ℕ) (s t : Source) (to : ℕ) → lis
 quotient_straight n (Some k) s t to = plain_straight (scaled.shifted k s to) (shifted_plain k s to)
 quotient_straight n None s t to = lined_straight (items.may_be_zero t) n (items.handed DIVIDE_AT LEFT s t to) (handed_straight DIVIDE_AT LEFT s t to)
 
+-- a calculation has no branch
 pub calculated_straight : (n : ℕ) (o : Operator) (s t : Source) (to : ℕ) → list_all is_straight (items.calculated n o s t to) ≡ true
 calculated_straight n op.Add s t to = joined_straight Adc s t to
 calculated_straight n op.Subtract s t to = joined_straight Sbc s t to
@@ -140,6 +152,7 @@ jump_straight : (ns : List ℕ) (n to : ℕ) (t : Bool) → has_line ns to ≡ t
 jump_straight ns n to true e = rw e refl
 jump_straight ns n to false e = rw e refl
 
+-- the template of an instruction alone has no branch, if the instruction has none
 pub template_straight : (ns : List ℕ) (n i : ℕ) (c : slots.Instr) → coded.has_branches c ≡ false → list_all is_straight (product.template ns n i c) ≡ true
 template_straight ns n i (slots.Load k x) b = copied_straight (product.var_at x) (product.slot_at k)
 template_straight ns n i (slots.JumpTo to) b = jump_straight ns n to (has_line ns to) refl
@@ -147,6 +160,7 @@ template_straight ns n i (slots.CallTo to) b = absurd (true≢false b)
 template_straight ns n i slots.Return b = absurd (true≢false b)
 template_straight ns n i _ b = refl
 
+-- no items have no forms
 pub no_more : (fs : List Form) → AreFormsOf [] fs → fs ≡ []
 no_more [] h = refl
 no_more (f ∷ fs) h = absurd h
@@ -159,7 +173,7 @@ masked : (k : ℕ) → k < 6 → scaled.all_but_lowest k % 256 ≡ scaled.all_bu
 masked k few = let p = power_size k few in omega (arith, p.1)
 
 module _ (labels : List (Name × ℕ)) where
-  -- the labels of settled items stand for their places, their branches reach, and they end below $A000
+  -- the labels of settled items give their addresses, their branches reach, and they end below $A000
   pub record Rest (at : ℕ) (fs : List Form) : Type 0 where
     pub labels_at : LabelsAt labels at (items_from at fs)
     pub near : some_branch_far labels at (items_from at fs) ≡ false
@@ -169,10 +183,12 @@ module _ (labels : List (Name × ℕ)) where
   labels_behind at [] ys h = subst (λ a. LabelsAt labels a ys) (let e : at ≡ at + 0 = omega arith in e) h
   labels_behind at (x ∷ xs) ys h = subst (λ a. LabelsAt labels a ys) (let e : at + size_of x + size xs ≡ at + (size_of x + size xs) = omega arith in e) (labels_behind (at + size_of x) xs ys h.1)
 
+  -- labels of two lists are those of the first
   pub labels_before : (at : ℕ) (xs ys : List Entry) → LabelsAt labels at (xs ++ ys) → LabelsAt labels at xs
   labels_before at [] ys h = tt
   labels_before at (x ∷ xs) ys h = (h.0, labels_before (at + size_of x) xs ys h.1)
 
+  -- forms before others are right if all are
   pub rest_before : (at : ℕ) (fs gs : List Form) → Rest at (fs ++ gs) → Rest at fs
   rest_before at fs gs r =
       let xs = items_from at fs in let ys = items_from (at + forms_size fs) gs in
@@ -183,6 +199,7 @@ module _ (labels : List (Name × ℕ)) where
         below = let l = r.below in let e = forms_append fs gs in omega (arith, l, e);
       }
 
+  -- forms after others are right if all are
   pub rest_behind : (at to : ℕ) (fs gs : List Form) → at + forms_size fs ≡ to → Rest at (fs ++ gs) → Rest to gs
   rest_behind at to fs gs e r = subst (λ a. Rest a gs) e (record {
     labels_at = subst (λ n. LabelsAt labels (at + n) ys) (items_size at fs) (labels_behind at xs ys (subst (LabelsAt labels at) both r.labels_at));
@@ -200,7 +217,7 @@ module _ (labels : List (Name × ℕ)) where
       both = items_append at fs gs
 
   -- ---- single bytes
-  -- an item has the bytes of an instruction, wherever it stands; so have items those of instructions
+  -- an item has the bytes of an instruction, wherever it is; and a list of items those of a list of instructions
   pub record Encodes (e : Entry) (i : Instr) : Type 0 where
     pub same : (a : ℕ) → bytes_of labels a e ≡ instr_bytes i
 
@@ -269,12 +286,14 @@ module _ (labels : List (Name × ℕ)) where
   unfolding opcodes.encoded
   set = record { same = λ a. refl }
 
+  -- the bytes of a word brought to an address
   pub brought_bytes : (s : Source) (to : ℕ) → IsWord s → AllEncode (items.brought s to) (coded.brought s to)
   brought_bytes s to h = lda_low s ▹ store_at to ▹ lda_high s h ▹ store_at (to + 1) ▹ none
 
   summed_bytes : (s t : Source) (to : ℕ) → IsWord s → IsWord t → AllEncode (items.summed s t to) (coded.summed s t to)
   summed_bytes s t to h k = clear ▹ lda_low s ▹ adc_low t ▹ store to ▹ lda_high s h ▹ adc_high t k ▹ store (to + 1) ▹ none
 
+  -- the bytes of a difference
   pub taken_bytes : (s t : Source) (to : ℕ) → IsWord s → IsWord t → AllEncode (items.taken s t to) (coded.taken s t to)
   taken_bytes s t to h k = set ▹ lda_low s ▹ sbc_low t ▹ store to ▹ lda_high s h ▹ sbc_high t k ▹ store (to + 1) ▹ none
 
@@ -282,6 +301,7 @@ module _ (labels : List (Name × ℕ)) where
   made_append : (xs ys : List Entry) (is js : List Instr) → AllEncode xs is → AllEncode ys js → AllEncode (xs ++ ys) (is ++ js)
   made_append xs ys is js h k = record { same = λ a. bytes_append labels a xs ys ∙ (λ j. h.same a j ++ k.same (a + size xs) j) ∙ sym (flat_append is js) }
 
+  -- items with the bytes of instructions emit these
   pub all_made : {at : ℕ} (es : List Entry) (is : List Instr) → AllEncode es is → Emits labels at (map kept es) (Code is ∷ [])
   all_made {at} es is m = record { bytes = ap (bytes_from labels at) (items_kept at es) ∙ m.same at ∙ sym (append-nil (flat is)) }
 
@@ -367,16 +387,20 @@ module _ (labels : List (Name × ℕ)) where
   pub weighed_low : (s t : Source) → AllEncode (items.low_of Lda s ∷ items.low_of Cmp t ∷ []) (weighed (low s) (low t))
   weighed_low s t = lda_low s ▹ cmp_low t ▹ none
 
+  -- the bytes of a comparison of high bytes
   pub weighed_high : (s t : Source) → IsWord s → IsWord t → AllEncode (items.high_of Lda s ∷ items.high_of Cmp t ∷ []) (weighed (high s) (high t))
   weighed_high s t h k = lda_high s h ▹ cmp_high t k ▹ none
 
+  -- the bytes of a difference of two words, for a test
   pub difference_bytes : (s t : Source) → IsWord s → IsWord t → AllEncode (items.low_of Lda s ∷ items.low_of Cmp t ∷ items.high_of Lda s ∷ items.high_of Sbc t ∷ []) (difference s t)
   difference_bytes s t h k = lda_low s ▹ cmp_low t ▹ lda_high s h ▹ sbc_high t k ▹ none
 
+  -- the bytes of a word compared with a constant
   pub lifted_bytes : (s : Source) (w : ℕ) → IsWord s → AllEncode (orders.lifted s w) (coded.lifted s w)
   unfolding opcodes.encoded
   lifted_bytes s w h = lda_low s ▹ cmp_low (FixedWord w) ▹ lda_high s h ▹ record { same = λ a. refl } ▹ sbc_low (FixedWord (w / 256 + 128)) ▹ none
 
+  -- a routine with its words emits its code
   pub handed_emits : {at : ℕ} (entry from : ℕ) (s t : Source) (to : ℕ) → IsWord s → IsWord t → Emits labels at (map kept (items.handed entry from s t to)) (coded.routine entry from s t to)
   unfolding opcodes.encoded
   handed_emits entry from s t to h k =
@@ -385,6 +409,7 @@ module _ (labels : List (Name × ℕ)) where
       (block labels (product.call entry ∷ []) (resolved.call entry) refl
       (block labels (product.copied from to) (resolved.copied from to) (copied_bytes labels [] 0 _ from to) (ends labels))))
 
+  -- the line's number and items emit the code with that number
   pub lined_emits : (at : ℕ) (t : Bool) (n : ℕ) → n < 65536 → (es : List Entry) (ps : List Piece) → ((b : ℕ) → Emits labels b (map kept es) ps)
       → Emits labels at (map kept (items.lined t n es)) (coded.lined_code t n ps)
   lined_emits at true n l es ps e = block labels (product.constant n LINE) (resolved.constant n LINE) (constant_bytes labels [] 0 at n LINE l) (e (at + 10))
@@ -421,12 +446,15 @@ module _ (labels : List (Name × ℕ)) where
       (block labels (items.brought t RIGHT) (coded.brought t RIGHT) ((brought_bytes t RIGHT k).same _)
       (block labels (product.call DIVIDE_AT ∷ []) (resolved.call DIVIDE_AT) refl (ends labels)))
 
+  -- a remainder by the routine emits its code
   pub asked_emits : (n at : ℕ) (s t : Source) → n < 65536 → IsWord s → IsWord t → Emits labels at (map kept (items.asked_rest n s t)) (coded.rest_asked n s t)
   asked_emits n at s t l h k = lined_emits at (items.may_be_zero t) n l _ _ (λ b. called_emits {at = b} s t h k)
 
+  -- the bytes of a look at a sign
   pub high_made : (s : Source) → IsWord s → AllEncode (items.high_of Lda s ∷ []) (coded.sign_looked_at s)
   high_made s h = lda_high s h ▹ none
 
+  -- the bytes of a word copied
   pub copied_made : (from to : ℕ) → AllEncode (product.copied from to) (resolved.copied from to)
   copied_made from to = record { same = λ a. copied_bytes labels [] 0 a from to }
 
@@ -434,11 +462,13 @@ module _ (labels : List (Name × ℕ)) where
   unfolding opcodes.encoded
   bits_bytes_of k s few = lda_low s ▹ record { same = λ a. ap (λ b. 0x29 ∷ b ∷ []) (mask_small k few) } ▹ none
 
+  -- a remainder for a test emits its code
   pub left_over_emits : (n at : ℕ) (o : Option ℕ) (s t : Source) → IsMasking t o → n < 65536 → IsWord s → IsWord t
       → Emits labels at (map kept (items.left_over n o s t)) (coded.left_over n o s t)
   left_over_emits n at _ s t (by_bits w k e few p) l h g = all_made (lowest_bits (2 ^ (k + 1) - 1) s) (coded.lowest_bits (2 ^ (k + 1) - 1) s) (bits_bytes_of k s few)
   left_over_emits n at _ s t by_division l h g = lined_emits at (items.may_be_zero t) n l (items.remainder s t) (coded.remainder s t) (λ b. remainder_emits {at = b} s t h g)
 
+  -- a calculation emits its code
   pub calculated_emits : (n at : ℕ) (o : Operator) (s t : Source) (to : ℕ) → n < 65536 → IsWord s → IsWord t
       → Emits labels at (map kept (items.calculated n o s t to)) (coded.calc_code n o s t to)
   unfolding opcodes.encoded
@@ -447,25 +477,29 @@ module _ (labels : List (Name × ℕ)) where
   calculated_emits n at op.Multiply s t to l h k = product_emits (scaling s t) s t to (scaling_is s t) h k
   calculated_emits n at op.Divide s t to l h k = quotient_emits n at (shifts t) s t to (shifting_is t) l h k
 
-  -- ---- cut behind straight items and behind a branch
+  -- ---- cut after straight items and after a branch
   make_size : (es : List Entry) (is : List Instr) → AllEncode es is → size es ≡ resolved.size is
   make_size es is m =
       let one : Emits labels 0 (map kept es ++ []) (Code is ∷ []) = block labels es is (m.same 0) (ends labels) in
       let a = emitted_size labels one in let b = kept_size es in let c = forms_append (map kept es) [] in omega (arith, a, b, c)
 
+  -- forms after items without branches are right if all are
   pub behind_straight : (at : ℕ) (es : List Entry) (is : List Instr) (fs : List Form) → AllEncode es is → Rest at (map kept es ++ fs) → Rest (at + resolved.size is) fs
   behind_straight at es is fs m r = rest_behind at (at + resolved.size is) (map kept es) fs (let s = make_size es is m in let k = kept_size es in omega (arith, s, k)) r
 
+  -- forms after a branch are right if all are
   pub behind_branch : (at : ℕ) (way : Way) (n : Mnemonic) (l : Name) (fs : List Form) → Rest at (formed way n l ∷ fs) → Rest (at + way_size way) fs
   behind_branch at way n l fs r = rest_behind at (at + way_size way) (formed way n l ∷ []) fs (let s = formed_size way n l in omega (arith, s)) r
 
-  -- a label stands for where it is, and takes no room
+  -- a label gives its own address, and takes no room
   pub label_here : (at : ℕ) (l : Name) (fs : List Form) → Rest at (kept (label l) ∷ fs) → address_in labels l ≡ Some at
   label_here at l fs r = r.labels_at.0
 
+  -- forms after a label are right if all are
   pub behind_label : (at : ℕ) (l : Name) (fs : List Form) → Rest at (kept (label l) ∷ fs) → Rest at fs
   behind_label at l fs r = rest_behind at at (kept (label l) ∷ []) fs (omega arith) r
 
+  -- a label's number is its address
   pub value_of : (l : Name) (a : ℕ) → address_in labels l ≡ Some a → number_in labels (Label l) ≡ a
   value_of l a e = ap (λ o. unwrap_or o 0) e
 

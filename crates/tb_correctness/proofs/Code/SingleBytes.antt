@@ -51,7 +51,7 @@ module _ (labels : List (Name × ℕ)) (ns : List ℕ) (seed : ℕ) (seed_small 
       λ j. 0xa9 ∷ l j ∷ 0x85 ∷ POINTER ∷ 0xa9 ∷ r j ∷ 0x85 ∷ (POINTER + 1) ∷ 0xa9 ∷ m j ∷ 0x8d ∷ LENGTH % 256 ∷ LENGTH / 256 ∷ 0x20 ∷ TEXT_AT % 256
       ∷ TEXT_AT / 256 ∷ 0x4c ∷ end j % 256 ∷ end j / 256 ∷ (t ++ [])
 
-  -- a group of another kind is none of a single instruction
+  -- a group that is not a single instruction
   abbrev is_single : Group → Bool
   is_single (Single c) = true
   is_single (Calculate op a b d) = false

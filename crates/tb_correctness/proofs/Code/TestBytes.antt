@@ -95,6 +95,7 @@ module _ (labels : List (Name × ℕ)) where
         );
       }
 
+    -- the forms of a test for equality emit its code
     pub equal_emitted : (at : ℕ) (fs : List Form)
         → AreFormsOf (low_pair ++ (instr Bne Relative (Label leaves) ∷ (high_pair ++ (instr Bne Relative (Label leaves) ∷ [])))) fs → Rest labels at fs → Equality false at fs
     equal_emitted at fs h r =
@@ -107,6 +108,7 @@ module _ (labels : List (Name × ℕ)) where
         ∙ ap (λ t. formed b2.way Bne leaves ∷ t) (no_more b2.rest b2.of)))) in
         subst (Equality false at) (sym is) (equality false b1.way b2.way at leaves [] (subst (Rest labels at) is r) there top (ends labels))
 
+    -- the forms of a test for inequality emit its code
     pub unequal_emitted : (at : ℕ) (skip : Name) (fs : List Form)
         → AreFormsOf (low_pair ++ (instr Bne Relative (Label skip) ∷ (high_pair ++ (instr Beq Relative (Label leaves) ∷ (label skip ∷ []))))) fs → Rest labels at fs → Equality true at fs
     unequal_emitted at skip fs h r =
@@ -172,6 +174,7 @@ module _ (labels : List (Name × ℕ)) where
             );
           }
 
+    -- the forms of a test for order by the difference emit its code
     pub weighing_emitted : (below : Bool) (at : ℕ) (skip : Name) (fs : List Form)
         → AreFormsOf (both_pairs ++ (instr Bvc Relative (Label skip) ∷ ((product.const Eor 128 ∷ label skip ∷ [])
         ++ (instr (branch_by Negative below) Relative (Label leaves) ∷ [])))) fs → Rest labels at fs → Weighing below at fs
@@ -186,9 +189,9 @@ module _ (labels : List (Name × ℕ)) where
         ∙ ap (λ t. kept (product.const Eor 128) ∷ kept (label skip) ∷ t) (b2.is ∙ ap (λ t. formed b2.way (branch_by Negative below) leaves ∷ t) (no_more b2.rest b2.of)))) in
         subst (Weighing below at) (sym is) (order below b1.way b2.way at skip (subst (Rest labels at) is r))
 
-  -- ---- order, by how it is told
+  -- ---- order, by how it is decided
   module _ (to : ℕ) (goal : Target) (there : address_in labels (label_of goal) ≡ Some to) (top : to ≤ highest_code) where
-    -- code without a branch, and one behind it
+    -- code without a branch, and a branch after it
     record Ended (is : List Instr) (which : Flag) (wanted : Bool) (at : ℕ) (fs : List Form) : Type 0 where
       first : Way
       emits : Emits labels at fs (Code is ∷ Code (branch_code first (branch_on which wanted) (at + resolved.size is) to) ∷ [])
@@ -264,6 +267,7 @@ module _ (labels : List (Name × ℕ)) where
     order_emitted (ByDifference s t) wanted skip at fs h f r =
         let e = weighed_emitted wanted s t skip at fs h.0 h.1 f r in record { first = e.first; second = e.second; emits = e.emits; reach = e.reach }
 
+    -- the forms of a test for order emit its code
     pub compared_emitted : (s t : Source) (wanted : Side) (skip : Target) (at : ℕ) (fs : List Form) → IsWord s → IsWord t
         → AreFormsOf (orders.ordered wanted s t skip goal) fs → Rest labels at fs → OrderEmitted (order_of s t) wanted at fs
     compared_emitted s t wanted skip at fs h k f r = order_emitted (order_of s t) wanted skip at fs (order_words s t h k) f r

@@ -78,7 +78,7 @@ module _ (part : Part) (labels : List (Name × ℕ)) (ns : List ℕ) (seed : ℕ
     lies : Lies part labels a (items_from a fs)
     near : some_branch_far labels a (items_from a fs) ≡ false
 
-  -- the lines that ask for the STOP key behind the first of these
+  -- the lines that ask for the STOP key after the first of these
   abbrev asking_behind : List ℕ → Numbered (List Instr) → List ℕ
   asking_behind asking l = left_behind (ends_away l.content) (asking ++ l.number ∷ [])
 
@@ -86,7 +86,7 @@ module _ (part : Part) (labels : List (Name × ℕ)) (ns : List ℕ) (seed : ℕ
   abbrev done : List ℕ → Numbered (List Instr) → List Entry
   done asking l = done_behind (ends_away l.content) (asking ++ l.number ∷ [])
 
-  -- the first of these lines, what is done behind it for the STOP key, and the lines behind that
+  -- the first of these lines, what is done after it for the STOP key, and the lines after that
   record Parted (a : ℕ) (asking : List ℕ) (l : Numbered (List Instr)) (ls : SlotCode) (fs : List Form) : Type 0 where
     own : List Form
     of : AreFormsOf (line_code ns seed l) own
@@ -100,7 +100,7 @@ module _ (part : Part) (labels : List (Name × ℕ)) (ns : List ℕ) (seed : ℕ
     some : 1 ≤ forms_size own
     polled : ArePolled ls
 
-  -- where the lines behind the first one begin
+  -- where the lines after the first one begin
   abbrev then_at : (a : ℕ) (asking : List ℕ) (l : Numbered (List Instr)) (ls : SlotCode) (fs : List Form) → Parted a asking l ls fs → ℕ
   then_at a asking l ls fs p = a + forms_size p.own + size (done asking l)
 
@@ -168,7 +168,7 @@ module _ (part : Part) (labels : List (Name × ℕ)) (ns : List ℕ) (seed : ℕ
           let s = p.total in
           (omega (arith, r.0), omega (arith, r.1, s))
 
-  -- where the first of these lines begins, or what is behind them
+  -- where the first of these lines begins, or what follows them
   first_there : (lines : SlotCode) (a : ℕ) (asking : List ℕ) (fs : List Form) → ArePolled lines → Lined a asking lines fs
       → label_address labels target.Past ≡ a + forms_size fs → label_address labels (first_of lines) ≡ a
   first_there [] a asking [] polls h past = past ∙ (let e : a + 0 ≡ a = omega arith in e)
@@ -176,7 +176,7 @@ module _ (part : Part) (labels : List (Name × ℕ)) (ns : List ℕ) (seed : ℕ
   first_there (l ∷ ls) a asking fs polls h past = (parted a asking l ls fs polls h).here
 
   -- the line with a number, at its label
-  -- beginning and ending between these places, and none of these lines beginning inside it but itself
+  -- beginning and ending between these addresses, and none of these lines beginning inside it but itself
   record Found (ms : List ℕ) (a to n : ℕ) (is : List Instr) : Type 0 where
     from : a ≤ at n
     forms : List Form
@@ -188,7 +188,7 @@ module _ (part : Part) (labels : List (Name × ℕ)) (ns : List ℕ) (seed : ℕ
     ends : at n + size (items_from (at n) forms) ≤ to
     clear : (m : ℕ) → has_line ms m ≡ true → (at m ≤ at n) ⊎ (at n + size (items_from (at n) forms) ≤ at m)
 
-  -- nothing is done for the STOP key behind a line that goes on
+  -- nothing is done for the STOP key after a line that goes on
   done_nothing : (t : Bool) (ms : List ℕ) → t ≡ false → size (done_behind t ms) ≡ 0
   done_nothing true ms e = absurd (true≢false e)
   done_nothing false ms e = refl
@@ -226,7 +226,7 @@ module _ (part : Part) (labels : List (Name × ℕ)) (ns : List ℕ) (seed : ℕ
       → Found ms a to l.number l.content → Found ms a to n is
   same_line ms l n is e c a to f = subst (λ is. Found ms a to n is) c (subst (λ k. Found ms a to k l.content) e f)
 
-  -- a line behind the first one
+  -- a line after the first one
   later_found : (a : ℕ) (asking : List ℕ) (l : Numbered (List Instr)) (ls : SlotCode) (fs : List Form) (p : Parted a asking l ls fs) (n : ℕ)
       (is : List Instr) → Found (numbers ls) (then_at a asking l ls fs p) (then_at a asking l ls fs p + forms_size p.rest) n is
       → Found (numbers (l ∷ ls)) a (a + forms_size fs) n is
@@ -258,7 +258,7 @@ module _ (part : Part) (labels : List (Name × ℕ)) (ns : List ℕ) (seed : ℕ
       go p next rest false q e = later_found a asking l ls fs p n is (rest e)
 
   -- ---- what is done for the STOP key
-  -- it lies at its label, and no line of the program begins inside it
+  -- what is done for it lies at its label, and no line of the program begins inside it
   record Broken (n : ℕ) : Type 0 where
     lies : Lies part labels (label_address labels (target.Break n)) (broken n)
     clear : (m : ℕ) → has_line ns m ≡ true → (at m < label_address labels (target.Break n)) ⊎ (label_address labels (target.Break n) + size (broken n) ≤ at m)
@@ -314,6 +314,7 @@ first_at : (labels : List (Name × ℕ)) (seed : ℕ) (code : SlotCode) → 1 �
 first_at labels seed [] some h = absurd (let no : ⊥ = omega (arith, some) in no)
 first_at labels seed (l ∷ ls) some h = sym (start_of_line labels (numbers (l ∷ ls)) seed l.number (ap (λ b. b || has_line (numbers ls) l.number) (eq-eqb l.number l.number refl))) ∙ h
 
+-- settled code that is laid from the block's address is laid as its labels say
 pub image_laid : (seed : ℕ) (code : SlotCode) → seed < 65536 → RisingFrom 0 (numbers code) → AreCodable code → ArePolled code
     → 1 ≤ length (numbers code) → length code < 65536 → (items : List Entry) → IsSettled PROLOGUE_AT (program_code seed code) items → PROLOGUE_AT + size items ≤ 0xa000 →
     (part : Part) → ((a b : ℕ) → part a ≡ Some b → b < 256) → Bytes part PROLOGUE_AT (image_of PROLOGUE_AT items) → Laid (labels_from PROLOGUE_AT items) seed part code

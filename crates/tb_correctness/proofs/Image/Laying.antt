@@ -31,8 +31,9 @@ use Rattle.tb_simulation.proofs.Numbers.{joined, constant_bytes, faulted_bytes, 
 use Rattle.tb_correctness.specs.Laid.{IsClear, LineLies, Laid}
 use Rattle.tb_correctness.proofs.Code.GroupCode.{broken_code}
 
--- ---- one list of items behind the other
+-- ---- one list of items after another
 module _ (code : Part) (labels : List (Name × ℕ)) where
+  -- the first of two lists of items lies there
   pub front : (a : ℕ) (xs ys : List Entry) → Lies code labels a (xs ++ ys) → Lies code labels a xs
   front a xs ys h = record {
     bytes = bytes_front code a (bytes_from labels a xs) (bytes_from labels (a + size xs) ys) (subst (Bytes code a) (bytes_append labels a xs ys) h.bytes);
@@ -40,6 +41,7 @@ module _ (code : Part) (labels : List (Name × ℕ)) where
     below = omega (arith, h.below, size_append xs ys);
   }
 
+  -- the second of two lists of items lies after the first
   pub back : (a : ℕ) (xs ys : List Entry) → Lies code labels a (xs ++ ys) → Lies code labels (a + size xs) ys
   back a xs ys h = record {
     bytes = subst (λ n. Bytes code (a + n) (bytes_from labels (a + size xs) ys)) (all_size labels a xs) (behind code a (bytes_from labels a xs)
@@ -48,11 +50,12 @@ module _ (code : Part) (labels : List (Name × ℕ)) where
     below = omega (arith, h.below, size_append xs ys);
   }
 
--- ---- places where no line begins
+-- ---- addresses at which no line begins
 module _ (ly : Layout) (code : Part) where
   inner_same : (a : ℕ) → is_start ly.start ly.numbers a ≡ false → inner ly code a ≡ code a
   inner_same a e = ap (λ t. if t then None else code a) e
 
+  -- bytes in which no line begins are among the inner bytes
   pub inner_bytes : (at : ℕ) (bs : List ℕ) → at + length bs ≤ 0xa000 → ((a : ℕ) → at ≤ a → a < at + length bs → is_start ly.start ly.numbers a
       ≡ false) → Bytes code at bs → Bytes (inner ly code) at bs
   inner_bytes at [] small none h = tt
@@ -88,6 +91,7 @@ module _ (labels : List (Name × ℕ)) (seed : ℕ) (code : Part) (sc : slots.Sl
   abbrev within : Part
   within = inner laid_layout code
 
+  -- the inner bytes are bytes
   pub within_small : (a b : ℕ) → within a ≡ Some b → b < 256
   within_small a b e = go (is_start laid_layout.start laid_layout.numbers a) e
     where
@@ -95,7 +99,7 @@ module _ (labels : List (Name × ℕ)) (seed : ℕ) (code : Part) (sc : slots.Sl
       go true e = cc
       go false e = laid.bytes_small a b e
 
-  -- ---- which numbers have lines
+  -- ---- which numbers are lines
   pub content_has : (lines : slots.SlotCode) (n : ℕ) (is : List slots.Instr) → content_at lines n ≡ Some is → has_line (numbers lines) n ≡ true
   content_has [] n is e = cc
   content_has (l ∷ ls) n is e = go (nat_eq l.number n) (content_has ls n is) e
@@ -104,6 +108,7 @@ module _ (labels : List (Name × ℕ)) (seed : ℕ) (code : Part) (sc : slots.Sl
       go true later e = refl
       go false later e = later e
 
+  -- a number without a list is not a line
   pub content_none : (lines : slots.SlotCode) (n : ℕ) → content_at lines n ≡ None → has_line (numbers lines) n ≡ false
   content_none [] n e = refl
   content_none (l ∷ ls) n e = go (nat_eq l.number n) (content_none ls n) e
@@ -112,16 +117,18 @@ module _ (labels : List (Name × ℕ)) (seed : ℕ) (code : Part) (sc : slots.Sl
       go true later e = cc
       go false later e = later e
 
+  -- each line's code is laid as the specification says
   pub line_of : (n : ℕ) → has_line ns n ≡ true → (is : List slots.Instr) × LineLies labels code ns seed n is
   line_of n e = let c = has_content sc n e in (c.0, laid.lines n c.0 c.1)
 
-  -- ---- places below 65,536
+  -- ---- addresses below 65,536
   line_small : (n : ℕ) → has_line ns n ≡ true → label_address labels (target.Line n) < 0xa000
   line_small n e = let l = line_of n e in omega (arith, l.1.lies.below, l.1.some)
 
   past_small : label_address labels target.Past < 0xa000
   past_small = omega (arith, laid.past.below)
 
+  -- each line begins below $A000
   pub start_small : (n : ℕ) → laid_layout.start n < 0xa000
   start_small n = go (has_line ns n) refl
     where
@@ -129,10 +136,12 @@ module _ (labels : List (Name × ℕ)) (seed : ℕ) (code : Part) (sc : slots.Sl
       go true e = line_small n e
       go false e = past_small
 
+  -- each place of a run has an address below 65,536
   pub place_small : (p : Place) → place_address laid_layout p < 65536
   place_small (At n) = omega (arith, start_small n)
   place_small Past = omega (arith, past_small)
 
+  -- the highest line number is a word
   pub top_small : (lines : slots.SlotCode) → ((n : ℕ) → has_line (numbers lines) n ≡ true → n < 65536) → highest (numbers lines) < 65536
   top_small [] h = omega arith
   top_small (l ∷ []) h = h l.number (ap (λ b. b || false) (eq-eqb l.number l.number refl))
@@ -174,9 +183,11 @@ module _ (labels : List (Name × ℕ)) (seed : ℕ) (code : Part) (sc : slots.Sl
       let at = label_address labels (target.Break n) in
       (pieces at (broken n) (broken_code n) (inside at (broken n) (laid.breaks n has) (laid.breaks_clear n has)) (faulted_bytes labels ns seed at n 0 small (omega arith))).1
 
+  -- the line table's address is a word
   pub table_small : label_address labels target.Table < 65536
   table_small = omega (arith, laid.table.below)
 
+  -- the search is laid at its label
   pub find_lies : resolved.Lies within (label_address labels target.Find) (resolved.find_code laid_layout)
   unfolding opcodes.encoded
   find_lies =
@@ -191,11 +202,13 @@ module _ (labels : List (Name × ℕ)) (seed : ℕ) (code : Part) (sc : slots.Sl
   pub block_short : leb (length block_bytes) 1011 ≡ true
   block_short = refl
 
+  -- the block is among the inner bytes
   pub block_lies : Bytes within PROLOGUE_AT block_bytes
   block_lies =
       let short : length block_bytes ≤ 1011 = leb-true (length block_bytes) 1011 block_short in
       inner_bytes laid_layout code PROLOGUE_AT block_bytes (omega (arith, short))
       (λ a lo hi. none_between PROLOGUE_AT LINES_AT (λ n e. inr (line_of n e).1.after_block) a lo (omega (arith, hi, short))) laid.block
 
+  -- the line table is among the inner bytes
   pub table_lies : Lies within labels (label_address labels target.Table) (program.table_code ns)
   table_lies = inside (label_address labels target.Table) (program.table_code ns) laid.table laid.table_clear

@@ -46,7 +46,7 @@ use Rattle.tb_correctness.proofs.Image.Laying.{inner_bytes, line_of, none_betwee
 use Rattle.tb_correctness.proofs.Image.Laying.{top_small, table_small, content_has, content_none}
 use Rattle.tb_correctness.proofs.Slots.Singles.{AreAlone, all_alone}
 
--- the poll's code behind the call of GETIN
+-- the poll's code after the call of GETIN
 poll_size : (at : ℕ) (way : Way) (stop : ℕ) → pieces_size (poll_code at way stop) ≡ 2 + way_size way
 poll_size at way stop = let b = branch_size way Zero true (at + 2) stop in omega (arith, b)
 
@@ -60,7 +60,7 @@ module _ (labels : List (Name × ℕ)) (seed : ℕ) (code : Part) (sc : slots.Sl
   abbrev within : Part
   within = inner ly code
 
-  -- the bytes of forms, one list behind the other
+  -- the bytes of forms, one list after another
   part_bytes : (part : Part) (a : ℕ) (fs gs : List Form) → a + forms_size (fs ++ gs) ≤ highest_code → Bytes part a (bytes_from labels a (items_from a (fs ++ gs)))
       → Bytes part a (bytes_from labels a (items_from a fs)) × Bytes part (a + forms_size fs) (bytes_from labels (a + forms_size fs) (items_from (a + forms_size fs) gs))
   part_bytes part a fs gs below h =
@@ -71,7 +71,7 @@ module _ (labels : List (Name × ℕ)) (seed : ℕ) (code : Part) (sc : slots.Sl
       let sum = forms_append fs gs in
       (bytes_front part a x y both, subst (λ n. Bytes part (a + n) y) long (behind part a x y (omega (arith, long, sum, below)) both))
 
-  -- a label that stands is where its place is
+  -- a label that exists gives its address
   stands : (t : Target) (a : ℕ) → address_in labels (label_of t) ≡ Some a → address_in labels (label_of t) ≡ Some (label_address labels t)
   stands t a e = e ∙ ap Some (sym (ap (λ o. unwrap_or o 0) e))
 
@@ -99,7 +99,7 @@ module _ (labels : List (Name × ℕ)) (seed : ℕ) (code : Part) (sc : slots.Sl
   starts_below m = omega (arith, start_small labels seed code sc laid m)
 
   module _ (n : ℕ) (small : n < 65536) where
-    -- what is behind a group, where its code goes on
+    -- what follows a group, if its code goes on
     behind_by : {claim : Type 0} (t : Bool) → (t ≡ false → claim) → OnlyIf (not t) claim
     behind_by true h = tt
     behind_by false h = h refl
@@ -142,7 +142,7 @@ module _ (labels : List (Name × ℕ)) (seed : ℕ) (code : Part) (sc : slots.Sl
     abbrev stop : Name
     stop = label_of (target.Break n)
 
-    -- its label and the call of GETIN, and what is behind the call
+    -- its label and the call of GETIN, and what follows the call
     abbrev asks : List Entry
     asks = product.here (target.Line n) ∷ product.at Jsr GETIN ∷ []
 
@@ -230,6 +230,7 @@ module _ (labels : List (Name × ℕ)) (seed : ℕ) (code : Part) (sc : slots.Sl
       go later true e = (h.0.0, sym (same l.content is e) ∙ h.0.1)
       go later false e = later e
 
+  -- the settled code of a program is laid by groups
   pub groups_laid : ArePolled sc → GroupsLaid ly within code sc
   groups_laid polled = record {
     numbered = refl;

@@ -98,8 +98,10 @@ module _ (place : ℕ) (bytes : List ℕ) (from : 0x0800 ≤ place) (to : place 
           words = all_words ly.start ns (λ n e. let c = has_content sc n e in (laid.lines n c.0 c.1).small) (λ n. omega (arith, start_small labels seed code sc laid n));
         }
 
+    -- the routines of the image, from each start
     pub routines : Routines ly.table ly.seed ly.numbers ly.start (setup place bytes from to ly s) (home_low s) (home_high s) (length s.text) (limit_by (length s.text))
     routines = all_laws ly.table ly.seed ns ly.start (setup place bytes from to ly s) (home_low s) (home_high s) (length s.text) (room_so place bytes from to ly s h) block_held tabled
 
+    -- the prologue of the image, from each start
     pub prologue : Comes (setup place bytes from to ly s) (view_of s) (Begun (setup place bytes from to ly s) s) [] 192
     prologue = prologue_law place bytes from to within (inner_within ly code) block_held s h.start

@@ -1,4 +1,4 @@
--- A branch, short or over a jump, leads to its place or to what is behind it.
+-- A branch, short or over a jump, leads to its target or to what follows it.
 use Rattle.std.proofs.Common.{not, ◌≡◌, ℕ, ◌+◌, ◌%◌, ◌≤◌, Bool, true, false, cond, List, [], ◌∷◌, length, refl, sym, ap, ◌∙◌, subst, arith, leb, Some}
 use Rattle.std.specs.Prelude.{if◌then◌else◌, nat_lt, nat_le, ◌||◌}
 use Rattle.std.proofs.lemmas.Bool.{lt-ltb, ltb-true, leb-true}
@@ -22,7 +22,7 @@ asked Zero n v c z = z
 abbrev pub asked_in : Flag → View → Bool
 asked_in which w = asked which w.regs.flags.n w.regs.flags.v w.regs.flags.c w.regs.flags.z
 
--- whether a branch is taken that wants this value of the flag
+-- whether a branch is taken that asks for this value of the flag
 abbrev pub is_taken : (wanted there : Bool) → Bool
 is_taken true there = there
 is_taken false there = not there
@@ -32,7 +32,7 @@ other_way true there = refl
 other_way false true = refl
 other_way false false = refl
 
--- the last branch of a test leads on where the flag, turned where the test wants that, is set
+-- the last branch of a test leads on if the flag, turned if the test wants that, is set
 pub last_leads : (turn flag : Bool) (next behind : ℕ) → cond (is_taken turn flag) next behind ≡ cond (turned turn flag) behind next
 last_leads true true next behind = refl
 last_leads true false next behind = refl
@@ -60,11 +60,12 @@ length_is Carry true d = refl
 length_is Zero false d = refl
 length_is Zero true d = refl
 
+-- a branch has the size of its way
 pub branch_size : (way : Way) (which : Flag) (wanted : Bool) (at to : ℕ) → size (branch_code way (branch_on which wanted) at to) ≡ way_size way
 branch_size Short which wanted at to = ap (λ l. l + 0) (length_is which wanted (distance at to % 256))
 branch_size Long which wanted at to = ap (λ op. length (instr_bytes (ins op 3)) + 3) (opposite_is which wanted) ∙ ap (λ l. l + 3) (length_is which (not wanted) 3)
 
--- a branch stands, and what is behind it
+-- the instructions of a branch are there, and what follows it
 pub branch_behind : (f : Setup) (at : ℕ) (way : Way) (which : Flag) (wanted : Bool) (to : ℕ) (ps : List Piece)
     → Lies f.code at (Code (branch_code way (branch_on which wanted) at to) ∷ ps) → (at + way_size way ≤ highest_code) × Lies f.code (at + way_size way) ps
 branch_behind f at way which wanted to ps lies =
@@ -75,6 +76,7 @@ branch_behind f at way which wanted to ps lies =
 abbrev pub added : ℕ → ℕ → ℕ
 added at d = ((at + 2) % 65536 + (if nat_lt d 128 then d else d + 65280)) % 65536
 
+-- a near distance leads to the branch's target
 pub gets_there : (at to : ℕ) → at + 2 ≤ highest_code → to ≤ highest_code → is_near (distance at to) ≡ true → added at (distance at to % 256) ≡ to
 gets_there at to below there near = by (nat_lt (distance at to) 128) refl near
   where
@@ -93,7 +95,7 @@ gets_there at to below there near = by (nat_lt (distance at to) 128) refl near
         back false q = on false q (omega (arith, below, there, leb-true 65408 d n))
 
 module _ (f : Setup) (room : ℕ) (fits : Fits f room) (bs : List ℕ) (m : ℕ → ℕ) (text answers : List ℕ) (small : leb (length bs) room ≡ true) where
-  -- at a place, with A, X, N and C as they were
+  -- at an address, with A, X, N and C unchanged
   pub record Led (w : View) (to : ℕ) (u : View) : Type 0 where
     pub here : Here to bs m text answers u
     pub number : u.regs.a ≡ w.regs.a

@@ -15,6 +15,7 @@ abbrev pub halve_times : ℕ → ℕ → ℕ
 halve_times zero v = v
 halve_times (suc k) v = halve (halve_times k v)
 
+-- half of a word is a word
 pub halve_small : (v : ℕ) → v < 65536 → halve v < 65536
 halve_small v h = by (nat_le 32768 v)
   where
@@ -22,13 +23,14 @@ halve_small v h = by (nat_le 32768 v)
     by true = omega (arith, h)
     by false = omega (arith, h)
 
--- by its two bytes
+-- half of a word by its bytes: the high byte
 pub high_half : (v : ℕ) → v < 65536 → v / 256 / 2 + 128 * bit (nat_le 128 (v / 256)) ≡ halve v / 256
 high_half v h = ⊎_elim
     (λ e. ap (λ t. v / 256 / 2 + 128 * bit t) (lt-leb 128 (v / 256) (omega (arith, e))) ∙ omega (arith, e) ∙ sym (ap (λ t. (v / 2 + 32768 * bit t) / 256) (lt-leb 32768 v e)))
     (λ e. ap (λ t. v / 256 / 2 + 128 * bit t) (le-leb 128 (v / 256) (omega (arith, e))) ∙ omega (arith, e, h) ∙ sym (ap (λ t. (v / 2 + 32768 * bit t) / 256) (le-leb 32768 v e)))
     (cases_lt v 32768)
 
+-- half of a word by its bytes: the low byte
 pub low_half : (v : ℕ) → v < 65536 → v % 256 / 2 + 128 * bit (has_bit (v / 256) 1) ≡ halve v % 256
 low_half v h = let o = one_odd (v / 256) in ⊎_elim
     (λ e. omega (arith, o) ∙ sym (ap (λ t. (v / 2 + 32768 * bit t) % 256) (lt-leb 32768 v e)))
@@ -90,7 +92,7 @@ none_is k x h lt le =
     (λ le. (omega (arith, lt, le), omega (arith, lt, le))) (λ le. (omega (arith, lt, le), omega (arith, lt, le))) (λ le. (omega (arith, lt, le), omega (arith, lt, le)))
     (λ le. (omega (arith, lt, le), omega (arith, lt, le))) (λ le. (omega (arith, lt, le), omega (arith, lt, le))) (λ le. (omega (arith, lt, le), omega (arith, lt, le))) k h le
 
--- a power of two is some and few
+-- the bounds of the powers of two from 2 to 64
 pub power_size : (k : ℕ) → k < 6 → (1 ≤ 2 ^ (k + 1)) × (2 ^ (k + 1) < 65)
 power_size k h = below_six (λ k. (1 ≤ 2 ^ (k + 1)) × (2 ^ (k + 1) < 65)) (omega arith, omega arith) (omega arith, omega arith) (
   omega arith,
@@ -108,12 +110,12 @@ quotient_by x d h t e = (λ i. with_sign (differ (e i) (p i)) ((if e i then 6553
     same true = refl
     same false = refl
 
--- 2^(k + 1) - 1 where a word is negative
+-- 2^(k + 1) - 1 if a word is negative
 abbrev pub more : ℕ → Bool → ℕ
 more k true = 2 ^ (k + 1) - 1
 more k false = 0
 
--- a word that is raised so where it is negative, halved k + 1 times
+-- a word that is raised by this if it is negative, halved k + 1 times
 pub halves_are : (k x : ℕ) → k < 6 → x < 65536 → halve_times (suc k) (word (x + more k (nat_le 32768 x))) ≡ quotient x (2 ^ (k + 1))
 halves_are k x few small = ⊎_elim positive negative (cases_lt x 32768)
   where
@@ -145,15 +147,18 @@ halves_are k x few small = ⊎_elim positive negative (cases_lt x 32768)
 pub raised_low : (x n : ℕ) → (x % 256 + n) % 256 ≡ word (x + n) % 256
 raised_low x n = omega arith
 
+-- the high byte of a word that is raised
 pub raised_high : (x n : ℕ) → x < 65536 → n < 256 → (x / 256 + bit (nat_lt 255 (x % 256 + n))) % 256 ≡ word (x + n) / 256
 raised_high x n h k = let c = one_carry (x % 256 + n) (omega (arith, k)) in omega (arith, c, h, k)
 
+-- the sign of a word is its high byte's
 pub sign_is : (x : ℕ) → x < 65536 → nat_le 128 (x / 256) ≡ nat_le 32768 x
 sign_is x h = ⊎_elim
     (λ e. lt-leb 128 (x / 256) (omega (arith, e)) ∙ sym (lt-leb 32768 x e))
     (λ e. le-leb 128 (x / 256) (omega (arith, e)) ∙ sym (le-leb 32768 x e))
     (cases_lt x 32768)
 
+-- what is added to a negative word is a byte
 pub more_small : (k : ℕ) (t : Bool) → k < 6 → more k t < 256
 more_small k true h = let p = power_size k h in omega (arith, p.1)
 more_small k false h = omega arith
@@ -162,12 +167,15 @@ more_small k false h = omega arith
 pub double_low : (v : ℕ) → 2 * (v % 256) % 256 ≡ word (2 * v) % 256
 double_low v = omega arith
 
+-- the high byte of a doubled word
 pub double_high : (v : ℕ) → v < 65536 → 2 * (v / 256) % 256 + bit (has_bit (v % 256) 128) ≡ word (2 * v) / 256
 double_high v h = let o = one_high (v % 256) (omega arith) in omega (arith, o, h)
 
+-- the low byte of a sum
 pub sum_low : (v x : ℕ) → (v % 256 + x % 256 + 0) % 256 ≡ word (v + x) % 256
 sum_low v x = omega arith
 
+-- the high byte of a sum
 pub sum_high : (v x : ℕ) → v < 65536 → x < 65536 → (v / 256 + x / 256 + bit (nat_lt 255 (v % 256 + x % 256 + 0))) % 256 ≡ word (v + x) / 256
 sum_high v x h k = let c = one_carry (v % 256 + x % 256 + 0) (omega arith) in omega (arith, c, h, k)
 
@@ -178,12 +186,14 @@ even_product x h = grind arith
 odd_product : (x h : ℕ) → x * (2 * h + 1) ≡ 2 * (x * h) + x
 odd_product x h = grind arith
 
+-- a product by an even factor is the doubled product by its half
 pub by_even : (x factor : ℕ) → factor % 2 ≡ 0 → word (2 * word (x * (factor / 2))) ≡ word (x * factor)
 by_even x factor e =
     let f : factor ≡ 2 * (factor / 2) = omega (arith, e) in
     let q = ap (λ n. x * n) f ∙ even_product x (factor / 2) in
     (let s : word (2 * word (x * (factor / 2))) ≡ word (2 * (x * (factor / 2))) = omega arith in s) ∙ ap word (sym q)
 
+-- a product by an odd factor has the word added once more
 pub by_odd : (x factor : ℕ) → factor % 2 ≡ 1 → word (word (2 * word (x * (factor / 2))) + x) ≡ word (x * factor)
 by_odd x factor e =
     let f : factor ≡ 2 * (factor / 2) + 1 = omega (arith, e) in

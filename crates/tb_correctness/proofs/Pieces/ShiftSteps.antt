@@ -23,11 +23,12 @@ use Rattle.tb_correctness.proofs.Code.GroupCode.{low, high, rounded, signed, car
 use Rattle.tb_correctness.proofs.Pieces.Sources.{Byte, Fixed, At, value, IsRead, lda, adc, cmp, len, Known, behind, loads_with, loads_byte, adds_byte, compares_byte, puts_byte, whatever_known}
 use Rattle.tb_correctness.proofs.Pieces.Sums.{Grounded, low_read, high_read, high_same}
 
--- ---- code one behind the other
+-- ---- code one after another
 pub size_append : (is js : List Instr) → size (is ++ js) ≡ size is + size js
 size_append [] js = omega arith
 size_append (i ∷ is) js = let e = size_append is js in omega (arith, e)
 
+-- the instructions of two lists are there one after the other
 pub stands_split : (code : Part) (at : ℕ) (is js : List Instr) → at + size is ≤ highest_code → Stands code at (is ++ js) → Stands code at is × Stands code (at + size is) js
 stands_split code at [] js r h = (tt, subst (λ p. Stands code p js) (let e : at ≡ at + 0 = omega arith in e) h)
 stands_split code at (i ∷ is) js r h =
@@ -46,7 +47,7 @@ swapped m p q b c apart = λ i. λ a. by a (eqb a q) (eqb a p) refl refl i
     by a false true e e' = refl
     by a false false e e' = refl
 
--- a word that is not where LEFT is
+-- a word that is not at LEFT's address
 abbrev pub Beyond : ℕ → Type 0
 Beyond to = InData to × (0xC000 ≤ to)
 
@@ -84,6 +85,7 @@ module _ (f : Setup) (room : ℕ) (fits : Fits f room) (at : ℕ) (bs : List ℕ
         carry = refl;
       }))
 
+  -- EOR with a constant
   pub turns : (b a : ℕ) (c : Bool) → at + 2 ≤ highest_code → Bytes f.code at (instr_bytes (ins 0x49 b)) → Moves f (Known at a c bs m text answers)
       (Known (at + 2) (bit_xor a b) c bs m text answers) [] 1
   turns b a c r st = whatever_known f room fits at a c bs m text answers _ [] 1 (λ x y n v i z.
@@ -141,6 +143,7 @@ module _ (f : Setup) (room : ℕ) (fits : Fits f room) (at : ℕ) (bs : List ℕ
       (placed_last f room fits (ins 0x66 LEFT) (view (a / 2 + 128 * bit (nat_le 128 a)) x y _ v i _ (has_bit a 1) ((((at + 2) % 65536) + 1) % 65536) bs m text answers) _ _ small st.1.1.0 refl
       (record { here = record { pc = omega (arith, r); stack = refl; binary = refl; mem = refl; text = refl; answers = refl }; number = refl }))))
 
+  -- the product so far is doubled
   pub doubles : (a : ℕ) → at + size doubled ≤ highest_code → Stands f.code at doubled → Moves f (WithA at a bs m text answers)
       (WithA (at + size doubled) (2 * a % 256) bs (with_byte m LEFT (2 * m LEFT % 256 + bit (has_bit a 128))) text answers) [] 2
   doubles a r st = whatever_a f room fits at a bs m text answers _ [] 2 (λ x y n v i z c.
@@ -162,7 +165,7 @@ module _ (f : Setup) (room : ℕ) (fits : Fits f room) (at : ℕ) (bs : List ℕ
       (placed_last f room fits (ins 0xAA 0) (view ((l + m p + 0) % 256) x y _ _ i _ (nat_lt 255 (l + m p + 0)) ((((at + 1) % 65536) + 3) % 65536) bs m text answers) _ _ small st.1.1.0 refl
       (record { here = record { pc = omega (arith, r); stack = refl; binary = refl; mem = refl; text = refl; answers = refl }; aside = refl; carry = refl }))))
 
-  -- a byte is added to LEFT with that carry, and X comes back
+  -- a byte is added to LEFT with that carry, and X goes back to A
   abbrev rest_of : Byte → List Instr
   rest_of b = ins 0xA5 LEFT ∷ adc b ∷ ins 0x85 LEFT ∷ ins 0x8A 0 ∷ []
 
@@ -182,10 +185,11 @@ module _ (f : Setup) (room : ℕ) (fits : Fits f room) (at : ℕ) (bs : List ℕ
       (record { here = record { pc = omega (arith, r); stack = refl; binary = refl; mem = refl; text = refl; answers = refl }; number = refl })))))
 
 module _ (f : Setup) (room : ℕ) (fits : Fits f room) (at : ℕ) (bs : List ℕ) (m : ℕ → ℕ) (text answers : List ℕ) (small : leb (length bs) room ≡ true) where
-  -- a word more
+  -- one more word
   abbrev pub sum_low : ℕ → Source → ℕ
   sum_low l a = l + value m (low a) + 0
 
+  -- a word is added to the product so far
   pub increases : (l : ℕ) (a : Source) → at + size (increased a) ≤ highest_code → IsRead (low a) → IsRead (high a) → Stands f.code at (increased a)
       → Moves f (WithA at l bs m text answers) (WithA (at + size (increased a)) (sum_low l a % 256) bs
       (with_byte m LEFT ((m LEFT + value m (high a) + bit (nat_lt 255 (sum_low l a))) % 256)) text answers) [] 7
@@ -208,7 +212,7 @@ module _ (f : Setup) (room : ℕ) (fits : Fits f room) (at : ℕ) (bs : List ℕ
       })
       (adds_back f room fits (at + size front) bs m text answers small (high a) (sum_low l a % 256) (nat_lt 255 (sum_low l a)) (omega (arith, r)) rh parts.1))
 
-  -- a word is brought, its low byte into A
+  -- a word is loaded, its low byte into A
   pub begins : (a : Source) → at + size (begun a) ≤ highest_code → Grounded a LEFT → value (with_byte m LEFT (value m (high a))) (low a) ≡ value m (low a) → Stands f.code at (begun a)
       → Moves f (Here at bs m text answers) (WithA (at + size (begun a)) (value m (low a)) bs (with_byte m LEFT (value m (high a))) text answers) [] 3
   begins a r g same st w e =
@@ -264,7 +268,7 @@ module _ (f : Setup) (room : ℕ) (fits : Fits f room) (at : ℕ) (bs : List ℕ
   masked (suc (suc (suc (suc zero)))) h = (refl, refl)
   masked (suc (suc (suc (suc (suc k))))) h = absurd (omega (arith, h))
 
-  -- A is 255 or 0, and then what is added beside C
+  -- A is 255 or 0, and then what is added together with C
   abbrev filled : Bool → ℕ
   filled c = (0 + 255 + bit c) % 256
 
@@ -275,6 +279,7 @@ module _ (f : Setup) (room : ℕ) (fits : Fits f room) (at : ℕ) (bs : List ℕ
   total k l true few = let e = (masked k few).1 in omega (arith, e)
   total k l false few = let e = (masked k few).0 in omega (arith, e)
 
+  -- what rounds a word up is added to its low byte if C is set
   pub rounds : (k : ℕ) (a : Source) (c : Bool) → k < 6 → at + size (rounded k a) ≤ highest_code → Grounded a LEFT → Stands f.code at (rounded k a)
       → Moves f (Carrying at bs m text answers c) (Known (at + size (rounded k a)) ((value m (low a) + more k c) % 256) (nat_lt 255 (value m (low a) + more k c)) bs m text answers) [] 5
   rounds zero a c few r g st =
@@ -335,7 +340,7 @@ module _ (f : Setup) (room : ℕ) (fits : Fits f room) (at : ℕ) (bs : List ℕ
       })
       (adds_byte f room fits (at + 2 + 2 + 2 + 2) bs m text answers small (low a) (left_in k c) c1 (low_read a LEFT g) (omega (arith, r)) s4.0)))))
 
-  -- the low byte is kept, and the carry added to the high one
+  -- the low byte is stored, and the carry added to the high one
   pub carries : (l : ℕ) (c : Bool) (a : Source) → at + size (carried a) ≤ highest_code → Grounded a LEFT → Stands f.code at (carried a)
       → Moves f (Known at l c bs m text answers) (WithA (at + size (carried a)) ((value m (high a) + bit c) % 256) bs (with_byte m LEFT l) text answers) [] 3
   carries l c a r g st =
@@ -362,7 +367,7 @@ module _ (f : Setup) (room : ℕ) (fits : Fits f room) (at : ℕ) (bs : List ℕ
       })
       (adds_byte f room fits p2 bs m1 text answers small (Fixed 0) h c tt (omega (arith, r)) s2.0)))
 
-  -- ---- to its place
+  -- ---- the word is stored
   pub ends_low : (l to : ℕ) → at + 8 ≤ highest_code → Beyond to → Stands f.code at (low_first to) → Moves f (WithA at l bs m text answers)
       (Here (at + 8) bs (put_word m to l (m LEFT)) text answers) [] 3
   ends_low l to r d st =
@@ -384,6 +389,7 @@ module _ (f : Setup) (room : ℕ) (fits : Fits f room) (at : ℕ) (bs : List ℕ
       })
       (puts_byte f room fits (at + 3 + 2) bs m1 text answers small (to + 1) (m1 LEFT) d.0.1 (omega (arith, r)) s2.0)))
 
+  -- a word whose high byte is in A is stored
   pub ends_high : (h to : ℕ) → at + 8 ≤ highest_code → Beyond to → Stands f.code at (high_first to) → Moves f (WithA at h bs m text answers)
       (Here (at + 8) bs (put_word m to (m LEFT) h) text answers) [] 3
   ends_high h to r d st =

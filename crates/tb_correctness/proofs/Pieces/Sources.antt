@@ -1,4 +1,4 @@
--- Single instructions on an operand that is a constant byte or a place, each from view to view.
+-- Single instructions on an operand that is a constant byte or at an address, each from view to view.
 use Rattle.std.proofs.Common.{not, ◌≡◌, ℕ, ◌+◌, ◌-◌, ◌%◌, ◌≤◌, Bool, true, false, List, [], ◌∷◌, length, refl, sym, subst, arith, leb, eqb}
 use Rattle.std.specs.Prelude.{nat_lt, nat_le, if◌then◌else◌}
 use Rattle.tb_cpu.specs.Effects.{bit as carry}
@@ -13,7 +13,7 @@ use Rattle.tb_simulation.proofs.Mirrors.{Carrying}
 use Rattle.tb_simulation.proofs.Pieces.{loads_last, loads_short_last, stores_last, stores_short_last, whatever, whatever_a, whatever_with}
 use Rattle.tb_simulation.proofs.Resolved.{highest_code, lda_at, sta_at}
 
--- a byte: a constant, or what stands at a place
+-- a byte: a constant, or what is at an address
 pub data Byte : Type 0 where
   Fixed : (b : ℕ) → Byte
   At : (p : ℕ) → Byte
@@ -28,7 +28,7 @@ abbrev pub IsRead : Byte → Type 0
 IsRead (Fixed b) = Unit {0}
 IsRead (At p) = is_data p ≡ true
 
--- an instruction on it, by its opcodes: with a constant, and with a place
+-- an instruction on it, by its opcodes: with a constant, and with an address
 abbrev pub on : ℕ → ℕ → Byte → Instr
 on imm abs (Fixed b) = ins imm b
 on imm abs (At p) = ins abs p
@@ -54,13 +54,13 @@ pub record Known (at a : ℕ) (c : Bool) (bs : List ℕ) (m : ℕ → ℕ) (text
   pub number : w.regs.a ≡ a
   pub carry : w.regs.flags.c ≡ c
 
--- behind a comparison: with a known Z and C
+-- after a comparison: with a known Z and C
 pub record Compared (at : ℕ) (z c : Bool) (bs : List ℕ) (m : ℕ → ℕ) (text answers : List ℕ) (w : View) : Type 0 where
   pub here : Here at bs m text answers w
   pub zero : w.regs.flags.z ≡ z
   pub carry : w.regs.flags.c ≡ c
 
--- instructions behind one
+-- instructions after one
 pub behind : (code : Part) (at : ℕ) (i : Instr) (is : List Instr) → at + len i ≤ highest_code → Stands code at (i ∷ is) → Stands code (at + len i) is
 behind code at i is r st = subst (λ p. Stands code p is) (let e : (at + len i) % 65536 ≡ at + len i = omega (arith, r) in e) st.1
 
@@ -75,6 +75,7 @@ module _ (f : Setup) (room : ℕ) (fits : Fits f room) where
       (subst (λ a. Comes f (view a w.regs.x w.regs.y w.regs.flags.n w.regs.flags.v w.regs.flags.i w.regs.flags.z c at bs m text answers) q t l) (sym e.number) (h _ _ _ _ _ _))))
 
   module _ (at : ℕ) (bs : List ℕ) (m : ℕ → ℕ) (text answers : List ℕ) (small : leb (length bs) room ≡ true) where
+    -- CLC
     pub clears : at + 1 ≤ highest_code → Bytes f.code at (instr_bytes (ins 0x18 0)) → Moves f (Here at bs m text answers) (Carrying (at + 1) bs m text answers false) [] 1
     clears r st = whatever f room fits at bs m text answers _ [] 1 (λ a x y n v i z c.
         placed_last f room fits (ins 0x18 0) (view a x y n v i z c at bs m text answers) _ _ small st refl
@@ -90,6 +91,7 @@ module _ (f : Setup) (room : ℕ) (fits : Fits f room) where
           carry = refl;
         }))
 
+    -- SEC
     pub raises_carry : at + 1 ≤ highest_code → Bytes f.code at (instr_bytes (ins 0x38 0)) → Moves f (Here at bs m text answers) (Carrying (at + 1) bs m text answers true) [] 1
     raises_carry r st = whatever f room fits at bs m text answers _ [] 1 (λ a x y n v i z c.
         placed_last f room fits (ins 0x38 0) (view a x y n v i z c at bs m text answers) _ _ small st refl
@@ -105,6 +107,7 @@ module _ (f : Setup) (room : ℕ) (fits : Fits f room) where
           carry = refl;
         }))
 
+    -- a load that keeps C
     pub loads_with : (b : Byte) (c : Bool) → IsRead b → at + len (lda b) ≤ highest_code → Bytes f.code at (instr_bytes (lda b))
         → Moves f (Carrying at bs m text answers c) (Known (at + len (lda b)) (value m b) c bs m text answers) [] 1
     loads_with (Fixed b) c d r st = whatever_with f room fits at bs m text answers c _ [] 1 (λ a x y n v i z.
@@ -136,10 +139,12 @@ module _ (f : Setup) (room : ℕ) (fits : Fits f room) where
           carry = refl;
         }))
 
+    -- a load
     pub loads_byte : (b : Byte) → IsRead b → at + len (lda b) ≤ highest_code → Bytes f.code at (instr_bytes (lda b))
         → Moves f (Here at bs m text answers) (WithA (at + len (lda b)) (value m b) bs m text answers) [] 1
     loads_byte b d r st w e = looser f w _ _ [] 1 1 (omega arith) (λ u h. record { here = h.here; number = h.number }) (loads_with b w.regs.flags.c d r st w (record { here = e; carry = refl }))
 
+    -- ADC of a byte
     pub adds_byte : (b : Byte) (a : ℕ) (c : Bool) → IsRead b → at + len (adc b) ≤ highest_code → Bytes f.code at (instr_bytes (adc b))
         → Moves f (Known at a c bs m text answers) (Known (at + len (adc b)) ((a + value m b + carry c) % 256) (nat_lt 255 (a + value m b + carry c)) bs m text answers) [] 1
     adds_byte (Fixed b) a c d r st = whatever_known at a c bs m text answers _ [] 1 (λ x y n v i z.
@@ -171,6 +176,7 @@ module _ (f : Setup) (room : ℕ) (fits : Fits f room) where
           carry = refl;
         }))
 
+    -- SBC of a byte
     pub takes_byte : (b : Byte) (a : ℕ) (c : Bool) → IsRead b → at + len (sbc b) ≤ highest_code → Bytes f.code at (instr_bytes (sbc b))
         → Moves f (Known at a c bs m text answers) (Known (at + len (sbc b)) ((a + 256 - (value m b + carry (not c))) % 256)
         (nat_le (value m b + carry (not c)) a) bs m text answers) [] 1
@@ -203,6 +209,7 @@ module _ (f : Setup) (room : ℕ) (fits : Fits f room) where
           carry = refl;
         }))
 
+    -- CMP with a byte
     pub compares_byte : (b : Byte) (a : ℕ) → IsRead b → at + len (cmp b) ≤ highest_code → Bytes f.code at (instr_bytes (cmp b))
         → Moves f (WithA at a bs m text answers) (Compared (at + len (cmp b)) (eqb ((a + 256 - value m b) % 256) 0) (nat_le (value m b) a) bs m text answers) [] 1
     compares_byte (Fixed b) a d r st = whatever_a f room fits at a bs m text answers _ [] 1 (λ x y n v i z c.
@@ -234,6 +241,7 @@ module _ (f : Setup) (room : ℕ) (fits : Fits f room) where
           carry = refl;
         }))
 
+    -- a store that keeps C
     pub writes_byte : (p a : ℕ) (c : Bool) → is_data p ≡ true → at + 3 ≤ highest_code → Bytes f.code at (instr_bytes (ins 0x8D p))
         → Moves f (Known at a c bs m text answers) (Carrying (at + 3) bs (with_byte m p a) text answers c) [] 1
     writes_byte p a c d r st = whatever_known at a c bs m text answers _ [] 1 (λ x y n v i z.
@@ -250,11 +258,12 @@ module _ (f : Setup) (room : ℕ) (fits : Fits f room) where
           carry = refl;
         }))
 
+    -- a store
     pub puts_byte : (p a : ℕ) → is_data p ≡ true → at + 3 ≤ highest_code → Bytes f.code at (instr_bytes (ins 0x8D p))
         → Moves f (WithA at a bs m text answers) (Here (at + 3) bs (with_byte m p a) text answers) [] 1
     puts_byte p a d r st w e = looser f w _ _ [] 1 1 (omega arith) (λ u h. h.here) (writes_byte p a w.regs.flags.c d r st w (record { here = e.here; number = e.number; carry = refl }))
 
-    -- by either opcode of a place
+    -- by either opcode for an address
     loads_by : (t : Bool) (p : ℕ) → is_data p ≡ true → at + len (ins (if t then 0xA5 else 0xAD) p) ≤ highest_code
         → Bytes f.code at (instr_bytes (ins (if t then 0xA5 else 0xAD) p)) → Moves f (Here at bs m text answers)
         (WithA (at + len (ins (if t then 0xA5 else 0xAD) p)) (m p) bs m text answers) [] 1
@@ -273,6 +282,7 @@ module _ (f : Setup) (room : ℕ) (fits : Fits f room) where
         }))
     loads_by false p d r st = loads_byte (At p) d r st
 
+    -- a load from any address
     pub loads_place : (p : ℕ) → is_data p ≡ true → at + len (lda_at p) ≤ highest_code → Bytes f.code at (instr_bytes (lda_at p))
         → Moves f (Here at bs m text answers) (WithA (at + len (lda_at p)) (m p) bs m text answers) [] 1
     loads_place p = loads_by (nat_lt p 256) p
@@ -292,6 +302,7 @@ module _ (f : Setup) (room : ℕ) (fits : Fits f room) where
         }))
     puts_by false p a d r st = puts_byte p a d r st
 
+    -- a store to any address
     pub puts_place : (p a : ℕ) → is_data p ≡ true → at + len (sta_at p) ≤ highest_code → Bytes f.code at (instr_bytes (sta_at p))
         → Moves f (WithA at a bs m text answers) (Here (at + len (sta_at p)) bs (with_byte m p a) text answers) [] 1
     puts_place p = puts_by (nat_lt p 256) p

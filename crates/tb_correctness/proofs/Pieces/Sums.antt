@@ -1,4 +1,4 @@
--- Pieces of code on words that are constants or stand at places.
+-- Pieces of code on words that are constants or at addresses.
 use Rattle.std.proofs.Common.{not, ◌≡◌, ◌≢◌, ℕ, ◌+◌, ◌-◌, ◌%◌, ◌≤◌, Bool, true, false, List, [], ◌∷◌, length, refl, ap, ◌∙◌, arith, leb}
 use Rattle.std.specs.Prelude.{nat_lt, nat_le}
 use Rattle.tb_cpu.specs.Effects.{bit as carry}
@@ -21,15 +21,17 @@ abbrev pub Grounded : Source → ℕ → Type 0
 Grounded (FixedWord w) to = Unit {0}
 Grounded (AtAddress p) to = InData p × (p + 1 ≢ to)
 
--- it is behind the bytes of page zero
+-- it is above the bytes of page zero
 abbrev pub Away : Source → Type 0
 Away (FixedWord w) = Unit {0}
 Away (AtAddress p) = 0xC000 ≤ p
 
+-- the low byte of such a word is read among the data
 pub low_read : (a : Source) (to : ℕ) → Grounded a to → IsRead (low a)
 low_read (FixedWord w) to h = tt
 low_read (AtAddress p) to h = h.0.0
 
+-- the high byte of such a word is read among the data
 pub high_read : (a : Source) (to : ℕ) → Grounded a to → IsRead (high a)
 high_read (FixedWord w) to h = tt
 high_read (AtAddress p) to h = h.0.1
@@ -39,7 +41,7 @@ pub high_same : (a : Source) (to x : ℕ) (m : ℕ → ℕ) → Grounded a to �
 high_same (FixedWord w) to x m h = refl
 high_same (AtAddress p) to x m h = put_other m to x (p + 1) h.1
 
--- two words joined byte by byte, by an instruction that joins a byte to A and C
+-- two words combined byte by byte, by an instruction that combines a byte with A and C
 abbrev joined : (Byte → Instr) → Source → Source → ℕ → List Instr
 joined join a b to = lda (low a) ∷ join (low b) ∷ ins 0x8D to ∷ lda (high a) ∷ join (high b) ∷ ins 0x8D (to + 1) ∷ []
 
@@ -89,7 +91,7 @@ module _ (f : Setup) (room : ℕ) (fits : Fits f room) (at : ℕ) (bs : List ℕ
       (out (value m1 (high a)) (value m1 (high b)) c) d.1 (omega (arith, e, r)) s5.0))))))
 
 module _ (f : Setup) (room : ℕ) (fits : Fits f room) (at : ℕ) (bs : List ℕ) (m : ℕ → ℕ) (text answers : List ℕ) (small : leb (length bs) room ≡ true) where
-  -- a word brought to a place
+  -- a word brought to an address
   pub brings : (a : Source) (to : ℕ) → at + size (brought a to) ≤ highest_code → Grounded a to → InData to → Stands f.code at (brought a to)
       → Moves f (Here at bs m text answers) (Here (at + size (brought a to)) bs (put_word m to (value m (low a)) (value m (high a))) text answers) [] 4
   brings a to r g d st =

@@ -1,4 +1,4 @@
--- The weaker relation where a line begins: from the old one, with nothing known of the slots, and on into the line.
+-- The weaker relation when a line begins: from the old one, with nothing known about the slots, and on into the line.
 use Rattle.std.proofs.Common.{◌≡◌, ℕ, List, [], ◌∷◌, length, sym, ap, ◌∙◌, subst, arith, Some}
 use Rattle.tb_meaning.specs.Steps.{and_then}
 use Rattle.tb_meaning.specs.Control.{At, State, content_at}
@@ -15,7 +15,7 @@ use Rattle.tb_correctness.proofs.Relation.Matching.{HoldsLive, Matches}
 use Rattle.tb_correctness.proofs.Slots.SlotSide.{line}
 use Rattle.tb_correctness.proofs.Relation.Surroundings.{Surroundings}
 
--- where nothing is read, nothing has to stand
+-- if nothing is read, nothing has to be in memory
 pub nothing_read : (r : Slots) (m : ℕ → ℕ) → length r.words ≡ 16 → HoldsLive nothing_live r m
 nothing_read r m all = record { words = λ k lt. absurd (omega (arith, lt)); held = λ q. absurd (let no : ⊥ = cc in no); all_words = all }
 
@@ -54,5 +54,6 @@ module _ (code : SlotCode) (n : ℕ) (is : List Instr) (s : State) (r : Slots) (
       by : (i : Instr) × (js : List Instr) × (expand g ≡ i ∷ js) → steps code (expand g) at_line ≡ steps code (expand g) (line code n is s r)
       by e = subst (λ l. steps code l at_line ≡ steps code l (line code n is s r)) (sym e.2) (same_steps e.0 e.1)
 
+  -- the step of a whole line is that of its first group
   pub line_step : first_group code at_line ≡ first_group code (line code n is s r)
   line_step = ap (λ p. first code (select (ahead code Whole p)) at_line) here ∙ ap (λ o. first code (select (or_empty o)) at_line) some ∙ same_first (select is)

@@ -1,4 +1,4 @@
--- Behind the last group of a line the next line begins, and the step of that group goes on into it.
+-- After the last group of a line the next line begins, and the step of that group goes on into it.
 use Rattle.std.proofs.Common.{◌≡◌, ℕ, [], ◌∷◌, refl, sym, ap, ◌∙◌, subst, append-nil}
 use Rattle.tb_meaning.specs.Control.{State, next_after}
 use Rattle.tb_lower.specs.Slots.{Rest, Whole, Left, Slots, SlotCode, SlotState}
@@ -13,7 +13,7 @@ use Rattle.tb_correctness.proofs.Relation.Matching.{Matches, Target}
 use Rattle.tb_correctness.proofs.Slots.SlotSide.{line}
 use Rattle.tb_correctness.proofs.Relation.Surroundings.{Surroundings}
 
--- a line of which nothing was done yet, or something is left
+-- a line of which nothing was done yet, or of which something is left
 abbrev pub IsSome : Rest → Type 0
 IsSome Whole = Unit {0}
 IsSome (Left n []) = ⊥
@@ -27,7 +27,7 @@ module _ (around : Surroundings) where
   Between c w = Matches around c w × IsSome c.rest
 
   module _ (code : SlotCode) (same_numbers : numbers code ≡ ly.numbers) where
-    -- behind all of a line the relation is the one at the next line's beginning
+    -- when all of a line is done, the relation is the one at the next line's beginning
     next_begins : (n : ℕ) (s : State) (r : Slots) (w : View) → Matches around (line code n [] s r) w
         → Matches around (record { state = record s { place = next_after (numbers code) n }; rest = Whole; slots = r }) w
     next_begins n s r w h =

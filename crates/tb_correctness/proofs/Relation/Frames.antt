@@ -1,4 +1,4 @@
--- What stays of the weaker relation while the code of an instruction runs.
+-- What is kept of the weaker relation while the code of an instruction runs.
 use Rattle.std.proofs.Common.{◌≡◌, ℕ, ◌≤◌, arith}
 use Rattle.tb_meaning.specs.Control.{Place, State}
 use Rattle.tb_lower.specs.Slots.{Slots}
@@ -15,7 +15,7 @@ pub state_placed : (ly : Layout) (p : Place) (s : State) (m : ℕ → ℕ) → H
 state_placed ly p s m h = record { vars = h.vars; column = h.column; opened = h.opened; seeded = h.seeded; count = h.count; returns = h.returns; few = h.few; all_vars = h.all_vars }
 
 -- ---- what is live
--- slots and the held word stand
+-- slots and the held word are kept
 pub live_same : (u : Live) (r : Slots) (m m' : ℕ → ℕ) → u.slots ≤ 16 → ((a : ℕ) → 0xC040 ≤ a → a ≤ 0xC061 → m' a ≡ m a) → HoldsLive u r m → HoldsLive u r m'
 live_same u r m m' few e h = record {
   words = λ k lt. word_kept m m' (slot_at k) _ (e _ (omega arith) (omega (arith, lt, few))) (e _ (omega arith) (omega (arith, lt, few))) (h.words k lt);

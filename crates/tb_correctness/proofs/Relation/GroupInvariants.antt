@@ -1,4 +1,4 @@
--- What holds while the code of a group runs, and behind it; and that an instruction alone is one step.
+-- What holds while the code of a group runs, and after it; and that an instruction alone is one step.
 use Rattle.std.proofs.Common.{◌≡◌, ℕ, ◌+◌, ◌/◌, ◌%◌, ◌≤◌, ◌<◌, Bool, true, false, List, [], ◌∷◌, length, refl, sym, ap}
 use Rattle.std.proofs.Common.{◌∙◌, subst, arith, append-nil, not, ◌≢◌}
 use Rattle.tb_meaning.specs.Control.{State, column_after}
@@ -53,6 +53,7 @@ module _ (around : Surroundings) where
     pub read : HoldsLive u r m
     pub homed : Entered f lo hi m
 
+  -- a memory with the same state keeps this
   pub kept_scratch : (u : Live) (s : State) (r : Slots) (m m' : ℕ → ℕ) → u.slots ≤ 16 → ((a : ℕ) → is_state a ≡ true → m' a ≡ m a) → Kept u s r m → Kept u s r m'
   kept_scratch u s r m m' few e c = record {
     state = state_scratch ly s m m' c.state e;
@@ -60,6 +61,7 @@ module _ (around : Surroundings) where
     homed = homed_kept m m' (e HOME_S (low_is_state HOME_S (omega arith) (omega arith))) c.homed;
   }
 
+  -- a word of scratch that is written keeps this
   pub kept_put : (u : Live) (s : State) (r : Slots) (m : ℕ → ℕ) (p l h : ℕ) → u.slots ≤ 16 → is_state p ≡ false → is_state (p + 1) ≡ false
       → Kept u s r m → Kept u s r (put_word m p l h)
   kept_put u s r m p l h few k k' c = kept_scratch u s r m (put_word m p l h) few (scratch_put m p l h k k') c
@@ -75,7 +77,7 @@ module _ (around : Surroundings) where
         homed = homed_kept m m' (others HOME_S refl (λ e. omega (arith, e))) c.homed;
       }
 
-  -- where it has left the line
+  -- the relation when the line was left
   pub arrived : (s : State) (r : Slots) (at : ℕ) (m : ℕ → ℕ) (t answers : List ℕ) → at ≡ place_address ly s.place → HoldsState ly s m → length r.words ≡ 16
       → Entered f lo hi m → t ≡ s.text → answers ≡ s.answers → Typable keys s.text s.answers → (w : View) → Here at (lo ∷ hi ∷ []) m t answers w
       → Matches around (record { state = s; rest = Whole; slots = r }) w
@@ -92,7 +94,7 @@ module _ (around : Surroundings) where
   }
 
   module _ (code : SlotCode) where
-    -- a word was written to where it goes, over a memory that still held all
+    -- a word was written to where it goes, over a memory that still held everything
     pub word_lands : (n : ℕ) → n < 65536 → (u : Live) (d : Destination) (is : List Instr) (s : State) (r q : Slots) (v l h at : ℕ) (m : ℕ → ℕ)
         (t answers : List ℕ) → l ≡ v % 256 → h ≡ v / 256 → v < 65536 → DestFits d → Lasting u d is r q → GroupsLie ly f.code n at (select is)
         → Kept u s r m → t ≡ s.text → answers ≡ s.answers → Typable keys s.text s.answers → (w : View)
@@ -120,6 +122,7 @@ module _ (around : Surroundings) where
 module _ {around : Surroundings} {n : ℕ} {g : Group} {js is : List Instr} {s : State} {r : Slots} {w : View} (h : Ready around n g js is s r w) where
   open around use {ly, f}
 
+  -- all holds at the group's beginning
   pub kept : Kept around (live js) s r w.mem
   kept = record { state = h.state; read = h.read; homed = h.homed }
 
@@ -127,9 +130,11 @@ module _ {around : Surroundings} {n : ℕ} {g : Group} {js is : List Instr} {s :
   abbrev pub lined : ℕ → ℕ
   lined = put_word w.mem LINE (n % 256) (n / 256)
 
+  -- memory with the line's number has that number
   pub numbered : WordAt lined LINE n
   numbered = word_put w.mem LINE (n % 256) (n / 256) n refl refl h.small
 
+  -- all holds once the line's number is set
   pub kept_lined : Kept around (live js) s r lined
   kept_lined = record {
     state = state_lined ly s w.mem (n % 256) (n / 256) h.state;
@@ -137,7 +142,7 @@ module _ {around : Surroundings} {n : ℕ} {g : Group} {js is : List Instr} {s :
     homed = homed_kept w.mem lined (put_away w.mem LINE (n % 256) (n / 256) HOME_S (λ q. omega (arith, q)) (λ q. omega (arith, q))) h.homed;
   }
 
-  -- or not, where nothing can fault
+  -- or without it, if nothing can fault
   abbrev pub lined_by : Bool → ℕ → ℕ
   lined_by true = lined
   lined_by false = w.mem
@@ -146,11 +151,12 @@ module _ {around : Surroundings} {n : ℕ} {g : Group} {js is : List Instr} {s :
   behind_line true = w.regs.pc + 10
   behind_line false = w.regs.pc
 
+  -- all holds with or without the line's number
   pub kept_by : (t : Bool) → Kept around (live js) s r (lined_by t)
   kept_by true = kept_lined
   kept_by false = kept
 
-  -- where it goes on behind that, with which memory, and what is kept there
+  -- where it goes on after that, with which memory, and what is kept there
   pub record GoingOn : Type 0 where
     pub at : ℕ
     pub m : ℕ → ℕ
@@ -164,14 +170,17 @@ module _ {around : Surroundings} {n : ℕ} {g : Group} {js is : List Instr} {s :
   number_set true some = numbered
   number_set false some = absurd (some refl)
 
+  -- the end of the code is the same with or without the line's number
   pub end_by : (t : Bool) (ps : List Piece) → behind_line t + pieces_size ps ≡ w.regs.pc + pieces_size (lined_code t n ps)
   end_by true ps = omega arith
   end_by false ps = refl
 
+  -- the pieces after the line's number are there
   pub lies_by : (t : Bool) (ps : List Piece) → Lies f.code w.regs.pc (lined_code t n ps) → Lies f.code (behind_line t) ps
   lies_by true ps lies = lies.2
   lies_by false ps lies = lies
 
+  -- the groups after the pieces are there
   pub rest_by : (t : Bool) (ps : List Piece) → GroupsLie ly f.code n (w.regs.pc + pieces_size (lined_code t n ps)) (select is) → GroupsLie ly f.code n (behind_line t + pieces_size ps) (select is)
   rest_by true ps rest = subst (λ p. GroupsLie ly f.code n p (select is)) (let e : w.regs.pc + (10 + pieces_size ps) ≡ w.regs.pc + 10 + pieces_size ps = omega arith in e) rest
   rest_by false ps rest = rest
@@ -184,6 +193,7 @@ module _ {around : Surroundings} (fits : Fits around.f 16) {n : ℕ} {g : Group}
       → Moves f (Here (w.regs.pc + 10) (lo ∷ hi ∷ []) (lined h) w.text w.answers) q t k → Comes f w q t (4 + k)
   lines room lies q t k next = chained f w _ q [] t 4 k (sets f 16 fits w.regs.pc (lo ∷ hi ∷ []) w.mem w.text w.answers refl n LINE room (refl, refl) lies w (here h)) next
 
+  -- from a group's beginning to its pieces, with the line's number set if it may fault
   pub lines_by : (t : Bool) (ps : List Piece) → Lies f.code w.regs.pc (lined_code t n ps) → (q : View → Type 0) (l : List ℕ) (k : ℕ)
       → Moves f (Here (behind_line h t) (lo ∷ hi ∷ []) (lined_by h t) w.text w.answers) q l k → Comes f w q l (4 + k)
   lines_by true ps lies q l k next = lines lies.0 lies.1 q l k next

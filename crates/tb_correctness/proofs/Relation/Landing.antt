@@ -1,4 +1,4 @@
--- What stays of the weaker relation where a word is written to where a result goes.
+-- What is kept of the weaker relation when a word is written to where a result goes.
 use Rattle.std.proofs.Common.{◌≡◌, ◌≢◌, ℕ, ◌+◌, ◌<◌, true, false, List, length, sym, ap, ◌∙◌, subst, arith, ⊎_elim, get_or-set_same, get_or-set_other, length-set}
 use Rattle.std.specs.Prelude.{slice_index, slice_set}
 use Rattle.std.proofs.lemmas.Bool.{cases_eq}
@@ -18,12 +18,13 @@ use Rattle.tb_templates.specs.Sources.{destination_at}
 use Rattle.tb_correctness.proofs.Relation.Matching.{HoldsLive}
 use Rattle.tb_correctness.proofs.Slots.SlotSide.{Lasting, landed, slots_landed}
 
+-- memory that agrees on single bytes has the same RND state
 pub seed_kept : (m m' : ℕ → ℕ) {option seed : ℕ} → SameSingles m m' → SeedAt m option seed → SeedAt m' option seed
 seed_kept m m' e = seed_over m m' (e SEEDED (omega arith) (omega arith) (λ q. omega (arith, q)) (λ q. omega (arith, q)))
     (e SEED (omega arith) (omega arith) (λ q. omega (arith, q)) (λ q. omega (arith, q))) (e (SEED + 1) (omega arith) (omega arith) (λ q. omega (arith, q)) (λ q. omega (arith, q)))
 
 module _ (ly : Layout) (s : State) (m m' : ℕ → ℕ) (h : HoldsState ly s m) where
-  -- new variables; the rest stands
+  -- new variables; the rest is kept
   pub state_with : (vs : List ℕ) → length vs ≡ 26 → ((x : ℕ) → x < 26 → WordAt m' (var_at x) (slice_index vs x)) → m' COLUMN ≡ m COLUMN
       → SameSingles m m' → Same m m' 0xC100 0xC4F3 → HoldsState ly (record s { vars = vs }) m'
   state_with vs lv v co e e' = record {
@@ -38,6 +39,7 @@ module _ (ly : Layout) (s : State) (m m' : ℕ → ℕ) (h : HoldsState ly s m) 
     all_vars = lv;
   }
 
+  -- memory that agrees on the state holds it
   pub state_same : Same m m' 0xC000 0xC034 → SameSingles m m' → Same m m' 0xC100 0xC4F3 → HoldsState ly s m'
   state_same v e e' = state_with s.vars h.all_vars (λ x lt. word_kept m m' (var_at x) _ (v _ (omega arith) (omega (arith, lt)))
       (v _ (omega arith) (omega (arith, lt))) (h.vars x lt)) (v COLUMN (omega arith) (omega arith)) e e'
@@ -53,15 +55,17 @@ DestFits (IntoSlot k) = k < 16
 DestFits (IntoHome (IntoVariable x)) = x < 26
 DestFits (IntoHome IntoHeld) = Unit {0}
 
--- all places but a word's stand
+-- all addresses but a word's are unchanged
 abbrev pub Elsewhere : (ℕ → ℕ) → (ℕ → ℕ) → ℕ → Type 0
 Elsewhere m m' p = (a : ℕ) → a ≢ p → a ≢ p + 1 → m' a ≡ m a
 
+-- a result goes elsewhere than HOME_S
 pub home_kept : (d : Destination) → DestFits d → (m m' : ℕ → ℕ) → Elsewhere m m' (destination_at d) → m' HOME_S ≡ m HOME_S
 home_kept (IntoSlot k) fit m m' e = e HOME_S (λ q. omega (arith, q)) (λ q. omega (arith, q))
 home_kept (IntoHome (IntoVariable x)) fit m m' e = e HOME_S (λ q. omega (arith, q, fit)) (λ q. omega (arith, q, fit))
 home_kept (IntoHome IntoHeld) fit m m' e = e HOME_S (λ q. omega (arith, q)) (λ q. omega (arith, q))
 
+-- a result that is written gives the state with it
 pub state_landed : (ly : Layout) (s : State) (m m' : ℕ → ℕ) (d : Destination) (v : ℕ) → DestFits d → HoldsState ly s m
     → WordAt m' (destination_at d) v → Elsewhere m m' (destination_at d) → HoldsState ly (landed d v s) m'
 state_landed ly s m m' (IntoSlot k) v fit h w e =
@@ -82,6 +86,7 @@ state_landed ly s m m' (IntoHome (IntoVariable x)) v fit h w e =
     (λ a lo hi n n'. e a (λ q. omega (arith, q, lo, fit)) (λ q. omega (arith, q, lo, fit)))
     (λ a lo hi. e a (λ q. omega (arith, q, lo, fit)) (λ q. omega (arith, q, lo, fit)))
 
+-- a result that is written gives the slots with it
 pub read_landed : (u : Live) (d : Destination) (is : List Instr) (r q : Slots) (m m' : ℕ → ℕ) (v : ℕ) → DestFits d → Lasting u d is r q
     → HoldsLive u r m → WordAt m' (destination_at d) v → Elsewhere m m' (destination_at d) → HoldsLive (live is) (slots_landed d v (with_word q (slot_of d) v)) m'
 read_landed u (IntoSlot k) is r q m m' v fit l h w e = record {
@@ -116,6 +121,7 @@ state_lined ly s m l h hs =
     state_same ly s m (put_word m LINE l h) hs (λ a lo hi. put_away m LINE l h a (λ q. omega (arith, q, hi)) (λ q. omega (arith, q, hi)))
     (λ a lo hi n n'. put_away m LINE l h a n n') (λ a lo hi. put_away m LINE l h a (λ q. omega (arith, q, lo)) (λ q. omega (arith, q, lo)))
 
+-- the line's number that is set keeps what is read
 pub read_lined : (u : Live) (r : Slots) (m : ℕ → ℕ) (l h : ℕ) → HoldsLive u r m → HoldsLive u r (put_word m LINE l h)
 read_lined u r m l h hr = record {
   words = λ k lt. word_kept m (put_word m LINE l h) (slot_at k) _ (put_away m LINE l h _ (λ q. omega (arith, q)) (λ q. omega (arith, q)))

@@ -1,4 +1,4 @@
--- How a view of the machine stands for a state of the slot code, slots only as far as they are read.
+-- How a view of the machine represents a state of the slot code, slots only as far as they are read.
 use Rattle.std.specs.Prelude.{◌≡◌, ℕ, ◌<◌, true, false, [], ◌∷◌, length, slice_index}
 use Rattle.tb_reaching.specs.View.{View, Part}
 use Rattle.tb_meaning.specs.Steps.{Step}
@@ -15,7 +15,7 @@ use Rattle.tb_selection.specs.Select.{select}
 use Rattle.tb_correctness.proofs.Code.GroupCode.{GroupsLie}
 use Rattle.tb_correctness.proofs.Relation.Surroundings.{Surroundings}
 
--- the memory holds the slots that are read, and the held word where it is
+-- the memory holds the slots that are read, and the held word if it is read
 pub record HoldsLive (r : Live) (slots : Slots) (m : ℕ → ℕ) : Type 0 where
   pub words : (k : ℕ) → k < r.slots → WordAt m (slot_at k) (slice_index slots.words k)
   pub held : r.held ≡ true → WordAt m HELD slots.held
@@ -26,7 +26,7 @@ abbrev pub reads_at : Rest → Live
 reads_at Whole = nothing_live
 reads_at (Left n is) = live is
 
--- the groups of the rest of a line, whose number is a word, stand at PC, or PC is where the place begins
+-- the groups of the rest of a line, whose number is a word, are at PC, or PC is where the place begins
 abbrev pub StandsAt : Layout → Part → ℕ → Rest → Place → Type 0
 StandsAt ly code pc (Left n is) place = GroupsLie ly code n pc (select is) × (n < 65536)
 StandsAt ly code pc Whole place = pc ≡ place_address ly place

@@ -1,4 +1,4 @@
--- Where a group begins, and what holds behind a calculation.
+-- When a group begins, and what holds after a calculation.
 use Rattle.std.proofs.Common.{◌≡◌, ℕ, ◌+◌, ◌≤◌, ◌<◌, true, false, List, [], ◌∷◌, ◌++◌, refl, sym, ap, ◌∙◌, subst}
 use Rattle.tb_meaning.specs.Control.{State}
 use Rattle.tb_lower.specs.Ranges.{AreInRange}
@@ -21,14 +21,14 @@ use Rattle.tb_correctness.proofs.Relation.Matching.{HoldsLive, Matches, Target}
 use Rattle.tb_correctness.proofs.Slots.SlotSide.{line, landed}
 use Rattle.tb_correctness.proofs.Relation.Surroundings.{Surroundings}
 
--- the list is the group's and the one behind it
+-- the list is the group's and the one after it
 pub parted : (g : Group) (gs : List Group) (js : List Instr) → select js ≡ g ∷ gs → js ≡ expand g ++ expand_all gs
 parted g gs js e = sym (brackets js) ∙ ap expand_all e
 
 module _ (around : Surroundings) where
   open around use {ly, f, lo, hi, keys}
 
-  -- a view at the beginning of a group of line n, with the list js from there on and is behind the group
+  -- a view at the beginning of a group of line n, with the list js from there on; is follows the group
   pub record Ready (n : ℕ) (g : Group) (js is : List Instr) (s : State) (r : Slots) (w : View) : Type 0 where
     pub small : n < 65536
     pub first : Way
@@ -51,7 +51,7 @@ module _ (around : Surroundings) where
     pub homed : Entered f lo hi w.mem
     pub short : Typable keys s.text s.answers
 
-  -- the relation gives it of the first group
+  -- the relation gives it for the first group
   pub ready : (code : SlotCode) (n : ℕ) (g : Group) (gs : List Group) (js : List Instr) (s : State) (r : Slots) (w : View) → select js ≡ g ∷ gs
       → Matches around (line code n js s r) w → Ready n g js (expand_all gs) s r w
   ready code n g gs js s r w e h =
@@ -81,7 +81,7 @@ module _ (around : Surroundings) where
         short = h.short;
       }
 
-  -- and a law of its slot steps is one of the group's step
+  -- a law of its slot steps is one of the group's step
   pub opened : (code : SlotCode) (n : ℕ) (g : Group) (gs : List Group) (js : List Instr) (s : State) (r : Slots) (w : View) (k : ℕ)
       → select js ≡ g ∷ gs → Comes f w (Target around (steps code (expand g) (line code n js s r)))
       (sent_in (steps code (expand g) (line code n js s r))) k → Comes f w (Target around (first_group code (line code n js s r)))
@@ -89,7 +89,7 @@ module _ (around : Surroundings) where
   opened code n g gs js s r w k e h =
       subst (λ l. Comes f w (Target around (first code l (line code n js s r))) (sent_in (first code l (line code n js s r))) k) (sym e) h
 
-  -- ---- behind a group
+  -- ---- after a group
   pub stood : (code : SlotCode) (n : ℕ) → n < 65536 → (is : List Instr) (s : State) (r : Slots) (at : ℕ) (m : ℕ → ℕ) (t answers : List ℕ)
       → GroupsLie ly f.code n at (select is) → HoldsState ly s m → HoldsLive (live is) r m → Entered f lo hi m → t ≡ s.text → answers ≡ s.answers
       → Typable keys s.text s.answers → (w : View) → Here at (lo ∷ hi ∷ []) m t answers w → Matches around (line code n is s r) w
@@ -110,11 +110,13 @@ pub here : {around : Surroundings} {n : ℕ} {g : Group} {js is : List Instr} {s
     → Here w.regs.pc (around.lo ∷ around.hi ∷ []) w.mem w.text w.answers w
 here h = record { pc = refl; stack = h.stack; binary = h.binary; mem = refl; text = refl; answers = refl }
 
+-- a result that is stored leaves the keyboard's text
 pub landed_text : (d : Destination) (v : ℕ) (s : State) → (landed d v s).text ≡ s.text
 landed_text (IntoSlot k) v s = refl
 landed_text (IntoHome (IntoVariable x)) v s = refl
 landed_text (IntoHome IntoHeld) v s = refl
 
+-- a result that is stored leaves the answers
 pub landed_answers : (d : Destination) (v : ℕ) (s : State) → (landed d v s).answers ≡ s.answers
 landed_answers (IntoSlot k) v s = refl
 landed_answers (IntoHome (IntoVariable x)) v s = refl

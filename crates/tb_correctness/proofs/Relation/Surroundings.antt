@@ -1,10 +1,10 @@
--- What stands round a group's code while a program runs.
+-- What surrounds a group's code while a program runs.
 use Rattle.std.specs.Prelude.{ℕ}
 use Rattle.tb_reaching.specs.View.{Setup}
 use Rattle.tb_runtime16.specs.Routines.{Routines}
 use Rattle.tb_simulation.specs.Layout.{Layout}
 
--- the program's places, the machine's setup, the start's return address on the stack, and how long the keyboard's text may be
+-- the program's addresses, the machine's setup, the start's return address on the stack, and the keyboard's greatest length
 pub record Surroundings : Type 0 where
   pub ly : Layout
   pub f : Setup

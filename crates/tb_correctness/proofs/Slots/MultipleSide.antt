@@ -22,7 +22,7 @@ module _ (code : SlotCode) (n j v : ℕ) (d : Operand) (s : State) (r : Slots) (
   abbrev pub product : ℕ
   product = word (quotient dividend divisor * divisor)
 
-  -- the slots behind the first fetches, the quotient, the second fetch and the product
+  -- the slots after the first fetches, the quotient, the second fetch and the product
   abbrev both : Slots
   both = with_fetched s (with_word r j dividend) (j + 1) d
 
@@ -41,6 +41,7 @@ module _ (code : SlotCode) (n j v : ℕ) (d : Operand) (s : State) (r : Slots) (
   again_length : length again.words ≡ 16
   again_length = fetched_length s divided (j + 1) d ∙ length-set both.words j (quotient dividend divisor) ∙ both_length
 
+  -- there are still 16 slots
   pub multiplied_length : length multiplied.words ≡ 16
   multiplied_length = length-set again.words j product ∙ again_length
 
@@ -64,10 +65,11 @@ module _ (code : SlotCode) (n j v : ℕ) (d : Operand) (s : State) (r : Slots) (
       by (Variable x) e = refl
       by InSlot e = other_slot (with_word r j dividend) j (j + 1) (quotient dividend (slice_index r.words (j + 1))) (λ q. omega (arith, q)) ∙ e
 
+  -- the product is in slot j
   pub product_stands : slice_index multiplied.words j ≡ product
   product_stands = same_slot again j product (omega (arith, room, again_length))
 
-  -- another slot than the two is as before, and so is the held word
+  -- a slot other than these two is unchanged, and so is the held word
   pub others_stand : (i : ℕ) → i ≢ j → i ≢ j + 1 → slice_index multiplied.words i ≡ slice_index r.words i
   others_stand i ne ne' =
       other_slot again j i product ne
@@ -76,10 +78,11 @@ module _ (code : SlotCode) (n j v : ℕ) (d : Operand) (s : State) (r : Slots) (
       ∙ fetched_other s (with_word r j dividend) (j + 1) i d ne'
       ∙ other_slot r j i dividend ne
 
+  -- the held word is unchanged
   pub held_stands : multiplied.held ≡ r.held
   held_stands = fetched_held s divided (j + 1) d ∙ fetched_held s (with_word r j dividend) (j + 1) d
 
-  -- up to the quotient, with some instructions behind it and some behind these
+  -- up to the quotient, with some instructions after it and some after these
   quotient_next : (js back : List Instr) → steps code (Load j v ∷ (fetch (j + 1) d ++ Compute op.Divide j ∷ js))
       (line code n (Load j v ∷ (fetch (j + 1) d ++ Compute op.Divide j ∷ back)) s r) ≡ steps code (Compute op.Divide j ∷ js) (line code n (Compute op.Divide j ∷ back) s both)
   quotient_next js back =
@@ -99,7 +102,7 @@ module _ (code : SlotCode) (n j v : ℕ) (d : Operand) (s : State) (r : Slots) (
       ∙ fetches code n (j + 1) d (Compute op.Multiply j ∷ js) (Compute op.Multiply j ∷ back) s divided
       ∙ acts code n (Compute op.Multiply j) js back s s again multiplied (ap (λ o. into n j (given o s.seed) s again) multiplies)
 
-  -- by 0 it faults
+  -- a divisor 0 is a fault
   pub multiple_fails : (js back : List Instr) → divisor ≡ 0 → steps code (multiple j v d js) (line code n (multiple j v d back) s r) ≡ Stops Faulted (fault_text 2 n)
   multiple_fails js back zero =
       let divides : apply op.Divide (slice_index both.words j) (slice_index both.words (j + 1)) ≡ None =

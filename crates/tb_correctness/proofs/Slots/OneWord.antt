@@ -25,10 +25,11 @@ use Rattle.tb_correctness.proofs.Relation.Operands.{OperandFits, dest_fits, rang
 use Rattle.tb_correctness.proofs.Slots.SlotSide.{IsDead, Lasting, StandsIn, ends, fetch_held, fetch_reads, fetched, fetched_held, fetched_length, fetched_other}
 use Rattle.tb_correctness.proofs.Slots.SlotSide.{fetched_same, fetches, kept_reads, landed, line, slots_landed, stops, with_fetched}
 
--- an instruction that reads slot k before what is behind it
+-- an instruction that reads slot k before what follows it
 abbrev pub Reads : ℕ → Instr → List Instr → Type 0
 Reads k i behind = live_before i (live behind) ≡ read (k + 1) (live behind)
 
+-- a word that is not fetched is read in its slot
 pub word_asked : (k : ℕ) (a : Operand) (i : Instr) (behind : List Instr) → Reads k i behind → StandsIn a k (live (fetch k a ++ i ∷ behind))
 word_asked k (Constant w) i behind e = tt
 word_asked k (Variable x) i behind e = tt
@@ -38,9 +39,11 @@ word_asked k InSlot i behind e = subst (λ u. k < u.slots) (sym e) (omega arith)
 abbrev pub spread_convert : Conversion → Operand → Destination → List Instr → List Instr
 spread_convert what a d is = fetch (slot_of d) a ++ convert what (slot_of d) ∷ (kept d ++ is)
 
+-- the group's instructions, bracketed to the right
 pub spread_convert_is : (what : Conversion) (a : Operand) (d : Destination) (is : List Instr) → expand (Convert what a d) ++ is ≡ spread_convert what a d is
 spread_convert_is what a d is = append_assoc (fetch (slot_of d) a) (convert what (slot_of d) ∷ kept d) is
 
+-- a conversion reads its slot
 pub convert_reads : (what : Conversion) (k : ℕ) (behind : List Instr) → Reads k (convert what k) behind
 convert_reads Negated k behind = refl
 convert_reads Drawn k behind = refl
@@ -51,6 +54,7 @@ pub record ConvertFits (a : Operand) (d : Destination) : Type 0 where
   pub slot : slot_of d < 16
   pub dest : DestFits d
 
+-- the range of a conversion's instructions gives those of its word and its destination
 pub convert_fits : (what : Conversion) (a : Operand) (d : Destination) → AreInRange 256 (expand (Convert what a d)) → ConvertFits a d
 convert_fits what a d h = let p = range_fetch (slot_of d) a (convert what (slot_of d) ∷ kept d) h in by what p.0 p.1
   where
@@ -74,7 +78,7 @@ module _ (code : SlotCode) (n : ℕ) (a : Operand) (d : Destination) (is : List 
   some : k < length q.words
   some = omega (arith, room, all, fetched_length s r k a)
 
-  -- where it gives a word
+  -- what a conversion does, if it gives a word
   abbrev pub Converts : Conversion → State → ℕ → Type 0
   Converts what s' v = steps code (expand (Convert what a d)) (line code n (spread_convert what a d is) s r) ≡ Goes (line code n is (landed d v s') (slots_landed d v (with_word q k v))) []
 
@@ -83,6 +87,7 @@ module _ (code : SlotCode) (n : ℕ) (a : Operand) (d : Destination) (is : List 
       fetches code n k a (convert what k ∷ kept d) (convert what k ∷ (kept d ++ is)) s r
       ∙ ends code n (convert what k) d is s s' q v some e
 
+  -- what a negation does
   pub negate_goes : Converts Negated s (negated x)
   negate_goes = converts Negated s (negated x) (ap (λ y. Goes (Stays s (with_word q k (negated y))) []) word_is)
 
@@ -90,15 +95,17 @@ module _ (code : SlotCode) (n : ℕ) (a : Operand) (d : Destination) (is : List 
   drawn : (t : Bool) → (nat_eq x 0 || nat_le 32768 x) ≡ t → act (numbers code) n (Random k) s q ≡ into n k (if t then Fails 3 else Gives (seed_after s.seed % x) (seed_after s.seed)) s q
   drawn t e = ap (λ y. into n k (random y s.seed) s q) word_is ∙ ap (λ t. into n k (if t then Fails 3 else Gives (seed_after s.seed % x) (seed_after s.seed)) s q) e
 
+  -- what RND with a good bound does
   pub draw_goes : (nat_eq x 0 || nat_le 32768 x) ≡ false → Converts Drawn (record s { seed = seed_after s.seed }) (seed_after s.seed % x)
   draw_goes e = converts Drawn (record s { seed = seed_after s.seed }) (seed_after s.seed % x) (drawn false e)
 
+  -- RND with a bad bound faults
   pub draw_fails : (nat_eq x 0 || nat_le 32768 x) ≡ true → steps code (expand (Convert Drawn a d)) (line code n (spread_convert Drawn a d is) s r) ≡ Stops Faulted (fault_text 3 n)
   draw_fails e =
       fetches code n k a (Random k ∷ kept d) (Random k ∷ (kept d ++ is)) s r
       ∙ stops code n (Random k) (kept d) (kept d ++ is) s q (fault_text 3 n) (drawn true e)
 
--- what it reads, and that it leaves out nothing that is read behind it
+-- what it reads, and that it omits nothing that is read after it
 pub convert_lasting : (what : Conversion) (a : Operand) (d : Destination) (is : List Instr) (s : State) (r : Slots)
     → omits_only_dead (Convert what a d) (live is) ≡ true → Lasting (live (spread_convert what a d is)) d is r (with_fetched s r (slot_of d) a)
 convert_lasting what a d is s r free = record {
@@ -126,6 +133,7 @@ convert_lasting what a d is s r free = record {
 abbrev pub spread_use : Usage → Operand → List Instr → List Instr
 spread_use how a is = fetch 0 a ++ use_of how ∷ is
 
+-- the group's instructions, bracketed to the right
 pub spread_use_is : (how : Usage) (a : Operand) (is : List Instr) → expand (Use how a) ++ is ≡ spread_use how a is
 spread_use_is how a is = append_assoc (fetch 0 a) (use_of how ∷ []) is
 
@@ -135,11 +143,13 @@ used ns n AsNumber x s slots = staying slots (send (digits_of x) s)
 used ns n AsLine x s slots = leaving (go_to ns n x s)
 used ns n AsSubroutine x s slots = leaving (go_sub ns n x s)
 
+-- a use reads slot 0
 pub use_reads : (how : Usage) (behind : List Instr) → Reads 0 (use_of how) behind
 use_reads AsNumber behind = refl
 use_reads AsLine behind = refl
 use_reads AsSubroutine behind = refl
 
+-- the range of a use's instructions gives that of its word
 pub use_fits : (how : Usage) (a : Operand) → AreInRange 256 (expand (Use how a)) → OperandFits a
 use_fits how a h = (range_fetch 0 a (use_of how ∷ []) h).0
 
@@ -160,7 +170,7 @@ use_steps code n how a is s r all =
     by AsLine = ap (λ x. used (numbers code) n AsLine x s (with_fetched s r 0 a)) same
     by AsSubroutine = ap (λ x. used (numbers code) n AsSubroutine x s (with_fetched s r 0 a)) same
 
--- behind it all that is read stands
+-- after it, all that is read is in memory
 pub used_read : (how : Usage) (a : Operand) (is : List Instr) (s : State) (r : Slots) (m : ℕ → ℕ) → omits_only_dead (Use how a) (live is) ≡ true
     → HoldsLive (live (spread_use how a is)) r m → HoldsLive (live is) (with_fetched s r 0 a) m
 used_read how a is s r m free h = record {

@@ -1,4 +1,4 @@
--- Which instructions are groups of their own: those whose group alone is a single one.
+-- Which instructions are groups of their own: those that are a single group when alone.
 use Rattle.std.proofs.Common.{◌≡◌, ◌<◌, ◌≤◌, Bool, true, false, List, [], ◌∷◌, ◌++◌, length, length-append, refl, ap, subst, arith, Option, Some, None}
 use Rattle.std.specs.Prelude.{◌&&◌}
 use Rattle.tb_lower.specs.Slots.{Instr, Store, Negate, Compute, Random, SendNumber, Hold, LeaveUnless, Jump, Call}
@@ -11,12 +11,12 @@ use Rattle.tb_selection.proofs.Bracketed.{IsThis, merged_is}
 use Rattle.tb_selection.proofs.GroupRuns.{expand_some}
 use Rattle.tb_selection.proofs.Chosen.{chosen}
 
--- a single instruction is one that is single alone
+-- a single instruction is single also when alone
 abbrev pub IsAlone : Group → Type 0
 IsAlone (Single i) = alone i ≡ Single i
 IsAlone _ = Unit {0}
 
--- so it is with a group, if it is one, and with the first group
+-- the same for a group, if it is one, and for the first group
 abbrev IfAny : Option Group → Type 0
 IfAny None = Unit {0}
 IfAny (Some g) = IsAlone g
@@ -37,7 +37,7 @@ alone_so Jump = tt
 alone_so Call = tt
 alone_so _ = refl
 
--- a group of several instructions is no single one, and so is one in place of several groups
+-- a group of several instructions is not a single one, and neither is one in place of several groups
 several_so : (g : Group) → 1 < length (expand g) → IsAlone g
 several_so (Single i) more = absurd (omega (arith, more))
 several_so _ more = tt
@@ -104,12 +104,12 @@ attach_so : (i : Instr) (gs : List Group) → FirstIsAlone (attach i gs)
 attach_so i [] = alone_so i
 attach_so i (g ∷ gs) = tried_so (merged i g) i g gs (merged_so i g)
 
--- so it is with the groups of a list
+-- the same for the first group of a list
 pub first_so : (is : List Instr) → FirstIsAlone (select is)
 first_so [] = tt
 first_so (i ∷ is) = attach_so i (select is)
 
--- so it is with all groups of a list
+-- the same for all groups of a list
 abbrev pub AreAlone : List Group → Type 0
 AreAlone [] = Unit {0}
 AreAlone (g ∷ gs) = IsAlone g × AreAlone gs
@@ -118,5 +118,6 @@ chosen_alone : (gs : List Group) → AreChosen gs → FirstIsAlone gs → AreAlo
 chosen_alone [] c f = tt
 chosen_alone (g ∷ gs) c f = (f, chosen_alone gs c.3 (subst FirstIsAlone c.1 (first_so (expand_all gs))))
 
+-- each single group of a list is one alone
 pub all_alone : (is : List Instr) → AreAlone (select is)
 all_alone is = chosen_alone (select is) (chosen is) (first_so is)

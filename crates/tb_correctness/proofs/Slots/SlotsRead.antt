@@ -40,6 +40,7 @@ before_few (CallTo target) u r h = h
 before_few Return u r h = h
 before_few End u r h = h
 
+-- a list in range reads at most 16 slots
 pub range_few : (is : List Instr) → AreInRange 256 is → (live is).slots ≤ 16
 range_few [] r = omega arith
 range_few (i ∷ is) r = before_few i (live is) r.0 (range_few is r.1)
@@ -49,6 +50,7 @@ pub range_split : (is js : List Instr) → AreInRange 256 (is ++ js) → AreInRa
 range_split [] js h = (tt, h)
 range_split (i ∷ is) js h = let r = range_split is js h.1 in ((h.0, r.0), r.1)
 
+-- the groups of a laid line read at most 16 slots
 pub groups_few : (ly : Layout) (code : Part) (n at : ℕ) (gs : List Group) → GroupsLie ly code n at gs → (live (expand_all gs)).slots ≤ 16
 groups_few ly code n at [] h = omega arith
 groups_few ly code n at (g ∷ gs) h = range_few (expand_all (g ∷ gs)) h.2

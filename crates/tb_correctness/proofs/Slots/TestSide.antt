@@ -31,7 +31,7 @@ abbrev pub with_held : State → Slots → Tested → Slots
 with_held s r HeldBefore = r
 with_held s r (HeldNow a) = record (with_fetched s r 0 a) { held = slice_index (with_fetched s r 0 a).words 0 }
 
--- the slots behind a test
+-- the slots after a test
 abbrev pub tested : State → Slots → Tested → Operand → Slots
 tested s r a b = with_fetched s (with_held s r a) 0 b
 
@@ -40,10 +40,11 @@ abbrev pub spread_test : Rel → Tested → Operand → List Instr → List Inst
 spread_test rel HeldBefore b is = fetch 0 b ++ LeaveUnless rel ∷ is
 spread_test rel (HeldNow a) b is = fetch 0 a ++ (Hold ∷ (fetch 0 b ++ LeaveUnless rel ∷ is))
 
--- the instructions of a test, and some behind it
+-- the instructions of a test, and some after it
 abbrev pub test_before : Rel → Tested → Operand → List Instr → List Instr
 test_before rel a b js = held a ++ (fetch 0 b ++ LeaveUnless rel ∷ js)
 
+-- a test and the instructions after it, bracketed to the right
 pub spread_test_is : (rel : Rel) (a : Tested) (b : Operand) (js is : List Instr) → test_before rel a b js ++ is ≡ spread_test rel a b (js ++ is)
 spread_test_is rel HeldBefore b js is = append_assoc (fetch 0 b) (LeaveUnless rel ∷ js) is
 spread_test_is rel (HeldNow (Constant w)) b js is = ap (λ l. Put 0 w ∷ Hold ∷ l) (append_assoc (fetch 0 b) (LeaveUnless rel ∷ js) is)
@@ -51,7 +52,7 @@ spread_test_is rel (HeldNow (Variable x)) b js is = ap (λ l. Load 0 x ∷ Hold 
 spread_test_is rel (HeldNow InSlot) b js is = ap (λ l. Hold ∷ l) (append_assoc (fetch 0 b) (LeaveUnless rel ∷ js) is)
 
 module _ (code : SlotCode) (n : ℕ) (rel : Rel) (a : Tested) (b : Operand) (is : List Instr) (s : State) (r : Slots) where
-  -- up to the test itself, with some instructions behind it
+  -- up to the test itself, with some instructions after it
   pub so_far : (js : List Instr) → steps code (test_before rel a b js) (line code n (spread_test rel a b is) s r) ≡ steps code (LeaveUnless rel ∷ js)
       (line code n (LeaveUnless rel ∷ is) s (tested s r a b))
   so_far js = by a
@@ -102,7 +103,7 @@ module _ (code : SlotCode) (n : ℕ) (rel : Rel) (a : Tested) (b : Operand) (is 
         by (HeldNow a) (Constant w) f = fetched_same s (with_held s r (HeldNow a)) 0 (Constant w) (with_length a)
         by (HeldNow a) (Variable x) f = fetched_same s (with_held s r (HeldNow a)) 0 (Variable x) (with_length a)
 
-    -- whether it holds of the words tested
+    -- whether it holds for the words tested
     pub decided : (t : Bool) → holds rel (tested_word s r a) (fetched s r 0 b) ≡ t → holds rel (tested s r a b).held (slice_index (tested s r a b).words 0) ≡ t
     decided t e = ap (λ x. holds rel x (slice_index (tested s r a b).words 0)) left_is ∙ ap (λ y. holds rel (tested_word s r a) y) right_is ∙ e
 
@@ -120,7 +121,7 @@ tested_length : (s : State) (r : Slots) (a : Tested) (b : Operand) → length (t
 tested_length s r HeldBefore b = fetched_length s r 0 b
 tested_length s r (HeldNow a) b = fetched_length s (with_held s r (HeldNow a)) 0 b ∙ fetched_length s r 0 a
 
--- behind a test all that is read stands
+-- after a test, all that is read is in memory
 pub tested_read : (rel : Rel) (a : Tested) (b : Operand) (is : List Instr) (s : State) (r : Slots) (m : ℕ → ℕ) → test_words_dead a b (live is) ≡ true
     → HoldsLive (live (spread_test rel a b is)) r m → HoldsLive (live is) (tested s r a b) m
 tested_read rel HeldBefore InSlot is s r m f h = record { words = λ k lt. h.words k (omega (arith, lt)); held = λ q. h.held refl; all_words = h.all_words }
@@ -150,7 +151,7 @@ tested_read rel (HeldNow a) (Variable x) is s r m f h =
       all_words = tested_length s r (HeldNow a) (Variable x) ∙ h.all_words;
     }
 
--- past a test that leaves the line nothing is read
+-- after a test that leaves the line nothing is read
 pub left_read : (s : State) (r : Slots) (a : Tested) (b : Operand) (m : ℕ → ℕ) → length r.words ≡ 16 → HoldsLive nothing_live (tested s r a b) m
 left_read s r a b m all = record { words = λ k lt. absurd (omega (arith, lt)); held = λ q. absurd (let no : ⊥ = cc in no); all_words = tested_length s r a b ∙ all }
 
@@ -163,12 +164,14 @@ pub record TestFits (a : Tested) (b : Operand) : Type 0 where
   pub left : TestedFits a
   pub right : OperandFits b
 
+-- the range of a test's instructions gives those of its words
 pub test_fits : (rel : Rel) (a : Tested) (b : Operand) (js : List Instr) → AreInRange 256 (test_before rel a b js) → TestFits a b
 test_fits rel HeldBefore b js h = record { left = tt; right = (range_fetch 0 b (LeaveUnless rel ∷ js) h).0 }
 test_fits rel (HeldNow a) b js h =
     let p = range_fetch 0 a (Hold ∷ (fetch 0 b ++ LeaveUnless rel ∷ js)) (subst (AreInRange 256) (append_assoc (fetch 0 a) (Hold ∷ []) (fetch 0 b ++ LeaveUnless rel ∷ js)) h) in
     record { left = p.0; right = (range_fetch 0 b (LeaveUnless rel ∷ js) p.1.1).0 }
 
+-- the test's left word is where its source says
 pub left_held : (ly : Layout) (rel : Rel) (a : Tested) (b : Operand) (is : List Instr) (s : State) (r : Slots) (m : ℕ → ℕ) → HoldsState ly s m
     → HoldsLive (live (spread_test rel a b is)) r m → TestedFits a → SourceHolds m (tested_source a) (tested_word s r a)
 left_held ly rel HeldBefore b is s r m hs hr fit = let v = hr.held (fetch_held 0 b (LeaveUnless rel ∷ is)) in record { low_byte = v.low; high_byte = v.high; small = v.small }
@@ -176,6 +179,7 @@ left_held ly rel (HeldNow (Constant w)) b is s r m hs hr fit = operand_held ly s
 left_held ly rel (HeldNow (Variable x)) b is s r m hs hr fit = operand_held ly s _ r m 0 (Variable x) hs hr fit tt
 left_held ly rel (HeldNow InSlot) b is s r m hs hr fit = operand_held ly s _ r m 0 InSlot hs hr tt (omega arith)
 
+-- the test's right word is where its source says
 pub right_held : (ly : Layout) (rel : Rel) (a : Tested) (b : Operand) (is : List Instr) (s : State) (r : Slots) (m : ℕ → ℕ)
     → test_words_dead a b (live is) ≡ true → HoldsState ly s m → HoldsLive (live (spread_test rel a b is)) r m → OperandFits b → SourceHolds m (source_of 0 b) (fetched s r 0 b)
 right_held ly rel HeldBefore InSlot is s r m f hs hr fit = operand_held ly s _ r m 0 InSlot hs hr tt (omega arith)

@@ -1,4 +1,4 @@
--- The law of a test by a divisor: that its slot instructions ask whether nothing is left over, and where its code leads.
+-- The law of a test by a divisor: its slot instructions ask whether the remainder is 0, and where its code leads.
 use Rattle.std.proofs.Common.{not, ◌≡◌, ◌≢◌, ℕ, ◌+◌, ◌*◌, ◌%◌, ◌<◌, Bool, true, false, cond, List, [], ◌∷◌, ◌++◌}
 use Rattle.std.proofs.Common.{length, refl, sym, ap, ◌∙◌, subst, arith, ⊎_elim, Option, Some, None, length-set}
 use Rattle.std.specs.Prelude.{slice_index, nat_eq}
@@ -53,6 +53,7 @@ same_either_way p q = ⊎_elim (λ e. eq-eqb p q e ∙ sym (eq-eqb q p (sym e)))
 abbrev pub spread_divides : Divisibility → ℕ → Operand → Side → Option ℕ → List Instr → List Instr
 spread_divides how v d side to is = dividing how v d side (onward to ++ is)
 
+-- the group's instructions, bracketed to the right
 pub spread_divides_is : (how : Divisibility) (v : ℕ) (d : Operand) (side : Side) (to : Option ℕ) (is : List Instr) → expand (Divides how v d side to) ++ is ≡ spread_divides how v d side to is
 spread_divides_is how v (Constant w) OnLeft to is = refl
 spread_divides_is how v (Variable x) OnLeft to is = refl
@@ -80,7 +81,7 @@ begun_length : (s : State) (r : Slots) (v : ℕ) (side : Side) → length (begun
 begun_length s r v OnLeft = refl
 begun_length s r v OnRight = length-set r.words 0 (slice_index s.vars v)
 
--- the divisor is the same there
+-- the divisor is the same with these slots
 divisor_begun : (s : State) (r : Slots) (v : ℕ) (side : Side) (d : Operand) → fetched s (begun s r v side) 1 d ≡ fetched s r 1 d
 divisor_begun s r v OnLeft d = refl
 divisor_begun s r v OnRight (Constant w) = refl
@@ -92,7 +93,7 @@ ranges : (how : Divisibility) (v : ℕ) (d : Operand) (side : Side) (js : List I
 ranges how v d OnLeft js h = (h.0.1, (range_fetch 1 d (Compute op.Divide 0 ∷ (fetch 1 d ++ Compute op.Multiply 0 ∷ (Hold ∷ Load 0 v ∷ LeaveUnless (compared how) ∷ js))) h.1).0)
 ranges how v d OnRight js h = (h.0.1, (range_fetch 1 d (Compute op.Divide 0 ∷ (fetch 1 d ++ Compute op.Multiply 0 ∷ (LeaveUnless (compared how) ∷ js))) h.1.1.1).0)
 
--- a divisor that stands in its slot is read there
+-- a divisor that is in its slot is read there
 multiple_read : (v : ℕ) (is : List Instr) → 1 < (live (multiple 0 v InSlot is)).slots
 multiple_read v is = fetch_reads 1 0 (Variable v) (Compute op.Divide 0 ∷ Compute op.Multiply 0 ∷ is) (omega arith) (λ e. omega (arith, e))
 
@@ -118,14 +119,14 @@ module _ (code : SlotCode) (n : ℕ) (how : Divisibility) (v : ℕ) (d : Operand
   start_length : length start.words ≡ 16
   start_length = begun_length s r v side ∙ all
 
-  -- the slots behind the multiple
+  -- the slots after the multiple
   abbrev last : Slots
   last = multiplied code n 0 v d s start start_length (omega arith)
 
   last_length : length last.words ≡ 16
   last_length = multiplied_length code n 0 v d s start start_length (omega arith)
 
-  -- up to the test, with some instructions behind it and some behind these
+  -- up to the test, with some instructions after it and some after these
   abbrev Next : Step SlotState → (js back : List Instr) → Type 0
   Next z js back = steps code (dividing how v d side js) (line code n (dividing how v d side back) s r) ≡ z
 
@@ -152,7 +153,7 @@ module _ (code : SlotCode) (n : ℕ) (how : Divisibility) (v : ℕ) (d : Operand
       (multiple_next code n 0 v d s start start_length (omega arith) (test_before (compared how) (left_word side) (right_word v side) js)
       (spread_test (compared how) (left_word side) (right_word v side) back) (λ e. some (sym (divisor_begun s r v side d) ∙ e)))
 
-  -- by 0 it faults
+  -- a divisor 0 is a fault
   divides_fails : (js back : List Instr) → divisor ≡ 0 → Next (Stops Faulted (fault_text 2 n)) js back
   divides_fails js back zero =
       begins js back (Stops Faulted (fault_text 2 n))
@@ -195,7 +196,7 @@ contrary_turned Divisible t = refl
 contrary_turned Indivisible true = refl
 contrary_turned Indivisible false = refl
 
--- what is dead behind it is dead behind its test
+-- what is dead after it is dead after its test
 test_free : (how : Divisibility) (v : ℕ) (d : Operand) (side : Side) (to : Option ℕ) (u : Live) → omits_only_dead (Divides how v d side to) u ≡ true
     → test_words_dead (left_word side) (right_word v side) u ≡ true
 test_free how v d OnLeft to u free = free
@@ -250,7 +251,7 @@ module _ (around : Surroundings) (fits : Fits around.f 16) (code : SlotCode) (sa
   y_small : y < 65536
   y_small = (right_holds w.mem first).small
 
-  -- at a place, with all that is live
+  -- at an address, with all that is live
   abbrev At : ℕ → View → Type 0
   At = Led fits limit rs h left right x y (operand_apart 0 (Variable v) 0 (omega arith) (omega arith) left_fits)
       (operand_apart 0 (Variable v) LEFT (omega arith) (omega arith) left_fits) (operand_apart 1 d RIGHT (omega arith) (omega arith) right_fits) left_holds right_holds
@@ -264,7 +265,7 @@ module _ (around : Surroundings) (fits : Fits around.f 16) (code : SlotCode) (sa
   abbrev pub Ends : Step SlotState → Type 0
   Ends z = Comes f w (Target around z) (sent_in z) (34 + (limit + limit))
 
-  -- by 0
+  -- a divisor 0 is a fault
   faults : (how' : Divisibility) (next : ℕ) → Lies f.code w.regs.pc (divided_code n w.regs.pc h.first how' left right next) → y ≡ 0
       → (ks back : List Instr) → Ends (steps code (dividing how v d side ks) (line code n (dividing how v d side back) s r))
   faults how' next lies zero ks back =
@@ -284,7 +285,7 @@ module _ (around : Surroundings) (fits : Fits around.f 16) (code : SlotCode) (sa
   free : test_words_dead first_word second_word (live is) ≡ true
   free = test_free how v d side to (live is) h.free
 
-  -- the slots behind it, of which nothing is live
+  -- the slots after it, of which nothing is live
   abbrev end_slots : Slots
   end_slots = tested s last_slots first_word second_word
 
@@ -331,7 +332,7 @@ module _ (around : Surroundings) (fits : Fits around.f 16) (code : SlotCode) (sa
       (reach : DividedGoes ly n w.regs.pc h.first left right (has_line ly.numbers t) t)
       (rest : GroupsLie ly f.code n (w.regs.pc + pieces_size (divided_go ly n w.regs.pc h.first how left right (has_line ly.numbers t) t))
       (select is)) (stands : nat_eq (length (select is)) 0 ≡ true) where
-    -- it is the line's last group, and so the next line is behind it
+    -- it is the line's last group, and so the next line follows it
     is_last : w.regs.pc + pieces_size (divided_go ly n w.regs.pc h.first how left right (has_line ly.numbers t) t) ≡ next_at ly n
     is_last = subst (GroupsLie ly f.code n (w.regs.pc + pieces_size (divided_go ly n w.regs.pc h.first how left right (has_line ly.numbers t) t)))
         (nil_from_length (select is) (eqb-true _ _ stands)) rest
@@ -401,5 +402,6 @@ module _ (around : Surroundings) (fits : Fits around.f 16) (code : SlotCode) (sa
       (subst (λ o. GroupsLie ly f.code n (w.regs.pc + pieces_size (divides_code ly n w.regs.pc h.first how left right o)) (select is)) e h.rest)
       (subst (λ o. may_stand (Divides how v d side o) (select is) ≡ true) e h.stands) (has_line ly.numbers t) refl
 
+  -- the law of a test by a divisor
   pub divides_law : Ends (steps code (expand (Divides how v d side to)) (line code n js s r))
   divides_law = by_to to refl

@@ -1,4 +1,4 @@
--- What the code of a test by a divisor does: Z is whether nothing is left over, and the branch that asks it.
+-- What the code of a test by a divisor does: Z tells whether the remainder is 0, and the branch that tests it.
 use Rattle.std.proofs.Common.{◌≡◌, ◌≢◌, ℕ, ◌+◌, ◌-◌, ◌%◌, ◌^◌, ◌≤◌, Bool, true, cond, List, [], ◌∷◌, ◌++◌, length}
 use Rattle.std.proofs.Common.{refl, sym, ap, ◌∙◌, subst, arith, leb, eqb, bit_and, Option}
 use Rattle.std.specs.Prelude.{nat_eq, bit_or}
@@ -113,6 +113,7 @@ module _ (f : Setup) (room : ℕ) (fits : Fits f room) (at : ℕ) (bs : List ℕ
       })
       (joins f room fits (at + 3) bs m text answers small (RESULT + 1) (m RESULT) refl (omega (arith, r)) s1.0))
 
+-- the size of two lists of pieces is the sum of their sizes
 pub pieces_append : (ps qs : List Piece) → pieces_size (ps ++ qs) ≡ pieces_size ps + pieces_size qs
 pieces_append [] qs = omega arith
 pieces_append (p ∷ ps) qs = let e = pieces_append ps qs in omega (arith, e)
@@ -129,13 +130,13 @@ module _ {around : Surroundings} (fits : Fits around.f 16) (limit : ℕ) (rs : S
   abbrev pub divided : Bool
   divided = nat_eq (magnitude x % magnitude y) 0
 
-  -- at a place, with Z, and with all that is live
+  -- at an address, with Z, and with all that is live
   record Told (at : ℕ) (z : Bool) (u : View) : Type 0 where
     here : Here at own u.mem w.text w.answers u
     zero : u.regs.flags.z ≡ z
     kept : Kept around (live js) s r u.mem
 
-  -- at a place, with all that is live
+  -- at an address, with all that is live
   pub record Led (at : ℕ) (u : View) : Type 0 where
     pub here : Here at own u.mem w.text w.answers u
     pub kept : Kept around (live js) s r u.mem
@@ -153,7 +154,7 @@ module _ {around : Surroundings} (fits : Fits around.f 16) (limit : ℕ) (rs : S
     kept = subst (Kept around (live js) s r) (sym k.here.mem) c;
   }
 
-  -- whether it may fault; behind the line's number, where it may
+  -- whether it may fault; after the line's number, if it may
   abbrev risky : Bool
   risky = may_be_zero b
 
@@ -182,7 +183,7 @@ module _ {around : Surroundings} (fits : Fits around.f 16) (limit : ℕ) (rs : S
       (kept_scratch around (live js) s r m' v.mem h.some_read (λ p o. q.memory.others p (not_argument p o)) k.kept))
       (tells_rest f 16 fits _ own v.mem w.text w.answers refl (magnitude x % magnitude y) l.2.2.2.0 q.memory.rest l.2.2.2.1 v there)))))
 
-  -- Z is whether nothing is left over
+  -- Z tells whether the remainder is 0
   left_told : (o : Option ℕ) → IsMasking b o → Lies f.code w.regs.pc (left_over n o a b) → y ≢ 0 → Comes f w (Told (w.regs.pc + pieces_size (left_over n o a b)) divided) [] (15 + limit)
   left_told _ (by_bits v k e few power) lies some =
       let same = constant_is w.mem v y b e (hb w.mem first) in
@@ -194,7 +195,7 @@ module _ {around : Surroundings} (fits : Fits around.f 16) (limit : ℕ) (rs : S
       (tells_bits f 16 fits w.regs.pc own w.mem w.text w.answers refl (2 ^ (k + 1) - 1) a lies.0 (low_read a 0 grounded) lies.1 w begins)
   left_told _ by_division lies some = by_routine lies some
 
-  -- and so it leads
+  -- where the test leads
   pub divided_leads : (how : Divisibility) (way : Way) (next : ℕ) → Lies f.code w.regs.pc (divided_code n w.regs.pc way how a b next) → DividedReaches n w.regs.pc way a b next → y ≢ 0
       → Comes f w (Led (cond (turned (leaves_on how) divided) (w.regs.pc + pieces_size (divided_code n w.regs.pc way how a b next)) next)) [] (17 + limit)
   divided_leads how way next lies reach some =
@@ -231,6 +232,7 @@ module _ {around : Surroundings} (fits : Fits around.f 16) (limit : ℕ) (rs : S
       (λ m' k. rs.divide_by_zero _ _ m' w.text w.answers x n k.left (subst (WordAt m' RIGHT) zero k.right)
       (k.line (number_set h risky (λ e. never_zero w.mem y b (hb w.mem first) e zero))) k.kept.homed)))
 
+  -- a test by a divisor 0 is fault 2
   pub divided_fails : (how : Divisibility) (way : Way) (next : ℕ) → Lies f.code w.regs.pc (divided_code n w.regs.pc way how a b next) → y ≡ 0
       → Comes f w (IsHome f) (fault_text 2 n) (13 + limit)
   divided_fails how way next lies zero =

@@ -19,7 +19,7 @@ use Rattle.tb_correctness.proofs.Pieces.ShiftSteps.{turns}
 use Rattle.tb_correctness.proofs.Testing.SignedOrder.{lifted_less, turned}
 use Rattle.tb_correctness.proofs.Testing.Tests.{weighs}
 
--- the branch leads on where the word is below, or, where it leaves for that, where it is not
+-- the branch leads on if the word is below, or, if it leaves for that, if it is not
 leads_on : (below less : Bool) (next end : ℕ) → cond (is_taken (not below) (not less)) next end ≡ cond (turned below less) end next
 leads_on true true next end = refl
 leads_on true false next end = refl
@@ -28,7 +28,7 @@ leads_on false false next end = refl
 
 module _ (f : Setup) (room : ℕ) (fits : Fits f room) (at : ℕ) (bs : List ℕ) (m : ℕ → ℕ) (text answers : List ℕ) (small : leb (length bs) room ≡ true)
     (a : Source) (x w : ℕ) (ga : Grounded a 0) (ha : SourceHolds m a x) (word : w < 65536) where
-  -- whether the low byte is not below the constant's, and what C becomes by it
+  -- whether the low byte is not below the constant's, and what C is by that
   abbrev c : Bool
   c = nat_le (w % 256) (value m (low a))
 
@@ -38,7 +38,7 @@ module _ (f : Setup) (room : ℕ) (fits : Fits f room) (at : ℕ) (bs : List ℕ
   abbrev less : Bool
   less = int_lt (signed x) (signed w)
 
-  -- the places of the instructions
+  -- the addresses of the instructions
   abbrev p2 : ℕ
   p2 = at + size (weighed (low a) (Fixed (w % 256)))
 

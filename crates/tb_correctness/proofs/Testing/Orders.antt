@@ -1,4 +1,4 @@
--- A test for order: N behind the difference, turned where V is set, and the branch on it.
+-- A test for order: N after the difference, turned if V is set, and the branch on it.
 use Rattle.std.proofs.Common.{not, ◌≡◌, ℕ, ◌+◌, ◌-◌, ◌%◌, ◌≤◌, ◌<◌, Bool, true, false, cond, List, [], ◌∷◌, length, refl}
 use Rattle.std.proofs.Common.{sym, ap, ◌∙◌, subst, arith, leb, int_lt, pos, ◌-ℤ◌}
 use Rattle.std.proofs.lemmas.Bool.{eqb-true}
@@ -110,7 +110,7 @@ module _ (f : Setup) (room : ℕ) (fits : Fits f room) (at : ℕ) (bs : List ℕ
   abbrev v : Bool
   v = is_outside_byte (signed_byte (value m (high a)) -ℤ signed_byte (value m (high b)) -ℤ pos (bit (not c)))
 
-  -- the places of the instructions of the difference, and of the branches
+  -- the addresses of the instructions of the difference, and of the branches
   abbrev p1 : ℕ
   p1 = at + len (lda (low a))
 
@@ -178,7 +178,7 @@ module _ (f : Setup) (room : ℕ) (fits : Fits f room) (at : ℕ) (bs : List ℕ
       })
       (takes_signed f room fits p3 bs m text answers small (high b) (value m (high a)) c (high_read b 0 gb) (omega (arith, lies.0)) s3.0)))
 
-  -- N turned where V is set
+  -- N turned if V is set
   turned_by : (o : Bool) → Moves f (Signed p4 d (has_bit d 128) o bs m text answers) (WithN p5 (turned o (has_bit d 128)) bs m text answers) [] 3
   turned_by false w h =
       looser f w _ _ [] 2 3 (omega arith) (λ u g. record { here = g.here; negative = g.negative ∙ h.negative })
@@ -188,7 +188,7 @@ module _ (f : Setup) (room : ℕ) (fits : Fits f room) (at : ℕ) (bs : List ℕ
       looser f u _ _ [] 1 1 (omega arith) (λ u k. record { here = k.here; negative = k.negative ∙ flips d })
       (turns f room fits (p4 + way_size first) bs m text answers small d lies_turn.1.0 lies_turn.1.1.0 u (record { here = g.here; number = g.number ∙ h.number })))
 
-  -- N is set where the first word is below the second
+  -- N is set if the first word is below the second
   abbrev is_less : Bool
   is_less = int_lt (signed x) (signed y)
 
@@ -203,7 +203,7 @@ module _ (f : Setup) (room : ℕ) (fits : Fits f room) (at : ℕ) (bs : List ℕ
   end_is : p5 + way_size second ≡ at + pieces_size (weighing_code below first second at a b next)
   end_is = omega (arith, branch_size first Overflow false p4 p5, branch_size second Negative below p5 next)
 
-  -- where it leads: behind it where the first word is below the second, or, where that is wanted, where it is not
+  -- where it leads: on after it if the first word is below the second, or, if that is wanted, if it is not
   weighs_order : Moves f (Here at bs m text answers)
       (Here (cond (turned below (int_lt (signed x) (signed y))) (at + pieces_size (weighing_code below first second at a b next)) next) bs m text answers) [] 9
   weighs_order =
@@ -213,6 +213,7 @@ module _ (f : Setup) (room : ℕ) (fits : Fits f room) (at : ℕ) (bs : List ℕ
 
 -- ---- of a word and 0
 module _ (f : Setup) (room : ℕ) (fits : Fits f room) (at : ℕ) (bs : List ℕ) (m : ℕ → ℕ) (text answers : List ℕ) (small : leb (length bs) room ≡ true) where
+  -- a load whose N is the sign
   pub loads_sign : (b : Byte) → IsRead b → at + len (lda b) ≤ highest_code → Bytes f.code at (instr_bytes (lda b))
       → Moves f (Here at bs m text answers) (WithN (at + len (lda b)) (has_bit (value m b) 128) bs m text answers) [] 1
   loads_sign (Fixed b) d r st = whatever f room fits at bs m text answers _ [] 1 (λ a x y n v i z c.
@@ -267,8 +268,8 @@ module _ (f : Setup) (room : ℕ) (fits : Fits f room) (at : ℕ) (bs : List ℕ
         (branches f room fits bs m text answers small branch_at first Negative below negative next (branch_behind f branch_at first Negative below next [] lies.2).0 reach lies.2.1 u
         (record { pc = g.here.pc ∙ loaded_to; stack = g.here.stack; binary = g.here.binary; mem = g.here.mem; text = g.here.text; answers = g.here.answers }) (g.negative ∙ sign_so)))
 
--- ---- by how it is told
--- what a side tells is turned by the one that is wanted
+-- ---- by how it is decided
+-- what a side tells is turned by the side that is wanted
 side_turned : (wanted side : Side) (t : Bool) → turned (leaves_below (wanted_side wanted side)) t ≡ turned (leaves_below wanted) (turned (leaves_below side) t)
 side_turned Below side t = refl
 side_turned NotBelow Below t = refl
@@ -277,7 +278,7 @@ side_turned NotBelow NotBelow false = refl
 
 module _ (f : Setup) (room : ℕ) (fits : Fits f room) (at : ℕ) (bs : List ℕ) (m : ℕ → ℕ) (text answers : List ℕ) (small : leb (length bs) room ≡ true)
     (wanted : Side) (first second : Way) (next : ℕ) where
-  -- behind the code where a word is below another one, or, where that is wanted, where it is not
+  -- on after the code if a word is below another one, or, if that is wanted, if it is not
   abbrev Leads : Order → Bool → Type 0
   Leads order less = Lies f.code at (order_by order wanted first second at next) → ReachesBy order first second at next
       → Moves f (Here at bs m text answers) (Here (cond (turned (leaves_below wanted) less) (at + pieces_size (order_by order wanted first second at next)) next) bs m text answers) [] 9
@@ -323,6 +324,7 @@ module _ (f : Setup) (room : ℕ) (fits : Fits f room) (at : ℕ) (bs : List ℕ
 -- where a test for order leads
 module _ (f : Setup) (room : ℕ) (fits : Fits f room) (at : ℕ) (bs : List ℕ) (m : ℕ → ℕ) (text answers : List ℕ) (small : leb (length bs) room ≡ true)
     (a b : Source) (x y : ℕ) (ga : Grounded a 0) (gb : Grounded b 0) (ha : SourceHolds m a x) (hb : SourceHolds m b y) (wanted : Side) (first second : Way) (next : ℕ) where
+  -- a test for order leads by the order of its words
   pub tests_order : Lies f.code at (order_code wanted first second at a b next) → OrderReaches first second at a b next
       → Moves f (Here at bs m text answers) (Here (cond (turned (leaves_below wanted) (int_lt (signed x) (signed y)))
       (at + pieces_size (order_code wanted first second at a b next)) next) bs m text answers) [] 9

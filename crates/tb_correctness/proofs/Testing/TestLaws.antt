@@ -54,7 +54,7 @@ lies_parts code at (p ∷ ps) qs h =
 -- ---- what the code of a test does
 module _ (f : Setup) (room : ℕ) (fits : Fits f room) (at : ℕ) (bs : List ℕ) (m : ℕ → ℕ) (text answers : List ℕ) (small : leb (length bs) room ≡ true)
     (a b : Source) (x y : ℕ) (ga : Grounded a 0) (gb : Grounded b 0) (ha : SourceHolds m a x) (hb : SourceHolds m b y) (first second : Way) (next : ℕ) where
-  -- to the place behind it where the test holds, and else to another one
+  -- on after it if the test holds, and else to another address
   abbrev pub Tests : Rel → Type 0
   Tests rel = Lies f.code at (test_code rel first second at a b next) → TestReaches rel first second at a b next → Moves f (Here at bs m text answers)
       (Here (cond (holds rel x y) (at + pieces_size (test_code rel first second at a b next)) next) bs m text answers) [] 9
@@ -64,6 +64,7 @@ module _ (f : Setup) (room : ℕ) (fits : Fits f room) (at : ℕ) (bs : List ℕ
       (Here (cond (turned differ (nat_eq x y)) (at + pieces_size (equality_code differ first second at a b next)) next) bs m text answers) [] 9
   by_equality differ lies reach = moves_looser f _ _ _ [] 8 9 (omega arith) (λ w h. h) (tests_equality f room fits at bs m text answers small a b x y ga gb ha hb differ first second next lies reach)
 
+  -- what the code of each test does
   pub tests : (rel : Rel) → Tests rel
   tests rel.Eq lies reach = by_equality false lies reach
   tests rel.Ne lies reach = by_equality true lies reach
@@ -76,6 +77,7 @@ not_not : (t : Bool) → t ≡ not (not t)
 not_not true = refl
 not_not false = refl
 
+-- the denied relation holds exactly if the relation does not
 pub denies : (rel : Rel) (x y : ℕ) → holds (denied rel) x y ≡ not (holds rel x y)
 denies rel.Eq x y = refl
 denies rel.Ne x y = not_not (nat_eq x y)
@@ -90,7 +92,7 @@ module _ (code : SlotCode) (n : ℕ) (rel : Rel) (a : Tested) (b : Operand) (to 
   abbrev after : Slots
   after = tested s r a b
 
-  -- out of the line by the test, to the line, or fault 1
+  -- the step: out of the line by the test, to the line, or fault 1
   abbrev pub gone_by : (held found : Bool) → Step SlotState
   gone_by false found = Goes (record { state = record s { place = next_after (numbers code) n }; rest = Whole; slots = after }) []
   gone_by true true = Goes (record { state = record s { place = control.At to }; rest = Whole; slots = after }) []
@@ -109,6 +111,7 @@ module _ (code : SlotCode) (n : ℕ) (rel : Rel) (a : Tested) (b : Operand) (to 
       ∙ ap (λ t. settled n is after (leaving (if t then Goes (record s { place = control.At to }) [] else fault 1 n))) e
       ∙ jumps_by found
 
+  -- what a test that goes straight to a line does
   pub go_goes : (held found : Bool) → holds rel (tested_word s r a) (fetched s r 0 b) ≡ held → has_line (numbers code) to ≡ found
       → steps code (expand (TestGo rel a b to)) (line code n (spread_test rel a b (JumpTo to ∷ is)) s r) ≡ gone_by held found
   go_goes held found e q =
@@ -125,7 +128,7 @@ module _ (around : Surroundings) (fits : Fits around.f 16) (code : SlotCode) (sa
   abbrev own : List ℕ
   own = lo ∷ hi ∷ []
 
-  -- the two words, and where they stand
+  -- the two words, and their sources
   abbrev x : ℕ
   x = tested_word s r a
 
@@ -190,6 +193,7 @@ module _ (around : Surroundings) (fits : Fits around.f 16) (code : SlotCode) (sa
             h.state (tested_read rel a b is s r w.mem h.free h.read) h.homed h.text h.answers h.short) c
         by false c = looser f w _ _ [] 9 9 (omega arith) (leaves h.state h.read.all_words h.homed h.text h.answers h.short) c
 
+    -- the law of a test that stays in the line
     pub test_law : Led (steps code (expand (Test rel a b)) (line code n (spread_test rel a b is) s r))
     test_law = subst Led (sym (test_goes code n rel a b is s r h.read.all_words h.free (holds rel x y) refl)) (by_test (holds rel x y) refl)
 
@@ -210,7 +214,7 @@ module _ (around : Surroundings) (fits : Fits around.f 16) (code : SlotCode) (sa
     out : (found : Bool) (u : View) → At next_line u → Target around (outcome false found) u
     out found = leaves h.state h.read.all_words h.homed h.text h.answers h.short
 
-    -- it is the line's last group, and so the next line is behind it
+    -- it is the line's last group, and so the next line follows it
     is_last : w.regs.pc + pieces_size (group_code ly n w.regs.pc h.first h.second (TestGo rel a b to)) ≡ next_line
     is_last = subst (GroupsLie ly f.code n (w.regs.pc + pieces_size (group_code ly n w.regs.pc h.first h.second (TestGo rel a b to)))) (nil_from_length (select is) (eqb-true _ _ h.stands)) h.rest
 
@@ -263,6 +267,7 @@ module _ (around : Surroundings) (fits : Fits around.f 16) (code : SlotCode) (sa
     by_line true e = by_found e (holds rel x y) refl
     by_line false e = by_lost e (holds rel x y) refl
 
+    -- the law of a test that goes straight to a line
     pub go_law : Gone (steps code (expand (TestGo rel a b to)) (line code n (spread_test rel a b (JumpTo to ∷ is)) s r))
     go_law = subst Gone (sym (go_goes code n rel a b to is s r h.read.all_words h.free (holds rel x y) (has_line ly.numbers to) refl
         (ap (λ ns. has_line ns to) same_numbers))) (by_line (has_line ly.numbers to) refl)

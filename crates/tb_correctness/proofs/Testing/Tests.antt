@@ -18,7 +18,7 @@ use Rattle.tb_correctness.proofs.Relation.Operands.{SourceHolds}
 use Rattle.tb_correctness.proofs.Testing.SignedOrder.{turned}
 use Rattle.tb_correctness.proofs.Pieces.Sums.{Grounded, low_read, high_read}
 
--- the difference of two bytes is 0 where they are equal
+-- the difference of two bytes is 0 if they are equal
 pub same_byte : (l r : ℕ) → l < 256 → r < 256 → eqb ((l + 256 - r) % 256) 0 ≡ eqb l r
 same_byte l r ls rs = ⊎_elim (λ e. eq-eqb _ _ (omega (arith, e)) ∙ sym (eq-eqb l r e)) (λ n. ne_eqb _ _ (λ z. n (omega (arith, z, ls, rs))) ∙ sym (ne_eqb l r n)) (cases_eq l r)
 
@@ -46,7 +46,7 @@ module _ (f : Setup) (room : ℕ) (fits : Fits f room) (at : ℕ) (bs : List ℕ
       })
       (compares_byte f room fits p1 bs m text answers small b (value m a) db (omega (arith, r)) s1.0))
 
-  -- whether they are equal is in Z
+  -- Z tells whether they are equal
   tells : (a b : Byte) → at + size (weighed a b) ≤ highest_code → IsRead a → IsRead b → value m a < 256 → value m b < 256
       → Stands f.code at (weighed a b) → Moves f (Here at bs m text answers) (Flagged (at + size (weighed a b)) bs m text answers (eqb (value m a) (value m b))) [] 2
   tells a b r da db sa sb st = moves_looser f _ _ _ [] 2 2 (omega arith) (λ w h. record { here = h.here; zero = h.zero ∙ same_byte _ _ sa sb }) (weighs a b r da db st)
@@ -60,7 +60,7 @@ module _ (f : Setup) (room : ℕ) (fits : Fits f room) (at : ℕ) (bs : List ℕ
   abbrev high_same : Bool
   high_same = eqb (value m (high a)) (value m (high b))
 
-  -- the places of the branches, and the one behind them
+  -- the addresses of the branches, and the one after them
   abbrev p1 : ℕ
   p1 = at + size (weighed (low a) (low b))
 
@@ -108,7 +108,7 @@ module _ (f : Setup) (room : ℕ) (fits : Fits f room) (at : ℕ) (bs : List ℕ
       looser f w _ _ [] 2 2 (omega arith) (λ u g. subst (λ p. Here p bs m text answers u) (last_leads differ high_same next end) g.here)
       (branches f room fits bs m text answers small p2 second Zero differ high_same next lies_end reach.1 lies_second.1.2.1 w h.here h.zero)
 
-  -- the words are equal where both bytes are
+  -- the words are equal if both bytes are
   are_same : (l h : Bool) → low_same ≡ l → high_same ≡ h → nat_eq x y ≡ cond l h false
   are_same true true e e' = eq-eqb x y (omega (arith, ha.low_byte, ha.high_byte, hb.low_byte, hb.high_byte, eqb-true _ _ e, eqb-true _ _ e'))
   are_same true false e e' = ne_eqb x y (λ q. (let no : true ≡ false = sym (eq-eqb _ _ (ha.high_byte ∙ ap (λ z. z / 256) q ∙ sym hb.high_byte)) ∙ e' in cc))
@@ -127,6 +127,6 @@ module _ (f : Setup) (room : ℕ) (fits : Fits f room) (at : ℕ) (bs : List ℕ
   end_is : end ≡ at + pieces_size (equality_code differ first second at a b next)
   end_is = omega (arith, branch_size first Zero false p1 (first_to differ first second at a b next), branch_size second Zero differ p2 next)
 
-  -- where the test leads: behind it where the words are equal, or, where that is wanted, where they differ
+  -- where the test leads: on after it if the words are equal, or, if that is wanted, if they differ
   pub tests_equality : Moves f (Here at bs m text answers) (Here (cond (turned differ (nat_eq x y)) (at + pieces_size (equality_code differ first second at a b next)) next) bs m text answers) [] 8
   tests_equality = moves_looser f _ _ _ [] 8 8 (omega arith) (λ w h. subst (λ e. Here (cond (turned differ (nat_eq x y)) e next) bs m text answers w) end_is h) (leads low_same refl)

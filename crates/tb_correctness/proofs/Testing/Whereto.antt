@@ -24,6 +24,7 @@ tested_apart (HeldNow a) fit = operand_apart 0 a 0 (omega arith) (omega arith) f
 module _ (around : Surroundings) (code : SlotCode) (same_numbers : numbers code ≡ around.ly.numbers) (n : ℕ) (s : State) (r : Slots) where
   open around use {ly, f, lo, hi, keys}
 
+  -- at the next line's address, with the state unchanged, the relation holds for the next line
   pub left_at : (m : ℕ → ℕ) (t answers : List ℕ) → HoldsState ly s m → HoldsLive nothing_live r m → Entered f lo hi m → t ≡ s.text
       → answers ≡ s.answers → Typable keys s.text s.answers → (w : View) → Here (next_at ly n) (lo ∷ hi ∷ []) m t answers w
       → Matches around (record { state = record s { place = next_after (numbers code) n }; rest = Whole; slots = r }) w

@@ -1,4 +1,4 @@
--- A program's settled code behind a line of BASIC keeps the program, and marks its lines.
+-- A program's settled code after a line of BASIC keeps the program, and marks its lines.
 use Rattle.std.proofs.Common.{◌≡◌, ℕ, ◌+◌, ◌*◌, ◌≤◌, ◌<◌, List, ◌++◌, length, subst, arith, length-append}
 use Rattle.tb_memmap.specs.Regions.{BASIC_START}
 use Rattle.tb_asm.specs.declared.names.Name.{Name}
@@ -67,6 +67,7 @@ module _ (seed : ℕ) (program : Program) (code : SlotCode) (seed_small : seed <
       (groups_laid labels seed part code l polled) limit_by (λ k. omega arith) 192 (routines BASIC_START bytes from to labels seed code l)
       (prologue BASIC_START bytes from to labels seed code l)
 
+  -- the image keeps the program
   pub image_keeps : Keeps BASIC_START bytes program seed
   image_keeps = record {
     sound = λ s h. (kept s h).sound s h;
@@ -81,6 +82,7 @@ module _ (seed : ℕ) (program : Program) (code : SlotCode) (seed_small : seed <
       (groups_laid labels seed part code l polled) limit_by (λ k. omega arith) 192 (routines BASIC_START bytes from to labels seed code l)
       (prologue BASIC_START bytes from to labels seed code l)
 
+  -- the image marks the program's lines, at the starts of each function that agrees with the layout's
   pub image_marks : (start : ℕ → ℕ) → Agree (layout_of labels (numbers code) seed).start start (numbers program) → MarksLines BASIC_START bytes program seed start
   image_marks start agree = told_so (layout_of labels (numbers code) seed).start start BASIC_START bytes program seed agree
       (record {

@@ -90,7 +90,7 @@ module _ (around : Surroundings) (fits : Fits around.f 16) (limit : ℕ) (code :
       → ((is : List Instr) → StepsLaw (Calculate op a b d) (spread op a b d is) is k) → (is : List Instr) → StepsLaw (Calculate op a b d) (expand (Calculate op a b d) ++ is) is k
   calculate_steps op a b d k = bracketed (Calculate op a b d) k (spread op a b d) (spread_is op a b d)
 
-  -- a calculation: where it is a change in place that, and else as its operator does it
+  -- a calculation: as a change in place if it is one, and else as its operator does it
   computes : (op : Operator) (a b : Operand) (d : Destination) (k : ℕ) → 16 ≤ k
       → ((is : List Instr) (n : ℕ) (s : State) (r : Slots) (w : View) (h : Ready around n (Calculate op a b d) (spread op a b d is) is s r w)
       → Lies f.code w.regs.pc (calc_code n op (source_of (slot_of d) a) (source_of (slot_of d + 1) b) (destination_at d))
@@ -108,10 +108,12 @@ module _ (around : Surroundings) (fits : Fits around.f 16) (limit : ℕ) (code :
   pub negates : (a : Operand) (d : Destination) → GroupLaw (Convert Negated a d)
   negates a d = by_steps (Convert Negated a d) 7 (omega arith) (convert_steps Negated a d 7 (λ is n s r w h. negate_law around fits code n a d is s r w h))
 
+  -- the law of a test
   pub tests : (rel : Rel) (a : Tested) (b : Operand) → GroupLaw (Test rel a b)
   tests rel a b = by_steps (Test rel a b) 9 (omega arith) (bracketed (Test rel a b) 9 (spread_test rel a b) (spread_test_is rel a b [])
       (λ is n s r w h. test_law around fits code same_numbers n a b s r w rel is h))
 
+  -- the law of a move
   pub moves : (a : Operand) (home : Home) → GroupLaw (Move a home)
   moves a home = by_steps (Move a home) 4 (omega arith) (bracketed (Move a home) 4 (spread_move a home) (spread_move_is a home) (λ is n s r w h. move_law around fits code n a home is s r w h))
 
@@ -127,6 +129,7 @@ module _ (around : Surroundings) (fits : Fits around.f 16) (limit : ℕ) (code :
     calculates op.Divide a b d = computes op.Divide a b d (17 + limit) (omega arith) (λ is n s r w h.
         quotient_law fits limit rs wide code h (shifts (source_of (slot_of d + 1) b)) (shifting_is (source_of (slot_of d + 1) b)))
 
+    -- the law of a calculation
     pub calculating : (o : Operator) (a b : Operand) (d : Destination) → GroupLaw (Calculate o a b d)
     calculating o a b d = by_steps (Calculate o a b d) (17 + limit) (omega arith) (calculates o a b d)
 
@@ -164,7 +167,7 @@ module _ (around : Surroundings) (fits : Fits around.f 16) (limit : ℕ) (code :
         abbrev slots : Slots
         slots = calculated s r a b (home x) p
 
-        -- behind the first one
+        -- after the first one
         stands : Comes f w (Matches around (line code n (behind_first by v x is) stored slots)) [] (17 + limit)
         stands = first_leads (Goes (line code n (behind_first by v x is) stored slots) []) (calculate_goes code n o a b (home x) (behind_first by v x is) s r h.read.all_words (omega arith) p e)
 
@@ -208,25 +211,30 @@ module _ (around : Surroundings) (fits : Fits around.f 16) (limit : ℕ) (code :
           by_first None e = by_none e
           by_first (Some p) e = by_second p e (apply by p (word v)) refl
 
+    -- the law of a calculation that goes on by a constant
     pub goes_further : (o : Operator) (a b : Operand) (by : Operator) (v x : ℕ) → GroupLaw (Stepped o a b by v x)
     goes_further o a b by v x = by_steps (Stepped o a b by v x) (34 + (limit + limit)) (omega arith)
         (bracketed (Stepped o a b by v x) (34 + (limit + limit)) (spread_stepped o a b by v x) (spread_stepped_is o a b by v x) (stepped_law o a b by v x))
 
+    -- the law of a test that goes straight to a line
     pub tests_going : (rel : Rel) (a : Tested) (b : Operand) (to : ℕ) → GroupLaw (TestGo rel a b to)
     tests_going rel a b to = by_steps (TestGo rel a b to) (15 + limit) (omega arith) (bracketed (TestGo rel a b to) (15 + limit)
         (λ is. spread_test rel a b (JumpTo to ∷ is)) (spread_test_is rel a b (JumpTo to ∷ []))
         (λ is n s r w h. go_law around fits code same_numbers n a b s r w limit rs rel to is h))
 
+    -- the law of a test by a divisor
     pub asks_divisor : (how : Divisibility) (x : ℕ) (d : Operand) (side : Side) (to : Option ℕ) → GroupLaw (Divides how x d side to)
     asks_divisor how x d side to = by_steps (Divides how x d side to) (34 + (limit + limit)) (omega arith) (bracketed (Divides how x d side to)
         (34 + (limit + limit)) (spread_divides how x d side to) (spread_divides_is how x d side to)
         (λ is n s r w h. divides_law around fits code same_numbers limit rs n how x d side to is s r w h))
 
+    -- the law of a remainder
     pub leaves_over : (x : ℕ) (d : Operand) (to : Destination) → GroupLaw (Remains x d to)
     leaves_over x d to = by_steps (Remains x d to) (34 + (limit + limit)) (omega arith) (bracketed (Remains x d to) (34 + (limit + limit))
         (spread_remains x d to) (spread_remains_is x d to) (λ is n s r w h. remains_law around fits code limit rs n x d to is s r w h))
 
     module _ (closed : AreClosed code) (laid : GroupsLaid ly f.code f.whole code) where
+      -- the law of RND
       pub draws : (a : Operand) (d : Destination) → GroupLaw (Convert Drawn a d)
       draws a d = by_steps (Convert Drawn a d) (17 + limit) (omega arith) (convert_steps Drawn a d (17 + limit)
           (λ is n s r w h. by is n s r w h (nat_eq (fetched s r (slot_of d) a) 0 || nat_le 32768 (fetched s r (slot_of d) a)) refl))
@@ -237,6 +245,7 @@ module _ (around : Surroundings) (fits : Fits around.f 16) (limit : ℕ) (code :
           by is n s r w h true e = draw_fails_law around fits code n a d is s r w limit rs laid.seed_small h e
           by is n s r w h false e = draw_law around fits code n a d is s r w limit rs laid.seed_small h e
 
+      -- the law of a use
       pub uses : (how : Usage) (a : Operand) → GroupLaw (Use how a)
       uses how a = by_steps (Use how a) (34 + (limit + limit)) (omega arith) (bracketed (Use how a) (34 + (limit + limit)) (spread_use how a)
           (spread_use_is how a) (λ is n s r w h. use_law around fits limit rs code laid n a is s r w how h))

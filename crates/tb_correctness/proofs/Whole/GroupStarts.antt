@@ -11,7 +11,7 @@ use Rattle.tb_simulation.proofs.Resolved.{Lies, highest_code}
 use Rattle.tb_correctness.proofs.Pieces.Branches.{added, branch_size, gets_there}
 use Rattle.tb_correctness.proofs.Code.GroupCode.{GroupsLaid, LineStands, Way, Short, Long, Zero, BranchReaches, branch_code, branch_on, broken_code, way_size}
 
--- a line's number is read where its poll goes for the STOP key
+-- a line's number is read where its poll leads for the STOP key
 module _ (code : Part) where
   same_byte : (p a b : ℕ) → code p ≡ Some a → code p ≡ Some b → a ≡ b
   same_byte p a b h k = let e : Some a ≡ Some b = sym h ∙ k in cc
@@ -22,7 +22,7 @@ module _ (code : Part) where
       let high = same_byte _ (n / 256) (m / 256) h.1.1.0.1.0 k.1.1.0.1.0 in
       omega (arith, low, high, small, small')
 
-  -- a short branch leads where its distance does, and a long one where its jump does
+  -- a short branch leads where its distance says, and a long one where its jump says
   same_stop : (at a b : ℕ) (way other : Way) → at + 2 ≤ highest_code → Stands code at (branch_code way (branch_on Zero true) at a)
       → Stands code at (branch_code other (branch_on Zero true) at b) → BranchReaches way at a → BranchReaches other at b → a ≡ b
   same_stop at a b Short Short below h k r q =
@@ -71,5 +71,6 @@ module _ (ly : Layout) (whole : Part) (sc : SlotCode) (laid : GroupsLaid ly (inn
       let z = branch_size there.0 Zero true (ly.start m + 3 + 2) there.1 in let w = some_bytes there.0 in omega (arith, b, z, w)) mine other there.5 k.stands.5 in
       same_number within k.stands.1 n m l.small k.small (subst (λ p. Lies within p (broken_code n)) stop there.6) k.stands.6
 
+  -- the lines of a program are apart
   pub lines_apart : AreApart ly sc
   lines_apart = record { numbered = laid.numbered; absent = laid.absent; below = below; past = past; distinct = distinct }

@@ -1,4 +1,4 @@
--- Groups are steps of slot instructions: each run by groups is one by instructions, and comes wherever that one is
+-- Groups are steps of slot instructions: each run by groups is one by instructions, and comes wherever that run is
 -- outside a list.
 use Rattle.std.proofs.Common.{◌≡◌, ℕ, zero, suc, ◌+◌, List, Option, Some, None, refl, sym, ap, ◌∙◌, subst}
 use Rattle.tb_syntax.specs.Source.{numbers}
@@ -11,7 +11,7 @@ use Rattle.tb_selection.specs.Select.{select}
 use Rattle.tb_selection.proofs.GroupRuns.{reached, found}
 
 module _ (code : SlotCode) where
-  -- where no line is, no group goes on
+  -- if there is no line, no group goes on
   module _ (s : State) (r : Slots) (d : SlotState) (t : List ℕ) (e : group_step code (record { state = s; rest = Whole; slots = r }) ≡ Goes d t) where
     abbrev whole : SlotState
     whole = record { state = s; rest = Whole; slots = r }
@@ -45,6 +45,7 @@ module _ (code : SlotCode) where
   not_inside (GoesOn c out) e i = subst InsideRest e i
   not_inside (Over why out) e i = i
 
+  -- a group is such a step
   pub group_stride : IsStride code (group_step code)
   group_stride = record {
     begins_line = λ c d t e. goes_begins c.rest c.state c.slots d t e;

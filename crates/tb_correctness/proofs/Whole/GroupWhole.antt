@@ -32,7 +32,7 @@ use Rattle.tb_correctness.proofs.Relation.Surroundings.{Serves, Surroundings}
 module _ (place : ℕ) (bytes : List ℕ) (from : 0x0800 ≤ place) (to : place + length bytes ≤ 0xa000) (ly : Layout) (program : Program) (sc : SlotCode)
     (follows : Follows program sc) (closed : AreClosed sc) (first_at : place_address ly (first_place (numbers sc)) ≡ LINES_AT)
     (laid : GroupsLaid ly (inner ly (part_at place bytes)) (part_at place bytes) sc) where
-  -- what stands round the code, at each start
+  -- what surrounds the code, at each start
   abbrev pub around : machine.State → Surroundings
   around s = record { ly = ly; f = setup place bytes from to ly s; lo = home_low s; hi = home_high s; keys = length s.text }
 
@@ -47,6 +47,7 @@ module _ (place : ℕ) (bytes : List ℕ) (from : 0x0800 ≤ place) (to : place 
   abbrev pub Related : machine.State → SlotState → View → Type 0
   Related s = Between (around s)
 
+  -- between lines the relation gives what is known of a view
   pub known : (s : machine.State) (c : SlotState) (w : View) → Related s c w → c.rest ≡ Whole → Known ly c.state w
   known s c w m e = record {
     pc = subst (λ q. StandsAt ly (setup place bytes from to ly s).code w.regs.pc q c.state.place) e m.0.pc;
@@ -57,6 +58,7 @@ module _ (place : ℕ) (bytes : List ℕ) (from : 0x0800 ≤ place) (to : place 
   }
 
   module _ (limit : ℕ → ℕ) (wide : (k : ℕ) → 200 ≤ limit k) (n : ℕ) (routines : RoutineLaws limit) (prologue : PrologueLaw n) where
+    -- the prologue leads to the relation at the first line
     pub opening : OpeningLaw place bytes from to ly Related sc n
     opening s h =
         let f = setup place bytes from to ly s in
@@ -68,9 +70,11 @@ module _ (place : ℕ) (bytes : List ℕ) (from : 0x0800 ≤ place) (to : place 
         ))
         (prologue s h)
 
+    -- each step by groups has its law
     pub laws : StepLaws place bytes from to ly Related (group_step sc) (λ k. 34 + (limit k + limit k))
     laws s h c w m = step_law (around s) (room_so place bytes from to ly s h) (limit (length s.text)) sc laid.numbered (routines s h) (wide (length s.text)) closed laid c w m
 
+    -- the bound is at least 1
     pub positive : (k : ℕ) → 1 ≤ 34 + (limit k + limit k)
     positive k = omega arith
 
