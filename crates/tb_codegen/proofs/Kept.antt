@@ -25,6 +25,7 @@ pub all_polled : (p : Program) → ArePolled (lowered.program_code p)
 all_polled [] = tt
 all_polled (line ∷ lines) = ((lowered.statement_code line.content, refl), all_polled lines)
 
+-- the bytes that a compiled file loads keep the program
 pub file_keeps : {seed : ℕ} {p : Program} {code : SlotCode} {file image : List ℕ} {from : ℕ} {labels : List (Name × ℕ)} → seed < 65536 → 1 ≤ length p
     → code ≡ lowered.program_code p → Follows p code → (s : IsListed code) (l : IsLaid PROLOGUE_AT (program_code seed code) from image labels)
     → PROLOGUE_AT + size l.items ≤ 0xA000 → file ≡ header ++ image → Keeps BASIC_START (drop 2 file) p seed
@@ -38,7 +39,7 @@ file_keeps {seed} {p} {code} small some same follows s l ends is =
 same_made : (a b : Program) → ◌≡◌ {A = Outcome} (Ok a) (Ok b) → a ≡ b
 same_made a b e = cc
 
--- a file that makes a program has lines
+-- a file that makes a program has at least one line
 pub made_some : (n : ℕ) (p : Program) (ls : List (List ℕ)) (o : Outcome) → LinesAre n p ls o → (q : Program) → o ≡ Ok q → 1 ≤ length q
 made_some _ _ _ _ (end n []) q e = cc
 made_some _ _ _ _ (end n (l ∷ k)) q e = subst (λ x. 1 ≤ length x) (same_made (l ∷ k) q e) (omega arith)

@@ -37,6 +37,7 @@ start_labelled labels (m ∷ ns) n e = go (nat_eq m n) refl (start_labelled labe
     go true q later e = ap (λ k. label_address labels (Line k)) (sym (eqb-true m n q))
     go false q later e = later e
 
+-- the bytes that a compiled file loads mark the program's lines
 pub file_marks : {seed : ℕ} {p : Program} {code : SlotCode} {file image : List ℕ} {from : ℕ} {labels : List (Name × ℕ)} {starts : List (ℕ × ℕ)}
     → seed < 65536 → 1 ≤ length p → code ≡ lowered.program_code p → Follows p code
     → (s : IsListed code) (l : IsLaid PROLOGUE_AT (program_code seed code) from image labels) → PROLOGUE_AT + size l.items ≤ 0xA000 → file ≡ header ++ image

@@ -16,6 +16,7 @@ use Rattle.tb_templates.proofs.Settled.{labels_behind}
 use Rattle.tb_codegen.proofs.Stretches.{asking_on, stretch, stretch_at, stretch_some, stretched}
 use Rattle.tb_codegen.specs.Compiled.{starts_in, stands_at, AreKnown, AddressesRise}
 
+-- each line has a label in the settled code of the lines
 pub lines_known : (labels : List (Name × ℕ)) (ns : List ℕ) (seed a : ℕ) (asking : List ℕ) (lines : SlotCode) (fs : List Form)
     → AreFormsOf (lines_code ns seed asking lines) fs → LabelsAt labels a (items_from a fs) → AreKnown labels (numbers lines)
 lines_known labels ns seed a asking [] fs h l = tt
@@ -25,10 +26,12 @@ lines_known labels ns seed a asking (line ∷ lines) fs h l =
     let ls = labels_behind labels a fs s.front s.back s.are l in
     (ap is_some (stretch_at labels ns seed a asking line s.front s.of_front ls.0), lines_known labels ns seed (a + forms_size s.front) on lines s.back s.of_back ls.1)
 
+-- addresses that rise from one number rise from any lower one
 pub starts_low : (low low' : ℕ) (starts : List (ℕ × ℕ)) → low ≤ low' → AddressesRise low' starts → AddressesRise low starts
 starts_low low low' [] l h = tt
 starts_low low low' (s ∷ starts) l h = (omega (arith, l, h.0), h.1)
 
+-- the lines begin in rising order
 pub lines_begin_in_order : (labels : List (Name × ℕ)) (ns : List ℕ) (seed a : ℕ) (asking : List ℕ) (p : Program) (fs : List Form)
     → AreFormsOf (lines_code ns seed asking (lowered.program_code p)) fs → LabelsAt labels a (items_from a fs) → AddressesRise a (starts_in labels (numbers p))
 lines_begin_in_order labels ns seed a asking [] fs h l = tt
@@ -45,6 +48,7 @@ lines_begin_in_order labels ns seed a asking (line ∷ lines) fs h l =
           (omega (arith, there, long)) (lines_begin_in_order labels ns seed b on lines s.back s.of_back ls.1),
     )
 
+-- the starts have the numbers of the lines
 pub start_numbers : (labels : List (Name × ℕ)) (ns : List ℕ) → map (λ s. s.0) (starts_in labels ns) ≡ ns
 start_numbers labels [] = refl
 start_numbers labels (n ∷ ns) = ap (λ ms. n ∷ ms) (start_numbers labels ns)

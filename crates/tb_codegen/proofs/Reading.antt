@@ -1,4 +1,4 @@
--- What a text is no longer than: the cost of what it reads as.
+-- Bounds of a text: what it reads as costs no more than its length allows.
 use Rattle.std.proofs.Common.{◌≡◌, ℕ, ◌+◌, ◌*◌, ◌<◌, ◌≤◌, Bool, true, false, List, [], ◌∷◌, ◌++◌, length, ap, arith, length-append, Option}
 use Rattle.tb_syntax.specs.Source.{Expression, Item, Zone, Statement}
 use Rattle.tb_meaning.specs.Cost.{nodes, item_cost, statement_cost}
@@ -13,7 +13,7 @@ use Rattle.tb_templates.specs.Sizes.{items_cost, AreApart, IsSpaced}
 use Rattle.tb_templates.proofs.Fitting.{one_node, items_pay}
 
 -- ── expressions ──
--- each node is a byte of the text, or more
+-- each node takes a byte of the text, or more
 nodes_read : (p : Part) (text : List ℕ) (e : Expression) (large : Option ℕ) (rest : List ℕ) → Reads p text e large rest → nodes e + length rest ≤ length text
 nodes_read _ text _ _ rest (number _ d digits _ is ds) =
     let a = length-append digits rest in let b : length text ≡ length (d ∷ digits ++ rest) = ap length is in omega (arith, a, b)
@@ -42,7 +42,7 @@ items_read _ _ _ _ _ (next ends text item la sign _ rest items ends_line lb r co
 items_read _ _ _ _ _ (next ends text item la sign _ rest items ends_line lb r semicolon p) =
     let a = item_read text item la (59 ∷ rest) r in let b = items_read false rest items ends_line lb p in omega (arith, a, b)
 
--- a zone stands behind an item
+-- a zone follows an item
 behind_item : (text : List ℕ) (item : Item) (large : Option ℕ) (rest : List ℕ) → ReadsItem text item large rest → (b : Bool) (items : List Item)
     → AreApart true items → AreApart b (item ∷ items)
 behind_item _ _ _ _ (value text e large rest r) true items h = h
@@ -58,7 +58,7 @@ items_apart _ _ _ _ _ (next ends text item la sign _ rest items ends_line lb r c
 items_apart _ _ _ _ _ (next ends text item la sign _ rest items ends_line lb r semicolon p) b =
     behind_item text item la (59 ∷ rest) r b items (items_apart false rest items ends_line lb p true)
 
--- a text is shorter than what it stands in
+-- a text is shorter than what it is in
 item_short : (text : List ℕ) (item : Item) (large : Option ℕ) (rest : List ℕ) → ReadsItem text item large rest → (limit : ℕ) (items : List Item)
     → length text < limit → AreShort limit (item_texts items) → (length rest ≤ length text) × AreShort limit (item_texts (item ∷ items))
 item_short _ _ _ _ (value text e large rest r) limit items l h = let a = nodes_read _ text e large rest r in (omega (arith, a), h)
@@ -102,6 +102,7 @@ pub record Told (limit : ℕ) (text : List ℕ) (c : Statement) : Type 0 where
   pub short : length text < limit → AreShort limit (statement_texts c)
   pub paid : statement_cost c ≤ 72 * length text
 
+-- what is read as a statement has these properties
 pub stated : (limit : ℕ) (text : List ℕ) (c : Statement) (large : Option ℕ) → States text c large → Told limit text c
 stated limit _ _ _ (let_assign v text e large l r) = record { spaced = tt; short = λ h. tt; paid = let a = nodes_read _ text e large [] r in omega (arith, a) }
 stated limit _ _ _ (assign v text e large l r) = record { spaced = tt; short = λ h. tt; paid = let a = nodes_read _ text e large [] r in omega (arith, a) }

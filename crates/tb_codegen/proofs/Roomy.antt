@@ -1,4 +1,4 @@
--- Items that settle: refused for want of memory alone, or for their length.
+-- Items that settle: refused only if memory runs out, or for their length.
 use Rattle.std.proofs.Common.{◌≡◌, ℕ, ◌+◌, ◌/◌, ◌%◌, ◌<◌, ◌≤◌, ◌⊎◌, inl, inr, zero, suc, length, replicate, Bool, true}
 use Rattle.std.proofs.Common.{false, not, ◌&&◌, ◌||◌, cond, List, [], ◌∷◌, ◌++◌, Option, Some, None, refl, sym, ap, ◌∙◌, subst, arith}
 use Rattle.std.proofs.Common.{true≢false, is_some, map, if◌then◌else◌}
@@ -67,7 +67,7 @@ items_modes a (e ∷ es) (f ∷ fs) h m =
     all_append (items_at a f) (items_from (a + form_size f) fs) (form_modes a e f h.0 t.0) (items_modes (a + form_size f) es fs h.1 t.1)
 
 -- ---- labels
--- whether a name has an address depends on the names alone
+-- whether a name has an address depends only on the names
 has_address : (a : ℕ) (es : List Entry) (n : Name) → is_some (address_in (labels_from a es) n) ≡ list_any (same_name n) (names_of es)
 has_address a [] n = refl
 has_address a (instr m d o ∷ es) n = has_address (a + length_of d) es n
@@ -108,7 +108,7 @@ known_first labels before [] h = refl
 known_first labels before (e ∷ es) h =
     first_none (λ front x. unknown_fault labels x) before es e h.0 ∙ known_first labels (before ++ e ∷ []) es h.1
 
--- ---- places
+-- ---- addresses
 form_below : (a : ℕ) (f : Form) → a + form_size f < 65536 → form_past a f ≡ false
 form_below a (kept e) h = ends_below a e h
 form_below a (long n l) h = grind (arith, nat_tests)
@@ -195,7 +195,7 @@ items_reach labels a (e ∷ es) (long n b ∷ fs) h k m l r =
     )
 
 -- ---- rounds
--- rounds end: each marks an item more
+-- rounds end: each marks one more item
 rounds_from : (at : ℕ) (es : List Entry) (n : ℕ) (bs : List Bool) → shorts bs ≤ n → (forms : List Form) × Settles at (forms_of es bs) forms
 rounds_from at es zero bs few = by (some_far at (forms_of es bs)) refl
   where
@@ -214,12 +214,13 @@ rounds_from at es (suc n) bs few = by (some_far at (forms_of es bs)) refl (λ l.
         let rest = later (omega (arith, a, few)) in
         (rest.0, more (forms_of es bs) rest.0 far (subst (λ fs. Settles at fs rest.0) (sym (forms_widen labels at es bs)) rest.1))
 
+-- settling ends with some forms
 pub rounds_end : (at : ℕ) (es : List Entry) → (forms : List Form) × Settles at (map kept es) forms
 rounds_end at es =
     let none = replicate (length es) false in
     subst (λ fs. (forms : List Form) × Settles at fs forms) (no_marks es) (rounds_from at es (shorts none) none (omega arith))
 
--- and they end in one way
+-- and it ends in one way
 pub one_way : (at : ℕ) (fs gs hs : List Form) → Settles at fs gs → Settles at fs hs → gs ≡ hs
 one_way at fs gs hs (done _ near) (done _ near') = refl
 one_way at fs gs hs (done _ near) (more _ _ far rest) = absurd (true≢false (sym far ∙ near))
@@ -291,7 +292,7 @@ module _ (at : ℕ) (es : List Entry) (s : SuitsAnywhere at es) (forms : List Fo
   memory_short _ _ (unsettled k i h) = settling_takes k i h
   memory_short _ _ (settled items k i to h) = none_but_memory k i (subst (λ r. RefusesAt r k i) (passes_take items to) h)
 
--- items that suit are refused for want of memory, or since they end past 65,535 once they are settled
+-- items that suit are refused if memory runs out, or since they end past 65,535 once they are settled
 pub refused_so : (at : ℕ) (es : List Entry) → SuitsAnywhere at es → (k : AsmErrorKind) (i : ℕ) → MayRefuse at es k i → (k ≡ NoMemory) ⊎ EndsFrom 65536 at es
 refused_so at es s k i h = let r = rounds_end at es in by r.0 r.1 (ltb (at + forms_size r.0) 65536) refl
   where
@@ -307,13 +308,13 @@ refused_long at es s k i h other = by (refused_so at es s k i h)
     by (inl e) = absurd (other e)
     by (inr r) = record { forms = r.forms; rounds = r.rounds; beyond = let a = r.beyond in omega (arith, a) }
 
--- and so is what is laid by more bytes than there is room for
+-- and so is an image with more bytes than there is room for
 pub laid_long : {at : ℕ} {es : List Entry} {from : ℕ} {image : List ℕ} {labels : List (Name × ℕ)} → IsLaid at es from image labels → 0xA000 < at + length image → EndsFrom 0xA001 at es
 laid_long {at} l many =
     let a = ap length l.bytes_are in let b = all_size (labels_from at l.items) at l.items in let c = ap size l.rounds.are in
     record { forms = l.rounds.forms; rounds = l.rounds.settled; beyond = omega (arith, a, b, c, many) }
 
--- items that are too long as they stand are so once they are settled
+-- items that are too long as they are, are so once they are settled
 pub unsettled_long : (at : ℕ) (es : List Entry) → 0xA000 < at + size es → EndsFrom 0xA001 at es
 unsettled_long at es many =
     let r = rounds_end at es in

@@ -46,6 +46,7 @@ program_same seed p c (Err (TooLarge n)) a h =
     absurd (omega (arith, e, b, f))
 program_same seed p c (Err NoMemory) a h = tt
 
+-- if one answer is a compiled program, the other shows the same program or memory ran out
 pub gives_same : (seed : ℕ) (source : List ℕ) (r : Result Compiled CompileError) → ((outcome : Outcome) → LinesMake source outcome → FitOutcome seed outcome r)
     → (c : Compiled) → HasOutcome seed source (Ok c) → GivesSame c r
 gives_same seed source r only c h = by h.outcome h.answer (only h.outcome h.made)
@@ -54,6 +55,7 @@ gives_same seed source r only c h = by h.outcome h.answer (only h.outcome h.made
     by (Ok p) a b = program_same seed p c r a.1 b
     by (Err e) a b = absurd a
 
+-- the same for a program that the lines make
 pub gives_same_of : (seed : ℕ) (source : List ℕ) (r : Result Compiled CompileError) (p : Program) → ((outcome : Outcome) → LinesMake source outcome
     → ◌≡◌ {A = Outcome} (Ok p) outcome) → FitAnswer seed p r
     → (c : Compiled) → HasOutcome seed source (Ok c) → GivesSame c r

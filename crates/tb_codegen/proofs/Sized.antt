@@ -1,4 +1,4 @@
--- Small programs have code that settles and that the assembler takes, and where their lines lie.
+-- Small programs have code that settles and that the assembler takes, and the addresses of their lines.
 use Rattle.std.proofs.Common.{◌≡◌, ℕ, ◌+◌, ◌*◌, ◌<◌, ◌≤◌, List, [], ◌∷◌, ◌++◌, length, map, ap, sym, subst, ◌∙◌}
 use Rattle.std.proofs.Common.{arith, refl, true, None, Some, is_some, append_assoc, length-append}
 use Rattle.tb_asm.specs.declared.names.Name.{Name}
@@ -81,6 +81,7 @@ rising_zero : (ns : List ℕ) → RisingFrom 1 ns → RisingFrom 0 ns
 rising_zero [] h = tt
 rising_zero (n ∷ ns) h = (omega arith, h.1, h.2)
 
+-- slot code has rising line numbers if its program has
 pub code_rises : (p : Program) → RisesFrom 0 (numbers p) → RisingFrom 0 (numbers (lowered.program_code p))
 code_rises p h = subst (RisingFrom 0) (sym (same_numbers p)) (rising_zero (numbers p) (rising_words 0 (numbers p) h))
 
@@ -108,13 +109,14 @@ listed_code p small rises ranges =
       rising = code_rises p rises;
     }
 
+-- the slot code of a file's program is listed
 pub listed : (p : Program) {code : SlotCode} → code ≡ lowered.program_code p → AreStated p → RisesFrom 0 (numbers p)
     → ((limit : ℕ) → HasShortTexts limit p → IsCodeInRange limit code) → IsListed code
 listed p same stated rises ranges =
     let small = are_small p stated in
     subst IsListed (sym same) (listed_code p small rises (subst (IsCodeInRange 256) same (ranges 256 (small_short p small))))
 
--- it settles, wherever it ends
+-- listed code settles, wherever it ends
 pub suits_anywhere : (seed : ℕ) {code : SlotCode} → IsListed code → SuitsAnywhere PROLOGUE_AT (program_code seed code)
 suits_anywhere seed {code} s =
     let es = program_code seed code in
@@ -142,6 +144,7 @@ rows_within seed code =
     let g = rows_size ns in
     omega (arith, b, c, d, e, f, g)
 
+-- a line table that is too long for the room makes the code end past $9FFF
 pub many_lines : (seed : ℕ) (code : SlotCode) → 38899 < 4 * length code → EndsFrom 0xA001 PROLOGUE_AT (program_code seed code)
 many_lines seed code many = unsettled_long PROLOGUE_AT (program_code seed code) (let a = rows_within seed code in let b = count_numbers code in omega (arith, a, b, many))
 
@@ -164,6 +167,7 @@ settling_code seed p small rises ranges cheap =
       suits = program_suits seed code l.rising l.lists (omega (arith, a, c, cheap));
     }
 
+-- the code of a program whose cost is small enough settles
 pub settling : (seed : ℕ) (p : Program) {code : SlotCode} {n : ℕ} → code ≡ lowered.program_code p → AreStated p → RisesFrom 0 (numbers p)
     → ((limit : ℕ) → HasShortTexts limit p → IsCodeInRange limit code) → n ≤ most_cost → n ≡ cost p → IsSettling seed code
 settling seed p same stated rises ranges cheap costs =
@@ -178,16 +182,19 @@ module _ (seed : ℕ) {code : SlotCode} (s : IsListed code) {from : ℕ} {image 
   abbrev own : List (Name × ℕ)
   own = labels_from PROLOGUE_AT items
 
+  -- the sections of a program's settled code
   pub placed : Sections seed code items own
   placed = sections seed code s.lists s.rising items l.settled
 
+  -- each line has a label
   pub known : AreKnown labels (numbers code)
   known = subst (λ ls. AreKnown ls (numbers code)) (sym l.labels_are) (lines_known own (numbers code) seed LINES_AT [] code placed.lines placed.of_lines placed.line_labels)
 
+  -- the line table has a label
   pub has_table : is_some (address_in labels (label_of Table)) ≡ true
   has_table = ap (λ ls. is_some (address_in ls (label_of Table))) l.labels_are ∙ ap is_some placed.table
 
-  -- as long as its bytes
+  -- the items are as long as the image's bytes
   pub bytes_end : PROLOGUE_AT + length image ≤ 0xA000 → PROLOGUE_AT + size items ≤ 0xA000
   bytes_end h = let a = ap length l.bytes_are in let b = all_size own PROLOGUE_AT items in omega (arith, a, b, h)
 

@@ -1,4 +1,4 @@
--- What a file's program has: short texts, zones behind items, lines of a bounded cost.
+-- What a file's program has: short texts, zones after items, lines of a bounded cost.
 use Rattle.std.proofs.Common.{◌≡◌, ℕ, ◌+◌, ◌*◌, ◌<◌, ◌≤◌, List, [], ◌∷◌, length, arith, None, sum_by}
 use Rattle.std.proofs.lemmas.List.Sums.{sum_by-cons}
 use Rattle.std.proofs.lemmas.List.{length-map}
@@ -26,6 +26,7 @@ small_told text c l t = let p = t.paid in record { spaced = t.spaced; short = t.
 small_stated : (c : Statement) → IsStated c → IsSmall c
 small_stated c h = small_told h.text c h.short (stated 256 h.text c None h.states)
 
+-- a program that is read from a file is small
 pub are_small : (p : Program) → AreStated p → AreSmall p
 are_small [] h = tt
 are_small (line ∷ lines) h = (small_stated line.content h.0, are_small lines h.1)
@@ -35,6 +36,7 @@ pub small_spaced : (p : Program) → AreSmall p → AreSpaced p
 small_spaced [] h = tt
 small_spaced (line ∷ lines) h = (h.0.spaced, small_spaced lines h.1)
 
+-- the texts of a small program are shorter than 256 bytes
 pub small_short : (p : Program) → AreSmall p → HasShortTexts 256 p
 small_short [] h = tt
 small_short (line ∷ lines) h = (h.0.short, small_short lines h.1)
@@ -43,6 +45,7 @@ rising_length : (low : ℕ) (ns : List ℕ) → low ≤ 32767 → RisesFrom low 
 rising_length low [] l h = omega (arith, l)
 rising_length low (n ∷ ns) l h = let a = rising_length n ns h.1 h.2 in omega (arith, a, h.0)
 
+-- a program has as many numbers as lines
 pub count_numbers : {A : Type 0} (p : List (Numbered A)) → length (numbers p) ≡ length p
 count_numbers p = length-map p (λ line. line.number)
 

@@ -1,4 +1,4 @@
--- A line with what is done behind it for the STOP key, up to where the next line begins.
+-- A line with what is done after it for the STOP key, up to where the next line begins.
 use Rattle.std.proofs.Common.{◌≡◌, ℕ, ◌≤◌, List, [], ◌∷◌, ◌++◌, sym, subst, append_assoc, arith, Some}
 use Rattle.tb_asm.specs.declared.names.Name.{Name}
 use Rattle.tb_asm.specs.Layout.{Entry, address_in}
@@ -27,12 +27,14 @@ stretched ns seed asking line lines fs h =
     subst (λ es. AreFormsOf es fs) (sym (append_assoc (line_code ns seed line) (done_behind (ends_away line.content) (asking ++ line.number ∷ []))
     (lines_code ns seed (asking_on asking line) lines))) h
 
+-- a line's label gives the address of its stretch
 pub stretch_at : (labels : List (Name × ℕ)) (ns : List ℕ) (seed a : ℕ) (asking : List ℕ) (line : Numbered (List Instr)) (fs : List Form)
     → AreFormsOf (stretch ns seed asking line) fs → LabelsAt labels a (items_from a fs) → address_in labels (label_of (Line line.number)) ≡ Some a
 stretch_at labels ns seed a asking line fs h l =
     let s = split (line_code ns seed line) (done_behind (ends_away line.content) (asking ++ line.number ∷ [])) fs h in
     line_at labels ns seed a line s.front s.of_front (labels_behind labels a fs s.front s.back s.are l).0
 
+-- a stretch has at least one byte
 pub stretch_some : (ns : List ℕ) (seed n : ℕ) (asking : List ℕ) (is : List Instr) (fs : List Form)
     → AreFormsOf (stretch ns seed asking (record { number = n; content = Poll ∷ is })) fs → 1 ≤ forms_size fs
 stretch_some ns seed n asking is fs h =

@@ -1,4 +1,4 @@
--- The texts of a line stand in its settled code.
+-- The texts of a line are in its settled code.
 use Rattle.std.proofs.Common.{◌≡◌, ℕ, ◌+◌, ◌≤◌, List, [], ◌∷◌, ◌++◌, length, take, drop, map, true, refl, sym, ap, subst, ◌∙◌}
 use Rattle.std.proofs.Common.{arith, append_assoc, length-append, Option, Some, None}
 use Rattle.std.specs.Prelude.{unwrap_or}
@@ -58,7 +58,7 @@ take_middle (f ∷ front) t back = take_middle front t back
 abbrev pub Holds : List (Name × ℕ) → ℕ → List Entry → List (List ℕ) → Type 0
 Holds labels a es texts = (front back : List ℕ) → TextsStand (front ++ (bytes_from labels a es ++ back)) (length front + size es) (length front) texts
 
--- the image of two pieces, with the first one among what stands before
+-- the image of two pieces, with the first one among what is before
 joined : (labels : List (Name × ℕ)) (a : ℕ) (xs ys : List Entry) (front back : List ℕ)
     → front ++ (bytes_from labels a (xs ++ ys) ++ back) ≡ (front ++ bytes_from labels a xs) ++ (bytes_from labels (a + size xs) ys ++ back)
 joined labels a xs ys front back =
@@ -68,7 +68,7 @@ joined labels a xs ys front back =
 front_length : (labels : List (Name × ℕ)) (a : ℕ) (xs : List Entry) (front : List ℕ) → length (front ++ bytes_from labels a xs) ≡ length front + size xs
 front_length labels a xs front = length-append front (bytes_from labels a xs) ∙ ap (λ n. length front + n) (all_size labels a xs)
 
--- behind a piece, from its end on
+-- after a piece, from its end on
 later : (labels : List (Name × ℕ)) (a : ℕ) (xs ys : List Entry) (texts : List (List ℕ)) → Holds labels (a + size xs) ys texts
     → (front back : List ℕ) → TextsStand (front ++ (bytes_from labels a (xs ++ ys) ++ back)) (length front + size (xs ++ ys)) (length front + size xs) texts
 later labels a xs ys texts h front back =
@@ -102,7 +102,7 @@ loud labels a xs ys t texts h front back =
     text (length front) (length front + size xs) t texts (omega arith) stands
     (lower image (length front + size (es ++ ys)) (length front + size xs + length t) (length front + size es) texts (omega (arith, s)) (later labels a es ys texts h front back))
 
--- a piece without texts behind another one
+-- a piece without texts after another one
 quiet_behind : (labels : List (Name × ℕ)) (a : ℕ) (xs ys : List Entry) (texts : List (List ℕ)) → Holds labels a xs texts → Holds labels a (xs ++ ys) texts
 quiet_behind labels a xs ys texts h front back =
     let code = bytes_from labels a xs in let more = bytes_from labels (a + size xs) ys in
@@ -123,7 +123,7 @@ quiet_forms labels a xs ys fs texts h rest =
     (quiet labels a front (items_from (a + forms_size s.front) s.back) texts
     (subst (λ b. Holds labels b (items_from (a + forms_size s.front) s.back) texts) there (rest (a + forms_size s.front) s.back s.of_back)))
 
--- and of one that ends by a text and a label
+-- the settled items of a piece that ends with a text and a label
 loud_forms : (labels : List (Name × ℕ)) (a : ℕ) (xs : List Entry) (t : List ℕ) (l : Entry) (ys : List Entry) (fs : List Form) (texts : List (List ℕ))
     → list_all is_straight ((xs ++ bytes t ∷ []) ++ l ∷ []) ≡ true
     → AreFormsOf (((xs ++ bytes t ∷ []) ++ l ∷ []) ++ ys) fs → ((b : ℕ) (gs : List Form) → AreFormsOf ys gs → Holds labels b (items_from b gs) texts)
@@ -215,11 +215,11 @@ test_texts rel a b js is e =
     ∙ ap instr_texts (append_assoc (fetch 0 b) (LeaveUnless rel ∷ js) is) ∙ fetch_texts 0 b (LeaveUnless rel ∷ (js ++ is)) ∙ e
 
 module _ (labels : List (Name × ℕ)) (ns : List ℕ) (seed n : ℕ) where
-  -- what stands before the text
+  -- what is before the text
   abbrev before_text : ℕ → List ℕ → List Entry
   before_text i t = address (target.Inside inner.Text n i) POINTER ++ (text_call (length t) ++ (jump (target.Inside inner.Behind n i) ∷ here (target.Inside inner.Text n i) ∷ []))
 
-  -- settled forms of groups from group i on hold texts, wherever they lie
+  -- settled forms of groups from group i on hold texts, wherever they are laid
   abbrev RestHolds : ℕ → List Group → List (List ℕ) → Type 0
   RestHolds i gs texts = (a : ℕ) (fs : List Form) → AreFormsOf (rest_code ns seed n i gs) fs → Holds labels a (items_from a fs) texts
 
@@ -266,7 +266,7 @@ module _ (labels : List (Name × ℕ)) (ns : List ℕ) (seed n : ℕ) where
   rest_texts i (Single Return ∷ gs) = silent i (Single Return) gs _ refl (rest_texts (i + 1) gs)
   rest_texts i (Single End ∷ gs) = silent i (Single End) gs _ refl (rest_texts (i + 1) gs)
 
-  -- those of a line's statement stand in the line's code
+  -- the texts of a line's statement are in the line's code
   line_texts : (a : ℕ) (c : Statement) (fs : List Form) → AreFormsOf (line_code ns seed (record { number = n; content = lowered.list_code c })) fs
       → Holds labels a (items_from a fs) (statement_texts c)
   line_texts a c fs h =
@@ -279,12 +279,12 @@ module _ (labels : List (Name × ℕ)) (ns : List ℕ) (seed past : ℕ) where
   abbrev own_line : Numbered Statement → Numbered (List Instr)
   own_line line = record { number = line.number; content = lowered.list_code line.content }
 
-  -- a line begins where its label stands
+  -- a line begins at the address of its label
   begins : (a : ℕ) (asking : List ℕ) (line : Numbered Statement) (fs : List Form) → AreFormsOf (stretch ns seed asking (own_line line)) fs
       → LabelsAt labels a (items_from a fs) → stands_at labels (label_of (target.Line line.number)) ≡ a
   begins a asking line fs h l = ap (λ o. unwrap_or o 0) (stretch_at labels ns seed a asking (own_line line) fs h l)
 
-  -- its texts stand in its code, and so in that with what is done behind it
+  -- its texts are in its code, and so in that with what is done after it
   stretch_texts : (a : ℕ) (asking : List ℕ) (line : Numbered Statement) (fs : List Form) → AreFormsOf (stretch ns seed asking (own_line line)) fs
       → Holds labels a (items_from a fs) (statement_texts line.content)
   stretch_texts a asking line fs h =
@@ -293,7 +293,7 @@ module _ (labels : List (Name × ℕ)) (ns : List ℕ) (seed past : ℕ) where
       (quiet_behind labels a (items_from a s.front) (items_from (a + forms_size s.front) s.back) (statement_texts line.content)
       (line_texts labels ns seed line.number a line.content s.front s.of_front))
 
-  -- where these lines begin, or what is behind them
+  -- where these lines begin, or what follows them
   ends_there : (a : ℕ) (asking : List ℕ) (p : Program) (fs : List Form) → AreFormsOf (lines_code ns seed asking (lowered.program_code p)) fs
       → LabelsAt labels a (items_from a fs) → past ≡ a + forms_size fs → end_before past (starts_in labels (numbers p)) ≡ a
   ends_there a asking [] [] h l e = e ∙ (let q : a + 0 ≡ a = omega arith in q)
@@ -303,7 +303,7 @@ module _ (labels : List (Name × ℕ)) (ns : List ℕ) (seed past : ℕ) where
       let s = split (stretch ns seed asking own) (lines_code ns seed (asking_on asking own) (lowered.program_code lines)) fs (stretched ns seed asking own (lowered.program_code lines) fs h) in
       begins a asking line s.front s.of_front (labels_behind labels a fs s.front s.back s.are l).0
 
-  -- where the settled code of lines stands in a file, so do their texts
+  -- if the settled code of lines is in a file, so are their texts
   pub lines_texts : (a : ℕ) (asking : List ℕ) (p : Program) (fs : List Form) (front back : List ℕ)
       → AreFormsOf (lines_code ns seed asking (lowered.program_code p)) fs → LabelsAt labels a (items_from a fs) → past ≡ a + forms_size fs
       → PROLOGUE_AT ≤ a → length front ≡ offset_of a

@@ -18,7 +18,7 @@ use Rattle.tb_lower.specs.Lowered as lowered
 use Rattle.tb_runtime16.specs.Addresses.{PROLOGUE_AT}
 use Rattle.tb_templates.specs.Program.{program_code}
 
--- the answer for a program: its expressions are looked at before its cost
+-- the answer for a program: its expressions are checked before its cost
 abbrev pub ProgramAnswer : ℕ → Program → Result Compiled CompileError → Type 0
 ProgramAnswer seed program (Ok c) = (cost program ≤ most_cost) × IsCompiled seed program c
 ProgramAnswer seed program (Err (Source e)) = ⊥
@@ -27,8 +27,8 @@ ProgramAnswer seed program (Err (Lower (deep.TooDeep n))) = too_deep program ≡
 ProgramAnswer seed program (Err (TooLarge n)) = (too_deep program ≡ None) × (cost program ≡ n) × (most_cost < n)
 ProgramAnswer seed program (Err NoMemory) = Unit {0}
 
--- the answer of `compile_to_fit` for a program: it is refused by where its settled code and line table end, past $9FFF;
--- what is told is its cost
+-- the answer of `compile_to_fit` for a program: it is refused if its settled code and line table end past $9FFF, and then
+-- its cost is reported
 abbrev pub FitAnswer : ℕ → Program → Result Compiled CompileError → Type 0
 FitAnswer seed program (Ok c) = IsCompiled seed program c
 FitAnswer seed program (Err (Source e)) = ⊥
@@ -37,7 +37,7 @@ FitAnswer seed program (Err (Lower (deep.TooDeep n))) = too_deep program ≡ Som
 FitAnswer seed program (Err (TooLarge n)) = (too_deep program ≡ None) × (cost program ≡ n) × EndsFrom 0xA001 PROLOGUE_AT (program_code seed (lowered.program_code program))
 FitAnswer seed program (Err NoMemory) = Unit {0}
 
--- what an error tells of a line is the file's refusal; an error that tells nothing, as want of memory, is none
+-- what an error says of a line is the file's refusal; an error that says nothing, as running out of memory, is not one
 abbrev pub Tells : Option Refusal → ℕ → FileRefusal → Type 0
 Tells None line r = ⊥
 Tells (Some said) line r = refused_at line said ≡ r
@@ -84,7 +84,7 @@ abbrev pub HasFitOutcome : ℕ → List ℕ → Result Compiled CompileError →
 HasFitOutcome seed source (Err NoMemory) = Unit {0}
 HasFitOutcome seed source result = FitAnswered seed source result
 
--- two compiled programs show the same
+-- two compiled programs have the same file, lines, table and warnings
 pub record AreSame (c d : Compiled) : Type 0 where
   pub prg : prg_of c ≡ prg_of d
   pub starts : starts_of c ≡ starts_of d

@@ -25,11 +25,11 @@ use Rattle.tb_codegen.specs.declared.compiled.Compiled.{Compiled}
 abbrev pub prg_of : Compiled → List ℕ
 prg_of c = c.prg.items
 
--- the bytes that the file loads, behind its load address
+-- the bytes that the file loads, after its load address
 abbrev pub loaded_of : Compiled → List ℕ
 loaded_of c = drop 2 (prg_of c)
 
--- lines with the places where their code begins
+-- a line with the address where its code begins
 abbrev pub pair_of : LineStart → ℕ × ℕ
 pair_of s = (s.number, s.at)
 
@@ -50,32 +50,32 @@ abbrev pub start_in : List (ℕ × ℕ) → ℕ → Option ℕ
 start_in [] n = None
 start_in (s ∷ starts) n = if nat_eq s.0 n then Some s.1 else start_in starts n
 
--- where the code of a line of the program begins, as start_of answers it; 0 for no line of it
+-- where the code of a line of the program begins, as start_of answers it; 0 if it isn't a line of the program
 abbrev pub start_of : Compiled → ℕ → ℕ
 start_of c n = unwrap_or (start_in (starts_of c) n) 0
 
--- an address lies between two places
+-- whether an address is at least the first one, and below the second one
 abbrev pub lies : ℕ → ℕ → ℕ → Bool
 lies from to a = nat_le from a && nat_lt a to
 
--- the line in whose code an address lies: a line's code ends where that of the next line begins, and the last one's
+-- the line in whose code an address is: a line's code ends where that of the next line begins, and the last one's
 -- where the line table begins
 abbrev pub line_in : List (ℕ × ℕ) → ℕ → ℕ → Option ℕ
 line_in [] table a = None
 line_in (s ∷ []) table a = if lies s.1 table a then Some s.0 else None
 line_in (s ∷ next ∷ starts) table a = if lies s.1 next.1 a then Some s.0 else line_in (next ∷ starts) table a
 
--- ── where code lies ──
--- addresses that rise strictly, from one on, of lines or of what else has one
+-- ── where code is ──
+-- addresses that rise strictly, from a number on, of lines or of anything else
 abbrev pub AddressesRise : {A : Type 0} → ℕ → List (A × ℕ) → Type 0
 AddressesRise low [] = Unit {0}
 AddressesRise low (p ∷ ps) = (low ≤ p.1) × AddressesRise (p.1 + 1) ps
 
--- where a label stands; 0 where none has its name
+-- the address of a label; 0 if there is no label of this name
 abbrev pub stands_at : List (Name × ℕ) → Name → ℕ
 stands_at labels name = unwrap_or (address_in labels name) 0
 
--- the lines with the places of their labels
+-- the lines with the addresses of their labels
 abbrev pub starts_in : List (Name × ℕ) → List ℕ → List (ℕ × ℕ)
 starts_in labels [] = []
 starts_in labels (n ∷ ns) = (n, stands_at labels (label_of (Line n))) ∷ starts_in labels ns
@@ -90,7 +90,7 @@ abbrev pub most_cost : ℕ
 most_cost = MOST_COST
 
 -- Compiled, a program is a PRG file with its settled items from the block's address on; code and table end by $9FFF. A
--- line begins where its label stands among them, and so does the line table.
+-- line begins at the address of its label among them, and so does the line table.
 pub record IsCompiled (seed : ℕ) (program : Program) (c : Compiled) : Type 0 where
   pub shallow : too_deep program ≡ None
   pub items : List Entry

@@ -13,7 +13,7 @@ pub record SuitsAnywhere (at : ℕ) (es : List Entry) : Type 0 where
   pub known : AllKnown (labels_from at es) es
   pub movable : list_all may_move es ≡ true
 
--- once they are settled, items end at a place or behind it
+-- once they are settled, items end at an address or after it
 pub record EndsFrom (place at : ℕ) (es : List Entry) : Type 0 where
   pub forms : List Form
   pub rounds : Settles at (map kept es) forms

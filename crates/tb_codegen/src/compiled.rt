@@ -30,36 +30,36 @@ impl Compiled {
         &self.prg
     }
 
-    /// The line in whose code an address lies: from its start to before the next line's start, or to before the line
-    /// table where it is the highest line.
+    /// The line in whose code an address is: from its start to before the next line's start, or to before the line table
+    /// for the highest line. `None` for an address outside the lines' code.
     pub fn line_at(&self, address: u16) -> Option<u16>
         ensures { result ≡ line_in (starts_of self.now) (table_of self.now) address }
     {
         line_in(&self.starts, self.table, address)
     }
 
-    /// The address where the code of a line begins; none where the program has no such line.
+    /// The address where the code of a line begins; `None` if the program has no such line.
     pub fn start_of(&self, line: u16) -> Option<u16>
         ensures { result ≡ start_in (starts_of self.now) line }
     {
         start_in(&self.starts, line)
     }
 
-    /// The lines with the places where their code begins, in rising order of both.
+    /// The lines with the addresses where their code begins, in rising order of both.
     pub fn starts(&self) -> &[LineStart]
         ensures { map pair_of result.now ≡ starts_of self.now }
     {
         &self.starts
     }
 
-    /// Where the line table begins, behind all code.
+    /// The address of the line table, after all lines' code.
     pub fn table(&self) -> u16
         ensures { result ≡ table_of self.now }
     {
         self.table
     }
 
-    /// The warnings of the program, in the order of lines.
+    /// The warnings of the program, in the order of its lines.
     pub fn warnings(&self) -> &[Warning]
         ensures { result.now ≡ warnings_of self.now }
     {
@@ -98,7 +98,7 @@ fn line_in(starts: &[LineStart], table: u16, address: u16) -> Option<u16>
     }
 }
 
-// Whether an address lies between two places.
+// Whether an address is from the first one up to before the second one.
 fn lies(from: u16, to: u16, address: u16) -> bool
     ensures { result ≡ lies from to address }
 {

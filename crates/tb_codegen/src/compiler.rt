@@ -35,7 +35,7 @@ use tb_settling::assemble_settled;
 use tb_syntax::Program;
 use tb_templates::{Target, label, program_items};
 
-/// The most that a program may cost.
+/// The most that a program may cost, in bytes.
 pub const MOST_COST: u32 = 37_888;
 
 /// The bytes from the block's address on up to `$9FFF`.
@@ -44,11 +44,12 @@ const ROOM: usize = 0xA000 - BLOCK_AT as usize;
 /// What a program is compiled with.
 #[derive(Clone, Copy, Debug, PartialEq, Eq, Drop)]
 pub struct Options {
-    /// The first RND state.
+    /// The first RND state, any word.
     pub seed: u16,
 }
 
-/// The PRG file of a source text, with the places of its lines.
+/// The PRG file of a source text, with the addresses of its lines. Refused, in this order: a text that is not a program,
+/// an expression that needs more than 16 slots, a cost above [`MOST_COST`]; or memory runs out.
 pub fn compile(alloc: Global, source: &[u8], options: Options) -> Result<Compiled, CompileError>
     // What the file's lines make is answered,
     ensures found { HasOutcome options.seed source.now result }
@@ -56,7 +57,7 @@ pub fn compile(alloc: Global, source: &[u8], options: Options) -> Result<Compile
     ensures only { (outcome : Outcome) → LinesMake source.now outcome → OutcomeAnswer options.seed outcome result }
     // A compiled file's code, loaded at $0801, keeps the program that its source makes, whatever the ROM does.
     ensures keeps { IfOk result (λ c. (program : SourceProgram) × LinesMake source.now (Ok program) × Keeps BASIC_START (loaded_of c) program options.seed) }
-    // Where it comes to the address that start_of answers for a line, the program begins that line, in the same state.
+    // When it comes to the address that start_of answers for a line, the program begins that line, in the same state.
     ensures marks { IfOk result (λ c. (program : SourceProgram) × LinesMake source.now (Ok program) × MarksLines BASIC_START (loaded_of c) program options.seed (start_of c)) }
 {
     let program = parse(alloc, source)?;
@@ -85,8 +86,8 @@ fn compile_program(alloc: Global, program: &Program, seed: u16) -> Result<Compil
     })
 }
 
-/// The PRG file of a source text, as `compile` makes it, where its code and line table end by `$9FFF`, whatever the
-/// program costs.
+/// The PRG file of a source text, as `compile` makes it, but refused as too large only if its code and line table end
+/// past `$9FFF`, whatever the program costs.
 pub fn compile_to_fit(
     alloc: Global,
     source: &[u8],
@@ -96,11 +97,11 @@ pub fn compile_to_fit(
     ensures found { HasFitOutcome options.seed source.now result }
     // and whatever they make is what is answered.
     ensures only { (outcome : Outcome) → LinesMake source.now outcome → FitOutcome options.seed outcome result }
-    // Where `compile` answers a program, it is the same one.
+    // If `compile` answers a program, it is the same one.
     ensures same { (compiled : Compiled) → HasOutcome options.seed source.now (Ok compiled) → GivesSame compiled result }
     // A compiled file's code, loaded at $0801, keeps the program that its source makes, whatever the ROM does.
     ensures keeps { IfOk result (λ c. (program : SourceProgram) × LinesMake source.now (Ok program) × Keeps BASIC_START (loaded_of c) program options.seed) }
-    // Where it comes to the address that start_of answers for a line, the program begins that line, in the same state.
+    // When it comes to the address that start_of answers for a line, the program begins that line, in the same state.
     ensures marks { IfOk result (λ c. (program : SourceProgram) × LinesMake source.now (Ok program) × MarksLines BASIC_START (loaded_of c) program options.seed (start_of c)) }
 {
     let program = parse(alloc, source)?;
@@ -127,7 +128,7 @@ fn fit_program(alloc: Global, program: &Program, seed: u16) -> Result<Compiled, 
     })
 }
 
-// The image of a program's code, where it ends by $9FFF.
+// The image of a program's code, if it ends by $9FFF.
 fn fitted(alloc: Global, code: &SlotCode, seed: u16) -> Result<Option<Image>, AllocError>
     requires lists { AreCodable (code_of code.now) }
     requires lines { length (code_of code.now) < 65536 }
@@ -136,7 +137,7 @@ fn fitted(alloc: Global, code: &SlotCode, seed: u16) -> Result<Option<Image>, Al
     ensures fits { IfOk result (λ found. IfSome found (λ image. IsLaid PROLOGUE_AT (program_code seed (code_of code.now)) image.at image.bytes.items image.labels.entries × (PROLOGUE_AT + length image.bytes.items ≤ 0xA000))) }
     ensures too_long { IfOk result (λ found. found ≡ None → EndsFrom 0xA001 PROLOGUE_AT (program_code seed (code_of code.now))) }
 {
-    // A row of the line table takes four bytes.
+    // An entry of the line table takes four bytes.
     if has_too_many_lines(code) {
         return Ok(None);
     }
@@ -180,7 +181,7 @@ fn laid(alloc: Global, code: &SlotCode, seed: u16) -> Result<Image, CompileError
     }
 }
 
-// Where a label of the image stands.
+// The address of a label of the image.
 fn label_address(image: &Image, target: Target) -> u16
     requires { is_some (address_in image.now.labels.entries (label_of target)) ≡ true }
     ensures { address_in image.now.labels.entries (label_of target) ≡ Some result }

@@ -6,7 +6,7 @@ ghost use Rattle.tb_meaning.specs.Cost as cost;
 
 use tb_syntax::{Expr, PrintItem, Program, Statement};
 
-/// The cost of a program in bytes, where it can be counted by 32 bits.
+/// The cost of a program in bytes, if it can be counted in 32 bits.
 pub fn cost(program: &Program) -> u32
     requires { cost.cost (lines_of program.now) < 4294967296 }
     ensures { result ≡ cost.cost (lines_of program.now) }
@@ -18,7 +18,7 @@ pub fn cost(program: &Program) -> u32
     sum
 }
 
-/// What a line with this statement costs in bytes, where it can be counted by 32 bits.
+/// What a line with this statement costs in bytes, if it can be counted in 32 bits.
 pub fn line_cost(statement: &Statement) -> u32
     requires { 36 + cost.statement_cost (statement_of statement.now) < 4294967296 }
     ensures { result ≡ 36 + cost.statement_cost (statement_of statement.now) }
