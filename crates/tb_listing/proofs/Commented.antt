@@ -9,7 +9,7 @@ use Rattle.tb_asm.specs.Text.{split_lines, begins_with_10, put}
 use Rattle.tb_source_text.specs.ShownBytes.{shown}
 use Rattle.tb_listing.specs.Comments.{is_comment, comments, comment, comment_row, HasComments, KeepsComments}
 
--- what is shown ends no line
+-- nothing that is shown ends a line
 no_end : (b : ℕ) → eqb (shown b) 10 ≡ false
 no_end b = grind (arith, nat_tests)
 
@@ -29,19 +29,21 @@ shown_line (b ∷ bs) more =
         put (shown b) (split_lines (map shown bs ++ 10 ∷ more))) ≡ (shown b ∷ map shown bs) ∷ split_lines more
     by e r no_ten no_thirteen h = rw (no_ten, no_thirteen, h) refl
 
--- a line that is no comment, and one that is
+-- a line that is not a comment, and one that is
 kept : (line : List ℕ) (lines : List (List ℕ)) → is_comment line ≡ false → filter is_comment (line ∷ lines) ≡ filter is_comment lines
 kept line lines plain = rw plain refl
 
 taken : (line : List ℕ) (lines : List (List ℕ)) → is_comment line ≡ true → filter is_comment (line ∷ lines) ≡ line ∷ filter is_comment lines
 taken line lines is = rw is refl
 
+-- a row that is not a comment keeps the comments
 pub row_kept : (text bs : List ℕ) (cs : List (List ℕ)) → is_comment (map shown bs) ≡ false → HasComments text cs → HasComments (text ++ (map shown bs ++ 10 ∷ [])) cs
 row_kept text bs cs plain h more =
     ap comments (append_assoc text (map shown bs ++ 10 ∷ []) more ∙ ap (λ t. text ++ t) (append_assoc (map shown bs) (10 ∷ []) more))
     ∙ h (map shown bs ++ 10 ∷ more)
     ∙ ap (λ c. cs ++ c) (ap (filter is_comment) (shown_line bs more) ∙ kept (map shown bs) (split_lines more) plain)
 
+-- a row that is a comment is added to the comments
 pub row_taken : (text bs : List ℕ) (cs : List (List ℕ)) → is_comment (map shown bs) ≡ true → HasComments text cs
     → HasComments (text ++ (map shown bs ++ 10 ∷ [])) (cs ++ map shown bs ∷ [])
 row_taken text bs cs is h more =
@@ -56,35 +58,37 @@ joined text front row =
     append_assoc (text ++ map shown front) (map shown row) (10 ∷ []) ∙ append_assoc text (map shown front) (map shown row ++ 10 ∷ [])
     ∙ ap (λ t. text ++ t) (sym (append_assoc (map shown front) (map shown row) (10 ∷ [])) ∙ ap (λ t. t ++ 10 ∷ []) (sym (map-append shown front row)))
 
--- a row that is no comment
+-- a row that is not a comment
 pub row_keeps : {U E : Type 0} (r : Result U E) (old new front row : List ℕ) → is_comment (map shown (front ++ row)) ≡ false
     → OnOk r (new ≡ old ++ map shown front ++ map shown row ++ 10 ∷ []) → OnOk r (KeepsComments old new)
 row_keeps (Ok u) old new front row plain e =
     λ cs h. subst (λ t. HasComments t cs) (sym (e ∙ joined old front row)) (row_kept old (front ++ row) cs plain h)
 row_keeps (Err u) old new front row plain e = tt
 
--- a name with a colon is none
+-- a name with a colon is not a comment
 not_shown : (b : ℕ) → (b == 59) ≡ false → (shown b == 59) ≡ false
 not_shown b h = grind (arith, nat_tests, h)
 
+-- a label's row is not a comment
 pub label_plain : (name : List ℕ) → is_comment name ≡ false → is_comment (map shown (name ++ 58 ∷ [])) ≡ false
 label_plain [] h = refl
 label_plain (b ∷ name) h = not_shown b h
 
--- a row that is one
+-- a row that is a comment
 pub commented : (old new line : List ℕ) (cs : List (List ℕ)) → new ≡ old ++ comment_row line → HasComments old cs → HasComments new (cs ++ comment line ∷ [])
 commented old new line cs e h = subst (λ t. HasComments t (cs ++ comment line ∷ [])) (sym e) (row_taken old (59 ∷ 32 ∷ take 120 line) cs refl h)
 
--- one line more
+-- one more line
 pub line_more : {A B : Type 0} (f : B → List ℕ) (g : A → B) (xs : List A) (i : ℕ) (d : A) → i < length xs
     → map f (map g (take i xs)) ++ f (g (get_or xs i d)) ∷ [] ≡ map f (map g (take (i + 1) xs))
 line_more f g xs i d l =
     sym (ap (λ t. map f (map g t)) (take_more xs i d l) ∙ ap (map f) (map-append g (take i xs) (get_or xs i d ∷ [])) ∙ map-append f (map g (take i xs)) (g (get_or xs i d) ∷ []))
 
+-- the comments of a text are those that were collected
 pub in_all : (text : List ℕ) (cs : List (List ℕ)) → HasComments text cs → comments text ≡ cs
 in_all text cs h = sym (ap comments (append-nil text)) ∙ h [] ∙ append-nil cs
 
--- some of the items behind the first ones
+-- some of the items after the first ones
 pub within_all : {A : Type 0} (done n : ℕ) (xs : List A) → done ≤ length xs → n ≤ length (take (length xs - done) (drop done xs)) → done + n ≤ length xs
 within_all done n xs l h =
     let t = length-take (length xs - done) (drop done xs) in

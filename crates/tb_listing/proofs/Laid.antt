@@ -1,4 +1,4 @@
--- Where the parts of a compiled program lie: the block, its lines, and the line table behind them.
+-- The addresses of a compiled program's parts: the block, its lines, and the line table after them.
 use Rattle.std.proofs.Common.{◌≡◌, ℕ, ◌+◌, ◌-◌, ◌≤◌, List, [], ◌∷◌, ◌++◌, length, ap, sym, subst, ◌∙◌, arith, refl, length-append}
 use Rattle.std.specs.Prelude.{unwrap_or}
 use Rattle.tb_asm.specs.declared.names.Name.{Name}
@@ -29,13 +29,13 @@ use Rattle.tb_codegen.specs.Compiled.{IsCompiled, AddressesRise, prg_of, starts_
 use Rattle.tb_codegen.proofs.Sized.{IsSettling, settling}
 use Rattle.tb_codegen.proofs.Placed.{starts_low}
 
--- lines that begin one behind the other from $0C00 on, and a line table behind them in an image of so many bytes
+-- lines that begin one after another from $0C00 on, and a line table after them in an image with this many bytes
 pub record AreLaid (starts : List (ℕ × ℕ)) (table bytes : ℕ) : Type 0 where
   pub rising : AddressesRise LINES_AT (starts ++ (0, table) ∷ [])
   pub within : table ≤ PROLOGUE_AT + bytes
   pub ends : PROLOGUE_AT + bytes ≤ 0xA000
 
--- sums of places (by themselves, so that no proof about them reads what lies there)
+-- sums of addresses (by themselves, so that no proof about them reads what lies there)
 front_within : (a front end : ℕ) → a + front ≤ end → a ≤ end
 front_within a front end le = omega arith
 
@@ -51,7 +51,7 @@ back_within a whole front back end e le = omega arith
 before_table : (table own past last find : ℕ) → table ≡ LINES_AT + own + past + last + find → LINES_AT + own ≤ table
 before_table table own past last find e = omega arith
 
--- lines begin one behind the other, and what lies behind their code comes behind them
+-- lines begin one after another, and what is laid after their code comes after them
 lines_rise : (labels : List (Name × ℕ)) (ns : List ℕ) (seed a : ℕ) (asking : List ℕ) (p : Program) (fs : List Form) (end : ℕ)
     → AreFormsOf (lines_code ns seed asking (lowered.program_code p)) fs → LabelsAt labels a (items_from a fs) → a + forms_size fs ≤ end
     → AddressesRise a (starts_in labels (numbers p) ++ (0, end) ∷ [])
@@ -71,6 +71,7 @@ lines_rise labels ns seed a asking (line ∷ lines) fs end h l le =
           (lines_rise labels ns seed b on lines s.back end s.of_back ls.1 (back_within a (forms_size fs) (forms_size s.front) (forms_size s.back) end all le)),
     )
 
+-- the parts of a compiled program are laid in this way
 pub are_laid : (seed : ℕ) (ls : List (ℕ × Statement)) (c : Compiled) → AreStated (lines_of ls) → RisesFrom 0 (numbers (lines_of ls))
     → IsCompiled seed (lines_of ls) c → AreLaid (starts_of c) (table_of c) (length (prg_of c) - 14)
 are_laid seed ls c stated rises h =

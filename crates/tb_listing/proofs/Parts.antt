@@ -4,6 +4,7 @@ use Rattle.std.proofs.lemmas.Grind.{flat_map-append}
 use Rattle.tb_syntax.specs.Source.{Program}
 use Rattle.tb_listing.specs.Map.{row_text, rows_text, line_parts, block_part, table_part, parts}
 
+-- the rows of the block, the lines and the line table are the rows of the parts
 pub parts_text : (starts : List (ℕ × ℕ)) (table size : ℕ) (p : Program) → row_text (block_part starts table) ++ (rows_text (line_parts starts table p)
     ++ row_text (table_part table size)) ≡ rows_text (parts starts table size p)
 parts_text starts table size p =

@@ -1,4 +1,4 @@
--- How long a listing without names is: 19 bytes at most for each byte that is listed.
+-- The length of a listing without names: at most 19 bytes for each byte that is listed.
 use Rattle.std.proofs.Common.{◌≡◌, ℕ, zero, suc, ◌+◌, ◌-◌, ◌*◌, ◌<◌, ◌≤◌, Bool, true, false, List, [], ◌∷◌, ◌++◌}
 use Rattle.std.proofs.Common.{length, drop, Option, Some, None, refl, ap, ◌∙◌, nat_lt, if◌then◌else◌, arith, length-append, length-drop}
 use Rattle.tb_opcodes.specs.Opcodes.{decoded, length_of}

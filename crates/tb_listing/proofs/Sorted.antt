@@ -1,4 +1,4 @@
--- The places of a program rise.
+-- The addresses of a program's labels rise.
 use Rattle.std.proofs.Common.{◌≡◌, ℕ, ◌+◌, ◌≤◌, Bool, true, ◌&&◌, List, [], ◌∷◌, ◌++◌, map, refl, arith, nat_le, subst, append-nil}
 use Rattle.std.proofs.lemmas.Bool.Decides.{nat_tests}
 use Rattle.std.specs.Prelude.{codes}
@@ -8,7 +8,7 @@ use Rattle.tb_codegen.specs.Compiled.{AddressesRise}
 use Rattle.tb_listing.specs.Labels.{line_label, block_labels, data_labels, all_labels}
 use Rattle.tb_listing.proofs.Laid.{AreLaid}
 
--- whether places rise from an address on and end before another one
+-- whether addresses rise from an address on and end before another one
 rises : ℕ → List (List ℕ × ℕ) → ℕ → Bool
 rises low [] end = nat_le low end
 rises low (p ∷ ps) end = nat_le low p.1 && rises (p.1 + 1) ps end
@@ -34,6 +34,7 @@ data_rises : AddressesRise 0xA001 data_labels
 unfolding rises
 data_rises = subst (AddressesRise 0xA001) (append-nil data_labels) (rise_both 0xA001 65536 data_labels [] refl tt)
 
+-- the addresses of a program's labels rise
 pub labels_rise : (starts : List (ℕ × ℕ)) (table bytes : ℕ) → AreLaid starts table bytes → AddressesRise 0 (all_labels starts table)
 unfolding rises
 labels_rise starts table bytes h =

@@ -9,7 +9,7 @@ use Rattle.tb_codegen.specs.Texts.{end_before}
 use Rattle.tb_listing.specs.Map.{first_part, line_parts, block_part, table_part, parts}
 use Rattle.tb_listing.proofs.Laid.{AreLaid}
 
--- the next line, or the line table, comes behind
+-- the next line, or the line table, comes after
 ends_behind : (low table : ℕ) (starts : List (ℕ × ℕ)) → AddressesRise low (starts ++ (0, table) ∷ []) → low ≤ end_before table starts
 ends_behind low table [] h = h.0
 ends_behind low table (s ∷ starts) h = h.0
@@ -35,6 +35,7 @@ lines_prices table (s ∷ starts) (line ∷ lines) e =
     sum_by-cons (λ q. q.price) (get_or (first_part (s ∷ starts) table line.number (36 + statement_cost line.content)) 0 (table_part table 0)) (line_parts starts table lines)
     ∙ ap (λ n. 36 + statement_cost line.content + n) (lines_prices table starts lines (ap (drop 1) e)) ∙ sym (sum_by-cons (λ l. 36 + statement_cost l.content) line lines)
 
+-- the bytes of the parts add up to the image's
 pub bytes_add_up : (starts : List (ℕ × ℕ)) (table bytes : ℕ) (p : Program) → AreLaid starts table bytes → map (λ s. s.0) starts ≡ numbers p
     → sum_by (λ q. q.bytes) (parts starts table bytes p) ≡ bytes
 bytes_add_up starts table bytes p h e =
@@ -47,6 +48,7 @@ bytes_add_up starts table bytes p h e =
     let last : sum_by (λ q. q.bytes) (table_part table bytes ∷ []) ≡ PROLOGUE_AT + bytes - table + 0 = sum_by-cons (λ q. q.bytes) (table_part table bytes) [] in
     omega (arith, lines, first, both, within, whole, last)
 
+-- the costs of the parts add up to the program's
 pub prices_add_up : (starts : List (ℕ × ℕ)) (table bytes : ℕ) (p : Program) → map (λ s. s.0) starts ≡ numbers p → sum_by (λ q. q.price) (parts starts table bytes p) ≡ cost p
 prices_add_up starts table bytes p e =
     let lines = lines_prices table starts p e in

@@ -15,11 +15,11 @@ use Rattle.tb_listing.specs.Labels.{all_labels, labels_text}
 use Rattle.tb_listing.specs.Map.{parts, map_text}
 use Rattle.tb_listing.specs.Comments.{ShowsLines}
 
--- how many bytes the image of a compiled program has, which stand in its file behind the load address and the BASIC line
+-- how many bytes the image of a compiled program has, which follow the load address and the BASIC line in its file
 abbrev pub image_size : Compiled → ℕ
 image_size c = length (prg_of c) - 14
 
--- the PRG file of a compiled program, the labels of its places, a listing that gives its image back and shows the lines
+-- the PRG file of a compiled program, its labels, a listing that gives its image back and shows the lines
 -- of the source, the map of its parts, and the warnings
 pub record Tells (source : List ℕ) (compiled : Compiled) (program : Program) (made : Made) : Type 0 where
   pub prg : made.prg.items ≡ prg_of compiled
@@ -30,7 +30,7 @@ pub record Tells (source : List ℕ) (compiled : Compiled) (program : Program) (
   pub map : made.map.items ≡ map_text (starts_of compiled) (table_of compiled) (image_size compiled) program
   pub warnings : made.warnings.items ≡ warnings_of compiled
 
--- what tells of a source's compilation: of one and the same
+-- what is made of a source: all of it from one compilation
 pub record IsMade (seed : ℕ) (source : List ℕ) (made : Made) : Type 0 where
   pub compiled : Compiled
   pub answered : HasOutcome seed source (Ok compiled)

@@ -13,7 +13,7 @@ abbrev pub is_comment : List ℕ → Bool
 is_comment [] = false
 is_comment (b ∷ line) = b == 59
 
--- the lines of a text that are
+-- the lines of a text that are comments
 abbrev pub comments : List ℕ → List (List ℕ)
 comments text = filter is_comment (split_lines text)
 
@@ -38,7 +38,7 @@ ShowsLines source starts image text = (comments text ≡ map (comment_on (number
 abbrev pub comment_row : List ℕ → List ℕ
 comment_row line = comment line ++ 10 ∷ []
 
--- a text begins, and not as a comment does
+-- whether a text begins, and not as a comment does
 abbrev pub begins_plainly : List ℕ → Bool
 begins_plainly [] = false
 begins_plainly (b ∷ text) = not (b == 59)

@@ -21,7 +21,7 @@ abbrev pub first_part : List (ℕ × ℕ) → ℕ → ℕ → ℕ → List Part
 first_part [] table n price = []
 first_part (s ∷ starts) table n price = record { name = codes "line " ++ decimal n; at = s.1; bytes = end_before table starts - s.1; price = price } ∷ []
 
--- the lines, by where they begin and the line table does
+-- the lines, by where they begin and where the line table does
 abbrev pub line_parts : List (ℕ × ℕ) → ℕ → Program → List Part
 line_parts starts table [] = []
 line_parts starts table (line ∷ lines) = first_part starts table line.number (36 + statement_cost line.content) ++ line_parts (drop 1 starts) table lines
@@ -30,16 +30,16 @@ line_parts starts table (line ∷ lines) = first_part starts table line.number (
 abbrev pub block_part : List (ℕ × ℕ) → ℕ → Part
 block_part starts table = record { name = codes "block"; at = PROLOGUE_AT; bytes = end_before table starts - PROLOGUE_AT; price = 64 }
 
--- the line table, up to the end of an image of so many bytes
+-- the line table, up to the end of an image of `size` bytes
 abbrev pub table_part : ℕ → ℕ → Part
 table_part table size = record { name = codes "line_table"; at = table; bytes = PROLOGUE_AT + size - table; price = 0 }
 
--- the parts of a program whose image has so many bytes
+-- the parts of a program whose image has `size` bytes
 abbrev pub parts : List (ℕ × ℕ) → ℕ → ℕ → Program → List Part
 parts starts table size program = block_part starts table ∷ (line_parts starts table program ++ table_part table size ∷ [])
 
 -- ── their text ──
--- a text filled up with spaces behind it, or a number with spaces before it
+-- a text filled up with spaces after it, or a number with spaces before it
 abbrev pub left : ℕ → List ℕ → List ℕ
 left width t = t ++ replicate (width - length t) 32
 

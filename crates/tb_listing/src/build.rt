@@ -15,7 +15,7 @@ use tb_meaning::Warning;
 use tb_parser::parse;
 use tb_syntax::Program;
 
-/// A PRG file, the texts that tell of it, and what there is to warn of.
+/// A PRG file, the texts about it, and its warnings.
 #[derive(Drop)]
 pub struct Made {
     /// The PRG file.
@@ -24,26 +24,26 @@ pub struct Made {
     pub labels: Vec<u8>,
     /// Assembler text that gives the image back.
     pub listing: Vec<u8>,
-    /// Where each part lies, what it takes and what it costs.
+    /// The address of each part, what it takes and what it costs.
     pub map: Vec<u8>,
-    /// The jumps to lines that aren't there.
+    /// The jumps to lines that don't exist.
     pub warnings: Vec<Warning>,
 }
 
-/// Compiles a source with a first state of RND, and makes all that may be written of it.
+/// Compiles a source with a first state of RND, and makes all files of a build. Fails as `compile` does.
 pub fn make(alloc: Global, source: &[u8], seed: u16) -> Result<Made, CompileError>
     ensures made { IfOk result (IsMade seed source.now) }
     ensures refused { IfErr result (IsRefused seed source.now) }
 {
     let compiled = compile(alloc, source, Options { seed })?;
-    // What was compiled is a program: only memory can be wanting here.
+    // What was compiled is a program: parsing can only fail for lack of memory here.
     let Ok(program) = parse(alloc, source) else {
         return Err(CompileError::NoMemory);
     };
     Ok(all_of(alloc, source, &compiled, &program)?)
 }
 
-// All that is made of a compiled source.
+// All files that are made of a compiled source.
 fn all_of(
     alloc: Global,
     source: &[u8],

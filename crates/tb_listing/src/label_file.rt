@@ -1,4 +1,4 @@
-//! The label file that VICE's monitor reads: a line for each place that has a name, by rising address.
+//! The label file that VICE's monitor reads: a line for each address that has a name, by rising address.
 ghost use Rattle.std.specs.Prelude.{◌≡◌, ◌<◌, ◌++◌, OnOk, IfOk, map};
 ghost use Rattle.std.specs.List.{range_with_len};
 ghost use Rattle.tb_codegen.specs.Compiled.{pair_of};
@@ -30,7 +30,8 @@ pub const ROUTINES: [Routine; 13] = [
     Routine::Poll,
 ];
 
-/// The label file of a program whose lines begin at these places, with its line table at `table`.
+/// The label file of a program whose lines begin at these addresses, with its line table at `table`: lines like
+/// `al C:0c00 .line10`, each ended by 10. Fails if memory runs out.
 pub fn labels(alloc: Global, starts: &[LineStart], table: u16) -> Result<Vec<u8>, AllocError>
     ensures { IfOk result (λ text. text.items ≡ labels_text (all_labels (map pair_of starts.now) table)) }
 {
@@ -42,7 +43,7 @@ pub fn labels(alloc: Global, starts: &[LineStart], table: u16) -> Result<Vec<u8>
     Ok(text)
 }
 
-// Appends the line of a place.
+// Appends the line of a label.
 fn push_label(alloc: Global, text: &mut Vec<u8>, name: &[u8], at: u16) -> Result<(), AllocError>
     ensures { OnOk result (text.new.items ≡ text.old.items ++ label_text (name.now, at)) }
 {
@@ -53,7 +54,7 @@ fn push_label(alloc: Global, text: &mut Vec<u8>, name: &[u8], at: u16) -> Result
     text.extend_from_slice(b"\n")
 }
 
-// Appends the places of the block.
+// Appends the labels of the block.
 fn push_block(alloc: Global, text: &mut Vec<u8>) -> Result<(), AllocError>
     ensures { OnOk result (text.new.items ≡ text.old.items ++ labels_text block_labels) }
 {
@@ -110,7 +111,7 @@ fn push_line(alloc: Global, text: &mut Vec<u8>, number: u16, at: u16) -> Result<
     push_label(alloc, text, name.as_bytes(), at)
 }
 
-// Appends the variables, the count of notes, and the services.
+// Appends the variables, the count of returns, and the services.
 fn push_data(alloc: Global, text: &mut Vec<u8>) -> Result<(), AllocError>
     ensures { OnOk result (text.new.items ≡ text.old.items ++ labels_text data_labels) }
 {

@@ -23,8 +23,8 @@ pub struct View<'a> {
     pub sources: &'a [Numbered<'a>],
 }
 
-/// The text of a listing: a row for each piece, below its label, and above the first piece of a line what the source
-/// has there. Each row is ended by 10.
+/// The text of a listing: a row for each piece, below its label, and above the first piece of a line the source's text of
+/// it. Each row is ended by 10. Fails if memory runs out.
 pub fn labelled(alloc: Global, view: &View<'_>) -> Result<Vec<u8>, AllocError>
     ensures { IfOk result (λ text. comments text.items ≡ map (comment_on (map pair_of view.now.sources.now)) (map start_pair view.now.program.starts.now)) }
 {
@@ -52,7 +52,7 @@ fn count_before(pieces: &[Piece<'_>], at: u16) -> usize
     pieces.len()
 }
 
-// Appends what a row begins with and what stands behind it.
+// Appends the front of a row and what follows it.
 fn push_row(text: &mut Vec<u8>, front: &[u8], row: &[u8]) -> Result<(), AllocError>
     ensures { OnOk result (text.new.items ≡ text.old.items ++ map shown front.now ++ map shown row.now ++ 10 ∷ []) }
 {
@@ -83,7 +83,7 @@ fn push_pieces(
     Ok(())
 }
 
-// Appends the label of an address, where it has one.
+// Appends the label of an address, if it has one.
 fn push_label(alloc: Global, text: &mut Vec<u8>, view: &View<'_>, at: u16) -> Result<(), AllocError>
     ensures { OnOk result (KeepsComments text.old.items text.new.items) }
 {
@@ -105,7 +105,7 @@ fn push_piece(
     push_row(text, b"  ", &row_of(alloc, view, piece)?)
 }
 
-// What stands on the row of a piece.
+// The content of a piece's row.
 fn row_of(alloc: Global, view: &View<'_>, piece: &Piece<'_>) -> Result<Vec<u8>, AllocError> {
     let mut row = Vec::new(alloc);
     push_content(alloc, &mut row, view, piece)?;
@@ -137,14 +137,14 @@ fn push_content(
     }
 }
 
-// What stands before a name and behind it.
+// What is written before a name and after it.
 #[derive(Clone, Copy, Drop)]
 struct Around {
     before: &'static [u8],
     behind: &'static [u8],
 }
 
-// How an instruction of a mode writes an address of a name, whole or by a byte; none where it names no place.
+// How an instruction of a mode writes an address by its name, whole or by a byte; none if it names no address.
 fn signs_around(mode: Mode, named: Named) -> Option<Around> {
     let (before, behind): (&'static [u8], &'static [u8]) = match (mode, named) {
         (Mode::Immediate, Named::Low(_)) => (b" #<", b" "),
@@ -158,7 +158,7 @@ fn signs_around(mode: Mode, named: Named) -> Option<Around> {
     Some(Around { before, behind })
 }
 
-// The name of the place of the image that a piece names, where a piece begins there.
+// The name of the address of the image that a piece names, if a piece begins there.
 fn named_address(
     alloc: Global,
     view: &View<'_>,

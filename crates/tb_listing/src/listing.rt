@@ -23,15 +23,15 @@ use tb_streams::MOST_INPUT;
 /// How many bytes a PRG file has before the block: its load address and the BASIC line.
 const HEADER: usize = 14;
 
-/// The listing of a compiled source: assembler text whose assembling at `$080D` gives the image, all bytes behind the
-/// BASIC line. Lines and routines stand under their names; comments show addresses, bytes, texts, and the source line
-/// above its code.
+/// The listing of a compiled source: assembler text whose assembling at `$080D` gives the image, all bytes after the
+/// BASIC line. Lines and routines are under their names; comments show addresses, bytes, texts, and the source line
+/// above its code. Fails if memory runs out.
 pub fn list(alloc: Global, compiled: &Compiled, source: &[u8]) -> Result<Vec<u8>, AllocError>
     requires headed { 14 ≤ length (prg_of compiled.now) }
     requires ends { PROLOGUE_AT + (length (prg_of compiled.now) - 14) ≤ 0xA000 }
     ensures back { IfOk result (λ text. GivesBack PROLOGUE_AT text.items (drop 14 (prg_of compiled.now))) }
     ensures readable { IfOk result (λ text. length text.items ≤ most_input) }
-    // The lines of the source stand in it as comments, where it isn't the listing without names.
+    // The lines of the source are in it as comments, unless it is the listing without names.
     ensures shows { IfOk result (λ text. ShowsLines source.now (starts_of compiled.now) (drop 14 (prg_of compiled.now)) text.items) }
 {
     let image = behind(compiled.prg(), HEADER);
@@ -67,7 +67,7 @@ fn with_names(
     )
 }
 
-// A text that gives the image back: this one, or where it doesn't, one without names. No program is known of which it
+// A text that gives the image back: this one, or, if it doesn't, one without names. No program is known for which it
 // doesn't.
 fn checked(alloc: Global, text: Vec<u8>, image: &[u8]) -> Result<Vec<u8>, AllocError>
     requires { PROLOGUE_AT + length image.now ≤ 0xA000 }
@@ -111,7 +111,7 @@ fn no_image(kind: AsmErrorKind) -> Result<bool, AllocError>
     }
 }
 
-// The listing without names. An image ends below 65,536, so only memory can be wanting.
+// The listing without names. An image ends below 65,536, so it can only fail for lack of memory.
 fn without_names(alloc: Global, image: &[u8]) -> Result<Vec<u8>, AllocError>
     requires { PROLOGUE_AT + length image.now ≤ 0xA000 }
     ensures back { IfOk result (λ text. GivesBack PROLOGUE_AT text.items image.now) }

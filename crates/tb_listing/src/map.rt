@@ -1,4 +1,4 @@
-//! The map of a program: where each part lies, what it takes and what it costs.
+//! The map of a program: the address of each part, what it takes and what it costs.
 ghost use Rattle.std.specs.Prelude.{◌≡◌, ◌≤◌, ◌+◌, ◌-◌, ◌++◌, ◌∷◌, [], IfOk, OnOk, map, drop, length, replicate};
 ghost use Rattle.tb_syntax.specs.PlainData.{lines_of};
 ghost use Rattle.tb_meaning.specs.Cost as cost;
@@ -13,10 +13,10 @@ use tb_codegen::{Compiled, LineStart, MOST_COST, line_cost};
 use tb_runtime16::BLOCK_AT;
 use tb_syntax::Program;
 
-/// What every program costs beside its lines.
+/// What every program costs in addition to its lines.
 const BASE: u32 = 64;
 
-/// Where the code of a program and its line table have to end.
+/// The address before which a program's code and line table must end.
 const END: usize = 0xa000;
 
 /// How many bytes a PRG file has before the block.
@@ -27,7 +27,7 @@ const NAME_WIDTH: usize = 12;
 const NUMBER_WIDTH: usize = 8;
 
 /// The map of a compiled program: a table of the block, each line and the line table with address, bytes and cost, their
-/// sums, and what is left of the room. The highest line has what lies before the line table.
+/// sums, and what is left of the room. The highest line includes all up to the line table. Fails if memory runs out.
 pub fn chart(alloc: Global, compiled: &Compiled, program: &Program) -> Result<Vec<u8>, AllocError>
     requires small { cost.cost (lines_of program.now) ≤ most_cost }
     requires ends { PROLOGUE_AT + (length (prg_of compiled.now) - 14) ≤ 0xA000 }
@@ -43,7 +43,7 @@ pub fn chart(alloc: Global, compiled: &Compiled, program: &Program) -> Result<Ve
     Ok(text)
 }
 
-// Appends the rows of the parts of a program whose image has so many bytes, and answers its cost.
+// Appends the rows of the parts of a program whose image has `size` bytes, and answers its cost.
 fn push_parts(
     alloc: Global,
     text: &mut Vec<u8>,
@@ -72,7 +72,7 @@ fn block_size(compiled: &Compiled) -> usize
     usize::from(end.saturating_sub(BLOCK_AT))
 }
 
-// How many bytes the line table takes in an image of so many.
+// How many bytes the line table takes in an image of `size` bytes.
 fn table_size(table: u16, size: usize) -> usize
     requires { PROLOGUE_AT + size ≤ 0xA000 }
     ensures { result ≡ PROLOGUE_AT + size - table }

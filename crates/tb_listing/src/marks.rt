@@ -22,7 +22,7 @@ pub struct Marks {
 }
 
 impl Marks {
-    /// The mark of an address: no piece begins outside the image.
+    /// The mark of an address; outside the image no piece begins.
     pub fn at(&self, address: u16) -> Mark {
         match self.marks.get(offset_of(address)) {
             Some(mark) => *mark,
@@ -31,12 +31,12 @@ impl Marks {
     }
 }
 
-// What lies below the image is behind it too.
+// The offset of an address in the image; an address below the image has one after its end.
 fn offset_of(address: u16) -> usize {
     usize::from(address.wrapping_sub(BLOCK_AT))
 }
 
-/// The marks of an image of that length, by its pieces.
+/// The marks of an image of this length, by its pieces.
 pub fn marks_of(alloc: Global, length: usize, pieces: &[Piece<'_>]) -> Result<Marks, AllocError> {
     let mut marks = Vec::from_elem(alloc, NO_MARK, length)?;
     for piece in pieces {

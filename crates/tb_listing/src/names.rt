@@ -1,4 +1,4 @@
-//! The names of places.
+//! The names of addresses.
 ghost use Rattle.std.specs.Prelude.{◌≡◌, ◌++◌, false, true, IfOk, OnOk};
 ghost use Rattle.std.specs.Fmt.{decimal};
 ghost use Rattle.tb_listing.specs.Comments.{begins_plainly, is_comment};
@@ -15,14 +15,14 @@ use tb_runtime16::{
     RETURN_HIGH, RETURN_LOW, RIGHT, SCRATCH, SEED, SEEDED, SEND_AT, SLOTS, VARS, WANTED, entry,
 };
 
-/// Where the variables, the slots and the scratch places of the routines end.
+/// Where the variables, the slots and the scratch bytes of the routines end.
 const VARS_END: u16 = VARS + 52;
 
 const SLOTS_END: u16 = SLOTS + 32;
 
 const SCRATCH_END: u16 = 0xc080;
 
-/// The number of the line that begins at an address.
+/// The number of the line that begins at an address, if one does.
 pub fn line_at(starts: &[LineStart], at: u16) -> Option<u16> {
     for start in starts {
         if start.at == at {
@@ -32,14 +32,14 @@ pub fn line_at(starts: &[LineStart], at: u16) -> Option<u16> {
     None
 }
 
-/// Whether the piece at an address stands under a name: it has one of its own, or is named.
+/// Whether the piece at an address has a label above it: the address has a name of its own, or is named by a piece.
 pub fn has_label(program: &Program<'_>, marks: &Marks, at: u16) -> bool {
     marks.at(at).is_named
         || !own_name(program, at).is_empty()
         || line_at(program.starts, at).is_some()
 }
 
-/// The name of a place of the image.
+/// The name of an address of the image.
 pub fn name_of(
     alloc: Global,
     program: &Program<'_>,
@@ -61,7 +61,7 @@ pub fn name_of(
     }
 }
 
-// The name of a place where a line begins, or else a piece within one.
+// The name of an address where a line begins, or else a piece within one.
 fn name_of_start(
     alloc: Global,
     line: Option<u16>,
@@ -79,7 +79,7 @@ fn name_of_start(
     Ok(name)
 }
 
-// What a name begins with that ends by its address: of a place in the code, or in the data of routines or lines.
+// The prefix of a name that is built from an address: in the code, or in the data of routines or lines.
 fn inner_name(marks: &Marks, at: u16) -> &'static [u8]
     ensures { begins_plainly result.now ≡ true }
 {
@@ -89,7 +89,7 @@ fn inner_name(marks: &Marks, at: u16) -> &'static [u8]
     }
 }
 
-// Appends a name that ends by a number.
+// Appends a name that ends with a number.
 fn push_number(
     alloc: Global,
     text: &mut Vec<u8>,
@@ -102,7 +102,7 @@ fn push_number(
     text.extend_from_slice(format!(in alloc; "{number}")?.as_bytes())
 }
 
-// The name of a place that every program has; empty for another place.
+// The name of an address that every program has; empty for any other address.
 fn own_name(program: &Program<'_>, at: u16) -> &'static [u8]
     ensures { is_comment result.now ≡ false }
 {
@@ -132,7 +132,7 @@ fn routine_name(at: u16) -> &'static [u8]
     b""
 }
 
-/// Appends the name of a place outside the image behind two spaces, where it has one.
+/// Appends two spaces and the name of an address outside the image, if it has one.
 pub fn push_outside(alloc: Global, text: &mut Vec<u8>, at: u16) -> Result<(), AllocError> {
     if VARS <= at && at < VARS_END {
         let letter = b'A' + ((at - VARS) / 2) as u8;
@@ -149,7 +149,7 @@ pub fn push_outside(alloc: Global, text: &mut Vec<u8>, at: u16) -> Result<(), Al
     }
 }
 
-// The name of a place, or of the word whose high byte it is.
+// The name of an address, or of the word whose high byte is there.
 fn push_word_name(alloc: Global, text: &mut Vec<u8>, at: u16) -> Result<(), AllocError> {
     for offset in [0u16, 1] {
         let name = outside_name(at.wrapping_sub(offset));

@@ -1,4 +1,4 @@
-//! An image in pieces: what each line of a listing stands for, and which addresses it names.
+//! An image in pieces: the bytes of each row of a listing, and the addresses that they name.
 ghost use Rattle.std.specs.Prelude.{◌≡◌, ◌≤◌, length, drop};
 
 use std::alloc::{AllocError, Global};
@@ -24,16 +24,16 @@ const STA_BY_X: u8 = 0x9d;
 /// How many bytes a call and a jump take.
 const CALL_AND_JUMP: u16 = 6;
 
-/// How many bytes the low bytes of Number's powers of ten take, and so do the high ones. They lie behind its code.
+/// How many bytes the low bytes of Number's powers of ten take, and also the high ones. They follow its code.
 const POWERS: u16 = 4;
 
 /// How many bytes the search for a line takes, which lies before the line table.
 const SEARCH: u16 = 21;
 
-/// How many bytes the code of a fault takes that a line finds by itself, as fault 7 behind the last line.
+/// How many bytes the code of a fault takes that a line finds by itself, such as fault 7 after the last line.
 const FAULT: u16 = 9;
 
-/// Where in these bytes the fault's number stands.
+/// The offset of the fault's number in these bytes.
 const FAULT_NUMBER: usize = 5;
 
 /// The fault of the STOP key.
@@ -42,7 +42,7 @@ const BREAK: u8 = 0;
 /// How many bytes a word of the line table takes.
 const WORD: usize = 2;
 
-/// A compiled program: the bytes behind its BASIC line, where its lines begin, and where its line table does.
+/// A compiled program: the bytes after its BASIC line, where its lines begin, and where its line table does.
 #[derive(Clone, Copy, Drop)]
 pub struct Program<'a> {
     pub image: &'a [u8],
@@ -51,12 +51,12 @@ pub struct Program<'a> {
 }
 
 impl Program<'_> {
-    /// The search for a line in the line table.
+    /// The address of the search for a line in the line table.
     pub fn search(&self) -> u16 {
         self.table.wrapping_sub(SEARCH)
     }
 
-    /// Fault 7, behind the last line: before the search, or before what is done for the STOP key in the last lines.
+    /// The address of fault 7, after the last line: before the search, or before the STOP key's code of the last lines.
     pub fn past(&self) -> u16 {
         let mut past = self.search().wrapping_sub(FAULT);
         for _ in self.starts {
@@ -68,7 +68,7 @@ impl Program<'_> {
         past
     }
 
-    // The number of the fault that is handed over here.
+    // The number of the fault that the code at this address hands over.
     fn number_of_fault(&self, at: u16) -> Option<u8> {
         let offset = usize::from(at.wrapping_sub(BLOCK_AT));
         self.image.get(offset.saturating_add(FAULT_NUMBER)).copied()
@@ -78,11 +78,11 @@ impl Program<'_> {
 /// What a piece is.
 #[derive(Clone, Copy, PartialEq, Eq, Drop)]
 pub enum Kind {
-    /// An instruction, or a byte that begins none.
+    /// An instruction, or a byte that begins no instruction.
     Code,
     /// Bytes as they are.
     Data,
-    /// A word that is no address.
+    /// A word that is not an address.
     Number,
     /// An address.
     Address,
@@ -98,7 +98,7 @@ pub enum Named {
 }
 
 impl Named {
-    /// The address, where one is named.
+    /// The address, if one is named.
     pub fn address(self) -> Option<u16> {
         match self {
             Named::Nothing => None,
@@ -107,7 +107,7 @@ impl Named {
     }
 }
 
-/// Bytes that stand on one row.
+/// The bytes of one row.
 #[derive(Clone, Copy, Drop)]
 pub struct Piece<'a> {
     pub at: u16,
@@ -116,7 +116,7 @@ pub struct Piece<'a> {
     pub named: Named,
 }
 
-/// The pieces of a program's image, one behind the other.
+/// The pieces of a program's image, one after another. Fails if memory runs out.
 pub fn pieces<'a>(alloc: Global, program: &Program<'a>) -> Result<Vec<Piece<'a>>, AllocError> {
     let mut pieces = Vec::new(alloc);
     let mut rest = program.image;
@@ -141,7 +141,7 @@ pub fn pieces<'a>(alloc: Global, program: &Program<'a>) -> Result<Vec<Piece<'a>>
     Ok(pieces)
 }
 
-/// The bytes behind the first ones.
+/// The bytes after the first `size` ones.
 pub fn behind(bytes: &[u8], size: usize) -> &[u8]
     requires { size ≤ length bytes.now }
     ensures { result.now ≡ drop size bytes.now }
@@ -161,7 +161,7 @@ struct Span {
     to: u16,
 }
 
-// Where the text of a PRINT lies, where its call of Text stands here: the jump behind it leads past the text.
+// Where the text of a PRINT is, if its call of Text is here: the jump after the call leads past the text.
 fn text_behind_call(at: u16, rest: &[u8]) -> Option<Span> {
     match rest {
         [JSR, low, high, JMP, to_low, to_high, ..]
@@ -175,7 +175,7 @@ fn text_behind_call(at: u16, rest: &[u8]) -> Option<Span> {
     }
 }
 
-// What stands first, and how many bytes it has: one at least, and no more than there are.
+// What comes first, and how many bytes it has: at least one, and no more than there are.
 fn first_kind(program: &Program<'_>, text: Span, at: u16, rest: &[u8]) -> (Kind, usize)
     requires { 1 ≤ length rest.now }
     ensures some { 1 ≤ result.1 }
@@ -194,7 +194,7 @@ fn first_kind(program: &Program<'_>, text: Span, at: u16, rest: &[u8]) -> (Kind,
     (kind, size.max(1).min(rest.len()))
 }
 
-// How many bytes of data lie here; none where code or the line table does.
+// How many bytes of data begin here; 0 for code and for the line table.
 fn data_size(text: Span, at: u16) -> usize {
     let block_end = BLOCK_AT.wrapping_add(low_word(block().len()));
     let behind_number = entry(Routine::Text);
@@ -233,7 +233,7 @@ struct Load {
     apart: usize,
 }
 
-// The address of which the first instruction loads a byte, where it is known for one.
+// The address of which the first instruction loads a byte, if it is known to load one.
 fn loaded(program: &Program<'_>, at: u16, rest: &[u8]) -> Named {
     if let Some(load) = first_load(program, at, rest) {
         return Named::Low(load.address);
@@ -253,7 +253,7 @@ fn last(bytes: &[u8], count: usize) -> &[u8] {
     bytes.split_at(bytes.len().saturating_sub(count)).1
 }
 
-// A load of an address by its two bytes, so far apart.
+// A load of an address by its two bytes, with this distance between the loads.
 fn loads(low: u8, high: u8, apart: usize) -> Option<Load> {
     Some(Load {
         address: u16::from_le_bytes([low, high]),
@@ -261,12 +261,12 @@ fn loads(low: u8, high: u8, apart: usize) -> Option<Load> {
     })
 }
 
-// Whether these two bytes are where a routine is entered.
+// Whether these two bytes are the address of a routine's entry.
 fn is_entry(low: u8, high: u8, routine: Routine) -> bool {
     u16::from_le_bytes([low, high]) == entry(routine)
 }
 
-// Whether the address is handed to Push or to Text behind the loads.
+// Whether the code after the loads hands the address to Push or to Text.
 fn hands_over(rest: &[u8]) -> bool {
     match rest {
         [STA_ZERO_PAGE, _, JSR, low, high, ..] => is_entry(*low, *high, Routine::Push),
@@ -277,7 +277,7 @@ fn hands_over(rest: &[u8]) -> bool {
     }
 }
 
-// The load that begins here: of the line that is noted, in line or by Push, of the line table for the search, or of a
+// The load that begins here: of the line to return to, in line or by Push, of the line table for the search, or of a
 // text.
 fn first_load(program: &Program<'_>, at: u16, rest: &[u8]) -> Option<Load> {
     match rest {
