@@ -12,7 +12,7 @@ pub mod Testing
 pub mod Alone
 -- the code of groups as instructions and as bytes
 pub mod Code
--- where that code lies in a program's image
+-- how that code is laid out in a program's image
 pub mod Image
 -- from the laws of groups to the program
 pub mod Whole

@@ -1,11 +1,11 @@
 -- Pieces of code, each from view to view of the machine.
--- Single instructions on an operand that is a constant byte or a place, each from view to view
+-- single instructions on an operand that is a constant byte or at an address, each from view to view
 pub mod Sources
--- A branch, short or over a jump, leads to its place or to what is behind it
+-- a branch, short or over a jump, leads to its target or to what follows it
 pub mod Branches
--- Pieces of code on words that are constants or stand at places
+-- pieces of code on words that are constants or at addresses
 pub mod Sums
--- A word halved as a signed one, again and again: a quotient truncated toward zero; and a product by a factor's bits
+-- a word halved as a signed one, again and again: a quotient truncated toward zero; and a product by a factor's bits
 pub mod Halves
--- Shifts and sums on a word of which one byte is in A and the other in LEFT, each from view to view
+-- shifts and sums on a word of which one byte is in A and the other in LEFT, each from view to view
 pub mod ShiftSteps
