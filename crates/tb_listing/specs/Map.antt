@@ -39,10 +39,11 @@ abbrev pub parts : List (ℕ × ℕ) → ℕ → ℕ → Program → List Part
 parts starts table size program = block_part starts table ∷ (line_parts starts table program ++ table_part table size ∷ [])
 
 -- ── their text ──
--- a text filled up with spaces after it, or a number with spaces before it
+-- a text filled up with spaces after it
 abbrev pub left : ℕ → List ℕ → List ℕ
 left width t = t ++ replicate (width - length t) 32
 
+-- a number with spaces before it
 abbrev pub right : ℕ → ℕ → List ℕ
 right width n = replicate (width - length (decimal n)) 32 ++ decimal n
 
@@ -50,6 +51,7 @@ right width n = replicate (width - length (decimal n)) 32 ++ decimal n
 abbrev pub row_text : Part → List ℕ
 row_text p = left 12 p.name ++ encode_upper (p.at / 256 ∷ p.at % 256 ∷ []) ++ right 8 p.bytes ++ right 8 p.price ++ 10 ∷ []
 
+-- the rows of parts
 abbrev pub rows_text : List Part → List ℕ
 rows_text ps = flat_map row_text ps
 

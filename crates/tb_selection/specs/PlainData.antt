@@ -94,6 +94,7 @@ group_of (groups.Single i) = Single (instr_of i.now)
 abbrev pub placed_of : Placed → Group × Live
 placed_of p = (group_of p.group, p.behind)
 
+-- these groups, the first one first
 abbrev pub in_order : List Placed → List (Group × Live)
 in_order ps = reverse (map placed_of ps)
 
@@ -105,14 +106,18 @@ groups_in ps = map (λ p. p.0) ps
 abbrev pub multiple_of : ℕ × Letter × operand.Operand → ℕ × ℕ × Operand
 multiple_of m = (m.0, letter_index m.1, operand_of m.2)
 
+-- a slot times a word, as plain data
 abbrev pub factor_of : ℕ × operand.Operand → ℕ × Operand
 factor_of f = (f.0, operand_of f.1)
 
+-- a variable alone in a slot, as plain data
 abbrev pub loaded_of : ℕ × Letter → ℕ × ℕ
 loaded_of l = (l.0, letter_index l.1)
 
+-- what a test of slot 0 with a variable asks for, as plain data
 abbrev pub equality_of : divisibility.Divisibility × Letter × Option ℕ → Divisibility × ℕ × Option ℕ
 equality_of t = (divisibility_of t.0, letter_index t.1, t.2)
 
+-- what a test of the held word with slot 0 asks for, as plain data
 abbrev pub against_of : divisibility.Divisibility × Option ℕ → Divisibility × Option ℕ
 against_of t = (divisibility_of t.0, t.1)

@@ -202,13 +202,13 @@ asked rel.Eq = Some Divisible
 asked rel.Ne = Some Indivisible
 asked _ = None
 
--- a test of slot 0 with a variable, or of the held word with slot 0: what it asks for, the variable, and the line that
--- it leads to, if there is one
+-- a test of slot 0 with a variable: what it asks for, the variable, and the line that it leads to, if there is one
 abbrev pub equality_in : Group → Option (Divisibility × ℕ × Option ℕ)
 equality_in (Test r (HeldNow InSlot) (Variable x)) = option_map (λ how. (how, x, None)) (asked r)
 equality_in (TestGo r (HeldNow InSlot) (Variable x) to) = option_map (λ how. (how, x, Some to)) (asked r)
 equality_in _ = None
 
+-- a test of the held word with slot 0: what it asks for, and the line that it leads to, if there is one
 abbrev pub against_in : Group → Option (Divisibility × Option ℕ)
 against_in (Test r HeldBefore InSlot) = option_map (λ how. (how, None)) (asked r)
 against_in (TestGo r HeldBefore InSlot to) = option_map (λ how. (how, Some to)) (asked r)
@@ -226,6 +226,7 @@ multiple_of (Some q) (Some f) = if nat_eq q.0 f.0 && same_operand q.2 f.1 then S
 multiple_of (Some q) None = None
 multiple_of None f = None
 
+-- a quotient and a factor that are a multiple
 abbrev pub multiple_in : Group → Group → Option (ℕ × ℕ × Operand)
 multiple_in a b = multiple_of (quotient_in a) (factor_in b)
 
@@ -260,10 +261,11 @@ abbrev pub or_else : Option Group → Option Group → Option Group
 or_else (Some g) o = Some g
 or_else None o = o
 
--- three groups as one, or four
+-- three groups as one: a multiple of a divisor before the test with its variable
 abbrev pub three_as_one : Group → Group → Group → Option Group
 three_as_one a b c = divides_left (multiple_in a b) (equality_in c)
 
+-- four groups as one: a variable, a multiple of a divisor, and their test or their difference
 abbrev pub four_as_one : Group → Group → Group → Group → Option Group
 four_as_one a b c e = or_else (divides_right (held_in a) (multiple_in b c) (against_in e)) (remains (loaded_in a) (multiple_in b c) (difference_in e))
 

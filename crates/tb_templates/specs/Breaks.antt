@@ -52,11 +52,12 @@ abbrev pub ends_away : List Instr → Bool
 ends_away (Poll ∷ is) = some_leaves (select is)
 ends_away is = some_leaves (select is)
 
--- what is done for the STOP key in lines that ask for it comes after a line that ends away, and none of them still asks
+-- what is done for the STOP key in lines that ask for it, once a line ends away
 abbrev pub done_behind : Bool → List ℕ → List Entry
 done_behind true ns = all_broken ns
 done_behind false ns = []
 
+-- the lines that still ask for the STOP key after a line, by whether it ends away
 abbrev pub left_behind : Bool → List ℕ → List ℕ
 left_behind true ns = []
 left_behind false ns = ns

@@ -50,11 +50,12 @@ abbrev pub lined : Bool → ℕ → List Entry → List Entry
 lined true n es = constant n LINE ++ es
 lined false n es = es
 
--- whether a division by this word may fault, and whether a draw below it may: known if it is a constant
+-- whether a division by this word may fault: known if it is a constant
 abbrev pub may_be_zero : Source → Bool
 may_be_zero (FixedWord w) = nat_eq w 0
 may_be_zero (AtAddress p) = true
 
+-- whether a draw below this word may fault: known if it is a constant
 abbrev pub may_have_none : Source → Bool
 may_have_none (FixedWord w) = nat_eq w 0 || nat_le 32768 w
 may_have_none (AtAddress p) = true
@@ -81,6 +82,7 @@ abbrev pub changed_or : Option Change → ℕ → Target → Operator → Source
 changed_or (Some change) n skip op a b to = changed change to skip
 changed_or None n skip op a b to = calculated n op a b to
 
+-- a calculation, by the change in place that it is, if it is one
 abbrev pub computed : ℕ → Target → Operator → Source → Source → ℕ → List Entry
 computed n skip op a b to = changed_or (change_of op a b to) n skip op a b to
 
@@ -169,6 +171,7 @@ asked_rest n a b = lined (may_be_zero b) n (brought a LEFT ++ (brought b RIGHT +
 abbrev pub signed_rest : Target → Source → ℕ → List Entry
 signed_rest skip a to = high_of Lda a ∷ branch Bpl skip ∷ (taken (FixedWord 0) (AtAddress RESULT) RESULT ++ (here skip ∷ copied RESULT to))
 
+-- the remainder of a word by a divisor, with the word's sign, in line n
 abbrev pub remains : ℕ → Target → Source → Source → ℕ → List Entry
 remains n skip a b to = asked_rest n a b ++ signed_rest skip a to
 

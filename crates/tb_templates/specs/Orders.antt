@@ -33,20 +33,22 @@ AreWhole (ByConstant side a w) = IsWhole a
 AreWhole (ByDifference a b) = IsWhole a × IsWhole b
 
 -- ── its code ──
--- the other side; and the side that is wanted, or the other one
+-- the other side
 abbrev pub other_side : Side → Side
 other_side Below = NotBelow
 other_side NotBelow = Below
 
+-- the side itself if what it tells is wanted, else the other one
 abbrev pub wanted_side : Side → Side → Side
 wanted_side Below side = side
 wanted_side NotBelow side = other_side side
 
--- the branch that leaves unless a word is on a side of another one, by N, and by C
+-- the branch that leaves unless a word is on a side of another one, by N
 abbrev pub unless_negative : Side → Mnemonic
 unless_negative Below = Bpl
 unless_negative NotBelow = Bmi
 
+-- the branch that leaves unless a word is on a side of another one, by C
 abbrev pub unless_carry : Side → Mnemonic
 unless_carry Below = Bcs
 unless_carry NotBelow = Bcc
@@ -70,5 +72,6 @@ ordered_by (BySign side a) wanted skip next = signed (wanted_side wanted side) a
 ordered_by (ByConstant side a w) wanted skip next = lifted a w ++ (branch (unless_carry (wanted_side wanted side)) next ∷ [])
 ordered_by (ByDifference a b) wanted skip next = weighed wanted a b skip next
 
+-- leaves unless a word is on the wanted side of another one
 abbrev pub ordered : Side → Source → Source → Target → Target → List Entry
 ordered wanted a b skip next = ordered_by (order_of a b) wanted skip next

@@ -95,6 +95,7 @@ is_factor factor = nat_le 2 factor && nat_le (bits_size 15 factor) 60
 abbrev pub with_factor : ℕ → Source → Option (ℕ × Source)
 with_factor factor a = if is_factor factor then Some (factor, a) else None
 
+-- the constant of a product that is multiplied by its bits, and the other word
 abbrev pub scaling : Source → Source → Option (ℕ × Source)
 scaling a (FixedWord w) = with_factor w a
 scaling (FixedWord v) (AtAddress q) = with_factor v (AtAddress q)

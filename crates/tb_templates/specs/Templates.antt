@@ -34,6 +34,7 @@ at mnemonic address = instr mnemonic Absolute (Word address)
 abbrev pub mode_at : ℕ → Mode
 mode_at address = if nat_lt address 256 then ZeroPage else Absolute
 
+-- the operand of an instruction on the byte at an address: a byte in page zero, else a word
 abbrev pub operand_at : ℕ → Operand
 operand_at address = if nat_lt address 256 then Byte address else Word address
 
@@ -53,10 +54,11 @@ const mnemonic byte = instr mnemonic Immediate (Byte byte)
 abbrev pub alone : Mnemonic → Entry
 alone mnemonic = instr mnemonic Implied Nothing
 
--- loads of the two bytes of a label's address
+-- a load of the low byte of a label's address
 abbrev pub low_part : Target → Entry
 low_part of = instr Lda Immediate (LowOf (label_of of))
 
+-- a load of the high byte of a label's address
 abbrev pub high_part : Target → Entry
 high_part of = instr Lda Immediate (HighOf (label_of of))
 
