@@ -1,4 +1,4 @@
--- What all rows count is the whole.
+-- What all rows count adds up to the whole.
 use Rattle.std.proofs.Common.{◌≡◌, ℕ, ◌+◌, ◌<◌, Bool, true, false, ◌||◌, List, [], ◌∷◌, length, map, refl, sym, ap, ◌∙◌, arith, inl, inr}
 use Rattle.std.specs.Prelude.{◌==◌, if◌then◌else◌, sum_by}
 use Rattle.std.proofs.lemmas.Bool.{cases_eq, or_parts, or_right}
@@ -13,7 +13,7 @@ use Rattle.tb_profile_table.specs.declared.rows.Row.{Row}
 use Rattle.tb_profile_table.specs.declared.rows.Table.{Table}
 use Rattle.tb_profile_table.specs.Rows.{row_of, IsTable, AreApart, AddsUp}
 
--- ---- sums over places
+-- ---- sums over addresses
 
 total : (ℕ → ℕ) → List ℕ → ℕ
 total f [] = 0
@@ -34,7 +34,7 @@ unfolding total
 total_none f [] h = refl
 total_none f (p ∷ ps) h = omega (arith, h p, total_none f ps h)
 
--- ---- a weight that stands at one place
+-- ---- a weight that one address alone has
 
 at : ℕ → ℕ → ℕ → ℕ
 at k a p = if a == p then k else 0
@@ -125,7 +125,7 @@ all_is w ts = is_sum_by (all w) w refl (λ _ _. refl) ts
 length_is : (ts : List Step) → length ts ≡ sum_by (λ _. 1) ts
 length_is ts = is_sum_by (λ (us : List Step). length us) (λ _. 1) refl (λ _ _. omega arith) ts
 
--- the sums over all places
+-- the sums over all addresses
 whole_sum : (w : Step → ℕ) (f : ℕ → ℕ) (ps : List ℕ) (ts : List Step) → ((a : ℕ) → f a ≡ sum_by (λ t. if t.line == a then w t else 0) ts)
     → Known ps ts → AreApart ps → f 0 + total f ps ≡ sum_by w ts
 whole_sum w f ps ts counts known apart =
@@ -161,6 +161,7 @@ sum_rows ts f g (s ∷ starts) h =
     let rest = sum_rows ts f g starts h in
     omega (arith, more, here, rest)
 
+-- the table of a run's steps adds up if no two lines begin at one address
 pub adds_up : (es : List Event) (s : State) (starts : List (ℕ × ℕ)) (table : Table) → IsTable (steps (map (λ s. s.1) starts) 0 es s) starts table
     → AreApart (map (λ s. s.1) starts) → AddsUp table
 adds_up es s starts table is apart =

@@ -63,6 +63,7 @@ module _ {O : Type 0} (gives : O → Content → Event → O → Type 0) (o : O)
         adds_up = adds_up ran.events (state_of m) (map start_pair starts) table made;
       }
 
+  -- a table made from the tally of a counted run is what `profile` promises of these starts
   pub profiles : (addresses : List ℕ) (result : Result Table AllocError) (profile : Profile) → addresses ≡ map (λ s. s.address) starts
       → ((k : ℕ) → slice_index addresses k < 65536) → Profiled gives o m addresses limit (Ok profile) p n
       → IfOk result (IsTableOf profile.tally starts profile.status) → Profiles gives o m (map start_pair starts) limit result p n

@@ -2,14 +2,14 @@
 use Rattle.std.specs.Prelude.{ℕ, ◌+◌, ◌-◌, ◌*◌, ◌/◌, ◌%◌, List, ◌++◌, codes, length, replicate, ◌==◌, if◌then◌else◌}
 use Rattle.std.specs.Fmt.{decimal}
 
--- a word at the right of so many columns, or as many as it has
+-- a word, right-aligned in n columns; a longer one takes as many as it has
 unfoldable pub right : ℕ → List ℕ → List ℕ
 right columns word = replicate (columns - length word) 32 ++ word
 
--- how many thousandths of all these are, to the nearest, a half upwards; 0 where there is nothing at all
+-- how many thousandths of the whole a part is, to the nearest, a half upwards; 0 if the whole is 0
 unfoldable pub share : ℕ → ℕ → ℕ
 share part all = if all == 0 then 0 else (part * 1000 + all / 2) / all
 
--- the percent of so many thousandths, with one digit
+-- the percentage that this many thousandths make, with one decimal digit
 unfoldable pub percent : ℕ → List ℕ
 percent thousandths = decimal (thousandths / 10) ++ (codes "." ++ (decimal (thousandths % 10) ++ codes "%"))

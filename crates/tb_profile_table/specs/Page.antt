@@ -9,7 +9,7 @@ use Rattle.tb_source_text.specs.ShownBytes.{shown}
 use Rattle.tb_profile_table.specs.Figures.{percent, share}
 use Rattle.tb_profile_table.specs.Table.{figures_of, sum_of}
 
--- a byte of a text, so that it stands for itself
+-- a byte of a text, escaped if HTML would read it otherwise
 unfoldable pub escaped : ℕ → List ℕ
 escaped b =
     if b == 38 then codes "&amp;"
@@ -27,7 +27,7 @@ source statement = codes "<td class=\"source\">" ++ flat_map escaped statement +
 unfoldable pub cell : ℕ → List ℕ
 cell n = codes "<td>" ++ decimal n ++ codes "</td>"
 
--- times, instructions and cycles
+-- the cells of times, instructions and cycles
 unfoldable pub cells : Figures → List ℕ
 cells f = cell f.times ++ cell f.instructions ++ cell f.cycles
 
@@ -40,7 +40,7 @@ unfoldable pub bar : ℕ → List ℕ
 bar thousandths =
     share_cell thousandths ++ decimal (thousandths / 100) ++ codes "." ++ decimal (thousandths % 100 / 10) ++ codes "em\"></span></td>"
 
--- the beginning of a row: the shade, 0 where there is no share up to 9 for all, and the name
+-- the beginning of a row: its shade, from 0 (no share) to 9 (all), and its name
 unfoldable pub opening : ℕ → List ℕ → List ℕ
 opening thousandths name =
     codes "<tr class=\"h" ++ decimal ((thousandths * 9 + 999) / 1000) ++ codes "\"><th scope=\"row\">" ++ name ++ codes "</th>"
@@ -49,6 +49,7 @@ opening thousandths name =
 unfoldable pub row_text : List ℕ → Row → ℕ → List ℕ
 row_text name r all = opening (share r.cycles all) name ++ cells (figures_of r) ++ bar (share r.cycles all)
 
+-- the row of a line up to its statement
 unfoldable pub numbered_row : Row → ℕ → List ℕ
 numbered_row r all = row_text (decimal r.line) r all
 
@@ -73,7 +74,7 @@ sums all =
     ++ sum_row (codes "cycles") all.cycles
     ++ codes "</table>\n"
 
--- the rows, with the text of this file before and behind them
+-- the rows, with the texts that come before and after them
 unfoldable pub rows_of : Whole → List (Row × List ℕ) → List ℕ
 rows_of whole lines = ROWS.now ++ start_row whole ++ flat_map (line_row whole.cycles) lines ++ FOOT.now
 

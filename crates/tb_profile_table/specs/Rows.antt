@@ -1,4 +1,4 @@
--- The rows of lines, by what a tally has counted at the places where they begin.
+-- The rows of lines, by what a tally has counted at the addresses where they begin.
 use Rattle.std.specs.Prelude.{ℕ, ◌≡◌, ◌+◌, ◌<◌, false, List, [], ◌∷◌, map, length, slice_index, sum_by, Result, Ok, Err}
 use Rattle.std.specs.declared.alloc.AllocError.{AllocError}
 use Rattle.tb_kernal.specs.declared.events.Event.{Event}
@@ -12,13 +12,13 @@ use Rattle.tb_profile_table.specs.declared.rows.Row.{Row}
 use Rattle.tb_profile_table.specs.declared.rows.Whole.{Whole}
 use Rattle.tb_profile_table.specs.declared.rows.Table.{Table}
 
--- a line with the place where it begins
+-- a line with the address where it begins
 abbrev pub start_pair : Start → ℕ × ℕ
 start_pair s = (s.line, s.address)
 
 -- ---- by a tally
 
--- the row of a line that begins at a place
+-- the row of a line that begins at an address
 abbrev pub row_in : Counted → ℕ → ℕ → Row
 row_in t line address =
     record {
@@ -28,11 +28,11 @@ row_in t line address =
       cycles = slice_index t.cycles address;
     }
 
--- the whole run
+-- what the whole run took
 abbrev pub whole_in : Counted → Whole
 whole_in t = record { start = record (row_in t 0 0) { times = 1 }; instructions = t.taken; cycles = t.spent }
 
--- a table of these lines
+-- a table of the lines with these starts
 pub record IsTableOf (t : Counted) (starts : List Start) (status : Status) (table : Table) : Type 0 where
   pub whole : table.whole ≡ whole_in t
   pub rows : table.rows.items ≡ map (λ s. row_in t s.line s.address) starts
@@ -40,12 +40,12 @@ pub record IsTableOf (t : Counted) (starts : List Start) (status : Status) (tabl
 
 -- ---- by the steps of a run
 
--- the row of a line that begins at a place: how many steps began there, how many belong to the line, and their cycles
+-- the row of a line that begins at an address: how often it was begun, its steps, and their cycles
 abbrev pub row_of : List Step → ℕ → ℕ → Row
 row_of ts line address =
     record { line = line; times = times_of ts address; instructions = instructions_of ts address; cycles = cycles_of ts address }
 
--- a table of lines and their places: the row of each, what came before the first, whose times are 1, all steps and all
+-- a table of lines and their addresses: the row of each, what came before the first (with times 1), all steps, and all
 -- cycles
 pub record IsTable (ts : List Step) (starts : List (ℕ × ℕ)) (table : Table) : Type 0 where
   pub rows : table.rows.items ≡ map (λ s. row_of ts s.0 s.1) starts
@@ -53,7 +53,7 @@ pub record IsTable (ts : List Step) (starts : List (ℕ × ℕ)) (table : Table)
   pub instructions : table.whole.instructions ≡ length ts
   pub cycles : table.whole.cycles ≡ sum_by (λ t. t.cycles) ts
 
--- no place is 0, and none stands twice
+-- no address is 0, and none occurs twice
 abbrev pub AreApart : List ℕ → Type 0
 AreApart [] = Unit {0}
 AreApart (p ∷ addresses) = (0 < p) × (begins_line addresses p ≡ false) × AreApart addresses
@@ -63,7 +63,7 @@ pub record AddsUp (table : Table) : Type 0 where
   pub instructions : table.whole.start.instructions + sum_by (λ r. r.instructions) table.rows.items ≡ table.whole.instructions
   pub cycles : table.whole.start.cycles + sum_by (λ r. r.cycles) table.rows.items ≡ table.whole.cycles
 
--- a run of at most `limit` events that an outside gave, and its table; it adds up where no two lines begin at one place
+-- a run of at most `limit` events that an outside gave, and its table; it adds up if no two lines begin at one address
 pub record Tabled {O : Type 0} (gives : O → Content → Event → O → Type 0) (o : O) (m : Content) (starts : List (ℕ × ℕ)) (limit : ℕ) (table : Table) (p : O) (n : Content) : Type 0 where
   pub status : Status
   pub ran : RanOver gives o m limit (Ok status) p n
@@ -73,7 +73,7 @@ pub record Tabled {O : Type 0} (gives : O → Content → Event → O → Type 0
   pub ends : table.status ≡ status
   pub adds_up : AreApart (map (λ s. s.1) starts) → AddsUp table
 
--- a table, where memory was not wanting
+-- a table, unless memory ran out
 abbrev pub Profiles : {O : Type 0} → (O → Content → Event → O → Type 0) → O → Content → List (ℕ × ℕ) → ℕ → Result Table AllocError → O → Content → Type 0
 Profiles gives o m starts limit (Ok table) p n = Tabled gives o m starts limit table p n
 Profiles gives o m starts limit (Err e) p n = Unit {0}

@@ -7,11 +7,11 @@ use Rattle.tb_profile_table.specs.declared.table.Figures.{Figures}
 use Rattle.tb_source_text.specs.ShownBytes.{shown}
 use Rattle.tb_profile_table.specs.Figures.{percent, right, share}
 
--- what stands in the row of a line
+-- the figures in the row of a line
 abbrev pub figures_of : Row → Figures
 figures_of r = record { times = r.times; instructions = r.instructions; cycles = r.cycles }
 
--- a line is its row and its statement; of all lines the row of the sum has the times, and of the whole run the rest
+-- the row of the sum: the times of all lines, and the rest of the whole run; a line is its row and its statement
 abbrev pub sum_of : Whole → List (Row × List ℕ) → Figures
 sum_of whole lines = record { times = sum_by (λ l. l.0.times) lines; instructions = whole.instructions; cycles = whole.cycles }
 
@@ -19,7 +19,7 @@ sum_of whole lines = record { times = sum_by (λ l. l.0.times) lines; instructio
 unfoldable pub counts : Figures → List ℕ
 counts f = right 11 (decimal f.times) ++ right 13 (decimal f.instructions) ++ right 14 (decimal f.cycles)
 
--- a name in 5 columns, what stands in its row, and the share of all cycles in 8 columns
+-- a name in 5 columns, the figures of its row, and the share of all cycles in 8 columns
 unfoldable pub figures_text : List ℕ → Figures → ℕ → List ℕ
 figures_text name f all = right 5 name ++ counts f ++ right 8 (percent (share f.cycles all))
 
@@ -27,11 +27,11 @@ figures_text name f all = right 5 name ++ counts f ++ right 8 (percent (share f.
 unfoldable pub numbered : Row → ℕ → List ℕ
 numbered r all = figures_text (decimal r.line) (figures_of r) all
 
--- the row of a line: behind two spaces stands its statement
+-- the row of a line, with its statement after two spaces
 unfoldable pub line_text : ℕ → Row × List ℕ → List ℕ
 line_text all l = numbered l.0 all ++ codes "  " ++ map shown l.1 ++ codes "\n"
 
--- a row without statement
+-- a row without a statement
 unfoldable pub named : List ℕ → Figures → ℕ → List ℕ
 named name f all = figures_text name f all ++ codes "\n"
 

@@ -6,14 +6,14 @@ ghost use Rattle.tb_profile_table.specs.Figures.{percent, right, share};
 use std::alloc::{AllocError, Global};
 use tb_source_text::push_spaces;
 
-/// Appends a number.
+/// Appends a number in decimal.
 pub fn push_number(alloc: Global, text: &mut Vec<u8>, number: u128) -> Result<(), AllocError>
     ensures { OnOk result (text.new.items ≡ text.old.items ++ decimal number) }
 {
     text.extend_from_slice(format!(in alloc; "{number}")?.as_bytes())
 }
 
-/// Appends a word at the right of so many columns, or as many as it has.
+/// Appends a word, right-aligned in `columns` columns; a longer word takes as many as it has.
 #[tactic(auto, unfolding(crate::specs::Figures::right))]
 pub fn push_right(text: &mut Vec<u8>, columns: usize, word: &[u8]) -> Result<(), AllocError>
     ensures { OnOk result (text.new.items ≡ text.old.items ++ right columns word.now) }
@@ -22,7 +22,7 @@ pub fn push_right(text: &mut Vec<u8>, columns: usize, word: &[u8]) -> Result<(),
     text.extend_from_slice(word)
 }
 
-/// Appends a number at the right of so many columns.
+/// Appends a number in decimal, right-aligned in `columns` columns.
 pub fn push_column(
     alloc: Global,
     text: &mut Vec<u8>,
@@ -34,7 +34,7 @@ pub fn push_column(
     push_right(text, columns, format!(in alloc; "{number}")?.as_bytes())
 }
 
-/// How many thousandths of all cycles these are, to the nearest; 0 where there are none at all.
+/// How many thousandths of all cycles these are, to the nearest; 0 if there are no cycles at all.
 #[tactic(auto, unfolding(crate::specs::Figures::share))]
 pub fn share(cycles: u64, all: u64) -> u128
     ensures value { result ≡ share cycles all }
@@ -46,7 +46,7 @@ pub fn share(cycles: u64, all: u64) -> u128
     (u128::from(cycles) * 1000 + u128::from(all / 2)) / u128::from(all)
 }
 
-/// The percent of so many thousandths, with one digit.
+/// The percentage that this many thousandths make, with one decimal digit and a `%`.
 #[tactic(auto, unfolding(crate::specs::Figures::percent))]
 pub fn percent(alloc: Global, thousandths: u128) -> Result<String, AllocError>
     ensures { IfOk result (λ text. string_bytes text ≡ percent thousandths) }

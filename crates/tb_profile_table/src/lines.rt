@@ -7,14 +7,15 @@ use crate::rows::Row;
 use std::alloc::{AllocError, Global};
 use tb_source_text::{Numbered, behind_number, numbered_lines, text_of};
 
-/// What a line took, and what stands behind its number.
+/// What a line took, and the text after its number.
 #[derive(Clone, Copy, Drop)]
 pub struct Line<'a> {
     pub row: Row,
     pub statement: &'a [u8],
 }
 
-/// The rows of lines with their statements in the source; of two lines with one number the last one counts.
+/// The rows with the statements of their lines in the source; if two lines have one number, the last one counts. Fails
+/// only if memory runs out.
 pub fn lines_of<'a>(
     alloc: Global,
     source: &'a [u8],
@@ -26,6 +27,7 @@ pub fn lines_of<'a>(
     stated_in(alloc, &written, rows)
 }
 
+// The same, with the source's lines already split into numbers and texts.
 fn stated_in<'a>(
     alloc: Global,
     written: &[Numbered<'a>],

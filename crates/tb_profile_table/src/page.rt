@@ -38,7 +38,7 @@ th.bar, td.bar { padding-left: 0; min-width: 10em; text-align: left; }
 <h1>Profile</h1>
 ";
 
-/// What stands before the rows.
+/// What comes between the sums and the rows.
 pub const ROWS: &[u8] = b"<table>
 <caption>Each line, with what it took. A service of the ROM counts as one instruction and 6 cycles: what it takes beyond them is unmeasured.</caption>
 <thead>
@@ -48,14 +48,14 @@ pub const ROWS: &[u8] = b"<table>
 <tbody>
 ";
 
-/// What stands behind the rows.
+/// What comes after the rows.
 pub const FOOT: &[u8] = b"</tbody>
 </table>
 </body>
 </html>
 ";
 
-// Appends a byte of a text, so that it stands for itself.
+// Appends a byte of a text, escaped if HTML would read it otherwise.
 #[tactic(auto, unfolding(crate::specs::Page::escaped))]
 fn push_escaped(text: &mut Vec<u8>, byte: u8) -> Result<(), AllocError>
     ensures { OnOk result (text.new.items ≡ text.old.items ++ escaped byte) }
@@ -79,6 +79,7 @@ fn push_source(text: &mut Vec<u8>, statement: &[u8]) -> Result<(), AllocError>
     text.extend_from_slice(b"</td>")
 }
 
+// Appends the bytes of a statement, each escaped if need be.
 fn push_all_escaped(text: &mut Vec<u8>, statement: &[u8]) -> Result<(), AllocError>
     ensures { OnOk result (text.new.items ≡ text.old.items ++ flat_map escaped statement.now) }
 {
@@ -117,7 +118,7 @@ fn push_share(alloc: Global, text: &mut Vec<u8>, thousandths: u128) -> Result<()
     text.extend_from_slice(b"</td><td class=\"bar\"><span style=\"width: ")
 }
 
-// Appends a bar of one em to each tenth of the whole.
+// Appends a cell with a bar, 1 em long for each tenth of the whole.
 #[tactic(auto, unfolding(crate::specs::Page::bar))]
 fn push_bar(alloc: Global, text: &mut Vec<u8>, thousandths: u128) -> Result<(), AllocError>
     ensures { OnOk result (text.new.items ≡ text.old.items ++ bar thousandths) }
@@ -129,7 +130,7 @@ fn push_bar(alloc: Global, text: &mut Vec<u8>, thousandths: u128) -> Result<(), 
     text.extend_from_slice(b"em\"></span></td>")
 }
 
-// Appends the beginning of a row: its shade, none to nine, and its name.
+// Appends the beginning of a row: its shade, from 0 (no share) to 9 (all), and its name.
 fn push_name(
     alloc: Global,
     text: &mut Vec<u8>,
@@ -146,7 +147,7 @@ fn push_name(
     text.extend_from_slice(b"</th>")
 }
 
-// Appends a row: its name, its figures, its bar and its statement.
+// Appends a row up to its statement: its name, its figures and its bar.
 #[tactic(auto, unfolding(crate::specs::Page::row_text))]
 fn push_row(
     alloc: Global,
@@ -163,6 +164,7 @@ fn push_row(
     push_bar(alloc, text, thousandths)
 }
 
+// Appends the row of a line up to its statement.
 #[tactic(auto, unfolding(crate::specs::Page::numbered_row))]
 fn push_numbered(alloc: Global, text: &mut Vec<u8>, row: &Row, all: u64) -> Result<(), AllocError>
     ensures { OnOk result (text.new.items ≡ text.old.items ++ numbered_row row.now all) }
@@ -227,7 +229,7 @@ fn push_start(alloc: Global, text: &mut Vec<u8>, whole: &Whole) -> Result<(), Al
     text.extend_from_slice(b"</tr>\n")
 }
 
-// Appends the rows, and what stands before and behind them.
+// Appends the rows, with what comes before and after them.
 #[tactic(auto, unfolding(crate::specs::Page::rows_of))]
 fn push_rows(
     alloc: Global,
@@ -243,7 +245,7 @@ fn push_rows(
     text.extend_from_slice(FOOT)
 }
 
-/// The page: the sums, and a row for what came before the first line and for each line.
+/// The page: the sums, a row for what came before the first line, and one for each line. Fails only if memory runs out.
 pub fn page_text(alloc: Global, whole: &Whole, lines: &[Line<'_>]) -> Result<Vec<u8>, AllocError>
     ensures { IfOk result (λ text. text.items ≡ page_of whole.now (map line_pair lines.now)) }
 {

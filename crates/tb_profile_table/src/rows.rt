@@ -6,7 +6,7 @@ use std::alloc::{AllocError, Global};
 use tb_kernal::{Machine, Outside, Status};
 use tb_profile::{Tally, run_counted};
 
-/// Where a line begins.
+/// The address where the code of a line begins.
 #[derive(Clone, Copy, Drop)]
 pub struct Start {
     pub line: u16,
@@ -25,7 +25,7 @@ pub struct Row {
 /// What a run took.
 #[derive(Clone, Copy, Drop)]
 pub struct Whole {
-    /// What came before the first line.
+    /// What came before the first line; its `line` is 0 and its `times` is 1.
     pub start: Row,
     /// The instructions and services of the whole run.
     pub instructions: u64,
@@ -33,16 +33,16 @@ pub struct Whole {
     pub cycles: u64,
 }
 
-/// What a run and its lines took, and how its machine stands.
+/// What a run and its lines took, and the machine's status after it.
 #[derive(Drop)]
 pub struct Table {
     pub whole: Whole,
-    /// The lines, as their starts were given.
+    /// The rows of the lines, in the order in which their starts were given.
     pub rows: Vec<Row>,
     pub status: Status,
 }
 
-// Where lines begin.
+// The addresses where these lines begin.
 fn addresses_of(alloc: Global, starts: &[Start]) -> Result<Vec<u16>, AllocError>
     ensures { IfOk result (λ addresses. addresses.items ≡ map (λ s. s.address) starts.now) }
 {
@@ -55,12 +55,12 @@ fn addresses_of(alloc: Global, starts: &[Start]) -> Result<Vec<u16>, AllocError>
     Ok(addresses)
 }
 
-// Places are addresses: nothing is done, the proof of `profile` takes it from here.
+// The values are addresses: nothing is done, the proof of `profile` takes it from here.
 fn are_addresses(addresses: &[u16])
     ensures { (k : ℕ) → slice_index addresses.now k < 65536 }
 {}
 
-// What the line that begins at a place took.
+// What the line that begins at an address took.
 fn row_at(tally: &Tally, line: u16, address: u16) -> Row
     ensures { result ≡ row_in tally.now line address }
 {
@@ -115,7 +115,8 @@ fn table_of(
     })
 }
 
-/// Lets the events of an outside happen as `run` does, and counts what the lines take that begin at these places.
+/// Lets at most `limit` events of an outside happen, as `run` does, and counts what each line took, by the address
+/// where it begins. There is a row for each start, in order. Fails only if memory runs out.
 pub fn profile<O: Outside>(
     alloc: Global,
     machine: &mut Machine,

@@ -10,7 +10,7 @@ use crate::rows::{Row, Whole};
 use std::alloc::{AllocError, Global};
 use tb_source_text::push_shown;
 
-/// What stands in a row: how often its line was begun, and what it took.
+/// The figures of a row: how often its line was begun, and the instructions and cycles that it took.
 #[derive(Clone, Copy, Drop)]
 pub struct Figures {
     pub times: u128,
@@ -20,7 +20,7 @@ pub struct Figures {
 
 const HEAD: &[u8] = b" line      times instructions        cycles   share  statement\n";
 
-/// The columns of times, instructions, cycles and share.
+/// The widths of the columns of times, instructions, cycles and share.
 const TIMES: usize = 11;
 
 const INSTRUCTIONS: usize = 13;
@@ -29,7 +29,7 @@ const CYCLES: usize = 14;
 
 const SHARE: usize = 8;
 
-/// The columns of a line's number.
+/// The width of the column of a line's number.
 const NUMBER: usize = 5;
 
 /// The figures of a row.
@@ -43,7 +43,7 @@ pub fn figures_of(row: &Row) -> Figures
     }
 }
 
-/// All lines in one, and the whole run.
+/// The row of the sum: the times of all lines, and the instructions and cycles of the whole run.
 pub fn sum_of(whole: &Whole, lines: &[Line<'_>]) -> Figures
     ensures { result ≡ sum_of whole.now (map line_pair lines.now) }
 {
@@ -58,7 +58,7 @@ pub fn sum_of(whole: &Whole, lines: &[Line<'_>]) -> Figures
     }
 }
 
-// Appends how often, and what it took.
+// Appends the times, instructions and cycles of a row, each in its column.
 #[tactic(auto, unfolding(crate::specs::Table::counts))]
 fn push_counts(alloc: Global, text: &mut Vec<u8>, figures: &Figures) -> Result<(), AllocError>
     ensures { OnOk result (text.new.items ≡ text.old.items ++ counts figures.now) }
@@ -68,14 +68,14 @@ fn push_counts(alloc: Global, text: &mut Vec<u8>, figures: &Figures) -> Result<(
     push_column(alloc, text, CYCLES, u128::from(figures.cycles))
 }
 
-// Appends the share of all cycles.
+// Appends the share of all cycles, in its column.
 fn push_share(alloc: Global, text: &mut Vec<u8>, cycles: u64, all: u64) -> Result<(), AllocError>
     ensures { OnOk result (text.new.items ≡ text.old.items ++ right 8 (percent (share cycles all))) }
 {
     push_right(text, SHARE, percent(alloc, share(cycles, all))?.as_bytes())
 }
 
-// Appends the figures of a row behind its name.
+// Appends the name of a row, and its figures after it.
 #[tactic(auto, unfolding(crate::specs::Table::figures_text))]
 fn push_figures(
     alloc: Global,
@@ -111,6 +111,7 @@ fn push_line(alloc: Global, text: &mut Vec<u8>, line: &Line<'_>, all: u64) -> Re
     text.extend_from_slice(b"\n")
 }
 
+// Appends the rows of lines.
 fn push_lines(
     alloc: Global,
     text: &mut Vec<u8>,
@@ -125,7 +126,7 @@ fn push_lines(
     Ok(())
 }
 
-// Appends the row of what has no number.
+// Appends a row without a statement.
 #[tactic(auto, unfolding(crate::specs::Table::named))]
 fn push_named(
     alloc: Global,
@@ -140,6 +141,7 @@ fn push_named(
     text.extend_from_slice(b"\n")
 }
 
+// Appends the whole table.
 fn push_table(
     alloc: Global,
     text: &mut Vec<u8>,
@@ -160,7 +162,8 @@ fn push_table(
     push_named(alloc, text, b"sum", &sum_of(whole, lines), whole.cycles)
 }
 
-/// The table as a text: a row for what came before the first line, for each line, and for the whole.
+/// The table as a text: a row for what came before the first line, one for each line, and one for the whole run. Fails
+/// only if memory runs out.
 pub fn table_text(alloc: Global, whole: &Whole, lines: &[Line<'_>]) -> Result<Vec<u8>, AllocError>
     ensures { IfOk result (λ text. text.items ≡ table_of whole.now (map line_pair lines.now)) }
 {

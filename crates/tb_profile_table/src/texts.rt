@@ -15,7 +15,7 @@ pub struct Texts {
     pub page: Vec<u8>,
 }
 
-/// The texts of a table of the lines of a source.
+/// The table and the page of these rows, with the statements of this source. Fails only if memory runs out.
 pub fn texts_of(alloc: Global, table: &Table, source: &[u8]) -> Result<Texts, AllocError>
     ensures { IfOk result (Shows source.now table.now) }
 {
