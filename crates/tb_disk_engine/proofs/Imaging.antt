@@ -10,6 +10,7 @@ use Rattle.tb_disk_engine.specs.Names.{NamesDisk}
 use Rattle.tb_disk_engine.specs.Files.{AreTaken, IsImageOf, HasNoImage}
 use Rattle.tb_disk_engine.specs.declared.files.DiskFiles.{DiskFiles}
 
+-- what the maker of disks answers for the files and the name is what `image` promises of them
 pub imaged : {V : Type 0} (items : V → List ℕ) (d : DiskFiles) (path : List ℕ) (title : Name) (files : List File) (r : Result V DiskError)
     → NamesDisk path title → AreTaken d files → MatchResult r (λ v. IsDiskOf title files (items v)) (Refuses files)
     → MatchResult r (λ v. IsImageOf d path (items v)) (HasNoImage d)

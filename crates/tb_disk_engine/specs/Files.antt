@@ -20,9 +20,11 @@ use Rattle.tb_disk_engine.specs.declared.outcome.DiskRefusal.TheVariants.{BadNam
 abbrev pub Entry : Type 0
 Entry = List ℕ × List ℕ
 
+-- the entry of a file that was taken in
 abbrev pub entry_of : Taken → Entry
 entry_of t = (t.name.field, t.bytes.items)
 
+-- the entry of a file as the maker of disks has it
 abbrev pub entry_in : File → Entry
 entry_in f = (f.name.field, f.bytes.now)
 
@@ -30,7 +32,7 @@ entry_in f = (f.name.field, f.bytes.now)
 abbrev pub entries : DiskFiles → List Entry
 entries d = map entry_of d.files.items
 
--- one of them has this field
+-- one of them has this field as its name
 abbrev pub IsUsed : DiskFiles → List ℕ → Type 0
 IsUsed d field = Contains (map (λ t. t.name.field) d.files.items) field
 
@@ -40,7 +42,7 @@ NamesNext d path (Ok name) = IsName (file_text path) × (name.field ≡ field_of
 NamesNext d path (Err (Refused NameTwice)) = IsName (file_text path) × IsUsed d (field_of (file_text path))
 NamesNext d path (Err e) = Unnamed path e
 
--- the bytes of a PRG file
+-- these are the bytes of a PRG file
 abbrev pub IsPrg : List ℕ → Type 0
 IsPrg bytes = is_ok (content_of bytes) ≡ true
 
@@ -56,7 +58,7 @@ Adds old name had (Err NoMemory) = ⊤
 Adds old name had (Err Done) = ⊥
 Adds old name had (Err WriteFault) = ⊥
 
--- a fault comes only where the reader failed in this call, by its count of failures, or gave too many bytes
+-- a fault comes only if the reader failed in this call, by its count of failures, or gave too many bytes
 abbrev pub AddFaults : Result DiskFiles DiskOutcome → Option (List ℕ) → ℕ → ℕ → Type 0
 AddFaults (Ok new) had old new' = new' ≡ old
 AddFaults (Err ReadFault) had old new' = (new' ≢ old) ⊎ MayPassMost had
@@ -69,7 +71,7 @@ AddFaults (Err WriteFault) had old new' = ⊥
 abbrev pub AreTaken : DiskFiles → List File → Type 0
 AreTaken d files = map entry_in files ≡ entries d
 
--- the image of the disk with the files, named like a path
+-- the image of the disk with the files; the disk is named by a path
 abbrev pub IsImageOf : DiskFiles → List ℕ → List ℕ → Type 0
 IsImageOf d path image =
     (title : Name) × (files : List File) × NamesDisk path title × AreTaken d files × IsDiskOf title files image
@@ -83,7 +85,7 @@ abbrev pub HasNoImage : DiskFiles → DiskError → Type 0
 HasNoImage d DiskFull = IsFull d
 HasNoImage d NoRoom = ⊤
 
--- what was written by how it ended
+-- what was written, by how it ended
 abbrev pub Writes : DiskFiles → List ℕ → DiskOutcome → Option (List ℕ) → Option (List ℕ) → Type 0
 Writes d path Done old new = (image : List ℕ) × IsImageOf d path image × Appends old new image
 Writes d path (Refused Full) old new = IsFull d × Keeps old new
@@ -94,7 +96,7 @@ Writes d path ReadFault old new = ⊥
 Writes d path WriteFault old new = (image : List ℕ) × IsImageOf d path image × AppendsPrefix old new image
 Writes d path NoMemory old new = Keeps old new
 
--- a write fault comes only where the writer failed in this call
+-- a write fault comes only if the writer failed in this call
 abbrev pub WriteFaults : DiskOutcome → ℕ → ℕ → Type 0
 WriteFaults WriteFault old new = new ≢ old
 WriteFaults Done old new = new ≡ old

@@ -10,15 +10,15 @@ use Rattle.tb_disk_engine.specs.declared.outcome.DiskOutcome.{DiskOutcome}
 use Rattle.tb_disk_engine.specs.declared.outcome.DiskOutcome.TheVariants.{Done, Refused, ReadFault, WriteFault, NoMemory}
 use Rattle.tb_disk_engine.specs.declared.outcome.DiskRefusal.TheVariants.{BadName, NameTwice, Prg, Full}
 
--- a letter in upper case, `_` as `-`
+-- a letter in upper case, `_` as `-`; every other byte as it is
 abbrev pub sign_of : ℕ → ℕ
 sign_of c = if c == 95 then 45 else to_ascii_uppercase c
 
--- the last part of a path, in these signs
+-- the last part of a path, as characters of a name
 abbrev pub signs_of : List ℕ → List ℕ
 signs_of path = map sign_of (unwrap_or (path_file_name path) [])
 
--- signs without an ending, where they have it
+-- characters without an ending, if they have it
 abbrev pub without : List ℕ → List ℕ → List ℕ
 without ending signs =
     if ends_with nat_eq signs ending then take (length signs - length ending) signs else signs
@@ -27,11 +27,11 @@ without ending signs =
 abbrev pub file_text : List ℕ → List ℕ
 file_text path = without (46 ∷ 80 ∷ 82 ∷ 71 ∷ []) (signs_of path)
 
--- what a disk is called: its path's last part without `.D64`, cut at 16 signs
+-- what a disk is called: its path's last part without `.D64`, cut at 16 characters
 abbrev pub disk_text : List ℕ → List ℕ
 disk_text path = take 16 (without (46 ∷ 68 ∷ 54 ∷ 52 ∷ []) (signs_of path))
 
--- the name of a disk: what it is called, or `TBC` where that is no name
+-- the name of a disk: what it is called, or `TBC` if that is no name
 abbrev pub NamesDisk : List ℕ → Name → Type 0
 NamesDisk path name =
     (IsName (disk_text path) × (text_of name ≡ disk_text path)) ⊎ ((¬ IsName (disk_text path)) × (text_of name ≡ 84 ∷ 66 ∷ 67 ∷ []))

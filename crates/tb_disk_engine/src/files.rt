@@ -11,14 +11,14 @@ use std::io::{Read, Write};
 use tb_disk::{DiskError, File, Name, disk};
 use tb_streams::{InputError, Tracked, read_input, write_output};
 
-// A file that was taken in.
+// A file that was taken in, with its name on the disk.
 #[derive(Drop)]
 struct Taken {
     name: Name,
     bytes: Vec<u8>,
 }
 
-/// PRG files for a disk, in order.
+/// PRG files for a disk, in order, no two with one name.
 #[derive(Drop)]
 pub struct DiskFiles {
     files: Vec<Taken>,
@@ -60,7 +60,8 @@ impl DiskFiles {
         false
     }
 
-    /// The name of a file that is to come next, by its path.
+    /// The name on the disk of a file with this path, which is to come next. Refused if it is no name of a disk's file,
+    /// or if an earlier file has it.
     pub fn name(&self, alloc: Global, path: &str) -> Result<Name, DiskOutcome>
         ensures { NamesNext self.now path.now result }
     {
@@ -71,7 +72,8 @@ impl DiskFiles {
         Ok(name)
     }
 
-    /// Takes in all that a reader gives, a PRG file, under a name.
+    /// Takes in all that a reader gives under a name, after the files so far. Refused if it is no PRG file; on any
+    /// error the files are let go.
     pub fn add<R: Read>(
         mut self,
         alloc: Global,
@@ -98,7 +100,7 @@ impl DiskFiles {
         }
     }
 
-    // The image of the disk with the files, named like a path.
+    // The image of the disk with the files. The disk is named by a path.
     fn image(&self, alloc: Global, path: &str) -> Result<Vec<u8>, DiskError>
         ensures { MatchResult result (λ image. IsImageOf self.now path.now image.items)
             (HasNoImage self.now) }
@@ -108,7 +110,8 @@ impl DiskFiles {
         disk(alloc, &title, files.as_slice())
     }
 
-    /// Writes the image of the disk with the files. The disk is named like a path.
+    /// Writes the image of the disk with the files; the disk is named by a path. Nothing is written if there is no
+    /// image; after a write fault, a prefix of it is.
     pub fn write<W: Write>(&self, alloc: Global, path: &str, writer: &mut Tracked<W>) -> DiskOutcome
         ensures writes { Writes self.now path.now result
             (W.contents writer.old.stream) (W.contents writer.new.stream) }

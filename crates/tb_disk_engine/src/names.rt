@@ -9,10 +9,10 @@ use std::alloc::{AllocError, Global};
 use std::path::Path;
 use tb_disk::Name;
 
-/// The most signs of a name.
+/// The most characters of a name.
 const MOST_SIGNS: usize = 16;
 
-// A letter in upper case, `_` as `-`.
+// A letter in upper case, `_` as `-`; every other byte as it is.
 fn sign_of(byte: u8) -> u8
     ensures { result ≡ sign_of byte }
 {
@@ -23,7 +23,7 @@ fn sign_of(byte: u8) -> u8
     }
 }
 
-// The last part of a path, in these signs.
+// The last part of a path, as characters of a name.
 fn signs_of(alloc: Global, path: &str) -> Result<Vec<u8>, AllocError>
     ensures { IfOk result (λ signs. signs.items ≡ signs_of path.now) }
 {
@@ -34,7 +34,7 @@ fn signs_of(alloc: Global, path: &str) -> Result<Vec<u8>, AllocError>
         .collect(alloc)
 }
 
-// The signs without an ending, where they have it.
+// The characters without an ending, if they have it.
 fn without<'a>(ending: &[u8], signs: &'a [u8]) -> &'a [u8]
     ensures { result.now ≡ without ending.now signs.now }
 {
@@ -45,7 +45,7 @@ fn without<'a>(ending: &[u8], signs: &'a [u8]) -> &'a [u8]
     }
 }
 
-// The first signs, as many as a name has.
+// The first 16 characters, or all if there are fewer.
 #[tactic(auto, using(std::proofs::lemmas::List::take_all))]
 fn cut(signs: &[u8]) -> &[u8]
     ensures { result.now ≡ take 16 signs.now }
@@ -57,7 +57,7 @@ fn cut(signs: &[u8]) -> &[u8]
     }
 }
 
-/// The name that a file gets.
+/// The name that a file gets: the last part of its path without `.PRG`. Refused if that is no name of a disk's file.
 pub fn file_name(alloc: Global, path: &str) -> Result<Name, DiskOutcome>
     ensures { MatchResult result
         (λ n. IsName (file_text path.now) × (n.field ≡ field_of (file_text path.now)))
@@ -70,7 +70,7 @@ pub fn file_name(alloc: Global, path: &str) -> Result<Name, DiskOutcome>
     }
 }
 
-// The name of a disk whose path's last part is none.
+// The name of a disk if its path's last part is no name.
 fn default_name() -> Name
     ensures { text_of result ≡ 84 ∷ 66 ∷ 67 ∷ [] }
 {
@@ -79,7 +79,8 @@ fn default_name() -> Name
     }
 }
 
-/// The name that a disk gets.
+/// The name that a disk gets: the last part of its path without `.D64`, cut at 16 characters; `TBC` if that is no name.
+/// Fails only if memory runs out.
 pub fn disk_name(alloc: Global, path: &str) -> Result<Name, AllocError>
     ensures { IfOk result (NamesDisk path.now) }
 {

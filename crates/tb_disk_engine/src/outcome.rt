@@ -9,7 +9,7 @@ use thiserror::Error;
 /// Why there is no disk.
 #[derive(Clone, Copy, PartialEq, Eq, Debug, Drop, Error)]
 pub enum DiskRefusal {
-    /// A file's name is no name of a disk's file.
+    /// A file's name is not one that a file on a disk can have.
     #[error("bad name")]
     BadName,
     /// An earlier file has this name.
@@ -36,7 +36,7 @@ pub enum DiskOutcome {
     /// The writer failed.
     #[error("write fault")]
     WriteFault,
-    /// A growth was refused.
+    /// Memory ran out.
     #[error("out of memory")]
     NoMemory,
 }

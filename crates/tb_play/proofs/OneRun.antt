@@ -27,14 +27,14 @@ use Rattle.tb_opcodes.specs.Bytes.{AreBytes}
 abbrev GaveQuiet : Content → List Event → Content → Type 0
 GaveQuiet m es n = Gave gives_quiet (record {}) m es (record {}) n
 
--- a machine with more behind what is left of its text
+-- a machine with more text after what is left of its own
 abbrev behind : Content → List ℕ → Content
 behind m more = record m { all_text = text_left m ++ more; text_taken = 0 }
 
 runs_not_waits : (t : Status) → t ≡ Running → t ≢ Waits
 runs_not_waits t r w = let no : Running ≡ Waits = sym r ∙ w in absurd (cc)
 
--- the same events are given with more text behind
+-- the same events are given if more text comes after
 gave_behind : (es : List Event) (m n : Content) (more : List ℕ) → GaveQuiet m es n → GaveQuiet (behind m more) es (behind n more)
 gave_behind [] m n more (p, same) = (p, ap (with_more more) same)
 gave_behind (e ∷ es) m n more (runs, (o, ready, after, same, given, done, rest)) =
@@ -63,7 +63,7 @@ gave_append [] fs m n r (p, same) more = gave_from fs n m r (sym same) more
 gave_append (e ∷ es) fs m n r (runs, (o, ready, after, same, given, done, rest)) more =
     (runs, (o, ready, after, same, given, done, gave_append es fs after n r rest more))
 
--- a talk with more text behind
+-- a talk whose lines are all in the text from the start
 talk_gave : (limit : ℕ) (lines : List (List ℕ)) (m n : Content) → Talked limit m lines n
     → (es : List Event) × GaveQuiet (behind m (typed_of lines)) es n
 talk_gave limit [] m n same =
@@ -88,7 +88,7 @@ gave_runs es address bytes text n gave =
     (gave_from es (behind (start address bytes [] []) text) (start address bytes text []) n refl gave) (omega arith) (refl, λ h. refl)
 
 module _ (file : List ℕ) (m : Content) (begun : IsStart file m) where
-  -- what a machine shows to which these events were given
+  -- what a machine shows after these events
   shows : (es : List Event) (text : List ℕ) (n : Content) → AreBytes text → GaveQuiet (behind m text) es n
       → RunsTyped file text (Ok (host_form_of n.sent, end_of (status (state_of n)) n.regs.pc))
   shows es text n bytes gave =
@@ -114,7 +114,7 @@ module _ (file : List ℕ) (m : Content) (begun : IsStart file m) where
       subst (λ x. RunsTyped file (typed_of lines) (Ok (host_form_of n.sent, end_of x n.regs.pc))) (sym ran.answer.0)
       (shows (gave.0 ++ ran.events) (typed_of lines) n bytes (gave_append gave.0 ran.events _ came.typed n gave.1 ran.gave))
 
--- ---- what is typed are bytes
+-- ---- what is typed is bytes
 
 small_capital : (b : ℕ) → b < 256 → to_ascii_uppercase b < 256
 small_capital b h = grind (arith, nat_tests)
@@ -153,6 +153,7 @@ typed_bytes (line ∷ lines) had left (mid, first, rest) =
 
 -- ---- what playing wrote is what one run shows
 
+-- what playing wrote is what one run on the typed text shows, for the contract of `play_file`
 pub one_run : (limit : ℕ) (file : List ℕ) (m : Content) (outcome : Outcome) (typed : List ℕ) (had left : Option (List ℕ)) (read read' : ℕ)
     (old new : Option (List ℕ)) → IsStart file m → Plays limit m outcome typed had left read read' old new → Shows (RunsTyped file) outcome typed old new
 one_run limit file m (Ended end) typed had left read read' old new begun (lines, t, n, mid, came, stops, all, how, written) =

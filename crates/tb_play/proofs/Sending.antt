@@ -1,4 +1,4 @@
--- What a run sends stands behind what was sent before.
+-- What a run sends comes after what was sent before.
 use Rattle.std.proofs.Common.{◌≡◌, ℕ, ◌≤◌, Bool, true, false, List, [], ◌∷◌, ◌++◌, length, drop, refl, sym, ap, ◌∙◌, append-nil, append_assoc, arith, length-append}
 use Rattle.std.proofs.Math.Seq.{drop-append_seam}
 use Rattle.std.specs.Prelude.{Option, Some, None, Result, Ok, Err, if◌then◌else◌}
@@ -54,6 +54,7 @@ run_sends (e ∷ es) s =
     let later = run_sends es (happens s e) in
     (now.0 ++ later.0, later.1 ∙ ap (λ l. l ++ later.0) now.1 ∙ append_assoc s.sent now.0 later.0)
 
+-- what was sent after a stretch is what was sent before it, and then what it sent itself
 pub stretch_sends : (limit : ℕ) (m n : Content) (t : Status) → Stretch limit m t n → n.sent ≡ m.sent ++ sent_since m n
 stretch_sends limit m n t (p, ran) =
     let more = run_sends ran.events (state_of m) in
@@ -61,7 +62,7 @@ stretch_sends limit m n t (p, ran) =
     let fresh : sent_since m n ≡ more.0 = ap (drop (length m.sent)) whole ∙ drop-append_seam m.sent more.0 in
     whole ∙ ap (λ l. m.sent ++ l) (sym fresh)
 
--- it is no shorter
+-- a stretch makes what was sent no shorter
 pub stretch_longer : (limit : ℕ) (m n : Content) (t : Status) → Stretch limit m t n → length m.sent ≤ length n.sent
 stretch_longer limit m n t ran =
     let e = ap length (stretch_sends limit m n t ran) ∙ length-append m.sent (sent_since m n) in omega (arith, e)

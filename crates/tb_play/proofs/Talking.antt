@@ -22,7 +22,7 @@ flat_map_append : (f : ℕ → List ℕ) (xs ys : List ℕ) → flat_map f (xs +
 flat_map_append f [] ys = refl
 flat_map_append f (x ∷ xs) ys = ap (λ l. f x ++ l) (flat_map_append f xs ys) ∙ sym (append_assoc (f x) (flat_map f xs) (flat_map f ys))
 
--- the lines and one more
+-- what is typed of lines and one more line
 pub typed_more : (lines : List (List ℕ)) (line : List ℕ) → typed_of (lines ++ line ∷ []) ≡ typed_of lines ++ keys_of line
 typed_more [] line = append-nil (keys_of line)
 typed_more (l ∷ lines) line = ap (λ x. keys_of l ++ x) (typed_more lines line) ∙ sym (append_assoc (keys_of l) (typed_of lines) (keys_of line))
@@ -33,18 +33,20 @@ talked_more limit [] m n w typed line same ran more = (w, typed, subst (λ x. St
 talked_more limit (l ∷ lines) m n w typed line (v, next, before, then, rest) ran more =
     (v, next, before, then, talked_more limit lines next n w typed line rest ran more)
 
+-- taking lines of a reader and then one more line is taking them all
 pub taken_more : (lines : List (List ℕ)) (line : List ℕ) (had mid left : Option (List ℕ)) → TakesLines had lines mid → TakesLine mid line left
     → TakesLines had (lines ++ line ∷ []) left
 taken_more [] line had mid left same last = (left, subst (λ x. TakesLine x line left) same last, refl)
 taken_more (l ∷ lines) line had mid left (next, first, rest) last = (next, first, taken_more lines line next mid left rest last)
 
--- what was written of all that was sent
+-- what was written before and after a stretch is the host form of all that was sent
 pub written_more : (limit : ℕ) (m n : Content) (t : Status) (a b c : Option (List ℕ)) → Stretch limit m t n
     → Appends a b (host_form_of m.sent) → Appends b c (host_form_of (sent_since m n)) → Appends a c (host_form_of n.sent)
 written_more limit m n t a b c ran before since =
     let whole = ap host_form_of (stretch_sends limit m n t ran) ∙ flat_map_append host_byte m.sent (sent_since m n) in
     subst (Appends a c) (sym whole) (Appends-trans a b c _ _ before since)
 
+-- the same if only a prefix of the stretch's part was written
 pub written_part : (limit : ℕ) (m n : Content) (t : Status) (a b c : Option (List ℕ)) → Stretch limit m t n
     → Appends a b (host_form_of m.sent) → AppendsPrefix b c (host_form_of (sent_since m n)) → AppendsPrefix a c (host_form_of n.sent)
 written_part limit m n t a b c ran before (k, since) =
@@ -58,7 +60,7 @@ pub comes : (limit : ℕ) (m : Content) (lines : List (List ℕ)) (n w : Content
     → IsBehind limit m lines n had left old new → Stretch limit n t w → Comes limit m lines t w had left
 comes limit m lines n w t had left old new behind ran = record { typed = n; talked = behind.talked; stretch = ran; taken = behind.taken }
 
--- and by a line
+-- and by a line that is read and typed
 pub behind_more : (limit : ℕ) (m : Content) (lines : List (List ℕ)) (line : List ℕ) (n w typed : Content) (had mid left old now new : Option (List ℕ))
     → IsBehind limit m lines n had mid old now → Stretch limit n Waits w → Appends now new (host_form_of (sent_since n w))
     → TakesLine mid line left → state_of typed ≡ with_more (keys_of line) (state_of w)
@@ -71,20 +73,21 @@ behind_more limit m lines line n w typed had mid left old now new behind ran sin
       written = subst (λ x. Appends old new (host_form_of x)) (sym same) (written_more limit n w Waits old now new ran behind.written since);
     }
 
--- a machine that doesn't wait is asked no more
+-- a machine that doesn't wait reads no more lines
 pub stops : (t : Status) (had left : Option (List ℕ)) → is_waiting t ≡ false → left ≡ had → Stops t had left
 stops Running had left h same = same
 stops Waits had left h same = absurd (cc)
 stops Returned had left h same = same
 stops (Wrong w) had left h same = same
 
+-- the machine that waits has the status of its own name
 pub waits : (t : Status) → is_waiting t ≡ true → t ≡ Waits
 waits Running h = absurd (cc)
 waits Waits h = refl
 waits Returned h = absurd (cc)
 waits (Wrong w) h = absurd (cc)
 
--- a talk that ends where it goes on
+-- a talk that ends while the machine runs on or its output is written
 pub went_wrong : (limit : ℕ) (m n w : Content) (lines : List (List ℕ)) (outcome : Outcome) (wrote wrote' read read' : ℕ) (typed : List ℕ)
     (had left old now new : Option (List ℕ)) → IsBehind limit m lines n had left old now → GoesOn limit n (Err outcome) w wrote wrote' now new
     → Plays limit m outcome typed had left read read' old new
@@ -96,7 +99,7 @@ went_wrong limit m n w lines (Ended end) wrote wrote' read read' typed had left 
 went_wrong limit m n w lines (Refused e) wrote wrote' read read' typed had left old now new behind h = absurd h
 went_wrong limit m n w lines ReadFault wrote wrote' read read' typed had left old now new behind h = absurd h
 
--- a talk that ends where a line is read
+-- a talk that ends while a line is read
 pub heard_wrong : (limit : ℕ) (m w n : Content) (lines : List (List ℕ)) (outcome : Outcome) (first read read' : ℕ) (typed typed' : List ℕ)
     (had mid left old new : Option (List ℕ)) → Comes limit m lines Waits w had mid → Appends old new (host_form_of w.sent) → typed ≡ typed_of lines
     → read ≡ first → Hears w typed (Err outcome) n typed' mid left read read' → Plays limit m outcome typed' had left first read' old new

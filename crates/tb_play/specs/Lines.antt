@@ -10,7 +10,7 @@ use Rattle.tb_streams.specs.Lines.{without_return, TakesLine, TakesNothing, Take
 use Rattle.tb_streams.specs.declared.stream.InputError.{InputError}
 use Rattle.tb_streams.specs.declared.stream.InputError.TheVariants.{Fault, NoMemory}
 
--- the most bytes that are handed over in all
+-- the most bytes that are handed to the keyboard in all
 abbrev pub most_typed : ℕ
 most_typed = most_input
 
@@ -18,20 +18,20 @@ most_typed = most_input
 abbrev pub keys_of : List ℕ → List ℕ
 keys_of line = map to_ascii_uppercase (without_return line) ++ 13 ∷ []
 
--- what lines hand over, the first one first
+-- what lines hand over, the first line first
 abbrev pub typed_of : List (List ℕ) → List ℕ
 typed_of lines = flat_map keys_of lines
 
--- the same of lines one after the other
+-- these lines are taken of a reader, one after the other
 abbrev pub TakesLines : Option (List ℕ) → List (List ℕ) → Option (List ℕ) → Type 0
 TakesLines had [] left = left ≡ had
 TakesLines had (line ∷ lines) left = (mid : Option (List ℕ)) × TakesLine had line mid × TakesLines mid lines left
 
--- a byte of a line was taken, or the 10 of its end
+-- a byte of a line was taken, or the 10 at its end
 abbrev pub TakesSome : Option (List ℕ) → List ℕ → Option (List ℕ) → Type 0
 TakesSome had line left = (0 < length line) ⊎ Consumes had left (line ++ 10 ∷ [])
 
--- what reading the keys of a line answers, where there is room for so many
+-- what reading the keys of a line answers, if there is room for n bytes
 abbrev pub ReadsKeys : Result (Option (Vec ℕ Global)) InputError → ℕ → Option (List ℕ) → Option (List ℕ) → ℕ → ℕ → Type 0
 ReadsKeys (Ok None) room had left read read' = TakesNothing had left × (read' ≡ read)
 ReadsKeys (Ok (Some keys)) room had left read read' =

@@ -26,13 +26,13 @@ pub record IsStart (file : List ℕ) (m : Content) : Type 0 where
   pub in_ram : IsOpenRange address (length bytes)
   pub machine : m ≡ start address bytes [] []
 
--- the start machine, or why there is none: it is what a run of the file comes to
+-- the start machine, or why there is none: a run of the file is refused for the same reason
 abbrev pub IsStarted : List ℕ → Result Content NoText → Type 0
 IsStarted file (Ok m) = IsStart file m
 IsStarted file (Err (NoTextRefused e)) = RunsPrg gives_quiet (record {}) [] [] 0 file (Err e)
 IsStarted file (Err NoTextNoMemory) = Unit {0}
 
--- what playing a PRG file came to: its start machine was played, or nothing was done
+-- what playing a PRG file comes to: its start machine was played, or nothing was done
 abbrev pub PlaysFile : ℕ → List ℕ → Outcome → List ℕ → Option (List ℕ) → Option (List ℕ) → ℕ → ℕ → Option (List ℕ) → Option (List ℕ) → Type 0
 PlaysFile limit file (Refused e) typed had left read read' old new =
     RunsPrg gives_quiet (record {}) [] [] 0 file (Err e) × (left ≡ had) × Keeps old new
@@ -48,12 +48,14 @@ PlaysFile limit file WriteFault typed had left read read' old new =
 
 -- ---- one run on all that was typed
 
--- what comes of a run of a PRG file from the start, on a keyboard text of bytes that is there from the start, at some limit
+-- what comes of running a PRG file from its start, at some limit, on a keyboard text of bytes that is all there at the
+-- start
 abbrev pub RunsTyped : List ℕ → List ℕ → Product → Type 0
 RunsTyped file text product = AreBytes text × ((limit : ℕ) × RunsPrg gives_quiet (record {}) text [] limit file product)
 
--- What was written, by how playing ended; `runs` says what comes of a keyboard text. All of the run's text on what was
--- typed; at a fault, and at want of memory, that of a text that was typed up to there: at a write fault a prefix of it.
+-- What was written, by how playing ended; `runs` says what comes of a keyboard text. All of the text of the run on what
+-- was typed; after a fault, and if memory ran out, all of that on a text typed so far; after a write fault a prefix of
+-- it.
 abbrev pub Shows : (List ℕ → Product → Type 0) → Outcome → List ℕ → Option (List ℕ) → Option (List ℕ) → Type 0
 Shows runs (Ended end) typed old new = (text : List ℕ) × runs typed (Ok (text, end)) × Appends old new text
 Shows runs (Refused e) typed old new = runs [] (Err e) × Keeps old new
@@ -66,7 +68,7 @@ Shows runs NoMemory typed old new =
 
 -- ---- faults
 
--- a fault comes only where a stream failed, or more was read than is handed over; at every other outcome none failed
+-- a fault comes only if a stream failed, or if more was read than may be handed over; otherwise no stream failed
 abbrev pub PlayFaults : Outcome → ℕ → ℕ → ℕ → ℕ → Type 0
 PlayFaults ReadFault read read' wrote wrote' = wrote' ≡ wrote
 PlayFaults WriteFault read read' wrote wrote' = (read' ≡ read) × (wrote' ≢ wrote)

@@ -1,4 +1,4 @@
--- Talks: a machine runs, waits, is typed to, and runs on.
+-- Talks: a machine runs, waits, has a line typed to it, and runs on.
 use Rattle.std.specs.Prelude.{ℕ, Bool, true, false, ◌++◌, ◌≡◌, ◌≢◌, ◌⊎◌, ◌+◌, ◌<◌, ◌≤◌, List, [], ◌∷◌, length, drop, Option, Result, Ok, Err}
 use Rattle.std.specs.Io.KnownBytes.{Appends, Keeps}
 use Rattle.tb_kernal.specs.declared.outside.Quiet.{Quiet}
@@ -20,11 +20,11 @@ use Rattle.tb_play.specs.Lines.{most_typed, keys_of, typed_of, TakesLines, Takes
 abbrev pub gives_quiet : Quiet → Content → Event → Quiet → Type 0
 gives_quiet _ m e _ = is_quiet m e
 
--- at most `limit` quiet events lead from a machine to one that stands so
+-- at most `limit` quiet events lead from one machine to another, which has this status
 abbrev pub Stretch : ℕ → Content → Status → Content → Type 0
 Stretch limit m t n = (p : Quiet) × RanOver gives_quiet (record {}) m limit (Ok t) p n
 
--- lines are typed one after the other, each where the machine waits after a stretch
+-- lines are typed one after the other, each when the machine waits after a stretch
 abbrev pub Talked : ℕ → Content → List (List ℕ) → Content → Type 0
 Talked limit m [] n = n ≡ m
 Talked limit m (line ∷ lines) n =
@@ -37,27 +37,27 @@ pub record IsBehind (limit : ℕ) (m : Content) (lines : List (List ℕ)) (n : C
   pub taken : TakesLines had lines left
   pub written : Appends old new (host_form_of n.sent)
 
--- a talk and a stretch: these lines were taken of the reader, and nothing more
+-- a talk and a stretch after it: these lines were taken of the reader, and nothing more
 pub record Comes (limit : ℕ) (m : Content) (lines : List (List ℕ)) (t : Status) (n : Content) (had left : Option (List ℕ)) : Type 0 where
   pub typed : Content
   pub talked : Talked limit m lines typed
   pub stretch : Stretch limit typed t n
   pub taken : TakesLines had lines left
 
--- a machine that stops is asked no more; where it waits, nothing was left to be taken
+-- a machine that stops reads no more lines; if it waits, no line was left
 abbrev pub Stops : Status → Option (List ℕ) → Option (List ℕ) → Type 0
 Stops Running had left = left ≡ had
 Stops Waits had left = TakesNothing had left
 Stops Returned had left = left ≡ had
 Stops (Wrong w) had left = left ≡ had
 
--- the machine wants a key
+-- whether the machine waits for a key
 abbrev pub is_waiting : Status → Bool
 is_waiting Waits = true
 is_waiting _ = false
 
 -- What playing a machine came to: how it ended, all that was typed, the keyboard's reader before and after with its
--- count of failures, and what was written. A line is taken only where the machine waits and all that it sent is written.
+-- count of failures, and what was written. A line is taken only when the machine waits and all that it sent is written.
 abbrev pub Plays : ℕ → Content → Outcome → List ℕ → Option (List ℕ) → Option (List ℕ) → ℕ → ℕ → Option (List ℕ) → Option (List ℕ) → Type 0
 Plays limit m (Ended end) typed had left read read' old new =
     (lines : List (List ℕ)) × (t : Status) × (n : Content) × (mid : Option (List ℕ))
@@ -77,11 +77,12 @@ Plays limit m NoMemory typed had left read read' old new =
     ⊎ ((lines : List (List ℕ)) × (n : Content) × (mid : Option (List ℕ)) × (line : List ℕ)
     × Comes limit m lines Waits n had mid × TakesPart mid line left × Appends old new (host_form_of n.sent))
 
--- a stretch that was run and written: only what it sent itself
+-- what a machine sent in a stretch, without what it had sent before
 abbrev pub sent_since : Content → Content → List ℕ
 sent_since m n = drop (length m.sent) n.sent
 
--- what running a stretch and writing what it sent answers, with the machine after it, and the writer's count of failures
+-- what running a stretch and writing what it sent answers, with the machine after it, and the writer's count of
+-- failures
 abbrev pub GoesOn : ℕ → Content → Result Status Outcome → Content → ℕ → ℕ → Option (List ℕ) → Option (List ℕ) → Type 0
 GoesOn limit m (Ok t) n wrote wrote' old new =
     Stretch limit m t n × Appends old new (host_form_of (sent_since m n)) × (wrote' ≡ wrote)
@@ -92,7 +93,8 @@ GoesOn limit m (Err (Ended end)) n wrote wrote' old new = ⊥
 GoesOn limit m (Err (Refused e)) n wrote wrote' old new = ⊥
 GoesOn limit m (Err ReadFault) n wrote wrote' old new = ⊥
 
--- what reading a line and typing it answers: whether there was one; with the machine and all that was typed, before and after
+-- what reading a line and typing it answers: whether there was one; with the machine and the typed text before and
+-- after
 abbrev pub Hears : Content → List ℕ → Result Bool Outcome → Content → List ℕ → Option (List ℕ) → Option (List ℕ) → ℕ → ℕ → Type 0
 Hears m typed (Ok true) n typed' had left read read' =
     (line : List ℕ) × TakesLine had line left × (state_of n ≡ with_more (keys_of line) (state_of m))

@@ -25,7 +25,8 @@ fn start(alloc: Global, file: &[u8]) -> Result<Machine, NoText>
     }
 }
 
-/// Plays a PRG file: its machine starts as `run_prg` starts it, beside a quiet ROM, and is played by `play`.
+/// Plays a PRG file: its machine starts as `run_prg` starts it, with a quiet ROM, and is played by `play`. Nothing is
+/// written if the file is refused.
 ///
 /// What was written is the host form of what that machine sends in one run whose keyboard text is all that was typed:
 /// so `run_prg` on that text, and a limit that is large enough, writes the same.

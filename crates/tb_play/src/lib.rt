@@ -1,5 +1,5 @@
-//! Playing: a program runs, and where it waits for a key, a line is read and typed. What it sent is written and flushed
-//! before that.
+//! Playing: a program runs, and when it waits for a key, a line is read and typed. Before that, what it sent is written
+//! and flushed.
 #![tactic(auto)]
 
 mod files;

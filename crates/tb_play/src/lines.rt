@@ -7,7 +7,7 @@ use std::alloc::{AllocError, Global};
 use std::io::Read;
 use tb_streams::{InputError, MOST_INPUT, Tracked, read_line, without_return};
 
-/// The most bytes that are handed to the keyboard in all, the returns counted.
+/// The most bytes that are handed to the keyboard in all, returns included.
 pub const MOST_TYPED: usize = MOST_INPUT;
 
 /// What the return key gives.
@@ -25,7 +25,8 @@ fn keys_of(alloc: Global, line: &[u8]) -> Result<Vec<u8>, AllocError>
     Ok(keys)
 }
 
-/// What the next line hands to the keyboard; nothing where the input has ended. More than `room` bytes are a fault.
+/// What the next line hands to the keyboard: its letters as capitals, and a return; None if the input has ended. It is
+/// a fault if that is more than `room` bytes.
 pub fn read_keys<R: Read>(
     alloc: Global,
     reader: &mut Tracked<R>,

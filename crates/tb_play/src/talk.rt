@@ -20,13 +20,14 @@ pub struct Played {
     pub typed: Vec<u8>,
 }
 
+// Whether the machine waits for a key.
 fn is_waiting(status: Status) -> bool
     ensures { result ≡ is_waiting status }
 {
     matches!(status, Status::Waits)
 }
 
-// What a machine sent behind the first bytes.
+// What a machine sent after the first `written` bytes.
 fn sent_behind(machine: &Machine, written: usize) -> &[u8]
     requires { written ≤ length machine.now.sent }
     ensures { result.now ≡ drop written machine.now.sent }
@@ -57,7 +58,7 @@ fn go_on<W: Write>(
     }
 }
 
-// Reads a line and types it: whether there was one.
+// Reads a line and types it; answers whether there was one.
 fn hear<R: Read>(
     alloc: Global,
     machine: &mut Machine,
@@ -83,7 +84,7 @@ fn hear<R: Read>(
     Ok(true)
 }
 
-// Runs and hears in turn, until the machine stops or nothing is left to be typed.
+// Runs and hears in turn, until the machine stops or no line is left to be typed.
 fn talk<R: Read, W: Write>(
     alloc: Global,
     machine: &mut Machine,
@@ -118,9 +119,9 @@ fn talk<R: Read, W: Write>(
     unreachable!()
 }
 
-/// Plays a machine to which nothing is typed yet and which has sent nothing. It runs until it waits for a key, stops
-/// or takes `limit` events; what it sent since the last time is written in the host form, and flushed. Where it waits,
-/// a line is read and typed, its letters as capitals and a return behind it, and it runs on, until no line is left.
+/// Plays a machine to which nothing is typed yet and which has sent nothing. It runs until it waits for a key, stops or
+/// has taken `limit` events; what it sent since the last time is written in the host form, and flushed. If it waits, a
+/// line is read and typed (its letters as capitals, then a return), and it runs on, until no line is left.
 pub fn play<R: Read, W: Write>(
     alloc: Global,
     machine: &mut Machine,
