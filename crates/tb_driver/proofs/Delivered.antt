@@ -20,13 +20,13 @@ use Rattle.tb_engines.specs.declared.report.Report.{Report}
 
 -- ---- what was made, and what was written of it
 
--- what was made of one kind of products was made of any wider kind
+-- what was made of one kind of product was made of any wider kind
 pub makes_as : (p q : Product → Type 0) → ((x : Product) → p x → q x) → (made : Result Text NoText) → Makes p made → Makes q made
 makes_as p q wider (Ok text) m = wider _ m
 makes_as p q wider (Err (NoTextRefused e)) m = wider _ m
 makes_as p q wider (Err NoTextNoMemory) m = tt
 
--- and so it is with what was written
+-- and so for what was written
 pub answers_as : (p q : Product → Type 0) → ((x : Product) → p x → q x) → (outcome : Outcome) → (old new : Option (List ℕ))
     → Answers p outcome old new → Answers q outcome old new
 answers_as p q wider (Ended end) old new (text, made, written) = (text, wider _ made, written)
@@ -49,7 +49,7 @@ delivered makes had input source made outcome old new reads same m written =
     let here = subst (λ s. Makes (makes s) made) same m in
     answers_as (Shows made) (MadeFrom had makes) (λ x s. (input, reads, shown (makes input) made here x s)) outcome old new written
 
--- what was written where there is no program to warn of
+-- what was written if there is no program to warn of
 pub refusal_delivered : (makes : List Warning → List ℕ → Product → Type 0) (had : Option (List ℕ)) (input source : List ℕ) (e : CompileError)
     (stop : NoText) (outcome : Outcome) (report : Report) (old new : Option (List ℕ)) → Reads had input → source ≡ input
     → Makes (makes [] source) (Err (stop_of e)) → stop ≡ stop_of e → Answers (Shows (Err stop)) outcome old new

@@ -17,11 +17,12 @@ answer_loads seed source c found =
     let loads = file_loads seed source c found.outcome found.answer in
     (loads.0, in_ram (length (loaded_of c)) loads.1)
 
--- the address and the bytes of a file that was read
+-- the address of a file that was read, 0 if it is no PRG file
 abbrev pub address_in : Result (ℕ × List ℕ) PrgError → ℕ
 address_in (Ok p) = p.0
 address_in (Err e) = 0
 
+-- the bytes of a file that was read, none if it is no PRG file
 abbrev pub bytes_in : Result (ℕ × List ℕ) PrgError → List ℕ
 bytes_in (Ok p) = p.1
 bytes_in (Err e) = []

@@ -38,6 +38,7 @@ use Rattle.tb_engines.proofs.Start.{home_of-start}
 
 -- ---- bytes
 
+-- a list all of whose elements are below 256 is a list of bytes
 pub all_bytes : (xs : List ℕ) → ((k : ℕ) → slice_index xs k < 256) → AreBytes xs
 all_bytes [] h = tt
 all_bytes (x ∷ xs) h = (h 0, all_bytes xs (λ k. h (suc k)))
@@ -47,6 +48,7 @@ byte_at [] h k = omega arith
 byte_at (x ∷ xs) h zero = h.0
 byte_at (x ∷ xs) h (suc k) = byte_at xs h.1 k
 
+-- a file without its load address still is a list of bytes
 pub bytes_behind : (xs : List ℕ) → AreBytes xs → AreBytes (drop 2 xs)
 bytes_behind [] h = tt
 bytes_behind (x ∷ []) h = tt
@@ -54,7 +56,7 @@ bytes_behind (x ∷ y ∷ xs) h = h.1.1
 
 -- ---- the start
 
--- bytes put into a memory of bytes
+-- a memory of bytes stays one if bytes are put into it
 put_bytes : (m : ℕ → ℕ) (a : ℕ) (bytes : List ℕ) → HoldsBytes m → AreBytes bytes → HoldsBytes (with_bytes m a bytes)
 put_bytes m a bytes h small b = chosen (nat_le a b && nat_lt b (a + length bytes))
   where
@@ -88,7 +90,7 @@ start_holds bytes small =
     put_bytes (with_bytes (λ b. 0) BASIC_START bytes) 0x01f1 return_bytes (put_bytes (λ b. 0) BASIC_START bytes (λ b. omega arith) small)
     (omega arith, (omega arith, tt))
 
--- the start machine of a program below $A000, with a keyboard of bytes
+-- the start machine of a program below $A000, with a keyboard text of bytes
 pub starts : (bytes text answers : List ℕ) → BASIC_START + length bytes ≤ 0xa000 → AreBytes bytes → AreBytes text → AreBytes answers
     → Starts BASIC_START bytes (state_of (start BASIC_START bytes text answers))
 starts bytes text answers ends small small_text small_answers =
@@ -135,6 +137,7 @@ shows program seed s t pc WaitsForKey sound e =
     waits Faulted over h = let no : WaitsForKey ≡ Returned = e ∙ h in cc
     waits Waits over h = record { lines = sound.lines; output = t.sent; over = over; shown = refl }
 
+-- a program that ends below $A000 lies in RAM, so that its file is run
 pub in_ram : (n : ℕ) → BASIC_START + n ≤ 0xa000 → IsOpenRange BASIC_START n
 in_ram n h k below = let a : BASIC_START + k < 0xa000 = omega arith in open_so (BASIC_START + k) (omega arith) a
   where
@@ -158,6 +161,7 @@ module _ {O : Type 0} (gives : O → Content → Event → O → Type 0) (o : O)
       (kept.program, kept.made, subst (λ x. ShowsOutput kept.program seed text answers x.1 x.0) (sym is) (shows kept.program seed begun (state_of n) n.regs.pc t sound ran.answer.0))
   runs_loaded (Err e) (is, closed) = absurd (closed (in_ram (length bytes) kept.ends))
 
+  -- what comes of running the file comes of running the source
   pub runs_source : (x : Product) → RunsPrg gives o text answers limit file x → RunsSource seed text answers source x
   runs_source x runs = runs_loaded x (subst (λ c. RunsContent gives o c text answers limit x) kept.content runs)
 
@@ -178,6 +182,7 @@ image_loads image h =
     (rw below refl, ends)
 
 module _ (seed : ℕ) (source : List ℕ) (c : Compiled) where
+  -- the file that the compiler answers is loaded at $0801
   pub file_loads : (outcome : Outcome) → OutcomeAnswer seed outcome (Ok c) → IsLoaded (prg_of c)
   file_loads (Ok program) is =
       let l = all_size (labels_from PROLOGUE_AT is.items) PROLOGUE_AT is.items in

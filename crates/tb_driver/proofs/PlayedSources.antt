@@ -14,7 +14,7 @@ all_bytes : (xs : List ℕ) → AreBytes xs → AreBytes xs
 all_bytes [] h = tt
 all_bytes (x ∷ xs) (small, h) = (small, all_bytes xs h)
 
--- what is shown of runs is shown of what they come to
+-- what is shown of the runs of a file is shown of the source if each run of the file is one of the source
 shows_as : (p q : List ℕ → Product → Type 0) → ((text : List ℕ) (x : Product) → p text x → q text x) → (outcome : Outcome) (typed : List ℕ) (old new : Option (List ℕ))
     → Shows p outcome typed old new → Shows q outcome typed old new
 shows_as p q wider (Ended end) typed old new (text, runs, written) = (text, wider _ _ runs, written)
@@ -24,6 +24,7 @@ shows_as p q wider WriteFault typed old new (so_far, text, end, runs, written) =
 shows_as p q wider NoMemory typed old new (inl kept) = inl kept
 shows_as p q wider NoMemory typed old new (inr (so_far, text, end, runs, written)) = inr (so_far, text, end, wider _ _ runs, written)
 
+-- what playing a file that keeps its source shows is what the source shows
 pub shows_source : (seed : ℕ) (source file : List ℕ) → KeepsSource seed source file → AreBytes file → (outcome : Outcome) (typed : List ℕ) (old new : Option (List ℕ))
     → Shows (RunsTyped file) outcome typed old new → Shows (λ text product. RunsSource seed text [] source product) outcome typed old new
 shows_source seed source file kept small outcome typed old new shown =

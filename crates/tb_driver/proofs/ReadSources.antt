@@ -34,7 +34,7 @@ pub program_read : (seed : ℕ) (had : Option (List ℕ)) (input source : List �
 program_read seed had input source c read read' reads same found only keeps failed =
     (source, subst (Reads had) (sym same) reads, record { found = found; only = only }, keeps_source seed source c found keeps, failed)
 
--- ---- where there is no program
+-- ---- if there is no program
 
 kept : (bytes : Option (List ℕ)) → KeepsBytes bytes bytes
 kept None = tt
@@ -54,7 +54,7 @@ not_made seed makes refusal NoMemory had bytes read read' same = kept bytes
 not_made seed makes refusal (Ended end) had bytes read read' none = absurd none
 not_made seed makes refusal WriteFault had bytes read read' none = absurd none
 
--- so is what is reported
+-- the same for the report, which has no warnings
 pub nothing_made : (seed : ℕ) (outcome : Outcome) (report : Report) (had bytes : Option (List ℕ)) (read read' : ℕ) → ReadsSource seed (Err outcome) had read read'
     → report.outcome ≡ outcome → report.warnings.items ≡ [] → (makes : Compiled → Product → Type 0)
     → Answers (MadeFrom had (FromSource seed makes report.warnings.items)) report.outcome bytes bytes
@@ -63,7 +63,7 @@ nothing_made seed outcome report had bytes read read' is ends none makes =
     (subst (λ o. Answers (MadeFrom had (FromSource seed makes [])) o bytes bytes) (sym ends)
     (not_made seed (FromSource seed makes []) (λ source e refused. (Err e, refused, (refl, refl))) outcome had bytes read read' is))
 
--- ---- where there is one
+-- ---- if there is one
 
 module _ (seed : ℕ) (had : Option (List ℕ)) (program : Compiled) (read read' : ℕ) (is : ReadsSource seed (Ok program) had read read') (outcome : Outcome) (old new : Option (List ℕ)) where
   -- what is made of the program is made of the source
@@ -72,7 +72,7 @@ module _ (seed : ℕ) (had : Option (List ℕ)) (program : Compiled) (read read'
   program_made makes warnings warned written =
       answers_as (makes program) (MadeFrom had (FromSource seed makes warnings)) (λ x h. (is.0, is.1, (Ok program, is.2, (warned, h)))) outcome old new written
 
-  -- so is what is made of its file
+  -- and so is what is made of its file
   pub file_made : (makes : List ℕ → Product → Type 0) (warnings : List Warning) (file : List ℕ) (made : Result Text NoText) → file ≡ prg_of program
       → warnings ≡ warnings_of program → Makes (makes file) made → Answers (Shows made) outcome old new
       → Answers (MadeFrom had (FromSource seed (λ c. makes (prg_of c)) warnings)) outcome old new

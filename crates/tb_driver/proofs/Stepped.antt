@@ -27,7 +27,7 @@ use Rattle.tb_driver.proofs.Delivered.{makes_as, from_compiled, from_refusal}
 use Rattle.tb_driver.proofs.Loadable.{machine_at_start}
 
 module _ (text answers : List ℕ) (limit : ℕ) where
-  -- the answers over the machine that a loadable program starts with
+  -- the answers over the machine with which a loadable program starts
   pub stepped : (program : Compiled) (commands : List ℕ) (at : ℕ) (bytes : List ℕ) (m : Content) (h k : Holds Quiet) (said : List ℕ) → IsLoadable program
       → content_of (prg_of program) ≡ Ok (at, bytes) → m ≡ start at bytes text answers → h ≡ record (start_of_history text answers program) { machine = m }
       → Dialogue gives_quiet limit h (lines_of commands) said k → Steps text answers limit program commands (Ok (said, Done))

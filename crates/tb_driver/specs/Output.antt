@@ -16,7 +16,7 @@ use Rattle.tb_engines.specs.declared.outcome.End.{End}
 use Rattle.tb_engines.specs.declared.outcome.End.TheVariants.{Done, StepLimit, WaitsForKey, WentWrong}
 use Rattle.tb_engines.specs.declared.outcome.Refusal.TheVariants.{Source}
 
--- what is written is the host form of a program's whole output: of all that it sent when its run was over so
+-- what is written is the host form of a program's whole output: of all that it sent until its run ended this way
 pub record ShowsWhole (program : Program) (seed : ℕ) (text answers : List ℕ) (why : source.End) (written : List ℕ) : Type 0 where
   pub lines : ℕ
   pub output : List ℕ
@@ -30,8 +30,8 @@ pub record ShowsPart (program : Program) (seed : ℕ) (text answers : List ℕ) 
   pub prefix : IsPrefix output (sent_by (source_run program seed text answers lines))
   pub shown : written ≡ host_form_of output
 
--- what is written of a program, by how the engine ends: done where the source ended or faulted, waiting where it waits,
--- and else at the step limit; it never goes wrong
+-- what is written of a program, by how the engine ends: done if the source ended or faulted, waiting if it waits, and
+-- else at the step limit; it never goes wrong
 abbrev pub ShowsOutput : Program → ℕ → List ℕ → List ℕ → End → List ℕ → Type 0
 ShowsOutput program seed text answers Done written =
     ShowsWhole program seed text answers Ended written ⊎ ShowsWhole program seed text answers Faulted written
@@ -46,7 +46,7 @@ RunsSource seed text answers source (Ok shown) =
 RunsSource seed text answers source (Err (Source e)) = Compiles seed source (Err e)
 RunsSource seed text answers source (Err e) = ⊥
 
--- a PRG file, loaded at $0801 below $A000, keeps the program that the source's lines make
+-- a PRG file, loaded at $0801 and ending below $A000, keeps the program that the source's lines make
 pub record KeepsSource (seed : ℕ) (source file : List ℕ) : Type 0 where
   pub program : Program
   pub made : LinesMake source (Ok program)

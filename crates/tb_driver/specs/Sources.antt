@@ -15,23 +15,23 @@ use Rattle.tb_engines.specs.declared.outcome.Outcome.{Outcome as EngineOutcome}
 use Rattle.tb_engines.specs.declared.outcome.Outcome.TheVariants.{Ended, Refused, ReadFault, WriteFault, NoMemory as NoEngineMemory}
 use Rattle.tb_engines.specs.declared.outcome.Refusal.TheVariants.{Source}
 
--- what the compiler promises of an answer for a source and a first state of RND: what the file's lines make is answered,
--- and whatever they make is what is answered
+-- what the compiler promises of an answer for a source and a seed of RND: what the file's lines make is answered, and
+-- whatever they make is what is answered
 pub record IsAnswer (seed : ℕ) (source : List ℕ) (answer : Result Compiled CompileError) : Type 0 where
   pub found : HasOutcome seed source answer
   pub only : (outcome : Outcome) → LinesMake source outcome → OutcomeAnswer seed outcome answer
 
--- the compiler's answer; want of memory is none
+-- the compiler's answer; to run out of memory is none
 abbrev pub Compiles : ℕ → List ℕ → Result Compiled CompileError → Type 0
 Compiles seed source (Err NoMemory) = ⊥
 Compiles seed source answer = IsAnswer seed source answer
 
--- how an engine stops where there is no program
+-- how an engine stops if there is no program
 abbrev pub stop_of : CompileError → NoText
 stop_of NoMemory = NoTextNoMemory
 stop_of e = NoTextRefused (Source e)
 
--- the PRG file is written as it is
+-- the product is the PRG file as it is
 abbrev pub IsFile : Compiled → Product → Type 0
 IsFile c product = product ≡ Ok (prg_of c, Done)
 
@@ -45,7 +45,7 @@ abbrev pub FromSource : ℕ → (Compiled → Product → Type 0) → List Warni
 FromSource seed makes warnings source product =
     (answer : Result Compiled CompileError) × Compiles seed source answer × FromAnswer makes warnings answer product
 
--- where an input was not read, there is nothing to warn of
+-- if an input was not read, there is nothing to warn of
 abbrev pub WarnsOfRead : EngineOutcome → List Warning → Type 0
 WarnsOfRead ReadFault warnings = warnings ≡ []
 WarnsOfRead (Ended end) warnings = Unit {0}

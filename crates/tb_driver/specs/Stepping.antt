@@ -45,7 +45,7 @@ StepsThrough seed text answers limit warnings source commands product =
 abbrev pub MadeFromTaken : Option (List ℕ) → Option (List ℕ) → (List ℕ → Product → Type 0) → Product → Type 0
 MadeFromTaken had left makes product = (input : List ℕ) × Reads had input × Consumes had left input × makes input product
 
--- made from all that two readers had; the second is read to its end also where the source is refused
+-- made from all that two readers had; the second is read to its end even if the source is refused
 abbrev pub MadeFromBoth : Option (List ℕ) → Option (List ℕ) → Option (List ℕ) → (List ℕ → List ℕ → Product → Type 0) → Product → Type 0
 MadeFromBoth had_source had_commands left_commands makes product =
     MadeFrom had_source (λ source. MadeFromTaken had_commands left_commands (makes source)) product
@@ -54,8 +54,8 @@ MadeFromBoth had_source had_commands left_commands makes product =
 abbrev pub MayFault : Option (List ℕ) → ℕ → ℕ → Type 0
 MayFault had old new = (new ≢ old) ⊎ MayPassMost had
 
--- A fault comes only where a stream failed in this call or a reader gave too many bytes; at every other outcome no
--- stream failed. The source is read first.
+-- A fault comes only if a stream failed in this call or a reader gave too many bytes; at every other outcome no stream
+-- failed. The source is read first.
 abbrev pub FaultsOfBoth : Outcome → Option (List ℕ) → ℕ → ℕ → Option (List ℕ) → ℕ → ℕ → ℕ → ℕ → Type 0
 FaultsOfBoth ReadFault had_source source source' had_commands commands commands' wrote wrote' =
     ((MayFault had_source source source' × (commands' ≡ commands)) ⊎ ((source' ≡ source) × MayFault had_commands commands commands'))

@@ -14,7 +14,7 @@ use Rattle.tb_engines.specs.declared.outcome.End.{End}
 use Rattle.tb_streams.specs.HostForm.{host_form_of}
 use Rattle.tb_engines.specs.Programs.{start_regs, start_memory, start, end_of, RunsAt}
 
--- what lies at the first two places of a load of two bytes
+-- what lies at the first two addresses of a load of two bytes
 loaded_two : (m : List ℕ) (a x y k : ℕ) → a + 2 ≤ length m → k < 2
     → at (loaded m a (x ∷ y ∷ [])) (a + k) ≡ get_or (x ∷ y ∷ []) k 0
 unfolding at
@@ -27,7 +27,7 @@ loaded_two m a x y k h below =
     ∙ get_or-append_right (take a m) (x ∷ y ∷ []) a (a + k) 0 front (omega arith)
     ∙ rw behind refl
 
--- the program returns to $A100
+-- the start's memory and registers return the program to $A100
 pub home_of-start : (a : ℕ) (bytes : List ℕ) → a + length bytes ≤ 65536
     → home_of (at (start_memory a bytes)) (start_regs a) ≡ 0xa100
 home_of-start a bytes h =
@@ -38,12 +38,12 @@ home_of-start a bytes h =
     let high = loaded_two (loaded empty a bytes) 0x01f1 0xff 0xa0 1 (omega arith) (omega arith) in
     rw (low, high) refl
 
--- the word above S, plus one, is $A100, also where memory and registers are known only to be the start's
+-- the word above S, plus one, is $A100, also if memory and registers are known only to equal the start's
 returns_home : (a : ℕ) (bytes m : List ℕ) (r : Regs) → a + length bytes ≤ 65536
     → m ≡ start_memory a bytes → r ≡ start_regs a → home_of (at m) r ≡ 0xa100
 returns_home a bytes m r h same_memory same_regs = rw (same_memory, same_regs) (home_of-start a bytes h)
 
--- the start machine is entered
+-- a machine with the start's memory and registers may be entered
 pub never_refused : (a : ℕ) (bytes m : List ℕ) (r : Regs) → a + length bytes ≤ 65536
     → m ≡ start_memory a bytes → r ≡ start_regs a → entry_refusal (at m) r ≡ None
 never_refused a bytes m r h same_memory same_regs =
@@ -51,7 +51,7 @@ never_refused a bytes m r h same_memory same_regs =
     let low : r.s ≡ 0xf0 = ap (λ x. x.s) same_regs in
     rw (home, low) refl
 
--- what is entered with the start's memory and registers is the start machine
+-- a machine that is entered with the start's memory and registers is the start machine
 pub entered_is_start : (a : ℕ) (bytes m : List ℕ) (r : Regs) (text answers : List ℕ)
     → a + length bytes ≤ 65536 → m ≡ start_memory a bytes → r ≡ start_regs a
     → entered m r text answers ≡ start a bytes text answers

@@ -12,7 +12,7 @@ use Rattle.tb_engines.specs.Outcomes.{Product}
 use Rattle.tb_engines.specs.declared.outcome.End.TheVariants.{Done}
 use Rattle.tb_engines.specs.declared.outcome.Refusal.TheVariants.{TextLine, Item, Prg}
 
--- items at an address: the load address and the image, or the refusal with its item
+-- items at an address: the load address and the image, or the refusal with the number of its item
 abbrev pub image_unless : Option (AsmErrorKind × ℕ) → ℕ → List Entry → Product
 image_unless None at items = Ok (word_bytes at ++ image_of at items, Done)
 image_unless (Some fault) at items = Err (Item (record { kind = fault.0; item = fault.1 }))
@@ -22,7 +22,7 @@ abbrev pub image_of_items : ℕ → Result (List Entry) ℕ → Product
 image_of_items at (Ok items) = image_unless (refusal at items) at items
 image_of_items at (Err line) = Err (TextLine line)
 
--- an assembler text at an address
+-- what comes of an assembler text at an address
 abbrev pub Assembles : ℕ → List ℕ → Product → Type 0
 Assembles at text product = product ≡ image_of_items at (items_of_text text)
 
@@ -31,6 +31,6 @@ abbrev pub listing_of : Result (ℕ × List ℕ) PrgError → Product
 listing_of (Ok p) = Ok (text_of (lines_of p.0 p.1), Done)
 listing_of (Err e) = Err (Prg e)
 
--- a PRG file
+-- what comes of listing a PRG file
 abbrev pub ListsPrg : List ℕ → Product → Type 0
 ListsPrg file product = product ≡ listing_of (content_of file)

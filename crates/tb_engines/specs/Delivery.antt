@@ -9,12 +9,12 @@ use Rattle.tb_engines.specs.declared.outcome.Outcome.{Outcome}
 use Rattle.tb_engines.specs.declared.outcome.Outcome.TheVariants.{Ended, Refused, ReadFault, WriteFault, NoMemory}
 use Rattle.tb_engines.specs.Outcomes.{Product}
 
--- the outcome where an input could not be had
+-- the outcome if an input could not be had
 abbrev pub outcome_of : InputError → Outcome
 outcome_of Fault = ReadFault
 outcome_of InputNoMemory = NoMemory
 
--- what was made is a product; there is none where memory was wanting
+-- what was made is a product; there is none if memory ran out
 abbrev pub Makes : (Product → Type 0) → Result Text NoText → Type 0
 Makes makes (Ok text) = makes (Ok (text.bytes.items, text.end))
 Makes makes (Err (NoTextRefused e)) = makes (Err e)
@@ -26,7 +26,7 @@ Shows (Ok text) product = product ≡ Ok (text.bytes.items, text.end)
 Shows (Err (NoTextRefused e)) product = product ≡ Err e
 Shows (Err NoTextNoMemory) product = ⊥
 
--- delivering never ends in a read fault, and in a write fault only where the writer failed
+-- delivering never ends in a read fault, and in a write fault only if the writer failed
 abbrev pub DeliveryFaults : Outcome → ℕ → ℕ → Type 0
 DeliveryFaults ReadFault old new = ⊥
 DeliveryFaults WriteFault old new = new ≢ old

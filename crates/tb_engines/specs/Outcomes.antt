@@ -8,7 +8,7 @@ use Rattle.tb_engines.specs.declared.outcome.Refusal.{Refusal}
 use Rattle.tb_engines.specs.declared.outcome.Outcome.{Outcome}
 use Rattle.tb_engines.specs.declared.outcome.Outcome.TheVariants.{Ended, Refused, ReadFault, WriteFault, NoMemory}
 
--- the exit status where the whole text was written
+-- the exit status if the whole text was written
 abbrev pub status_of_end : End → ℕ
 status_of_end Done = 0
 status_of_end StepLimit = 5
@@ -36,12 +36,12 @@ Answers makes WriteFault old new =
     (text : List ℕ) × (end : End) × makes (Ok (text, end)) × AppendsPrefix old new text
 Answers makes NoMemory old new = Keeps old new
 
--- made from all that a reader had: from these bytes, where it tells them
+-- made from all that a reader had: from these bytes, if it is known what they are
 abbrev pub MadeFrom : Option (List ℕ) → (List ℕ → Product → Type 0) → Product → Type 0
 MadeFrom had makes product = (input : List ℕ) × Reads had input × makes input product
 
--- a fault comes only where a stream failed in this call, by its count of failures, or the reader gave
--- too many bytes; at every other outcome no stream failed
+-- a fault comes only if a stream failed in this call, by its count of failures, or the reader gave too many bytes; at
+-- every other outcome no stream failed
 abbrev pub Faults : Outcome → Option (List ℕ) → ℕ → ℕ → ℕ → ℕ → Type 0
 Faults ReadFault had read read' wrote wrote' = ((read' ≢ read) ⊎ MayPassMost had) × (wrote' ≡ wrote)
 Faults WriteFault had read read' wrote wrote' = (read' ≡ read) × (wrote' ≢ wrote)

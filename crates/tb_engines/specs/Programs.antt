@@ -18,11 +18,11 @@ use Rattle.tb_engines.specs.declared.delivery.NoText.{NoText}
 use Rattle.tb_engines.specs.declared.delivery.NoText.TheVariants.{Refused, NoMemory}
 use Rattle.tb_engines.specs.declared.outcome.Refusal.TheVariants.{Prg, NotRam}
 
--- a program at $0801 begins behind its BASIC line, any other at its first byte
+-- a program at $0801 begins after its BASIC line, any other at its first byte
 abbrev pub first_pc : ℕ → ℕ
 first_pc at = if nat_eq at BASIC_START then CODE_START else at
 
--- the registers where a program at an address starts: PC is at its first instruction, S is $F0, the rest is 0 or clear
+-- the registers with which a program at an address starts: PC at its first instruction, S $F0, the rest 0 or clear
 abbrev pub start_regs : ℕ → Regs
 start_regs at =
     record {
@@ -70,14 +70,14 @@ Runs gives o m limit shown =
     × RanOver gives o m limit (Ok t) p n
     × (shown ≡ (host_form_of n.sent, end_of t n.regs.pc))
 
--- what comes of a program at an address: a run, where all of it lies in RAM
+-- what comes of a program at an address: a run, if all of it lies in RAM
 abbrev pub RunsAt : {O : Type 0} → (O → Content → Event → O → Type 0) → O → ℕ → List ℕ
     → List ℕ → List ℕ → ℕ → Product → Type 0
 RunsAt gives o at bytes text answers limit (Ok shown) =
     IsOpenRange at (length bytes) × Runs gives o (start at bytes text answers) limit shown
 RunsAt gives o at bytes text answers limit (Err e) = (e ≡ NotRam) × ¬ (IsOpenRange at (length bytes))
 
--- what comes of the load address and the bytes of a PRG file, or of a file that is none
+-- what comes of the load address and the bytes of a PRG file, or of a file that is no PRG file
 abbrev pub RunsContent : {O : Type 0} → (O → Content → Event → O → Type 0) → O
     → Result (ℕ × List ℕ) PrgError → List ℕ → List ℕ → ℕ → Product → Type 0
 RunsContent gives o (Ok p) text answers limit product =
@@ -90,7 +90,7 @@ abbrev pub RunsPrg : {O : Type 0} → (O → Content → Event → O → Type 0)
 RunsPrg gives o text answers limit file product =
     RunsContent gives o (content_of file) text answers limit product
 
--- why a program is not loaded: it does not lie in RAM, or memory is wanting
+-- why a program is not loaded: it does not lie in RAM, or memory ran out
 abbrev pub IsUnloadable : ℕ → List ℕ → NoText → Type 0
 IsUnloadable at bytes (Refused e) = (e ≡ NotRam) × ¬ (IsOpenRange at (length bytes))
 IsUnloadable at bytes NoMemory = Unit {0}

@@ -24,7 +24,7 @@ source_text NoMemory = codes "out of memory"
 abbrev pub too_deep_text : List ℕ
 too_deep_text = codes "expression too deep"
 
--- a program that costs so much
+-- a program that has this cost
 abbrev pub too_large_text : ℕ → List ℕ
 too_large_text cost = codes "program too large (" ++ (decimal cost ++ codes " bytes)")
 
@@ -39,7 +39,7 @@ wrong_text wrong.BadDecimal = codes "bad decimal"
 wrong_text (wrong.Closed address) = codes "closed address " ++ address_text address
 wrong_text wrong.Brk = codes "brk"
 
--- how a run ended; nothing where all is done
+-- how a run ended; nothing if it ended well
 abbrev pub end_text : End → List ℕ
 end_text end.Done = []
 end_text end.StepLimit = codes "step limit"
