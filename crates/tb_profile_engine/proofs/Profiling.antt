@@ -38,9 +38,9 @@ pub started : {O : Type 0} (gives : O → Content → Event → O → Type 0) (o
 started gives o text answers limit program at bytes m result loadable content machine ran =
     subst (λ s. ComesTo (RunsFrom gives o limit program s) result) (machine_at_start text answers program at bytes m loadable content machine) ran
 
--- ---- lines begin at places of their own
+-- ---- lines begin at addresses of their own
 
--- no start below an address is that address
+-- no line begins at an address below the lowest start
 below : (low a : ℕ) (starts : List (ℕ × ℕ)) → a < low → AddressesRise low starts → begins_line (map (λ s. s.1) starts) a ≡ false
 below low a [] less rise = refl
 below low a (s ∷ starts) less rise =
@@ -81,6 +81,7 @@ module _ {O : Type 0} (gives : O → Content → Event → O → Type 0) (o : O)
   of_outcome seed (Ok program) ran texts made answer is shows = of_program seed program ran texts made answer is shows
   of_outcome seed (Err r) ran texts made answer is shows = absurd answer
 
+  -- the texts of a profiled run are the profile of the source that makes the program
   pub profiles : (seed : ℕ) (ran : Ran) (made : Made) → HasOutcome seed source (Ok c) → IsProfile gives o text answers limit c ran
       → Shows source ran.table made.texts → made.end ≡ ran.end
       → MakesTexts (Profiles gives o text answers limit source c) (Ok made)
@@ -88,6 +89,7 @@ module _ {O : Type 0} (gives : O → Content → Event → O → Type 0) (o : O)
 
 -- ---- what is prepared
 
+-- what is prepared of a program's texts is of their kind, with the program's warnings
 pub prepares : (makes : List ℕ → Product → Type 0) (warnings warned : List Warning) (made : Result Made NoText) (p : Prepared)
     → warned ≡ warnings → MakesTexts makes made → IsPrepared made warned p → Prepares makes warnings p
 prepares makes warnings warned (Ok made) p same m is =

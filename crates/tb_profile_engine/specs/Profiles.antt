@@ -20,8 +20,8 @@ use Rattle.tb_engines.specs.declared.delivery.Text.{Text}
 use Rattle.tb_profile_engine.specs.declared.running.Ran.{Ran}
 use Rattle.tb_profile_engine.specs.Running.{IsProfile}
 
--- A profile of the program that a source makes: a row for each of its lines in order, rows that add up to the whole run,
--- and the table and the page of these rows with the statements of the source.
+-- A profile of the program that a source makes: a row for each of its lines in order, rows that add up to the whole
+-- run, and the table and the page of these rows with the statements of the source.
 pub record IsProfileOf {O : Type 0} (gives : O → Content → Event → O → Type 0) (o : O) (text answers : List ℕ) (limit : ℕ) (source : List ℕ)
     (compiled : Compiled) (html shown : List ℕ) (ran : Ran) : Type 0 where
   pub program : Program
@@ -42,7 +42,7 @@ Profiles gives o text answers limit source compiled page (Err e) = ⊥
 abbrev pub IsProgramOf : List ℕ → Compiled → Type 0
 IsProgramOf source compiled = (seed : ℕ) × HasOutcome seed source (Ok compiled)
 
--- what was made of a program; there is nothing where memory was wanting
+-- what was made of a program; there is nothing if memory ran out
 abbrev pub MakesTexts : (List ℕ → Product → Type 0) → Result Made NoText → Type 0
 MakesTexts makes (Ok made) = makes made.texts.page.items (Ok (made.texts.table.items, made.end))
 MakesTexts makes (Err (Refused e)) = ⊥
@@ -56,22 +56,23 @@ ProfilesSource gives o seed text answers limit warnings page source product =
 
 -- ---- steps of the engine
 
--- nothing is to be written
+-- nothing is to be written, and these are the warnings
 pub record IsStopped (stop : NoText) (warned : List Warning) (p : Prepared) : Type 0 where
   pub text : p.text ≡ Err stop
   pub warnings : p.warnings.items ≡ warned
 
--- what was made is to be written, with the page beside it
+-- what was made is to be written, with its page
 abbrev pub IsPrepared : Result Made NoText → List Warning → Prepared → Type 0
 IsPrepared (Ok made) warnings p =
     (p.text ≡ Ok (record { bytes = made.texts.table; end = made.end })) × (p.warnings.items ≡ warnings) × (p.page.items ≡ made.texts.page.items)
 IsPrepared (Err stop) warnings p = IsStopped stop warnings p
 
--- a text of its kind, with the warnings; nothing is said of them where memory was wanting
+-- a text of its kind, with the warnings; nothing is said of them if memory ran out
 abbrev pub PreparesText : (List ℕ → Product → Type 0) → List Warning → List Warning → List ℕ → Result Text NoText → Type 0
 PreparesText makes warnings warned page (Ok text) = (warned ≡ warnings) × makes page (Ok (text.bytes.items, text.end))
 PreparesText makes warnings warned page (Err (Refused e)) = ⊥
 PreparesText makes warnings warned page (Err NoMemory) = Unit {0}
 
+-- what is prepared for writing is of its kind, with the warnings
 abbrev pub Prepares : (List ℕ → Product → Type 0) → List Warning → Prepared → Type 0
 Prepares makes warnings p = PreparesText makes warnings p.warnings.items p.page.items p.text

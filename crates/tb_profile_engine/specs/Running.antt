@@ -11,8 +11,8 @@ use Rattle.tb_engines.specs.declared.delivery.NoText.TheVariants.{Refused, NoMem
 use Rattle.tb_profile_table.specs.Rows.{Tabled}
 use Rattle.tb_profile_engine.specs.declared.running.Ran.{Ran}
 
--- A run of at most `limit` events that an outside gave a machine, the table of the program's lines at the places where
--- their code begins, and how it ended.
+-- A run of at most `limit` events that an outside gave a machine, the table of the program's lines by the addresses
+-- where their code begins, and how it ended.
 pub record RunsFrom {O : Type 0} (gives : O → Content → Event → O → Type 0) (o : O) (limit : ℕ) (program : Compiled) (m : Content) (ran : Ran) : Type 0 where
   pub outside : O
   pub machine : Content
@@ -23,7 +23,7 @@ pub record RunsFrom {O : Type 0} (gives : O → Content → Event → O → Type
 abbrev pub IsProfile : {O : Type 0} → (O → Content → Event → O → Type 0) → O → List ℕ → List ℕ → ℕ → Compiled → Ran → Type 0
 IsProfile gives o text answers limit program ran = RunsFrom gives o limit program (start BASIC_START (loaded_of program) text answers) ran
 
--- a run, where memory was not wanting
+-- a run, unless memory ran out
 abbrev pub ComesTo : (Ran → Type 0) → Result Ran NoText → Type 0
 ComesTo is (Ok ran) = is ran
 ComesTo is (Err (Refused e)) = ⊥
