@@ -15,7 +15,8 @@ use tb_settling::assemble_settled;
 use tb_syntax::Program;
 use tb_templates::program_items;
 
-/// The PRG file of a program, of which nothing is said but that its bytes, loaded at `$0801`, keep the program.
+/// The PRG file of a program, of which nothing is said but that its bytes, loaded at `$0801`, keep the program. Fails
+/// if the program is too large or memory runs out.
 pub fn keeping_file(alloc: Global, program: &Program, seed: u16) -> Result<Vec<u8>, CompileError>
     requires stated { AreStated (lines_of program.now) }
     requires rising { RisesFrom 0 (numbers (lines_of program.now)) }

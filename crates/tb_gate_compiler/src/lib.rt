@@ -1,7 +1,7 @@
-//! The compiler's theorems alone. What `lower` and `compile` promise has the exact lists and the exact bytes beside the
-//! theorem, and a wrong body is refused for these already. Here nothing but the theorem is asked, so it is seen to refuse.
-//! Labels stand here for the same: what refuses a wrong one is the promise of `label` alone. What `compile` answers for a
-//! source, and `line_at` for an address, is told whole.
+//! The compiler's theorems alone. `lower` and `compile` promise the exact lists and the exact bytes as well as the
+//! theorem, and a wrong body is already refused for these. Here only the theorem is asked for, so it can be seen to
+//! refuse. `label` is here for the same reason: what refuses a wrong one is its promise alone. Of `compile` and
+//! `line_at` there are the clauses that their wrong bodies are tried on.
 #![tactic(auto)]
 
 mod image;

@@ -11,7 +11,7 @@ ghost use Rattle.tb_simulation.specs.LineStarts.{MarksLines};
 use std::alloc::Global;
 use tb_codegen::{CompileError, Compiled, LineStart, Options, compile};
 
-/// `compile`.
+/// Calls `compile`.
 pub fn source_compiled(
     alloc: Global,
     source: &[u8],
@@ -25,8 +25,8 @@ pub fn source_compiled(
     compile(alloc, source, options)
 }
 
-/// A compiled source with the places of its lines, of which nothing is said but that where a machine comes to one of
-/// them the program begins that line, and the other way round.
+/// A compiled source with the addresses of its lines, of which nothing is said but that if a machine comes to one of
+/// them, the program begins that line, and the other way round.
 pub fn marked_lines(
     alloc: Global,
     source: &[u8],
@@ -39,7 +39,7 @@ pub fn marked_lines(
     Ok((compiled, starts))
 }
 
-/// `Compiled::line_at`.
+/// Calls `Compiled::line_at`.
 pub fn line_there(compiled: &Compiled, address: u16) -> Option<u16>
     ensures { result ≡ line_in (starts_of compiled.now) (table_of compiled.now) address }
 {

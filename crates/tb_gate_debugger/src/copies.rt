@@ -6,21 +6,21 @@ use std::alloc::{AllocError, Global};
 use tb_kernal::{Event, Machine, Outside, Quiet};
 use tb_memmap::Memory;
 
-/// `Memory::copied`.
+/// Calls `Memory::copied`.
 pub fn memory_copied(memory: &Memory, alloc: Global) -> Result<Memory, AllocError>
     ensures { IfOk result (λ m. m ≡ memory.now) }
 {
     memory.copied(alloc)
 }
 
-/// `Machine::copied`.
+/// Calls `Machine::copied`.
 pub fn machine_copied(machine: &Machine, alloc: Global, sent: &[u8]) -> Result<Machine, AllocError>
     ensures { IfOk result (λ m. m ≡ record machine.now { sent = sent.now; room = 0 }) }
 {
     machine.copied(alloc, sent)
 }
 
-/// `Quiet::next`.
+/// Calls `Quiet::next`.
 pub fn quiet_event(machine: &Machine) -> Event
     ensures { is_quiet machine.now result }
 {

@@ -14,7 +14,7 @@ use tb_kernal::Keyboard;
 use tb_meaning::Warning;
 use tb_streams::Tracked;
 
-/// `read_sources`.
+/// Calls `read_sources`.
 pub fn sources_read<R: Read>(
     alloc: Global,
     reader: &mut Tracked<R>,
@@ -26,14 +26,14 @@ pub fn sources_read<R: Read>(
     read_sources(alloc, reader, seed)
 }
 
-/// `warnings`.
+/// Calls `warnings`.
 pub fn warnings_of_sources(alloc: Global, sources: &Sources) -> Result<Vec<Warning>, AllocError>
     ensures { IfOk result (λ warnings. warnings.items ≡ warnings_of sources.now.program) }
 {
     warnings(alloc, sources)
 }
 
-/// `debug`.
+/// Calls `debug`.
 pub fn debugged<R: Read, W: Write>(
     alloc: Global,
     sources: &Sources,

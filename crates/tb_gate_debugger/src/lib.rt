@@ -1,7 +1,8 @@
-//! What the debugger and its parts promise, and the copies of machine and memory that it stands on, once more and in one
-//! place: functions that only hand a call on, each with the contract of the call.
+//! What the debugger and its parts promise, and the copies of machine and memory that it works on, once more and in
+//! one place: functions that only hand a call on, each with the clauses of the call's contract that its wrong bodies
+//! are tried on.
 //!
-//! As in `tb_gate_parts`, wrong bodies are tried here (`must-fail/`), where no proof of the debugger counts: what refuses
+//! As in `tb_gate_parts`, the wrong bodies are in `must-fail/`, and no proof of the debugger counts here: what refuses
 //! them is the promise alone.
 #![tactic(auto)]
 

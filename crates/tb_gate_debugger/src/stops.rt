@@ -5,21 +5,21 @@ ghost use Rattle.tb_debug.specs.Breakpoints.{Turned, breakpoints_of, watches_of,
 use std::alloc::AllocError;
 use tb_debug::{StopPoints, Variables};
 
-/// `StopPoints::breaks`.
+/// Calls `StopPoints::breaks`.
 pub fn breaks_at(stops: &StopPoints, line: Option<u16>) -> bool
     ensures { result ≡ breaks (breakpoints_of stops.now) line }
 {
     stops.breaks(line)
 }
 
-/// `StopPoints::differ`.
+/// Calls `StopPoints::differ`.
 pub fn watched_differ(stops: &StopPoints, before: &Variables, after: &Variables) -> bool
     ensures { result ≡ differ (watches_of stops.now) before.now after.now }
 {
     stops.differ(before, after)
 }
 
-/// `StopPoints::turn_breakpoint`.
+/// Calls `StopPoints::turn_breakpoint`.
 pub fn breakpoint_turned(stops: &mut StopPoints, line: u16) -> Result<bool, AllocError>
     ensures set { IfOk result (λ set. set ≡ not (is_among (breakpoints_of stops.old) line)) }
     ensures turned { OnOk result (Turned line (breakpoints_of stops.old) (breakpoints_of stops.new)) }

@@ -15,7 +15,7 @@ ghost use Rattle.tb_debug.specs.declared.rom.Rom.{Rom};
 use std::alloc::{AllocError, Global};
 use tb_debug::{Answer, Command, Debugger, Reached};
 
-/// `Debugger::continue_`.
+/// Calls `Debugger::continue_`.
 pub fn gone_on(
     debugger: &mut Debugger<'_>,
     alloc: Global,
@@ -29,7 +29,7 @@ pub fn gone_on(
     debugger.continue_(alloc, limit)
 }
 
-/// `Debugger::reverse_continue`.
+/// Calls `Debugger::reverse_continue`.
 pub fn gone_back(debugger: &mut Debugger<'_>, alloc: Global) -> Result<Reached, AllocError>
     ensures run { OnOk result (KeepsRun debugger.old debugger.new) }
     ensures stop { IfOk result (λ reached. LeadsBackToNewest debugger.old reached debugger.new.present) }
@@ -39,7 +39,7 @@ pub fn gone_back(debugger: &mut Debugger<'_>, alloc: Global) -> Result<Reached, 
     debugger.reverse_continue(alloc)
 }
 
-/// `Debugger::to_time`.
+/// Calls `Debugger::to_time`.
 pub fn gone_to(
     debugger: &mut Debugger<'_>,
     alloc: Global,
@@ -54,7 +54,7 @@ pub fn gone_to(
     debugger.to_time(alloc, time, limit)
 }
 
-/// `Debugger::back`.
+/// Calls `Debugger::previous`.
 pub fn stepped_back(
     debugger: &mut Debugger<'_>,
     alloc: Global,
@@ -68,7 +68,7 @@ pub fn stepped_back(
     debugger.previous(alloc, lines)
 }
 
-/// `Debugger::line_here`.
+/// Calls `Debugger::line_here`.
 pub fn line_begun(debugger: &Debugger<'_>) -> Option<u16>
     ensures { (source : Program) (seed : ℕ) (start : State) (rom : Rom) → Debugs source seed start rom debugger.now
         → IfSome result (λ line. ShowsLine source seed start debugger.now line) }
@@ -76,7 +76,7 @@ pub fn line_begun(debugger: &Debugger<'_>) -> Option<u16>
     debugger.line_here()
 }
 
-/// `Debugger::type_text`.
+/// Calls `Debugger::type_text`.
 pub fn typed(debugger: &mut Debugger<'_>, bytes: &[u8]) -> Result<(), AllocError>
     ensures run { OnOk result (KeepsRunTyped bytes.now debugger.old debugger.new) }
     ensures shown { debugger.new.shown ≡ debugger.old.shown }
@@ -86,7 +86,7 @@ pub fn typed(debugger: &mut Debugger<'_>, bytes: &[u8]) -> Result<(), AllocError
     debugger.type_text(bytes)
 }
 
-/// `Debugger::respond`.
+/// Calls `Debugger::respond`.
 pub fn answered(
     debugger: &mut Debugger<'_>,
     alloc: Global,

@@ -12,7 +12,7 @@ use tb_disk::Name;
 use tb_disk_engine::{DiskFiles, DiskOutcome};
 use tb_streams::Tracked;
 
-/// `Name::new`.
+/// Calls `Name::new`.
 pub fn name_of(text: &[u8]) -> Option<Name>
     ensures found { IsSome result ↔ IsName text.now }
     ensures value { IfSome result (λ n. n.field ≡ field_of text.now) }
@@ -21,7 +21,7 @@ pub fn name_of(text: &[u8]) -> Option<Name>
     Name::new(text)
 }
 
-/// `DiskFiles::add`.
+/// Calls `DiskFiles::add`.
 pub fn with_file<R: Read>(
     files: DiskFiles,
     alloc: Global,

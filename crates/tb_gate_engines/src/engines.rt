@@ -13,7 +13,7 @@ use tb_engines::{NoText, Outcome, Text, deliver, dis_text, run_file};
 use tb_kernal::{Keyboard, Outside};
 use tb_streams::Tracked;
 
-/// `deliver`.
+/// Calls `deliver`.
 pub fn delivered<W: Write>(writer: &mut Tracked<W>, made: Result<Text, NoText>) -> Outcome
     ensures answers { Answers (Shows made) result
         (W.contents writer.old.stream) (W.contents writer.new.stream) }
@@ -22,7 +22,7 @@ pub fn delivered<W: Write>(writer: &mut Tracked<W>, made: Result<Text, NoText>) 
     deliver(writer, made)
 }
 
-/// `run_file`.
+/// Calls `run_file`.
 pub fn run_of_file<O: Outside>(
     alloc: Global,
     file: &[u8],
@@ -36,7 +36,7 @@ pub fn run_of_file<O: Outside>(
     run_file(alloc, file, keyboard, limit, outside)
 }
 
-/// `dis_text`.
+/// Calls `dis_text`.
 pub fn listed_file<R: Read, W: Write>(
     alloc: Global,
     reader: &mut Tracked<R>,

@@ -1,7 +1,7 @@
 //! What readers and writers, files for disks and the engines that compile nothing promise, once more and in one place:
-//! functions that only hand a call on, each with the contract of the call.
+//! functions that only hand a call on, each with the clauses of the call's contract that its wrong bodies are tried on.
 //!
-//! As in `tb_gate_parts`, wrong bodies are tried here (`must-fail/`), where no proof of the engines counts: what refuses
+//! As in `tb_gate_parts`, the wrong bodies are in `must-fail/`, and no proof of the engines counts here: what refuses
 //! them is the promise alone.
 #![tactic(auto)]
 

@@ -11,7 +11,7 @@ use tb_kernal::Machine;
 use tb_play::{Played, play};
 use tb_streams::Tracked;
 
-/// `play`.
+/// Calls `play`.
 pub fn played<R: Read, W: Write>(
     alloc: Global,
     machine: &mut Machine,

@@ -10,7 +10,7 @@ use std::alloc::{AllocError, Global};
 use std::io::{Read, Write};
 use tb_streams::{KeyFileError, StreamFailure, Tracked, key_file, read_key_file, write_output};
 
-/// `write_output`.
+/// Calls `write_output`.
 pub fn written<W: Write>(writer: &mut Tracked<W>, text: &[u8]) -> Result<(), StreamFailure>
     ensures whole { OnOk result (Appends (W.contents writer.old.stream) (W.contents writer.new.stream)
         text.now) }
@@ -21,7 +21,7 @@ pub fn written<W: Write>(writer: &mut Tracked<W>, text: &[u8]) -> Result<(), Str
     write_output(writer, text)
 }
 
-/// `Tracked::pull`.
+/// Calls `Tracked::pull`.
 pub fn pulled<R: Read>(reader: &mut Tracked<R>, buf: &mut [u8]) -> Result<usize, StreamFailure>
     ensures bound { ReadsAtMost result buf.new }
     ensures bytes { ReadConsumes (R.remaining reader.old.stream) (R.remaining reader.new.stream) result
@@ -31,7 +31,7 @@ pub fn pulled<R: Read>(reader: &mut Tracked<R>, buf: &mut [u8]) -> Result<usize,
     reader.pull(buf)
 }
 
-/// `read_key_file`.
+/// Calls `read_key_file`.
 pub fn keys_read<R: Read>(alloc: Global, reader: &mut Tracked<R>) -> Result<Vec<u8>, KeyFileError>
     ensures { ReadsKeyFile result (R.remaining reader.old.stream) (R.remaining reader.new.stream)
         (failures_of reader.old) (failures_of reader.new) }
@@ -39,7 +39,7 @@ pub fn keys_read<R: Read>(alloc: Global, reader: &mut Tracked<R>) -> Result<Vec<
     read_key_file(alloc, reader)
 }
 
-/// `key_file`.
+/// Calls `key_file`.
 pub fn key_text(alloc: Global, keys: &[u8]) -> Result<Vec<u8>, AllocError>
     ensures text { IfOk result (λ text. text.items ≡ key_file_of keys.now) }
     ensures spelled { IfOk result (λ text. keys_of_file text.items ≡ Ok keys.now) }

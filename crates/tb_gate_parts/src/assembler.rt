@@ -12,7 +12,7 @@ use std::alloc::Global;
 use tb_asm::{AsmError, AsmErrorKind, Image, Item, TextError, assemble, read_text, settle};
 use tb_settling::assemble_settled;
 
-/// `assemble`.
+/// Calls `assemble`.
 pub fn assembled(alloc: Global, at: u16, items: &[Item]) -> Result<Image, AsmError>
     ensures laid { IfOk result (λ image. (image.at ≡ at) × (image.bytes.items ≡ image_of at (map entry_of items.now)) × (image.labels.entries ≡ labels_from at (map entry_of items.now))) }
     ensures refused { IfErr result (λ e. RefusesAt (refusal at (map entry_of items.now)) e.kind e.item) }
@@ -20,7 +20,7 @@ pub fn assembled(alloc: Global, at: u16, items: &[Item]) -> Result<Image, AsmErr
     assemble(alloc, at, items)
 }
 
-/// `settle`.
+/// Calls `settle`.
 pub fn settled(alloc: Global, at: u16, items: &[Item]) -> Result<Vec<Item>, AsmError>
     ensures settled { IfOk result (λ settled. SettlesTo at (map entry_of items.now) (map entry_of settled.items)) }
     ensures refused { IfErr result (λ e. SettleErr at (map entry_of items.now) e.kind e.item) }
@@ -28,7 +28,7 @@ pub fn settled(alloc: Global, at: u16, items: &[Item]) -> Result<Vec<Item>, AsmE
     settle(alloc, at, items)
 }
 
-/// `assemble_settled`.
+/// Calls `assemble_settled`.
 pub fn assembled_settled(alloc: Global, at: u16, items: &[Item]) -> Result<Image, AsmError>
     ensures laid { IfOk result (λ image. IsLaid at (map entry_of items.now) image.at image.bytes.items image.labels.entries) }
     ensures refused { IfErr result (λ e. MayRefuse at (map entry_of items.now) e.kind e.item) }
@@ -37,7 +37,7 @@ pub fn assembled_settled(alloc: Global, at: u16, items: &[Item]) -> Result<Image
     assemble_settled(alloc, at, items)
 }
 
-/// `read_text`.
+/// Calls `read_text`.
 pub fn text_items(alloc: Global, text: &[u8]) -> Result<Vec<Item>, TextError>
     ensures { ReadsText (λ items. map entry_of items.items) (items_of_text text.now) result }
 {

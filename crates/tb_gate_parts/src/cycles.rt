@@ -8,7 +8,7 @@ use tb_cpu::Regs;
 use tb_cycles::cycles;
 use tb_memmap::Memory;
 
-/// `cycles`.
+/// Calls `cycles`.
 pub fn cycles_of(regs: &Regs, memory: &Memory) -> u8
     ensures value { result ≡ cycles_at regs.now (reading (at memory.now)) }
     ensures few { result ≤ 9 }

@@ -18,7 +18,7 @@ use tb_grammar::{
 };
 use tb_parser::{Expr, Program, SourceError, Token, parse, parse_expr, tokens};
 
-/// `Keyword::spelling`.
+/// Calls `Keyword::spelling`.
 pub fn spelling_of(keyword: Keyword) -> &'static str
     ensures spells { result.now ≡ spelled keyword }
     ensures some { 0 < length result.now }
@@ -26,7 +26,7 @@ pub fn spelling_of(keyword: Keyword) -> &'static str
     keyword.spelling()
 }
 
-/// `read_statement`.
+/// Calls `read_statement`.
 pub fn statement_of(alloc: Global, text: &[u8]) -> Result<ReadStatement, ReadError>
     ensures found { IfOk result (λ r. States text.now (statement_of r.statement) r.large) }
     ensures only { (s : SourceStatement) (large : Option ℕ) → States text.now s large → shown.Answers result (λ r. (statement_of r.statement ≡ s) × (r.large ≡ large)) }
@@ -34,7 +34,7 @@ pub fn statement_of(alloc: Global, text: &[u8]) -> Result<ReadStatement, ReadErr
     read_statement(alloc, text)
 }
 
-/// `read_expression`.
+/// Calls `read_expression`.
 pub fn expression_of(alloc: Global, text: &[u8]) -> Result<ReadExpression, ReadError>
     ensures found { IfOk result (λ r. Reads Whole text.now (expression_of r.expr) r.large []) }
     ensures only { (e : Expression) (large : Option ℕ) → Reads Whole text.now e large [] → shown.Answers result (λ r. (expression_of r.expr ≡ e) × (r.large ≡ large)) }
@@ -42,14 +42,14 @@ pub fn expression_of(alloc: Global, text: &[u8]) -> Result<ReadExpression, ReadE
     read_expression(alloc, text)
 }
 
-/// `tokens`.
+/// Calls `tokens`.
 pub fn tokens_of(alloc: Global, line: &[u8]) -> Result<Vec<Token<'_>>, AllocError>
     ensures { IfOk result (λ v. AreTokens line.now 0 v.items) }
 {
     tokens(alloc, line)
 }
 
-/// `parse`.
+/// Calls `parse`.
 pub fn parsed(alloc: Global, source: &[u8]) -> Result<Program, SourceError>
     ensures found { Answers lines_of result (LinesAre 1 [] (lines_of_file source.now)) }
     ensures only { (outcome : Outcome) → LinesAre 1 [] (lines_of_file source.now) outcome → Answers lines_of result (λ said. said ≡ outcome) }
@@ -57,7 +57,7 @@ pub fn parsed(alloc: Global, source: &[u8]) -> Result<Program, SourceError>
     parse(alloc, source)
 }
 
-/// `parse_expr`.
+/// Calls `parse_expr`.
 pub fn parsed_expression(alloc: Global, text: &[u8]) -> Result<Expr, SourceError>
     ensures found { Answers expression_of result (InLineOne (ExpressionIs text.now)) }
     ensures only { (outcome : Result Expression FileRefusal) → InLineOne (ExpressionIs text.now) outcome → Answers expression_of result (λ said. said ≡ outcome) }

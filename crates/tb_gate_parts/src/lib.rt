@@ -1,8 +1,8 @@
-//! What the lower layers promise, once more and in one place: functions that only hand a call on, each with the contract
-//! of the call.
+//! What the lower layers promise, once more and in one place: functions that only hand a call on, each with the clauses
+//! of the call's contract that its wrong bodies are tried on. Some calls promise more than that.
 //!
-//! A promise that says less than it did would leave the function here unproved. Wrong bodies are tried here too
-//! (`must-fail/`): what refuses them is the promise alone, and not one body's proof.
+//! If a call comes to promise less than these clauses, the function here is no longer proved. The wrong bodies are in
+//! `must-fail/`: what refuses them is the promise alone, and not one body's proof.
 #![tactic(auto)]
 
 mod assembler;

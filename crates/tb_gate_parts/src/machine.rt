@@ -1,4 +1,4 @@
-//! The machine beside its ROM, its events and runs.
+//! The machine with its ROM, its events and runs.
 ghost use Rattle.std.specs.Prelude.{◌≡◌, ◌<◌, ◌≤◌, OnErr, OnOk, Some, None, IfOk, IfErr, ℕ, List, drop};
 ghost use Rattle.tb_memmap.specs.Bytes.{at};
 ghost use Rattle.tb_memmap.specs.Regions.{CODE_START};
@@ -16,7 +16,7 @@ use tb_kernal::{
 };
 use tb_memmap::Memory;
 
-/// `Machine::enter`.
+/// Calls `Machine::enter`.
 pub fn machine_entered(
     alloc: Global,
     memory: Memory,
@@ -33,14 +33,14 @@ pub fn machine_entered(
     Machine::enter(alloc, memory, regs, keyboard)
 }
 
-/// `Machine::status`.
+/// Calls `Machine::status`.
 pub fn status_of(machine: &Machine) -> Status
     ensures { result ≡ status (state_of machine.now) }
 {
     machine.status()
 }
 
-/// `Machine::reserve`.
+/// Calls `Machine::reserve`.
 pub fn room_made(machine: &mut Machine, n: usize) -> Result<(), AllocError>
     ensures room { OnOk result (n ≤ machine.new.room) }
     ensures kept { machine.old.room ≤ machine.new.room }
@@ -50,14 +50,14 @@ pub fn room_made(machine: &mut Machine, n: usize) -> Result<(), AllocError>
     machine.reserve(n)
 }
 
-/// `Machine::event`.
+/// Calls `Machine::event`.
 pub fn event_taken(machine: &mut Machine, event: Event) -> Result<Status, EventError>
     ensures { Happened machine.old event result machine.new }
 {
     machine.event(event)
 }
 
-/// `Machine::type_text`.
+/// Calls `Machine::type_text`.
 pub fn text_typed(machine: &mut Machine, bytes: &[u8]) -> Result<(), AllocError>
     ensures typed { OnOk result (machine.new ≡ with_typed machine.old bytes.now) }
     ensures more { OnOk result (state_of machine.new ≡ with_more bytes.now (state_of machine.old)) }
@@ -66,14 +66,14 @@ pub fn text_typed(machine: &mut Machine, bytes: &[u8]) -> Result<(), AllocError>
     machine.type_text(bytes)
 }
 
-/// `Machine::note`.
+/// Calls `Machine::note`.
 pub fn event_noted(machine: &Machine, event: &Event) -> Undo
     ensures { IsFormer result machine.now event.now }
 {
     machine.note(event)
 }
 
-/// `Machine::undo`.
+/// Calls `Machine::undo`.
 pub fn event_undone(machine: &mut Machine, undo: &Undo)
     ensures restored { Undone undo.now machine.old machine.new }
     ensures taken_back { TakesBack undo.now machine.old machine.new }
@@ -81,14 +81,14 @@ pub fn event_undone(machine: &mut Machine, undo: &Undo)
     machine.undo(undo)
 }
 
-/// `Recorded::next`.
+/// Calls `Recorded::next`.
 pub fn recorded_event(recorded: &mut Recorded, machine: &Machine) -> Event
     ensures { (result ≡ turn recorded.old machine.now) × (recorded.new ≡ drop 1 recorded.old) }
 {
     recorded.next(machine)
 }
 
-/// `run`.
+/// Calls `run`.
 pub fn ran<O: Outside>(
     machine: &mut Machine,
     outside: &mut O,

@@ -16,21 +16,21 @@ use tb_lower::{LowerError, SlotCode, lower};
 use tb_meaning::{EvalError, SourceRun, Warning, eval, run_source, warnings};
 use tb_syntax::{Expr, Program};
 
-/// `eval`.
+/// Calls `eval`.
 pub fn value_of(expr: &Expr, variables: &[i16; 26]) -> Result<i16, EvalError>
     ensures { IsEvaluation (shown.expression_of expr.now) (map word_of variables.now) result }
 {
     eval(expr, variables)
 }
 
-/// `warnings`.
+/// Calls `warnings`.
 pub fn warnings_of(alloc: Global, program: &Program) -> Result<Vec<Warning>, AllocError>
     ensures { IfOk result (λ found. map (λ w. (w.line, word_of w.target)) found.items ≡ missing_targets (shown.lines_of program.now)) }
 {
     warnings(alloc, program)
 }
 
-/// `run_source`.
+/// Calls `run_source`.
 pub fn run_of(
     alloc: Global,
     program: &Program,
@@ -44,7 +44,7 @@ pub fn run_of(
     run_source(alloc, program, seed, text, answers, limit)
 }
 
-/// `lower`.
+/// Calls `lower`.
 pub fn lowered(alloc: Global, program: &Program) -> Result<SlotCode, LowerError>
     ensures lowered { IfOk result (λ code. code_of code ≡ program_code (shown.lines_of program.now)) }
     ensures refused { IfErr result (λ e. IsRefusal (shown.lines_of program.now) e) }

@@ -5,14 +5,14 @@ ghost use Rattle.tb_memmap.specs.Bytes.{IsOpenRange, loaded, IsLoadRefused, at, 
 
 use tb_memmap::{Closed, LoadError, Memory, Region, region};
 
-/// `region`.
+/// Calls `region`.
 pub fn region_at(address: u16) -> Region
     ensures { result ≡ region_of address }
 {
     region(address)
 }
 
-/// `Memory::write`.
+/// Calls `Memory::write`.
 pub fn byte_written(memory: &mut Memory, address: u16, value: u8) -> Result<(), Closed>
     ensures { MatchResult result
         (λ _. (is_open address ≡ true) × (at memory.new ≡ with_byte (at memory.old) address value))
@@ -21,7 +21,7 @@ pub fn byte_written(memory: &mut Memory, address: u16, value: u8) -> Result<(), 
     memory.write(address, value)
 }
 
-/// `Memory::load`.
+/// Calls `Memory::load`.
 pub fn bytes_loaded(memory: &mut Memory, address: u16, bytes: &[u8]) -> Result<(), LoadError>
     ensures { MatchResult result
         (λ _. (address + length bytes.now ≤ 65536)

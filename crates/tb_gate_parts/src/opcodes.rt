@@ -4,7 +4,7 @@ ghost use Rattle.tb_opcodes.specs.Opcodes as table;
 
 use tb_opcodes::{Mnemonic, Mode, decode};
 
-/// `decode`.
+/// Calls `decode`.
 pub fn instruction_of(opcode: u8) -> Option<(Mnemonic, Mode)>
     ensures { result ≡ table.decoded opcode }
 {

@@ -5,7 +5,7 @@ use std::alloc::{AllocError, Global};
 use tb_kernal::{Machine, Outside};
 use tb_profile::{Profile, run_counted};
 
-/// `run_counted`.
+/// Calls `run_counted`.
 pub fn ran_counted<O: Outside>(
     alloc: Global,
     machine: &mut Machine,

@@ -9,7 +9,7 @@ use std::alloc::{AllocError, Global};
 use tb_lower::SlotInstr;
 use tb_selection::{Group, select};
 
-/// `select`.
+/// Calls `select`.
 pub fn groups_of<'a>(alloc: Global, code: &'a [SlotInstr]) -> Result<Vec<Group<'a>>, AllocError>
     ensures selected { IfOk result (λ groups. map group_of groups.items ≡ select.select (map instr_of code.now)) }
     ensures bracketed { IfOk result (λ groups. expand_all (map group_of groups.items) ≡ map instr_of code.now) }

@@ -8,7 +8,7 @@ ghost use Rattle.tb_words.specs.Letters.{letter_index, Spells};
 
 use tb_words::{Letter, Rel, div_rem, hex_digits, holds, neg};
 
-/// `neg`.
+/// Calls `neg`.
 pub fn negative_of(a: i16) -> i16
     ensures signed { result ≡ wrapped (pos 0 -ℤ a) }
     ensures on_words { word_of result ≡ negated (word_of a) }
@@ -16,7 +16,7 @@ pub fn negative_of(a: i16) -> i16
     neg(a)
 }
 
-/// `div_rem`.
+/// Calls `div_rem`.
 pub fn quotient_of(n: i16, d: i16) -> Option<(i16, i16)>
     ensures signed { MatchOption result (d ≡ pos 0)
         (λ p. (q : ℤ) × IsDivision n d q p.1 × (p.0 ≡ wrapped q)) }
@@ -26,7 +26,7 @@ pub fn quotient_of(n: i16, d: i16) -> Option<(i16, i16)>
     div_rem(n, d)
 }
 
-/// `holds`.
+/// Calls `holds`.
 pub fn are_related(rel: Rel, a: i16, b: i16) -> bool
     ensures signed { IsTrue result ↔ Holds rel a b }
     ensures on_words { result ≡ holds_on rel (word_of a) (word_of b) }
@@ -34,7 +34,7 @@ pub fn are_related(rel: Rel, a: i16, b: i16) -> bool
     holds(rel, a, b)
 }
 
-/// `Letter::read`.
+/// Calls `Letter::read`.
 pub fn letter_of(byte: u8) -> Option<Letter>
     ensures { MatchOption result ((n : ℕ) → n < 26 → ¬ (Spells byte n))
         (λ letter. Spells byte (letter_index letter)) }
@@ -42,7 +42,7 @@ pub fn letter_of(byte: u8) -> Option<Letter>
     Letter::read(byte)
 }
 
-/// `hex_digits`.
+/// Calls `hex_digits`.
 pub fn hexadecimal_of(word: u16) -> [u8; 4]
     ensures { result ≡ four_digits word [] }
 {

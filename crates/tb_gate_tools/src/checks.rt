@@ -18,7 +18,7 @@ use tb_check::{Findings, SourceError, Verdict, bad_lines, examine, judge};
 use tb_check_engine::{CheckOutcome, Checked, push_caret};
 use tb_streams::Tracked;
 
-/// `bad_lines`.
+/// Calls `bad_lines`.
 pub fn lines_that_are_bad(alloc: Global, source: &[u8]) -> Result<Vec<SourceError>, AllocError>
     ensures lines { IfOk result (λ found. BadLinesAre 1 (lines_of_file source.now) found.items) }
     ensures first { IfOk result (λ found. FirstIs source.now found.items) }
@@ -26,7 +26,7 @@ pub fn lines_that_are_bad(alloc: Global, source: &[u8]) -> Result<Vec<SourceErro
     bad_lines(alloc, source)
 }
 
-/// `judge`.
+/// Calls `judge`.
 pub fn judged(alloc: Global, source: &[u8]) -> Result<Verdict, AllocError>
     ensures judged { IfOk result (Judges source.now) }
     ensures agrees { IfOk result (λ v. (seed : ℕ) (answer : Result Compiled CompileError) → Compiles seed source.now answer → AgreesWith v answer) }
@@ -34,14 +34,14 @@ pub fn judged(alloc: Global, source: &[u8]) -> Result<Verdict, AllocError>
     judge(alloc, source)
 }
 
-/// `examine`.
+/// Calls `examine`.
 pub fn examined(alloc: Global, source: &[u8]) -> Result<Findings, AllocError>
     ensures { IfOk result (AreFindings source.now) }
 {
     examine(alloc, source)
 }
 
-/// `Checked::add`.
+/// Calls `Checked::add`.
 pub fn with_source<R: Read>(
     checked: Checked,
     alloc: Global,
@@ -55,7 +55,7 @@ pub fn with_source<R: Read>(
     checked.add(alloc, name, reader)
 }
 
-/// `push_caret`.
+/// Calls `push_caret`.
 pub fn caret_put(text: &mut Vec<u8>, number: &[u8], column: usize) -> Result<(), AllocError>
     ensures { OnOk result (text.new.items ≡ text.old.items ++ caret_row number.now column) }
 {

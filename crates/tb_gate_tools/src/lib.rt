@@ -1,8 +1,8 @@
-//! What checks, listings, the engines of sources and the stepper promise, once more and in one place: functions that only
-//! hand a call on, each with the contract of the call.
+//! What checks, listings, the engines of sources and the stepper promise, once more and in one place: functions that
+//! only hand a call on, each with the clauses of the call's contract that its wrong bodies are tried on.
 //!
-//! As in `tb_gate_parts`, wrong bodies are tried here (`must-fail/`), where no proof of the tools counts: what refuses them
-//! is the promise alone.
+//! As in `tb_gate_parts`, the wrong bodies are in `must-fail/`, and no proof of the tools counts here: what refuses
+//! them is the promise alone.
 #![tactic(auto)]
 
 mod checks;

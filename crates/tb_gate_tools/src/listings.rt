@@ -15,14 +15,14 @@ use tb_codegen::{Compiled, LineStart};
 use tb_listing::{chart, labels, list};
 use tb_syntax::Program;
 
-/// `labels`.
+/// Calls `labels`.
 pub fn labels_of(alloc: Global, starts: &[LineStart], table: u16) -> Result<Vec<u8>, AllocError>
     ensures { IfOk result (λ text. text.items ≡ labels_text (all_labels (map pair_of starts.now) table)) }
 {
     labels(alloc, starts, table)
 }
 
-/// `list`.
+/// Calls `list`.
 pub fn listing_of(alloc: Global, compiled: &Compiled, source: &[u8]) -> Result<Vec<u8>, AllocError>
     requires headed { 14 ≤ length (prg_of compiled.now) }
     requires ends { PROLOGUE_AT + (length (prg_of compiled.now) - 14) ≤ 0xA000 }
@@ -33,7 +33,7 @@ pub fn listing_of(alloc: Global, compiled: &Compiled, source: &[u8]) -> Result<V
     list(alloc, compiled, source)
 }
 
-/// `chart`.
+/// Calls `chart`.
 pub fn map_of(alloc: Global, compiled: &Compiled, program: &Program) -> Result<Vec<u8>, AllocError>
     requires small { cost.cost (lines_of program.now) ≤ most_cost }
     requires ends { PROLOGUE_AT + (length (prg_of compiled.now) - 14) ≤ 0xA000 }

@@ -16,7 +16,7 @@ use tb_driver::{Outcome, Report, build, read_source, run_text};
 use tb_kernal::{Keyboard, Outside};
 use tb_streams::Tracked;
 
-/// `read_source`.
+/// Calls `read_source`.
 pub fn source_read<R: Read>(
     alloc: Global,
     reader: &mut Tracked<R>,
@@ -30,7 +30,7 @@ pub fn source_read<R: Read>(
     read_source(alloc, reader, seed)
 }
 
-/// `build`.
+/// Calls `build`.
 pub fn built<R: Read, W: Write>(
     alloc: Global,
     reader: &mut Tracked<R>,
@@ -50,7 +50,7 @@ pub fn built<R: Read, W: Write>(
     build(alloc, reader, writer, seed)
 }
 
-/// `run_text`.
+/// Calls `run_text`.
 pub fn ran<R: Read, W: Write, O: Outside>(
     alloc: Global,
     reader: &mut Tracked<R>,

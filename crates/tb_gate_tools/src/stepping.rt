@@ -20,14 +20,14 @@ use tb_kernal::{Keyboard, Outside, Status};
 use tb_stepper::{NothingBack, Reached, StepError, Stepper};
 use tb_streams::Tracked;
 
-/// `Stepper::step`.
+/// Calls `Stepper::step`.
 pub fn stepped<O: Outside + Drop>(stepper: &mut Stepper<'_, O>) -> Result<Status, AllocError>
     ensures { Stepped O.gives stepper.old result stepper.new }
 {
     stepper.step()
 }
 
-/// `Stepper::back`.
+/// Calls `Stepper::back`.
 pub fn taken_back<O: Outside + Drop>(stepper: &mut Stepper<'_, O>) -> Result<(), NothingBack>
     ensures restored { OnOk result (machines stepper.old
         ≡ machines stepper.new ++ state_of stepper.old.machine ∷ []) }
@@ -38,14 +38,14 @@ pub fn taken_back<O: Outside + Drop>(stepper: &mut Stepper<'_, O>) -> Result<(),
     stepper.back()
 }
 
-/// `Stepper::line`.
+/// Calls `Stepper::line`.
 pub fn line_here<O: Outside + Drop>(stepper: &Stepper<'_, O>) -> Option<u16>
     ensures { result ≡ line_in (starts_of stepper.now.program) (table_of stepper.now.program) stepper.now.machine.regs.pc }
 {
     stepper.line()
 }
 
-/// `Stepper::to_line`.
+/// Calls `Stepper::to_line`.
 pub fn gone_to_line<O: Outside + Drop>(
     stepper: &mut Stepper<'_, O>,
     line: u16,
@@ -56,14 +56,14 @@ pub fn gone_to_line<O: Outside + Drop>(
     stepper.to_line(line, limit)
 }
 
-/// `read_command`.
+/// Calls `read_command`.
 pub fn statement_of(line: &[u8]) -> Command<'_>
     ensures { asked_of result ≡ asked_in line.now }
 {
     read_command(line)
 }
 
-/// `answers`.
+/// Calls `answers`.
 pub fn answers_to<O: Outside + Drop>(
     alloc: Global,
     stepper: &mut Stepper<'_, O>,
@@ -75,7 +75,7 @@ pub fn answers_to<O: Outside + Drop>(
     answers(alloc, stepper, commands, limit)
 }
 
-/// `step_text`.
+/// Calls `step_text`.
 pub fn stepped_through<R: Read, C: Read, W: Write>(
     alloc: Global,
     source: &mut Tracked<R>,
