@@ -10,7 +10,7 @@ pub fn no_keys(alloc: Global) -> Keyboard {
     }
 }
 
-/// A keyboard with this text, whose polls are answered so.
+/// A keyboard with this text and these answers to its polls, in order. Fails only if memory runs out.
 pub fn keyboard_of(alloc: Global, text: &[u8], answers: &[u8]) -> Result<Keyboard, AllocError> {
     Ok(Keyboard {
         text: Vec::from_slice(alloc, text)?,

@@ -10,14 +10,14 @@ use std::io::{Read, Write};
 pub struct FailingReader<'a> {
     /// What is still to be given.
     pub rest: &'a [u8],
-    /// How many bytes it gives before it fails.
+    /// How many more bytes it gives before it fails.
     pub until_fault: usize,
     /// How many bytes it gives at once, at most.
     pub most: usize,
 }
 
 impl<'a> FailingReader<'a> {
-    /// A reader of these bytes that fails after some of them.
+    /// A reader of these bytes that gives at most `most` at once, and fails after `until_fault` bytes.
     pub fn new(rest: &'a [u8], until_fault: usize, most: usize) -> FailingReader<'a> {
         FailingReader {
             rest,
@@ -44,14 +44,14 @@ impl Read for FailingReader<'_> {
 pub struct FailingWriter {
     /// What it took.
     pub taken: Vec<u8>,
-    /// How many bytes it takes before it fails.
+    /// How many more bytes it takes before it fails.
     pub until_fault: usize,
     /// How many bytes it takes at once, at most.
     pub most: usize,
 }
 
 impl FailingWriter {
-    /// A writer that has taken nothing, and fails after some bytes.
+    /// A writer that has taken nothing, takes at most `most` bytes at once, and fails after `until_fault` bytes.
     pub fn new(alloc: Global, until_fault: usize, most: usize) -> FailingWriter {
         FailingWriter {
             taken: Vec::new(alloc),
@@ -91,7 +91,7 @@ pub struct HoldingWriter {
 }
 
 impl HoldingWriter {
-    /// A writer that has taken nothing.
+    /// A writer that has taken nothing, each of whose flushes fails if `fails` is true.
     pub fn new(alloc: Global, fails: bool) -> HoldingWriter {
         HoldingWriter {
             taken: Vec::new(alloc),
