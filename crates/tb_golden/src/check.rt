@@ -1,4 +1,4 @@
-//! Rows of `tbc check`. A row has sources with ` | ` between them, in which `!` alone is one that can't be read.
+//! Rows of `tbc check`. A row has sources with ` | ` between them; a source that is `!` alone can't be read.
 mod checks;
 mod failing;
 mod prefixes;

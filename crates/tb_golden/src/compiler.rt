@@ -26,7 +26,7 @@ pub fn put_answer<R: Files + AllocGlobal>(rt: &R, page: &mut Page, name: &str, r
     }
 }
 
-// Appends how a program in a file ends with the keys that are given behind its name, and what it shows.
+// Appends how a program in a file ends with the keys that are given after its name, and what it shows.
 fn put_run<R: Files + AllocGlobal>(rt: &R, page: &mut Page, row: &str) {
     let (name, keys) = cut(row);
     let mut path = Page::new(page.alloc());

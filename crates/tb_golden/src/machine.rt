@@ -1,4 +1,4 @@
-//! Rows of the words, the opcodes, the memory map, the processor and the machine beside its ROM.
+//! Rows of the words, the opcodes, the memory map, the processor and the machine with its ROM.
 pub mod events;
 mod fidgety;
 pub mod memory;

@@ -78,7 +78,7 @@ const FILES: [(&str, Contents); 25] = [
     ("compiler/commands.txt", Contents::Rows(Subject::Programs)),
 ];
 
-/// What is written between a row and its answer, behind the answer, and behind the last row of a file.
+/// What is written between a row and its answer, after the answer, and after the last row of a file.
 fn frame(subject: Subject) -> (&'static str, &'static str, &'static str) {
     match subject {
         Subject::Sources => (" =>", "\n", "\n"),
@@ -91,7 +91,7 @@ fn frame(subject: Subject) -> (&'static str, &'static str, &'static str) {
     }
 }
 
-// Appends what the call answers that a row names.
+// Appends what the call that a row names answers.
 fn put_answer<R: Files + AllocGlobal>(
     rt: &R,
     page: &mut Page,

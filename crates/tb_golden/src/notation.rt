@@ -7,7 +7,7 @@ pub fn cut(text: &str) -> (&str, &str) {
     text.split_once(' ').unwrap_or((text, ""))
 }
 
-/// A number; 0 where a text is none, which is noted.
+/// A number; 0 if the text is not a number, which is noted.
 pub fn number(page: &mut Page, text: &str) -> u64 {
     let read = text.parse::<u64>();
     page.held(read).unwrap_or(0)
@@ -79,7 +79,7 @@ pub fn push_decoded(page: &mut Page, bytes: &mut Vec<u8>, text: &str) {
     }
 }
 
-// What stands between braces.
+// What is between braces.
 fn push_repeated(page: &mut Page, bytes: &mut Vec<u8>, text: &str) {
     let (count, unit) = text.split_once('*').unwrap_or(("", ""));
     for _ in 0..number(page, count) {

@@ -35,12 +35,12 @@ impl Page {
         self.has_failed = true;
     }
 
-    // Notes where a growth is refused.
+    // Notes if a growth is refused.
     fn note<E: Drop>(&mut self, grown: Result<(), E>) {
         self.has_failed = self.has_failed || grown.is_err();
     }
 
-    /// What an answer holds. Notes where it is a refusal.
+    /// What an answer holds. Notes if it is a refusal.
     pub fn held<T: Drop, E: Drop>(&mut self, answer: Result<T, E>) -> Option<T> {
         match answer {
             Ok(value) => Some(value),
@@ -51,7 +51,7 @@ impl Page {
         }
     }
 
-    /// Appends a value as it shows itself. A call takes the prover a fraction of what a `format_args!` takes.
+    /// Appends a value as `Display` shows it. A call takes the prover a fraction of what a `format_args!` takes.
     pub fn put<D: Display + Drop>(&mut self, shown: D) {
         let grown = write!(self.text, "{shown}");
         self.note(grown);
@@ -101,7 +101,7 @@ impl Page {
         self.note(grown);
     }
 
-    /// Appends where a stream fails, and how many bytes it hands on at once.
+    /// Appends after how many bytes a stream fails, and how many it hands on at once.
     pub fn put_fault(&mut self, until_fault: usize, most: usize) {
         self.put(until_fault);
         self.put(", ");

@@ -8,7 +8,7 @@ use std::fmt::Debug;
 use tb_grammar::{expressions_are_unique, statements_are_unique};
 use tb_selection::{groups_run_as_slot_code, lines_are_closed, omitted_words_are_dead};
 
-/// That no text has two readings, and that groups do what slot code does, is proved where these stand.
+/// That no text has two readings, and that groups do what slot code does, is proved in their own crates.
 pub fn laws() {
     expressions_are_unique();
     statements_are_unique();
@@ -17,7 +17,7 @@ pub fn laws() {
     groups_run_as_slot_code();
 }
 
-/// Appends what stands on a line, behind its number.
+/// Appends what is on a line, after its number.
 pub fn put_line<D: Debug>(page: &mut Page, number: u16, shown: &D) {
     page.put(" ");
     page.put(number);
@@ -25,7 +25,7 @@ pub fn put_line<D: Debug>(page: &mut Page, number: u16, shown: &D) {
     page.put(";");
 }
 
-/// Appends the answer of a row. Few calls are given something beside a text.
+/// Appends the answer of a row. Few calls are given anything but a text.
 pub fn put_answer(page: &mut Page, name: &str, rest: &str) {
     let (text, beside) = rest.split_once(" | ").unwrap_or((rest, ""));
     let text = decoded(page, text);

@@ -10,7 +10,7 @@ use tb_streams::Tracked;
 /// What the sources of a row are called.
 const NAMES: [&str; 4] = ["a.bas", "b.bas", "c.bas", "d.bas"];
 
-/// A source of a row; nothing where it can't be read.
+/// A source of a row; no bytes if it can't be read.
 #[derive(Drop)]
 pub struct File {
     pub name: &'static str,
@@ -65,7 +65,7 @@ pub fn checked(alloc: Global, files: &[File]) -> Result<Checked, CheckOutcome> {
     Ok(checked)
 }
 
-/// What a check comes to.
+/// What a check writes, and how it ends.
 pub fn ending_of(alloc: Global, checked: &Checked) -> Ending {
     let mut writer = Tracked::new(Vec::new(alloc));
     let outcome = checked.write(&mut writer);
@@ -92,7 +92,7 @@ fn put_ending(page: &mut Page, ending: &Ending) {
     put_outcome(page, ending.outcome);
 }
 
-/// Appends a status, and what standard error says.
+/// Appends a status, and what standard error says of it.
 pub fn put_outcome(page: &mut Page, outcome: CheckOutcome) {
     page.put("=> ");
     page.put(outcome.status());

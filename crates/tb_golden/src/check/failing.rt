@@ -9,7 +9,7 @@ use tb_test_support::{FailingReader, FailingWriter};
 /// The source that a reader fails to give.
 const FIRST: &[u8] = b"10 FOR\n20 END\n";
 
-// A check whose first source comes from a reader that fails behind so many bytes.
+// A check whose first source comes from a reader that fails after `until_fault` bytes.
 fn over_reader(
     alloc: Global,
     files: &[File],
@@ -24,7 +24,7 @@ fn over_reader(
     Ok(checked)
 }
 
-// Whether it ends in a read fault, and writes what a check of the others does.
+// Whether that check ends in a read fault, and writes what a check of the other sources writes.
 fn reader_fails(
     alloc: Global,
     files: &[File],
@@ -41,8 +41,8 @@ fn reader_fails(
     }
 }
 
-/// Appends what a check writes whose first source comes from a reader that fails anywhere: always the same, of the
-/// others.
+/// Appends what a check writes whose first source comes from a reader that fails anywhere: always the same, namely what
+/// is said of the other sources.
 pub fn put_readers(page: &mut Page, files: &[File]) {
     let checked = checked(page.alloc(), files);
     if let Some(checked) = page.held(checked) {
@@ -65,7 +65,7 @@ fn put_failing_readers(page: &mut Page, files: &[File], whole: &Ending) {
     put_outcome(page, CheckOutcome::ReadFault);
 }
 
-// Whether a check writes what its writer takes, and tells of a fault where that is not all.
+// Whether a check writes what its writer takes, and ends in a write fault if that is not all.
 fn is_prefix(
     alloc: Global,
     checked: &Checked,
@@ -83,7 +83,7 @@ fn is_prefix(
     outcome == wanted && Some(writer.stream.taken.as_slice()) == whole.wrote.get(..until_fault)
 }
 
-/// Appends how many writers that fail took a prefix of what a check writes, or the first that did not.
+/// Appends how many failing writers took a prefix of what a check writes, or the first that did not.
 pub fn put_writers(page: &mut Page, files: &[File]) {
     let checked = checked(page.alloc(), files);
     if let Some(checked) = page.held(checked) {

@@ -6,7 +6,7 @@ use tb_check::{Findings, SourceErrorKind, examine};
 use tb_codegen::{CompileError, Options, compile};
 use tb_lower::LowerError;
 
-/// The first state of RND, of which nothing depends here.
+/// The seed of RND, on which nothing depends here.
 const SEED: u16 = 1;
 
 // Whether the check and the compiler agree on a source.
@@ -18,7 +18,7 @@ fn agrees(alloc: Global, source: &[u8]) -> Result<bool, AllocError> {
     })
 }
 
-// Whether the compiler's refusal is the first one that was found. Of lines that are too deep any may come first.
+// Whether the compiler's refusal is the first one that was found. Of lines that are too deep, any may come first.
 fn is_refusal(found: &Findings, error: CompileError) -> bool {
     match (found, error) {
         (Findings::BadLines(lines), CompileError::Source(error)) => match lines.as_slice() {
@@ -36,7 +36,7 @@ fn is_refusal(found: &Findings, error: CompileError) -> bool {
     }
 }
 
-/// Appends on how many beginnings of the sources the check and the compiler agree, or the first on which they don't.
+/// Appends for how many prefixes of the sources the check and the compiler agree, or the first for which they don't.
 pub fn put_cuts(page: &mut Page, files: &[File]) {
     for file in files {
         if let Some(bytes) = &file.bytes {

@@ -1,4 +1,4 @@
-//! Machines beside compiled programs, at their start.
+//! Machines with compiled programs, at their start.
 use crate::notation::{bytes_of, hex_word};
 use crate::page::Page;
 use tb_codegen::Compiled;
@@ -12,7 +12,7 @@ use tb_test_support::keyboard_of;
 #[derive(Clone, Copy)]
 pub struct Start<'a> {
     pub program: &'a Compiled,
-    /// What lies in memory, as `080D=A90560 C000=05`; where nothing is named, the program's file.
+    /// What lies in memory, as `080D=A90560 C000=05`; if nothing is named, the program's file.
     pub loads: &'a str,
     pub text: &'a [u8],
     pub answers: &'a [u8],
@@ -65,7 +65,7 @@ impl<'a> Start<'a> {
     }
 }
 
-/// Whether nothing that can be seen of two machines differs.
+/// Whether two machines are the same in all that can be seen of them.
 pub fn are_same(one: &Machine, other: &Machine) -> bool {
     one.regs() == other.regs()
         && one.status() == other.status()

@@ -1,4 +1,4 @@
-//! What the compiler makes: files, the places of lines, warnings, and what programs show.
+//! What the compiler makes: files, the addresses of lines, warnings, and what programs show.
 use crate::compiler::sources::{compiled, push_lines, source_of};
 use crate::notation::{bytes_of, cut, hex_word, number, word};
 use crate::page::Page;
@@ -8,7 +8,7 @@ use tb_driver::{Outcome, Tracked, build, run_prg, run_text};
 use tb_kernal::{Keyboard, Outside, Quiet, Rude};
 use tb_test_support::no_keys;
 
-// The file that `build` writes of a source, as its bytes.
+// The file that `build` writes for a source, as its bytes.
 fn built(alloc: Global, source: &[u8], seed: u16) -> Vec<u8> {
     let mut file = Tracked::new(Vec::new(alloc));
     let _ = build(alloc, &mut Tracked::new(source), &mut file, seed);
@@ -21,7 +21,7 @@ fn put_bytes(page: &mut Page, bytes: &[u8]) {
     }
 }
 
-// Appends how each file begins: the load address, a line of BASIC, and the first instruction.
+// Appends how a file begins: the load address, a line of BASIC, and the first instruction.
 fn put_head(page: &mut Page, file: &[u8]) {
     put_bytes(page, file.get(..15).unwrap_or(file));
 }
@@ -45,7 +45,7 @@ fn put_outcome(page: &mut Page, file: &[u8]) {
     page.put("\n");
 }
 
-// Appends bytes of ASCII, a line's end as `\n`.
+// Appends bytes of ASCII, the end of a line as `\n`.
 fn put_shown(page: &mut Page, bytes: &[u8]) {
     for (index, line) in bytes.split(|byte| *byte == b'\n').enumerate() {
         if 0 < index {
@@ -71,7 +71,7 @@ pub fn put_build(page: &mut Page, row: &str) {
     }
 }
 
-/// Appends a source's file's head, and whether another source makes the same file.
+/// Appends the head of a source's file, and whether another source makes the same file.
 pub fn put_alike(page: &mut Page, row: &str) {
     let (one, other) = row.split_once(" | ").unwrap_or((row, ""));
     let one = source_of(page, one);
@@ -85,8 +85,8 @@ pub fn put_alike(page: &mut Page, row: &str) {
     page.put("\n");
 }
 
-/// Appends something of a place in a program: where the code of a line begins, the line in whose code an address lies,
-/// or so many bytes of the code from an address on.
+/// Appends something about an address in a program: where the code of a line begins, the line in whose code an address
+/// lies, or the first few bytes of the code from an address on.
 pub fn put_place(page: &mut Page, name: &str, row: &str) {
     let (place, rest) = cut(row);
     let (count, source) = if name == "code" {
@@ -151,8 +151,8 @@ pub fn put_warnings(page: &mut Page, source: &str) {
     }
 }
 
-/// Appends the first of so many cuts of the largest program that does not compile. Where there is memory enough, want of
-/// it is no answer.
+/// Tries the prefixes of the largest program, up to this many lines, and appends the first that does not compile. There
+/// is enough memory here, so running out of it is no answer.
 pub fn put_cuts(page: &mut Page, row: &str) {
     for last in 1..=word(page, row) {
         let mut source = Vec::new(page.alloc());
@@ -192,7 +192,7 @@ fn ran<O: Outside>(
     report.outcome
 }
 
-/// Appends how a source's run ends with these keys and what it shows, and how it does so beside a rude ROM.
+/// Appends how a source's run ends with these keys and what it shows, first with a quiet ROM and then with a rude one.
 pub fn put_runs(page: &mut Page, source: &[u8], keys: &str) {
     let alloc = page.alloc();
     let mut screen = Tracked::new(Vec::new(alloc));

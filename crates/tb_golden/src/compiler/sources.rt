@@ -1,5 +1,5 @@
-//! Sources as they stand in rows: in parts with ` & ` between; `lines 100 299 END` is a part that has this statement on
-//! each of these lines.
+//! Sources as rows write them: in parts with ` & ` between them; `lines 100 299 END` is a part that has this statement
+//! on each of these lines.
 use crate::notation::{cut, push_decoded, word};
 use crate::page::Page;
 use tb_codegen::{Compiled, Options, compile};
@@ -16,7 +16,7 @@ pub fn push_lines(page: &mut Page, source: &mut Vec<u8>, first: u16, last: u16, 
     push_decoded(page, source, lines.text());
 }
 
-/// The source that is written so.
+/// The source that is written this way.
 pub fn source_of(page: &mut Page, row: &str) -> Vec<u8> {
     let mut source = Vec::new(page.alloc());
     for part in row.split(" & ") {
@@ -33,7 +33,7 @@ pub fn source_of(page: &mut Page, row: &str) -> Vec<u8> {
     source
 }
 
-/// A source, compiled with the first state of RND.
+/// A source, compiled with this seed of RND.
 pub fn compiled(page: &mut Page, source: &[u8], seed: u16) -> Option<Compiled> {
     let compiled = compile(page.alloc(), source, Options { seed });
     page.held(compiled)

@@ -39,7 +39,7 @@ fn put_steps(page: &mut Page, source: &[u8], commands: &[u8], limit: u64) {
     page.put_ascii(&screen.stream);
 }
 
-// What stands behind a word at the beginning of a row; nothing where no row has it. A block begins with a comment.
+// What follows a word at the beginning of a row; nothing if no row has it. A block begins with a comment.
 fn field<'a>(block: &'a str, word: &str) -> &'a str {
     let (_, rest) = block.split_once(word).unwrap_or(("", ""));
     let (row, _) = rest.split_once('\n').unwrap_or((rest, ""));
@@ -76,7 +76,7 @@ fn put_program(page: &mut Page, program: &Compiled, block: &str) {
     put_started(page, start, block);
 }
 
-// Appends a block about the machine that starts so.
+// Appends a block about a machine with this start.
 fn put_started(page: &mut Page, start: Start<'_>, block: &str) {
     if let Some(mut stepper) = start.stepper(page, Quiet) {
         for row in block.lines() {
@@ -87,7 +87,7 @@ fn put_started(page: &mut Page, start: Start<'_>, block: &str) {
     }
 }
 
-// Appends what this stepper answers to a row of a block, or another one with this start.
+// Appends what this stepper, or another one with this start, answers to a row of a block.
 fn put_row(page: &mut Page, start: Start<'_>, stepper: &mut Stepper<'_, Quiet>, row: &str) {
     let (name, rest) = cut(row);
     match name {
@@ -124,7 +124,7 @@ fn put_reached(page: &mut Page, stepper: &mut Stepper<'_, Quiet>, rest: &str) {
     page.put_debug(&reached);
 }
 
-// Appends what is seen of a stepper's machine.
+// Appends what can be seen of a stepper's machine.
 fn put_seen(page: &mut Page, stepper: &Stepper<'_, Quiet>, name: &str, rest: &str) {
     match name {
         "regs" => page.put_debug(&stepper.machine().regs()),
@@ -152,7 +152,7 @@ fn put_value(page: &mut Page, stepper: &Stepper<'_, Quiet>, text: &str) {
     }
 }
 
-// Takes so many steps, or fewer where the program returns. Answers how many are noted.
+// Takes this many steps, or fewer if the program returns. Answers how many are noted.
 fn take_steps<O: Outside + Drop>(stepper: &mut Stepper<'_, O>, count: u64) -> u64 {
     for taken in 0..count {
         if stepper.machine().status() == Status::Returned || stepper.step().is_err() {
@@ -172,8 +172,8 @@ fn take_back<O: Outside + Drop>(stepper: &mut Stepper<'_, O>) -> u64 {
     u64::MAX
 }
 
-// Whether so many steps beside a rude ROM are taken back: as many `back` as noted steps, and no more, lead back to the
-// start.
+// Whether this many steps with a rude ROM are taken back: exactly as many calls of `back` as noted steps lead back to
+// the start.
 fn is_taken_back(page: &mut Page, start: Start<'_>, first: &Machine, count: u64) -> bool {
     match start.stepper(page, Rude::new(7)) {
         Some(mut stepper) => {
@@ -208,7 +208,7 @@ fn put_each_back(page: &mut Page, start: Start<'_>, most: &str) {
     }
 }
 
-// How many of so many steps leave the machine running, whatever it comes to.
+// How many of this many steps leave the machine running, whatever state it comes to.
 fn count_running(stepper: &mut Stepper<'_, Quiet>, count: u64) -> u64 {
     let mut running = 0u64;
     for _ in 0..count {
@@ -219,8 +219,8 @@ fn count_running(stepper: &mut Stepper<'_, Quiet>, count: u64) -> u64 {
     running
 }
 
-// How many of so many steps left the machine running, how many of them are taken back, and whether it then stands as
-// another one does after the others.
+// How many of this many steps left the machine running, how many of them are taken back, and whether it is then in the
+// state in which another machine is after the others.
 fn kept(page: &mut Page, start: Start<'_>, count: u64) -> Option<(u64, u64, bool)> {
     let mut stepper = start.stepper(page, Quiet)?;
     let running = count_running(&mut stepper, count);
@@ -229,7 +229,7 @@ fn kept(page: &mut Page, start: Start<'_>, count: u64) -> Option<(u64, u64, bool
     Some((running, back, is_same))
 }
 
-// Whether a machine stands as another one does after so many steps.
+// Whether a machine is in the state in which another one is after this many steps.
 fn stands_as_after(
     page: &mut Page,
     start: Start<'_>,

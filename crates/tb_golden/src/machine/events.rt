@@ -23,7 +23,7 @@ pub fn put_answer(page: &mut Page, bench: &mut Bench, name: &str, rest: &str) {
     }
 }
 
-// Whether a number stands behind the name.
+// Whether a number follows the name.
 fn is_number(name: &str) -> bool {
     name == "reserve" || name == "rude"
 }
@@ -40,7 +40,7 @@ fn put_entered(page: &mut Page, bench: &mut Bench) {
     }
 }
 
-/// A machine of a setting, whose memory also has a return to `$A100` on the stack.
+/// A machine of a setting, with a return to `$A100` on the stack as well.
 pub fn enter(page: &mut Page, setting: &mut Setting) -> Option<Result<Machine, EnterError>> {
     let memory = Memory::new(page.alloc());
     let mut memory = page.held(memory)?;
@@ -129,14 +129,14 @@ fn put_reserved(page: &mut Page, machine: &mut Machine, rest: &str) {
     page.put(room);
 }
 
-// Three events of an outside after one another.
+// Three events that an outside gives one after the other.
 fn put_three<O: Outside>(page: &mut Page, machine: &Machine, outside: &mut O) {
     for _ in 0..3 {
         put_given(page, &outside.next(machine));
     }
 }
 
-// What an outside gives of the Interrupts of a row's words, each of one byte.
+// What an outside gives that replays the Interrupts of a row's words, each of one byte.
 fn put_recorded(page: &mut Page, machine: &Machine, setting: &Setting) {
     let mut events = Vec::new(page.alloc());
     for &(address, value) in &setting.bytes {

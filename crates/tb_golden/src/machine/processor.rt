@@ -43,7 +43,7 @@ fn put_next(page: &mut Page, bench: &mut Bench, rest: &str) {
     bench.setting.put_asked(page, &bench.memory);
 }
 
-// The operand's address, of an instruction that the next row runs.
+// The operand's address of an instruction that the next row runs.
 fn put_operand(page: &mut Page, bench: &mut Bench, rest: &str) {
     bench.restart(page);
     bench.setting.read(page, first_regs(), rest);

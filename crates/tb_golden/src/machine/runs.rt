@@ -29,14 +29,14 @@ pub fn put_answer(page: &mut Page, bench: &mut Bench, name: &str, rest: &str) {
     }
 }
 
-// The machine of a row's words, where it is not refused.
+// The machine of a row's words, unless it is refused.
 fn machine_of(page: &mut Page, setting: &mut Setting, words: &str) -> Option<Machine> {
     setting.read(page, first_regs(), words);
     let entered = enter(page, setting)?;
     page.held(entered)
 }
 
-// How a run ends that takes so many events at most.
+// How a run of at most `limit` events ends.
 fn put_ending<O: Outside>(
     page: &mut Page,
     setting: &mut Setting,
@@ -60,7 +60,7 @@ fn put_run<O: Outside>(page: &mut Page, machine: &mut Machine, outside: &mut O, 
     put_quoted(page, machine.sent());
 }
 
-// How a run ends beside each of the rude ROMs of the seeds from 1 on. What a seed has in common with the one before is
+// How a run ends with each of the rude ROMs of the seeds from 1 on. What a seed has in common with the one before is
 // written once.
 fn put_rude(page: &mut Page, setting: &mut Setting, last: u16, rest: &str) {
     let (limit, words) = cut(rest);
@@ -79,7 +79,7 @@ fn put_rude(page: &mut Page, setting: &mut Setting, last: u16, rest: &str) {
     }
 }
 
-// How many programs of random bytes run as they are to, beside a quiet ROM and beside a rude one.
+// How many programs of random bytes run as they should, with a quiet ROM and with a rude one.
 fn put_random(page: &mut Page, setting: &mut Setting, count: u16) {
     let mut seed = 1;
     let mut held = 0u16;
@@ -104,7 +104,7 @@ fn random_program(seed: &mut u16) -> [u8; 64] {
     program
 }
 
-// Whether the answer of a run of 10,000 events at most is how the machine then stands.
+// Whether the machine's status after a run of at most 10,000 events is what the run answered.
 fn is_as_answered<O: Outside>(
     page: &mut Page,
     setting: &mut Setting,

@@ -1,8 +1,8 @@
 //! What the words of a row say of registers, memory and keyboard.
 //!
 //! `A=46` sets a register. `P=N.D..C` sets the flags that it names, and clears the others. A byte in hex goes to the
-//! place that `C100:` or `PC=C100` names, and each further byte to the next place. `?0020` asks for a byte. `text=K` and
-//! `answer=03` are the keyboard's. `hello` stands for the bytes of the example of reaching.
+//! address that `C100:` or `PC=C100` names, and each further byte to the next address. `?0020` asks for a byte.
+//! `text=K` and `answer=03` are the keyboard's. `hello` stands for the bytes of the example of reaching.
 use crate::machine::writing::put_read;
 use crate::notation::{hex_byte, hex_word};
 use crate::page::Page;
@@ -14,7 +14,7 @@ use tb_kernal::Keyboard;
 use tb_memmap::Memory;
 use tb_reaching::HELLO;
 
-/// Where programs lie.
+/// The address where programs lie.
 pub const PROGRAM_AT: u16 = 0xc000;
 
 /// The registers before a program.
@@ -73,7 +73,7 @@ impl Setting {
         }
     }
 
-    /// Has bytes put to the next places.
+    /// Has bytes put at the next addresses.
     pub fn put_next(&mut self, page: &mut Page, bytes: &[u8]) {
         for &byte in bytes {
             let put = self.bytes.push((self.place, byte));
@@ -121,7 +121,7 @@ impl Setting {
         }
     }
 
-    /// The keyboard, which is then empty here.
+    /// Hands over the keyboard, and leaves an empty one here.
     pub fn keyboard(&mut self, alloc: Global) -> Keyboard {
         Keyboard {
             text: mem::replace(&mut self.text, Vec::new(alloc)),
@@ -140,7 +140,7 @@ impl Setting {
     }
 }
 
-// The flags whose letters stand in a text.
+// The flags whose letters occur in a text.
 fn flags(text: &str) -> Flags {
     Flags {
         n: text.contains('N'),

@@ -20,7 +20,7 @@ pub fn put_answer(page: &mut Page, name: &str, rest: &str) {
     }
 }
 
-// The place of a letter in the alphabet.
+// The index of a letter in the alphabet.
 fn put_letter(page: &mut Page, bytes: &[u8]) {
     let &byte = bytes.first().unwrap_or(&0);
     match Letter::read(byte) {

@@ -36,7 +36,7 @@ pub fn put_wrong(page: &mut Page, wrong: Wrong) {
     }
 }
 
-/// How a machine stands.
+/// The status of a machine.
 pub fn put_status(page: &mut Page, status: Status) {
     match status {
         Status::Wrong(wrong) => put_wrong(page, wrong),

@@ -6,10 +6,10 @@ use tb_meaning::{SourceRun, eval, run_source, warnings};
 use tb_parser::{Program, parse, parse_expr};
 use tb_selection::select;
 
-/// The first state of RND.
+/// The seed of RND.
 const SEED: u16 = 1;
 
-/// More lines than any program takes that ends.
+/// A limit of lines that is higher than any program here takes if it ends.
 const LIMIT: u64 = 2000;
 
 /// What a call answers that is given a program.
@@ -45,7 +45,7 @@ fn put_run(page: &mut Page, program: &Program, keys: &[u8], answers: &[u8]) {
     }
 }
 
-// What ten lines of a run send, where it goes on and with which variables.
+// What ten lines of a run send, the line where it goes on, and its variables.
 fn put_ten_lines(page: &mut Page, program: &Program) {
     let run = run_source(page.alloc(), program, SEED, &[], &[], 10);
     if let Some(run) = page.held(run) {
@@ -67,7 +67,7 @@ pub fn put_jump(page: &mut Page, keys: &[u8]) {
     put_program(page, "run", source.text().as_bytes(), keys);
 }
 
-/// The value of an expression where A is 5 and the other variables are 0.
+/// The value of an expression if A is 5 and the other variables are 0.
 pub fn put_value(page: &mut Page, text: &[u8]) {
     let expr = parse_expr(page.alloc(), text);
     if let Some(expr) = page.held(expr) {
@@ -104,7 +104,7 @@ fn put_groups(page: &mut Page, code: &SlotCode) {
     }
 }
 
-// The constant targets that a program lacks, each behind its line's number.
+// The constant targets that a program lacks, each after its line's number.
 fn put_missing(page: &mut Page, program: &Program) {
     let warnings = warnings(page.alloc(), program);
     if let Some(warnings) = page.held(warnings) {

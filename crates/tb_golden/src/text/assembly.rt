@@ -19,7 +19,7 @@ pub fn put_answer(page: &mut Page, name: &str, rest: &str) {
     }
 }
 
-/// The items of a text. Says why there are none.
+/// The items of a text; says why if there are none.
 pub fn items_in(page: &mut Page, text: &[u8]) -> Option<Vec<Item>> {
     match read_text(page.alloc(), text) {
         Ok(items) => Some(items),
@@ -51,7 +51,7 @@ pub fn put_refusal(page: &mut Page, error: AsmError) {
     page.put_refusal("Item", &error);
 }
 
-/// The image of items at an address. Says why there is none.
+/// The image of items at an address; says why if there is none.
 pub fn assembled(page: &mut Page, at: u16, items: &[Item]) -> Option<Image> {
     match assemble(page.alloc(), at, items) {
         Ok(image) => Some(image),
@@ -68,7 +68,7 @@ fn put_assembled(page: &mut Page, at: u16, items: &[Item]) {
     }
 }
 
-// The address of a row, and the items of its text. Says why there are none.
+// The address of a row, and the items of its text; says why if there are none.
 fn row_of(page: &mut Page, row: &str) -> Option<(u16, Vec<Item>)> {
     let (at, text) = cut(row);
     let at = hex_word(page, at);
@@ -123,7 +123,7 @@ fn put_laid(page: &mut Page, row: &str) {
     }
 }
 
-// The refusal of an instruction whose operand is a byte where its mode takes a word.
+// The refusal of an instruction whose operand is a byte although its mode takes a word.
 fn put_one_byte(page: &mut Page, row: &str) {
     let (at, _) = cut(row);
     let at = hex_word(page, at);

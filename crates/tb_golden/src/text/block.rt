@@ -33,7 +33,8 @@ fn is_block(bytes: &[u8]) -> bool
     bytes == block()
 }
 
-/// Appends whether a text assembles to the block's bytes, and of each part where its label stands and where it begins.
+/// Appends whether a text assembles to the block's bytes, and for each part the address of its label and where it
+/// begins.
 pub fn put_block(page: &mut Page, text: &str) {
     let Some(items) = items_in(page, text.as_bytes()) else {
         return;

@@ -86,7 +86,7 @@ pub fn ending_of(alloc: Global, engine: Engine, input: &[u8]) -> Ending {
     }
 }
 
-/// Appends the status and the text for standard error.
+/// Appends the status, and the text for standard error.
 pub fn put_status(page: &mut Page, outcome: Outcome) {
     page.put(outcome.status());
     page.put(" \"");
@@ -94,7 +94,7 @@ pub fn put_status(page: &mut Page, outcome: Outcome) {
     page.put("\"");
 }
 
-/// Appends the status, the text for standard error, and what was written: of the assembler bytes, else a text.
+/// Appends the status, the text for standard error, and what was written: from the assembler bytes, else a text.
 pub fn put_ending(page: &mut Page, engine: Engine, ending: &Ending) {
     put_status(page, ending.outcome);
     page.put(" ");
@@ -109,7 +109,7 @@ fn put_whole(page: &mut Page, engine: Engine, input: &[u8]) {
     put_ending(page, engine, &ending);
 }
 
-// Runs a program that is given keys, beside a hostile ROM.
+// Runs a program that is given keys, with a hostile ROM.
 fn put_keyed(page: &mut Page, row: &str) {
     let (limit, rest) = cut(row);
     let limit = number(page, limit);
@@ -141,7 +141,7 @@ fn keyed(alloc: Global, file: &[u8], keyboard: Keyboard, limit: u64) -> Ending {
     }
 }
 
-// Calls an engine with one byte so many times in place of its input.
+// Calls an engine with one byte repeated this many times as its input.
 fn put_repeated(page: &mut Page, row: &str) {
     let (count, rest) = cut(row);
     let (byte, rest) = cut(rest);

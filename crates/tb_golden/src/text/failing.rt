@@ -7,7 +7,7 @@ use tb_engines::{End, Outcome};
 use tb_streams::Tracked;
 use tb_test_support::{FailingReader, FailingWriter, HoldingWriter};
 
-/// Appends a line for each length of input from which on the answer is another than before.
+/// Appends a line for each length of input at which the answer changes.
 pub fn put_prefixes(page: &mut Page, engine: Engine, input: &[u8]) {
     page.put("by length");
     let mut last = Page::new(page.alloc());
@@ -25,7 +25,7 @@ pub fn put_prefixes(page: &mut Page, engine: Engine, input: &[u8]) {
     }
 }
 
-// Whether an engine ends in a read fault, and writes nothing, where its reader fails behind so many bytes.
+// Whether an engine ends in a read fault, and writes nothing, if its reader fails after `until_fault` bytes.
 fn reader_fails(
     alloc: Global,
     engine: Engine,
@@ -39,7 +39,7 @@ fn reader_fails(
     outcome == Outcome::ReadFault && reader.failures() == 1 && writer.stream.is_empty()
 }
 
-/// Appends how many readers that fail were met by a read fault, or the first that was not.
+/// Appends how many failing readers led to a read fault, or the first that did not.
 pub fn put_failing_readers(page: &mut Page, engine: Engine, input: &[u8]) {
     let mut met = 0u64;
     for until_fault in 0..=input.len() {
@@ -56,7 +56,7 @@ pub fn put_failing_readers(page: &mut Page, engine: Engine, input: &[u8]) {
     page.put(" faults, and nothing written");
 }
 
-// Whether an engine writes what its writer takes of the whole text, and tells of a fault where that is not all.
+// Whether an engine writes what its writer takes of the whole text, and ends in a write fault if that is not all.
 fn writer_fails(
     alloc: Global,
     engine: Engine,
@@ -75,7 +75,7 @@ fn writer_fails(
     outcome == wanted && Some(writer.stream.taken.as_slice()) == whole.get(..until_fault)
 }
 
-/// Appends the answer over a writer that does not fail, and how many that fail took a prefix of it, or the first
+/// Appends the answer with a writer that does not fail, and how many failing writers took a prefix of it, or the first
 /// that did not.
 pub fn put_failing_writers(page: &mut Page, engine: Engine, input: &[u8]) {
     let whole = ending_of(page.alloc(), engine, input);

@@ -1,11 +1,11 @@
-//! What is printed of bytes.
+//! How bytes are printed.
 use crate::page::Page;
 use std::str;
 
-/// The most bytes of which each is printed.
+/// The most bytes that are printed in full.
 const MOST_SHOWN: usize = 20;
 
-/// How many bytes are printed of each end where there are more.
+/// How many bytes are printed of each end if there are more.
 const SHOWN: usize = 5;
 
 fn put_each(page: &mut Page, bytes: &[u8]) {
@@ -17,7 +17,7 @@ fn put_each(page: &mut Page, bytes: &[u8]) {
     }
 }
 
-/// Appends bytes in hexadecimal digits: of many, only how many they are and both ends.
+/// Appends bytes in hexadecimal digits; of many, only how many they are and both ends.
 pub fn put_bytes(page: &mut Page, bytes: &[u8]) {
     if bytes.is_empty() {
         return page.put("no bytes");
