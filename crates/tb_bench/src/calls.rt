@@ -1,4 +1,4 @@
-//! Each call that may want memory, on the input of its worked row.
+//! Each call that may run out of memory, on the input of its worked row.
 mod assembly;
 mod machines;
 mod sources;

@@ -1,5 +1,6 @@
-//! Runs records by the processor's `step` alone. The line of each has the registers and a digest of the memory where its
-//! program came to `$A100`, else why it didn't; `tools/foreign_machines.sh` compares it with what another processor does.
+//! Runs records by the processor's `step` alone. The line of each has the registers and a digest of the memory when its
+//! program came to `$A100`, or says why it didn't; `tools/foreign_machines.sh` compares it with what another processor
+//! does.
 use crate::failure::Failure;
 use md5::{Digest, Md5};
 use std::alloc::{AllocError, Global};
@@ -10,10 +11,10 @@ use tb_opcodes::{Mnemonic, Mode, decode};
 /// The bytes of a record: a seed, and a PRG file of 64 bytes.
 const RECORD: usize = 65;
 
-/// A program has ended where it comes to this address, which is closed.
+/// A program has ended when it comes to this address, which is closed.
 const END: u16 = 0xa100;
 
-/// The most instructions of a program.
+/// The most instructions that a program may take.
 const MOST_STEPS: u32 = 1000;
 
 /// The stack pointer at the start.
@@ -28,7 +29,7 @@ enum Ending {
     StepLimit,
 }
 
-/// What a program did that another processor may do otherwise.
+/// What a program did that another processor may do differently.
 #[derive(Clone, Copy, Drop)]
 struct Marks {
     /// `ROL` of an absolute address and X.
@@ -41,7 +42,7 @@ struct Marks {
     wraps: bool,
 }
 
-// The word at an address, where that is open.
+// The word at an address, if both its bytes are open.
 fn word_at(memory: &Memory, address: u16) -> Option<u16> {
     let low = memory.read(address).ok()?;
     let high = memory.read(address.wrapping_add(1)).ok()?;
@@ -202,7 +203,7 @@ fn append_line(alloc: Global, record: &[u8], text: &mut String) -> Result<(), Fa
     Ok(())
 }
 
-/// Appends the lines of an input's records.
+/// Appends the line of each record of an input. Refused if the input is empty or not a whole number of records.
 pub fn append_lines(alloc: Global, input: &[u8], text: &mut String) -> Result<(), Failure> {
     if input.is_empty() || input.len() % RECORD != 0 {
         return Err(Failure::Input);

@@ -15,13 +15,13 @@ use thiserror::Error;
 /// Why no answer is written.
 #[derive(Clone, Copy, Debug, PartialEq, Eq, Drop, Error)]
 pub enum Failure {
-    /// A growth was refused.
+    /// Memory ran out.
     #[error("out of memory")]
     NoMemory,
-    /// A call refuses its row for another reason than want of memory.
+    /// A call refuses its row for another reason than that memory ran out.
     #[error("refused")]
     Refused,
-    /// A call was refused memory, and something is not as it was before.
+    /// Memory ran out in a call, and something is not as it was before.
     #[error("a refusal changed something")]
     Changed,
     #[error("no such word")]
@@ -31,7 +31,7 @@ pub enum Failure {
 }
 
 impl Failure {
-    /// Want of memory, if it left what can be seen as it was.
+    /// Memory ran out; `Changed` if that left what can be seen other than it was.
     pub fn of_memory(is_unchanged: bool) -> Failure {
         if is_unchanged {
             Failure::NoMemory
@@ -40,7 +40,7 @@ impl Failure {
         }
     }
 
-    // Want of memory, or another reason.
+    // Memory ran out, or there is another reason.
     fn of(is_memory: bool) -> Failure {
         if is_memory {
             Failure::NoMemory

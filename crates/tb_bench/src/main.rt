@@ -4,8 +4,8 @@
 //! - `end_states` runs the records of standard input by the processor alone, for `tools/foreign_machines.sh`;
 //! - `speed NAME EVENTS` and `speed NAME EVENTS steps` measure the machine, for `tools/measure_machine.sh`.
 //!
-//! Without a word it does some of each whose answer is always the same. Where something is refused memory, nothing is
-//! written, and the status is 4.
+//! Without a word it does some of each whose answer is always the same. If memory runs out, nothing is written, and the
+//! status is 4.
 #![tactic(auto)]
 
 mod calls;
@@ -21,7 +21,7 @@ use std::process::ExitCode;
 use std::rt::{Clock, Env};
 use tb_streams::{Tracked, read_input};
 
-// The words behind the program's name.
+// The words after the program's name.
 fn words<R: Env + AllocGlobal>(rt: &R) -> Result<Args, Failure> {
     match env::args(rt) {
         Ok(mut words) => {

@@ -6,7 +6,7 @@ use tb_kernal::Machine;
 use tb_memmap::Memory;
 use tb_test_support::no_keys;
 
-// Where the return address lies that a machine starts with, and that address less 1.
+// The address of the return address that a machine starts with; below, that return address less 1.
 const RETURN_PLACE: u16 = 0x01f1;
 
 const RETURN_ADDRESS: [u8; 2] = [0xff, 0xa0];

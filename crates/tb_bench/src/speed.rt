@@ -7,7 +7,7 @@ use tb_cpu::step;
 use tb_engines::start_regs;
 use tb_kernal::{Quiet, run};
 
-// Where the programs lie.
+// The address of the programs.
 const PLACE: u16 = 0x0c00;
 
 // INX, BNE, INY, BNE, INC, JMP: a tight loop.
@@ -21,7 +21,7 @@ const SUMS: [u8; 27] = [
     0x8d, 0x01, 0xc0, 0xce, 0x04, 0xc0, 0xd0, 0xe8, 0x4c, 0x00, 0x0c,
 ];
 
-// Events for the line that is always the same.
+// The number of events for the line that is always the same.
 const FEW: u64 = 100_000;
 
 // The milliseconds since a time.
@@ -34,7 +34,7 @@ fn now<R: Clock>(rt: &R) -> Result<Instant, Failure> {
     Instant::now(rt).map_err(|_| Failure::Refused)
 }
 
-// Runs a program by `step` alone: the milliseconds that it took, and where it then stands.
+// Runs a program by `step` alone: the milliseconds that it took, and the PC after it.
 fn measure_steps<R: Clock + AllocGlobal>(
     rt: &R,
     program: &[u8],
@@ -49,7 +49,7 @@ fn measure_steps<R: Clock + AllocGlobal>(
     Ok((millis_since(rt, start)?, regs.pc))
 }
 
-// The same for so many events of the machine.
+// The same for this many events of the machine.
 fn measure<R: Clock + AllocGlobal>(
     rt: &R,
     program: &[u8],
@@ -70,7 +70,7 @@ fn program_of(name: &str) -> Result<&'static [u8], Failure> {
     }
 }
 
-/// Appends what so many events of a program take, or so many instructions by `step` alone.
+/// Appends the milliseconds that this many events of a program take, or this many instructions by `step` alone.
 pub fn append_one<R: Clock + AllocGlobal>(
     rt: &R,
     name: &str,
@@ -89,7 +89,7 @@ pub fn append_one<R: Clock + AllocGlobal>(
     Ok(())
 }
 
-/// Appends where each program stands behind a few events, which is always the same.
+/// Appends the PC of each program after a few events, which is always the same.
 pub fn append_few<R: Clock + AllocGlobal>(rt: &R, text: &mut String) -> Result<(), Failure> {
     for name in ["loop", "sums"] {
         let (_, pc) = measure(rt, program_of(name)?, FEW)?;

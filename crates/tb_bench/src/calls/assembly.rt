@@ -9,23 +9,23 @@ use tb_memmap::CODE_START;
 use tb_prg::write;
 use tb_settling::assemble_settled;
 
-/// The bytes of the worked rows: a program, and instructions among bytes that are none.
+/// The bytes of the worked rows: a program, and instructions among bytes that are not instructions.
 const LISTED: [&[u8]; 2] = [
     &[0xa9, 0x05, 0x8d, 0x20, 0xd0, 0x60],
     &[0xad, 0x12, 0x00, 0xff, 0x6c, 0xff, 0x12, 0xa9],
 ];
 
-/// How many bytes stand before a program's image in its PRG file.
+/// How many bytes a PRG file has before its program's image.
 const HEADER_SIZE: usize = 14;
 
-/// A branch over so many zeros to a label, forward or back.
+/// A branch over this many zeros to a label, forward or back.
 #[derive(Clone, Copy, Drop)]
 struct Branch {
     zeros: usize,
     is_forward: bool,
 }
 
-/// Where the directory of a disk begins.
+/// Where the directory of a disk begins, in bytes.
 const DIRECTORY: usize = 358 * 256;
 
 /// The branches of the worked rows: the last that reaches and the first that does not, each way.
@@ -103,7 +103,7 @@ fn show_image(image: &Image, text: &mut String) -> Result<(), Failure> {
     Ok(())
 }
 
-// Assembles items. A refusal is an answer, but for want of memory.
+// Assembles items. A refusal is an answer, unless memory ran out.
 fn show_assembled(alloc: Global, items: &[Item], text: &mut String) -> Result<(), Failure> {
     match assemble(alloc, 0x1000, items) {
         Ok(image) => show_image(&image, text),
@@ -123,6 +123,7 @@ fn show_assembled_text(alloc: Global, row: &[u8], text: &mut String) -> Result<(
     }
 }
 
+/// Shows what assembling the texts of the worked rows answers.
 pub fn show_assemble(alloc: Global, text: &mut String) -> Result<(), Failure> {
     for row in texts(alloc)? {
         show_assembled_text(alloc, row.as_slice(), text)?;
@@ -150,6 +151,7 @@ fn show_settled_items(alloc: Global, items: &[Item], text: &mut String) -> Resul
     show_each(text, settled.as_slice())
 }
 
+/// Shows what `settle` answers for the branches of the worked rows.
 pub fn show_settle(alloc: Global, text: &mut String) -> Result<(), Failure> {
     for branch in BRANCHES {
         show_settled(alloc, branch, text)?;
@@ -163,6 +165,7 @@ fn show_laid(alloc: Global, branch: Branch, text: &mut String) -> Result<(), Fai
     show_image(&image, text)
 }
 
+/// Shows what `assemble_settled` answers for the branches of the worked rows.
 pub fn show_assemble_settled(alloc: Global, text: &mut String) -> Result<(), Failure> {
     for branch in BRANCHES {
         show_laid(alloc, branch, text)?;
@@ -177,6 +180,7 @@ fn show_read(alloc: Global, row: &[u8], text: &mut String) -> Result<(), Failure
     }
 }
 
+/// Shows what `read_text` answers for the texts of the worked rows.
 pub fn show_read_text(alloc: Global, text: &mut String) -> Result<(), Failure> {
     for row in texts(alloc)? {
         show_read(alloc, row.as_slice(), text)?;
@@ -184,7 +188,7 @@ pub fn show_read_text(alloc: Global, text: &mut String) -> Result<(), Failure> {
     Ok(())
 }
 
-// The file of an image that stands where a program starts.
+// The file of an image at the address where a program starts.
 fn file_of(alloc: Global, items: &[Item]) -> Result<Vec<u8>, Failure> {
     let image = assemble(alloc, CODE_START, items)?;
     Ok(write(alloc, &image)?)
@@ -196,13 +200,14 @@ fn show_file(alloc: Global, image: &[u8], text: &mut String) -> Result<(), Failu
     show_bytes(text, file.as_slice())
 }
 
-// The file of a source's image, which is the compiled one.
+// The file that `write` makes of a source's image, which is the compiled one.
 fn show_write_of(alloc: Global, source: &[u8], text: &mut String) -> Result<(), Failure> {
     let program = compiled(alloc, source)?;
     let image = program.prg().get(HEADER_SIZE..).ok_or(Failure::Refused)?;
     show_file(alloc, image, text)
 }
 
+/// Shows what `write` makes of the images of the sources.
 pub fn show_write(alloc: Global, text: &mut String) -> Result<(), Failure> {
     for source in SOURCES {
         show_write_of(alloc, source, text)?;
@@ -219,6 +224,7 @@ fn show_listing(alloc: Global, bytes: &[u8], text: &mut String) -> Result<(), Fa
     show_each(text, listing.lines.as_slice())
 }
 
+/// Shows what `disassemble` makes of the bytes of the worked rows.
 pub fn show_disassemble(alloc: Global, text: &mut String) -> Result<(), Failure> {
     for bytes in LISTED {
         show_listing(alloc, bytes, text)?;
@@ -236,6 +242,7 @@ fn show_listing_text_of(alloc: Global, bytes: &[u8], text: &mut String) -> Resul
     show_letters(text, written.as_slice())
 }
 
+/// Shows the texts of these listings.
 pub fn show_listing_text(alloc: Global, text: &mut String) -> Result<(), Failure> {
     for bytes in LISTED {
         show_listing_text_of(alloc, bytes, text)?;
@@ -243,7 +250,7 @@ pub fn show_listing_text(alloc: Global, text: &mut String) -> Result<(), Failure
     Ok(())
 }
 
-// The disk of a name with this file.
+// The disk of this name with this file.
 fn show_disk_of(alloc: Global, name: &Name, text: &mut String) -> Result<(), Failure> {
     let file = File {
         name: *name,
@@ -261,6 +268,7 @@ fn show_disk_of(alloc: Global, name: &Name, text: &mut String) -> Result<(), Fai
     )
 }
 
+/// Shows what is made of a disk.
 pub fn show_disk(alloc: Global, text: &mut String) -> Result<(), Failure> {
     let name = Name::new(b"A").ok_or(Failure::Refused)?;
     show_disk_of(alloc, &name, text)

@@ -1,5 +1,5 @@
-//! Calls of the memory, of the machine and of the stepper. Where one is refused memory, it is looked whether what it was
-//! called on is as it was.
+//! Calls of the memory, of the machine and of the stepper. If one is refused memory, it is checked that what it was
+//! called on is unchanged.
 use super::sources::{ASSIGNMENT, GREETING, SOURCES, compiled, show_bytes};
 use crate::failure::Failure;
 use crate::memories::machine_with;
@@ -16,7 +16,7 @@ use tb_words::Letter;
 /// More events than any program here takes.
 const LIMIT: u64 = 100_000;
 
-// What can be seen of a machine, but for its memory: registers, how it stands, the count of bytes sent, and room.
+// What can be seen of a machine, except its memory: registers, status, the count of bytes sent, and room.
 type Seen = (Regs, Status, usize, usize);
 
 fn seen(machine: &Machine) -> Seen {
@@ -46,6 +46,7 @@ fn show_reads(memory: &Memory, text: &mut String) -> Result<(), Failure> {
     Ok(())
 }
 
+/// Shows what making a memory answers.
 pub fn show_memory(alloc: Global, text: &mut String) -> Result<(), Failure> {
     let memory = Memory::new(alloc)?;
     show_reads(&memory, text)
@@ -68,6 +69,7 @@ fn show_reserved(machine: &mut Machine, text: &mut String) -> Result<(), Failure
     show_bytes(text, machine.sent())
 }
 
+/// Shows what `reserve` answers.
 pub fn show_reserve(alloc: Global, text: &mut String) -> Result<(), Failure> {
     let regs = Regs {
         a: 0x48,
@@ -88,6 +90,7 @@ fn show_typed(machine: &mut Machine, text: &mut String) -> Result<(), Failure> {
     show_bytes(text, machine.keys_left().0)
 }
 
+/// Shows what `type_text` answers.
 pub fn show_type_text(alloc: Global, text: &mut String) -> Result<(), Failure> {
     let regs = start_regs(0xc000);
     let mut machine = machine_with(alloc, 0xc000, &[0x20, 0xcf, 0xff], regs)?;
@@ -95,7 +98,7 @@ pub fn show_type_text(alloc: Global, text: &mut String) -> Result<(), Failure> {
     show_typed(&mut machine, text)
 }
 
-// Runs a machine. A refused run leaves one that goes on once it has room.
+// Runs a machine. After a refused run the machine goes on once it has room.
 fn show_run_on<O: Outside>(
     machine: &mut Machine,
     outside: &mut O,
@@ -118,6 +121,7 @@ fn show_run_of<O: Outside>(
     show_run_on(&mut machine, outside, text)
 }
 
+/// Shows what `run` answers.
 pub fn show_run(alloc: Global, text: &mut String) -> Result<(), Failure> {
     for source in SOURCES {
         show_run_of(alloc, source, &mut Quiet, text)?;
@@ -125,7 +129,7 @@ pub fn show_run(alloc: Global, text: &mut String) -> Result<(), Failure> {
     show_run_of(alloc, GREETING, &mut Rude::new(1), text)
 }
 
-/// What is called of a stepper at the start of a program.
+/// What is called on a stepper at the start of a program.
 #[derive(Clone, Copy, Drop)]
 pub enum StepperCall {
     New,
@@ -179,7 +183,7 @@ fn show_call(
     }
 }
 
-// A stepper at the start of a compiled program. A refused one hands machine and outside back.
+// A stepper at the start of a compiled program. If it is refused, machine and outside are handed back.
 fn stepper_of(alloc: Global, program: &Compiled) -> Result<Stepper<'_, Quiet>, Failure> {
     let machine = machine_of(alloc, program)?;
     let before = seen(&machine);
@@ -198,6 +202,7 @@ fn show_stepper_of(
     show_call(call, &mut stepper, text)
 }
 
+/// Shows what a call of the stepper answers.
 pub fn show_stepper(alloc: Global, call: StepperCall, text: &mut String) -> Result<(), Failure> {
     let program = compiled(alloc, ASSIGNMENT)?;
     show_stepper_of(alloc, &program, call, text)

@@ -10,10 +10,11 @@ use tb_lower::{SlotCode, lower};
 use tb_meaning::warnings;
 use tb_parser::{Program, Token, parse, parse_expr, tokens};
 
-/// Sends a text.
+/// A source that sends a text.
 pub const GREETING: &[u8] = b"10 PRINT \"HELLO\"\n20 END\n";
 
-/// The sources of the worked rows: one that sends a text, and those that go to a line which is there or is not, by a
+/// The sources of the worked rows: one that sends a text, and those that go to a line that is there or not there, by a
+/// computed target or a constant one.
 /// computed target or a constant one.
 pub const SOURCES: [&[u8]; 5] = [
     GREETING,
@@ -36,13 +37,13 @@ pub enum SourceCall {
     Warnings,
 }
 
-/// Has good lines between bad ones.
+/// A source that has good lines between bad ones.
 const BAD: &[u8] = b"10 PRINT 1\n20 PRINT (1\n30 END\n40 FOR I=1\n";
 
-/// Sets a variable.
+/// A source that sets a variable.
 pub const ASSIGNMENT: &[u8] = b"10 A=5\n20 END\n";
 
-/// A compiled source, with the seed that the program has without words.
+/// A compiled source, with the seed that a program has by default.
 pub fn compiled(alloc: Global, source: &[u8]) -> Result<Compiled, Failure> {
     Ok(compile(alloc, source, Options { seed: 1 })?)
 }
@@ -82,6 +83,7 @@ fn show_host_form_of(alloc: Global, sent: &[u8], text: &mut String) -> Result<()
     show_letters(text, form.as_slice())
 }
 
+/// Shows what `host_form` makes of bytes.
 pub fn show_host_form(alloc: Global, text: &mut String) -> Result<(), Failure> {
     for sent in [b"HELLO\r".as_slice(), b"\r!1 AT 20\r"] {
         show_host_form_of(alloc, sent, text)?;
@@ -94,6 +96,7 @@ fn show_key_list_of(alloc: Global, digits: &str, text: &mut String) -> Result<()
     show_bytes(text, keys.as_slice())
 }
 
+/// Shows what `key_list` makes of the keyboard texts of the worked rows.
 pub fn show_key_list(alloc: Global, text: &mut String) -> Result<(), Failure> {
     for digits in KEY_LISTS {
         show_key_list_of(alloc, digits, text)?;
@@ -134,6 +137,7 @@ fn show_make_of(alloc: Global, source: &[u8], text: &mut String) -> Result<(), F
     show_made(&made, text)
 }
 
+/// Shows what `bad_lines` finds.
 pub fn show_bad_lines(alloc: Global, text: &mut String) -> Result<(), Failure> {
     let found = bad_lines(alloc, BAD)?;
     show_each(text, &found)
@@ -151,6 +155,7 @@ fn show_parse_of(alloc: Global, source: &[u8], text: &mut String) -> Result<(), 
     show_program(&program, text)
 }
 
+/// Shows what `parse_expr` answers.
 pub fn show_parse_expr(alloc: Global, text: &mut String) -> Result<(), Failure> {
     let expression = parse_expr(alloc, b"A*2-1")?;
     show_value(text, &expression)
@@ -164,6 +169,7 @@ fn show_token_texts(found: &[Token<'_>], text: &mut String) -> Result<(), Failur
     Ok(())
 }
 
+/// Shows what `tokens` answers.
 pub fn show_tokens(alloc: Global, text: &mut String) -> Result<(), Failure> {
     let found = tokens(alloc, b"10 GO TO 5")?;
     show_token_texts(found.as_slice(), text)
