@@ -26,6 +26,7 @@ pub struct Bench {
 }
 
 impl Bench {
+    /// A bench with the registers before a program, a new memory and no machine. Fails only if memory runs out.
     pub fn new(alloc: Global) -> Result<Bench, AllocError> {
         Ok(Bench {
             regs: first_regs(),

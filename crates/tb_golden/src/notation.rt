@@ -67,6 +67,7 @@ pub fn decoded(page: &mut Page, text: &str) -> Vec<u8> {
     bytes
 }
 
+/// Appends the bytes that a text stands for.
 pub fn push_decoded(page: &mut Page, bytes: &mut Vec<u8>, text: &str) {
     for (index, piece) in text.split('{').enumerate() {
         match piece.split_once('}') {

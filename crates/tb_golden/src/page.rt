@@ -11,6 +11,7 @@ pub struct Page {
 }
 
 impl Page {
+    /// A page on which nothing is written.
     pub fn new(alloc: Global) -> Page {
         Page {
             text: String::new(alloc),
@@ -18,14 +19,17 @@ impl Page {
         }
     }
 
+    /// The allocator of its text.
     pub fn alloc(&self) -> Global {
         *self.text.allocator()
     }
 
+    /// All that was written.
     pub fn text(&self) -> &str {
         self.text.as_str()
     }
 
+    /// Whether anything has failed so far.
     pub fn has_failed(&self) -> bool {
         self.has_failed
     }

@@ -11,6 +11,7 @@ use tb_cpu::Flags;
 use tb_kernal::{Clobber, EnterError, Event, Machine, Outside, Recorded, Rude, Writes};
 use tb_memmap::Memory;
 
+/// Appends the answer of a row.
 pub fn put_answer(page: &mut Page, bench: &mut Bench, name: &str, rest: &str) {
     let words = if is_number(name) { "" } else { rest };
     bench.setting.read(page, first_regs(), words);

@@ -5,6 +5,7 @@ use crate::notation::{bytes_of, cut, hex_byte, hex_word};
 use crate::page::Page;
 use tb_memmap::{Memory, is_open_at, region};
 
+/// Appends the answer of a row.
 pub fn put_answer(page: &mut Page, bench: &mut Bench, name: &str, rest: &str) {
     if name == "memory" {
         bench.restart(page);

@@ -3,6 +3,7 @@ use crate::notation::{cut, hex_byte};
 use crate::page::Page;
 use tb_opcodes::{Mnemonic, Mode, decode, encode, length};
 
+/// Appends the answer of a row.
 pub fn put_answer(page: &mut Page, name: &str, rest: &str) {
     match name {
         "columns" => put_columns(page, rest),

@@ -6,6 +6,7 @@ use crate::notation::hex_byte;
 use crate::page::Page;
 use tb_cpu::{Flags, operand_address, step};
 
+/// Appends the answer of a row.
 pub fn put_answer(page: &mut Page, bench: &mut Bench, name: &str, rest: &str) {
     match name {
         "one" => put_first(page, bench, rest),

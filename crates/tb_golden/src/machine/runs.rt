@@ -9,6 +9,7 @@ use crate::page::Page;
 use tb_kernal::{Event, Machine, Outside, Quiet, Recorded, Rude, run};
 use tb_words::next_seed;
 
+/// Appends the answer of a row.
 pub fn put_answer(page: &mut Page, bench: &mut Bench, name: &str, rest: &str) {
     let (first, rest) = cut(rest);
     let number = word(page, first);

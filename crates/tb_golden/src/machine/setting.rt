@@ -22,6 +22,7 @@ pub fn first_regs() -> Regs {
     start_regs(PROGRAM_AT)
 }
 
+/// What a row says of registers, memory and keyboard.
 #[derive(Drop)]
 pub struct Setting {
     pub regs: Regs,
@@ -33,6 +34,7 @@ pub struct Setting {
 }
 
 impl Setting {
+    /// The registers before a program, no bytes, and no keys.
     pub fn new(alloc: Global) -> Setting {
         Setting {
             regs: first_regs(),

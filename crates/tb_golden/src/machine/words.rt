@@ -4,6 +4,7 @@ use crate::notation::{cut, word};
 use crate::page::Page;
 use tb_words::{Letter, Rel, add, digits, div_rem, hex_digits, holds, mul, neg, next_seed, sub};
 
+/// Appends the answer of a row.
 pub fn put_answer(page: &mut Page, name: &str, rest: &str) {
     match name {
         "letter" => put_letter(page, rest.as_bytes()),

@@ -44,6 +44,7 @@ pub fn put_status(page: &mut Page, status: Status) {
     }
 }
 
+/// All registers, the flags last.
 pub fn put_registers(page: &mut Page, regs: &Regs) {
     put_indexes(page, regs.a, regs.x, regs.y);
     let Regs { s, pc, .. } = *regs;
