@@ -1,4 +1,4 @@
-//! The debugger: dialogues, streams that fail, and walks both ways beside the interpreter.
+//! The debugger: dialogues, streams that fail, and walks both ways, compared with the interpreter.
 mod awaiting;
 mod dialogues;
 mod programs;

@@ -9,19 +9,19 @@ use std::test::Fail;
 use tb_codegen::Compiled;
 use tb_kernal::{Event, Machine, Quiet, Recorded, Status, run};
 
-/// How many events before the interrupt are listed, at most: a longer list is dear to make for each run.
+/// How many events before the interrupt are listed, at most: a longer list takes long to make for each run.
 const MOST_LISTED: usize = 1000;
 
-/// A place that the ROM may not write.
+/// An address that the ROM may not write.
 const OWNED: u16 = 0xc000;
 
-/// A place that the ROM may write, and these programs do not.
+/// An address that the ROM may write, and these programs do not.
 const ROM_WRITABLE: u16 = 0x0200;
 
 /// What the interrupt writes.
 const WRITTEN: u8 = 0xff;
 
-// Appends the stack pointer before each event that a program takes beside a quiet ROM.
+// Appends the stack pointer before each event that a program takes with a quiet ROM.
 fn push_stack_pointers(machine: &mut Machine, pointers: &mut Vec<u8>) -> Result<(), Fail> {
     for _ in 0..LIMIT {
         if machine.status() != Status::Running {
@@ -33,7 +33,7 @@ fn push_stack_pointers(machine: &mut Machine, pointers: &mut Vec<u8>) -> Result<
     Ok(())
 }
 
-// Appends so many events that are unlawful, so that Quiet's stand in their place, and the interrupt.
+// Appends this many unlawful events, in place of which Quiet's are taken, and then the interrupt.
 fn push_events(events: &mut Vec<Event>, before: usize, s: u8) -> Result<(), Fail> {
     for _ in 0..before {
         events.push(Event::Interrupt(ArrayVec::from([(OWNED, WRITTEN); 8])))?;
@@ -42,15 +42,15 @@ fn push_events(events: &mut Vec<Event>, before: usize, s: u8) -> Result<(), Fail
     Ok(())
 }
 
-// The outside that gives so many of Quiet's events, and the interrupt.
+// The outside that gives this many of Quiet's events, and then the interrupt.
 fn interrupting(alloc: Global, before: usize, s: u8) -> Result<Recorded, Fail> {
     let mut events = Vec::new(alloc);
     push_events(&mut events, before, s)?;
     Ok(Recorded::new(events))
 }
 
-// Runs a machine with the interrupt before an event, where the stack pointer is `s`. Far from the interrupt the run is
-// Quiet's own, which is faster.
+// Runs a machine with the interrupt before an event at which the stack pointer is `s`. Far from the interrupt the run
+// is Quiet's own, which is faster.
 fn run_past(alloc: Global, machine: &mut Machine, event: usize, s: u8) -> Result<(), Fail> {
     let listed = event.min(MOST_LISTED);
     run(machine, &mut Quiet, (event - listed) as u64)?;
@@ -66,7 +66,7 @@ impl Row<'_> {
         self.shown.as_bytes().contains(&b'!') || !self.keys.is_empty() || self.status == 6
     }
 
-    // The stack pointer before each event that the program takes beside a quiet ROM.
+    // The stack pointer before each event that the program takes with a quiet ROM.
     fn stack_pointers(&self, alloc: Global, program: &Compiled) -> Result<Vec<u8>, Fail> {
         let mut machine = self.machine(alloc, program, &clean())?;
         let mut pointers = Vec::new(alloc);
@@ -74,7 +74,7 @@ impl Row<'_> {
         Ok(pointers)
     }
 
-    // Whether the machine was interrupted, and ends and sends as it should, where the interrupt comes before an event.
+    // Whether the machine was interrupted, and ends and sends as it should, if the interrupt comes before this event.
     fn is_done_past(
         &self,
         alloc: Global,
@@ -88,7 +88,7 @@ impl Row<'_> {
         Ok(is_interrupted && self.is_done_by(alloc, &machine)?)
     }
 
-    // The first event of a program before which the interrupt changes something, of each fourth from this one on.
+    // The first event of a program before which the interrupt changes something, of every fourth from this one on.
     fn first_changed(
         &self,
         alloc: Global,
@@ -110,7 +110,7 @@ impl Row<'_> {
     }
 }
 
-// Each row on faults and on INPUT. Each fourth event, since all of them take as long as a test may.
+// Each row on faults and on INPUT. Only every fourth event, since all of them take as long as a test may.
 fn try_each_fourth<R: Abort + AllocGlobal>(rt: &R, from: usize) -> Result<(), Fail> {
     for row in short_rows() {
         if !row.faults_or_asks() {

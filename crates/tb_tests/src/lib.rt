@@ -1,7 +1,7 @@
-//! The tests of what runs and of what users call. Of what runs: each routine by itself, worked programs beside quiet and
+//! The tests of what runs and of what users call. Of what runs: each routine by itself, worked programs with quiet and
 //! hostile ROMs, generated ones, and streams that fail or are cut off. Of what users call: playing, debugging, disks,
-//! listings, profiles, and which words become which job. The crate has nothing else: a crate with tests is proved twice,
-//! so the crates that they test have none.
+//! listings, profiles, and which words become which job. There is nothing else in this crate: a crate with tests is
+//! proved twice, so the crates that they test have none.
 #![tactic(auto)]
 
 #[cfg(test)]

@@ -29,7 +29,7 @@ fn goes_on(ran: &Ran, shown: &mut Vec<u8>) -> Result<bool, Fail> {
     Ok(is_longer)
 }
 
-// Whether the endless ones go on so up to a limit.
+// Whether the endless ones go on to be shown up to a limit.
 fn go_on(alloc: Global, limit: u64, shown: &mut Vec<u8>) -> Result<bool, Fail> {
     let ran = ONES.run_by_engine(alloc, limit, &mut Quiet)?;
     goes_on(&ran, shown)
@@ -63,7 +63,7 @@ fn shows_letters(alloc: Global) -> Result<bool, Fail> {
     Ok(is_cut_off(&ran) && are_letters(&ran.shown))
 }
 
-// Whether a machine sends them beside a rude ROM, and still runs.
+// Whether a machine sends them with a rude ROM, and still runs.
 fn sends_on(machine: &mut Machine, seed: u16) -> Result<bool, Fail> {
     let status = run(machine, &mut Rude::new(seed), 10_000)?;
     Ok(status == Status::Running && are_letters(machine.sent()))
@@ -74,7 +74,7 @@ fn sends_letters(alloc: Global, program: &Compiled, seed: u16) -> Result<bool, F
     sends_on(&mut machine, seed)
 }
 
-// The first seed of a rude ROM beside which the program does not send letters.
+// The first seed of a rude ROM with which the program does not send letters.
 fn first_wrong_seed(alloc: Global, program: &Compiled) -> Result<Option<u16>, Fail> {
     for seed in 0..256 {
         if !sends_letters(alloc, program, seed)? {
@@ -92,7 +92,7 @@ fn an_endless_program_is_cut_off(rt: HostRuntime) -> Result<(), Fail> {
     Ok(())
 }
 
-// Whether PC comes to a place on the way to the end.
+// Whether PC comes to an address on the way to the end.
 fn passes(machine: &mut Machine, place: u16) -> Result<bool, AllocError> {
     for _ in 0..LIMIT {
         if machine.regs().pc == place {

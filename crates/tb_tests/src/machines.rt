@@ -10,10 +10,10 @@ use tb_kernal::{Machine, Outside, Status};
 use tb_memmap::{BASIC_START, Memory};
 use tb_test_support::keyboard_of;
 
-/// More events than any program takes that comes to an end.
+/// More events than any program here takes if it comes to an end.
 pub const LIMIT: u64 = 10_000_000;
 
-/// The machine when a program begins: a byte of all open places but the program's, registers and flags.
+/// The machine when a program begins: the byte at all open addresses but the program's, registers and flags.
 #[derive(Clone, Copy)]
 pub struct Start {
     pub byte: u8,
@@ -38,7 +38,7 @@ pub struct Ran {
     pub said: String,
 }
 
-// Fills all open places but the program's with a byte. A new memory has 0 there.
+// Fills all open addresses but the program's with a byte. A new memory has 0 there.
 fn set_all(alloc: Global, memory: &mut Memory, byte: u8) -> Result<(), Fail> {
     if byte != 0 {
         memory.load(0xc000, &[byte; 0x1000])?;

@@ -5,7 +5,7 @@ ghost use Rattle.tb_kernal.specs.Outsides.{rude_writes};
 use arrayvec::ArrayVec;
 use tb_kernal::{Clobber, Event, Machine, Outside, Quiet, Writes};
 
-/// A byte for both ends of each region that the ROM may write, and for a place between, where the stack pointer is `s`.
+/// A byte for both ends of each region that the ROM may write, and for an address between, if the stack pointer is `s`.
 pub fn everywhere(s: u8, value: u8) -> Writes
     ensures { result.items ≡ rude_writes s value }
 {
@@ -63,8 +63,8 @@ impl Outside for Contrary {
     }
 }
 
-/// Interrupts before each Go of a quiet ROM, with `$FF` for the next seven places. The places go round through all that
-/// the ROM may write.
+/// Interrupts before each Go of a quiet ROM, with `$FF` for the next seven addresses. The addresses go round through
+/// all that the ROM may write.
 #[derive(Drop)]
 pub struct Sweeping {
     interrupts: bool,

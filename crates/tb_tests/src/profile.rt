@@ -1,4 +1,4 @@
-//! Profiles of sources beside tables that an independent processor counted, pages, and streams that fail.
+//! Profiles of sources, compared with tables that an independent processor counted, pages, and streams that fail.
 mod pages;
 mod programs;
 mod streams;

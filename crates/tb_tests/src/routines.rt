@@ -1,4 +1,4 @@
-//! Each routine of the block by itself: on a machine that holds the block and a caller of one call, beside a quiet and a
+//! Each routine of the block by itself: on a machine that holds the block and a caller of one call, with a quiet and a
 //! rude ROM.
 mod arithmetic;
 mod input;

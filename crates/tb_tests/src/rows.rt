@@ -6,7 +6,7 @@ use std::test::Fail;
 #[derive(Clone, Copy)]
 pub struct Row<'a> {
     pub source: &'a str,
-    /// The first RND state.
+    /// The seed of RND.
     pub seed: u16,
     /// The keyboard's text.
     pub keys: &'a [u8],
@@ -276,8 +276,8 @@ static ROWS: [Row<'static>; 45] = [
     },
 ];
 
-/// Short programs that come to an end or wait. The table is named here alone: each function that names it is dear
-/// to prove.
+/// Short programs that come to an end or wait. The table is named here alone, since each function that names it takes
+/// long to prove.
 pub fn short_rows() -> &'static [Row<'static>] {
     &ROWS
 }
@@ -320,6 +320,7 @@ pub struct LongSources {
 }
 
 impl LongSources {
+    /// The long sources, written out. Fails only if memory runs out.
     pub fn new(alloc: Global) -> Result<LongSources, Fail> {
         let mut search = String::new(alloc);
         append_search(alloc, &mut search)?;

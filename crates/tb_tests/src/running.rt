@@ -1,4 +1,4 @@
-//! Programs beside quiet and hostile ROMs: the same bytes and the same end.
+//! Programs with quiet and hostile ROMs: the same bytes and the same end.
 use crate::machines::{LIMIT, Start, clean};
 use crate::outsides::{Contrary, Sweeping};
 use crate::rows::{LongSources, Row, rows};
@@ -42,7 +42,7 @@ impl Row<'_> {
         self.is_done_on(alloc, &mut machine, outside)
     }
 
-    // Whether it does so beside a quiet ROM and a rude one.
+    // Whether it does so with a quiet ROM and with a rude one.
     fn is_shown(&self, alloc: Global) -> Result<bool, Fail> {
         Ok(
             self.is_shown_beside(alloc, &mut Quiet)?
@@ -115,9 +115,9 @@ fn wild_start(byte: u8, s: u8, flag: bool) -> Start {
 enum Trial {
     /// Whether the engine shows it.
     Engine,
-    /// Whether it stays so beside hostile ROMs.
+    /// Whether that holds with hostile ROMs too.
     HostileRoms,
-    /// Whether it stays so from wild starts.
+    /// Whether that holds from wild starts too.
     WildStarts,
 }
 

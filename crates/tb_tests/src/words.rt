@@ -1,4 +1,4 @@
-//! Words and their jobs.
+//! The words of a command line, and the jobs that they become.
 use std::alloc::Global;
 use std::test::Fail;
 use tb_command_line::{Failure, job};

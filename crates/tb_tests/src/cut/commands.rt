@@ -1,4 +1,4 @@
-//! Commands of the stepper from readers that fail, commands that are cut off behind each byte, and the longest ones.
+//! Commands of the stepper: from readers that fail, cut off after each byte, and as long as they may be.
 use crate::cut::engines::{has_said, step};
 use std::alloc::{AllocError, Global};
 use std::test::Fail;
@@ -7,10 +7,10 @@ use tb_test_support::FailingReader;
 
 const SOURCE: &[u8] = b"10 A=5\n20 END\n";
 
-/// A command, and the answers where the commands end behind each of its bytes, with `|` between two.
+/// A command, and the answers if the commands end after each of its bytes, with `|` between two.
 type Row = (&'static str, &'static str);
 
-/// Commands in their order. What stands behind `q` has no answer.
+/// Commands in their order. What comes after `q` has no answer.
 static ROWS: [Row; 11] = [
     ("s", "080E A=00 X=00 Y=00 S=F0 P=30 - running"),
     ("b", "080D A=00 X=00 Y=00 S=F0 P=30 - running"),
@@ -25,12 +25,12 @@ static ROWS: [Row; 11] = [
     ("s", ""),
 ];
 
-// The table is named here alone: each function that names it is dear to prove.
+// The table is named here alone, since each function that names it takes long to prove.
 fn rows() -> &'static [Row] {
     &ROWS
 }
 
-// Whether the stepper answers commands by a text, and all is done.
+// Whether the stepper answers commands with a text, and ends as done.
 fn answers(alloc: Global, commands: &[u8], text: &[u8]) -> Result<bool, AllocError> {
     let mut out = Tracked::new(Vec::new(alloc));
     let report = step(
@@ -51,8 +51,8 @@ fn append_answer(text: &mut Vec<u8>, answer: &str) -> Result<(), AllocError> {
     Ok(())
 }
 
-// Whether the commands are answered, also with one more behind them that is cut off behind each of its bytes. Leaves
-// it there whole, and in the text what they answer.
+// Whether the commands are answered, also with one more after them that is cut off after each of its bytes. Leaves that
+// one there whole, and in the text what they answer.
 fn answers_one_more(
     alloc: Global,
     row: &Row,
@@ -103,7 +103,7 @@ fn append_commands(commands: &mut Vec<u8>) -> Result<(), Fail> {
     Ok(())
 }
 
-// Whether the stepper says so and answers nothing where the reader of commands fails.
+// Whether the stepper ends in a read fault and answers nothing if the reader of commands fails.
 fn notices(
     alloc: Global,
     commands: &[u8],
@@ -122,7 +122,7 @@ fn notices(
     )
 }
 
-// The first length behind which it does not.
+// The first length after which a failure is not noticed.
 fn first_unnoticed(alloc: Global, commands: &[u8]) -> Result<Option<usize>, Fail> {
     for until_fault in 0..=commands.len() {
         for &most in &[1, 7, 4096] {
@@ -142,7 +142,8 @@ fn a_reader_of_commands_that_fails(rt: HostRuntime) -> Result<(), Fail> {
     Ok(())
 }
 
-// Whether the stepper, given these commands, ends so and answers so, and its reader has not failed.
+// Whether the stepper, given these commands, has this status, says this and answers this, and its reader has not
+// failed.
 fn ends(
     alloc: Global,
     commands: &[u8],
@@ -157,7 +158,7 @@ fn ends(
     Ok(has_said(alloc, &report, status, said)? && is_answered)
 }
 
-// Whether it does so at so many spaces.
+// The same for this many spaces as commands.
 fn ends_at_spaces(
     alloc: Global,
     length: usize,

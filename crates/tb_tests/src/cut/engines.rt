@@ -16,7 +16,7 @@ pub enum Engine {
     Step(&'static [u8]),
 }
 
-/// The first state of RND.
+/// The seed of RND.
 const SEED: u16 = 1;
 
 /// How many events a program may take.
@@ -56,7 +56,7 @@ pub struct Answer {
     pub written: Vec<u8>,
 }
 
-/// What an engine comes to where no stream fails.
+/// What an engine answers and writes if no stream fails.
 pub fn answer_of(alloc: Global, engine: Engine, source: &[u8]) -> Result<Answer, AllocError> {
     let mut out = Tracked::new(Vec::new(alloc));
     let report = call(alloc, engine, &mut Tracked::new(source), &mut out)?;
@@ -66,7 +66,7 @@ pub fn answer_of(alloc: Global, engine: Engine, source: &[u8]) -> Result<Answer,
     })
 }
 
-/// Whether a report has a status and says this.
+/// Whether a report has this status and says this.
 pub fn has_said(alloc: Global, report: &Report, status: u8, said: &[u8]) -> Result<bool, Fail> {
     let text = format!(in alloc; "{report}")?;
     Ok(report.status() == status && text.as_bytes() == said)

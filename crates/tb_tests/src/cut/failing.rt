@@ -5,10 +5,10 @@ use std::test::Fail;
 use tb_driver::{End, Outcome, Tracked};
 use tb_test_support::{FailingReader, FailingWriter, HoldingWriter};
 
-/// Asks for two numbers, and shows their sum. One jump is warned of.
+/// A source that asks for two numbers and shows their sum. It is warned of one jump.
 const SOURCE: &[u8] = b"10 INPUT A,B\n20 PRINT \"SUM\",A+B\n30 END\n40 GOTO 99\n";
 
-/// Has a line to go to and a variable to read.
+/// A source with a line to go to and a variable to read.
 const STEPPED: &[u8] = b"10 A=5\n20 END\n";
 
 /// Each command of the stepper.
@@ -21,12 +21,12 @@ static ENGINES: [(Engine, &[u8]); 3] = [
     (Engine::Step(COMMANDS), STEPPED),
 ];
 
-// The table is named here alone: each function that names it is dear to prove.
+// The table is named here alone, since each function that names it takes long to prove.
 fn engines() -> &'static [(Engine, &'static [u8])] {
     &ENGINES
 }
 
-// Whether an engine says so and writes nothing where its reader fails.
+// Whether an engine ends in a read fault and writes nothing if its reader fails.
 fn notices_reader(
     alloc: Global,
     engine: Engine,
@@ -58,7 +58,7 @@ fn a_reader_that_fails(rt: HostRuntime) -> Result<(), Fail> {
     Ok(())
 }
 
-// Whether an engine writes the beginning of the whole where its writer fails, and says so, or is done.
+// Whether an engine writes as much of the whole as its writer takes, and ends in a write fault if that is not all.
 fn notices_writer(
     alloc: Global,
     engine: Engine,
@@ -81,7 +81,7 @@ fn notices_writer(
     )
 }
 
-// The first length of the whole behind which it does not.
+// The first length of the whole after which a failure is not noticed.
 fn first_unnoticed_of(
     alloc: Global,
     engine: Engine,
@@ -98,7 +98,7 @@ fn first_unnoticed_of(
     Ok(None)
 }
 
-// The first length of what an engine writes behind which it does not.
+// The first length of what an engine writes after which a failure is not noticed.
 fn first_unnoticed(alloc: Global, engine: Engine, source: &[u8]) -> Result<Option<usize>, Fail> {
     let answer = answer_of(alloc, engine, source)?;
     first_unnoticed_of(alloc, engine, source, &answer.written)
@@ -112,8 +112,8 @@ fn a_writer_that_fails(rt: HostRuntime) -> Result<(), Fail> {
     Ok(())
 }
 
-// Whether an engine hands on the whole where its writer holds bytes back until it is flushed, or says so where that
-// fails.
+// Whether an engine hands on the whole if its writer holds bytes back until it is flushed, or ends in a write fault if
+// the flush fails.
 fn flushes(
     alloc: Global,
     engine: Engine,
@@ -132,7 +132,7 @@ fn flushes(
     Ok(report.outcome == outcome && held.handed_on == handed_on && held.taken.as_slice() == whole)
 }
 
-// Whether it does so where no flush fails and where each does.
+// Whether it does so both if no flush fails and if each does.
 fn always_flushes(alloc: Global, engine: Engine, source: &[u8]) -> Result<bool, Fail> {
     let answer = answer_of(alloc, engine, source)?;
     Ok(

@@ -1,9 +1,9 @@
-//! Sources that are cut off behind each byte, and the longest source.
+//! Sources that are cut off after each byte, and the longest source.
 use crate::cut::engines::{Engine, answer_of, has_said};
 use std::alloc::{AllocError, Global};
 use std::test::Fail;
 
-/// A line of a source, and the status of `build` where the source ends behind each of its bytes, as a digit.
+/// A line of a source, and the status of `build`, as a digit, if the source ends after each of its bytes.
 type Line = (&'static [u8], &'static [u8]);
 
 const PRINTED: &[Line] = &[
@@ -38,7 +38,7 @@ static SOURCES: [Source; 4] = [
     (ASSIGNED, b"", 0),
 ];
 
-// The table is named here alone: each function that names it is dear to prove.
+// The table is named here alone, since each function that names it takes long to prove.
 fn sources() -> &'static [Source] {
     &SOURCES
 }
@@ -55,7 +55,7 @@ fn builds(alloc: Global, source: &[u8]) -> Result<bool, AllocError> {
     Ok(answer.report.status() == 0 && !answer.written.is_empty())
 }
 
-// Whether a run has a status.
+// Whether a run has this status.
 fn runs(alloc: Global, source: &[u8], keys: &'static [u8], status: u8) -> Result<bool, AllocError> {
     let answer = answer_of(alloc, Engine::Run(keys), source)?;
     Ok(answer.report.status() == status)
@@ -67,8 +67,8 @@ fn steps(alloc: Global, source: &[u8]) -> Result<bool, AllocError> {
     Ok(answer.report.status() == 0 && answer.written.as_slice() == b"7\n".as_slice())
 }
 
-// Whether each engine refuses a source and writes nothing, or `build` writes a file, a run has a status and the stepper
-// answers.
+// Whether each engine refuses a source and writes nothing, or else `build` writes a file, a run has this status and the
+// stepper answers.
 fn answers(
     alloc: Global,
     source: &[u8],
@@ -118,7 +118,7 @@ fn each_prefix_of_a_source_is_answered(rt: HostRuntime) -> Result<(), Fail> {
     Ok(())
 }
 
-// Whether an engine has a status, says this and writes nothing.
+// Whether an engine has this status, says this and writes nothing.
 fn says(
     alloc: Global,
     engine: Engine,
@@ -139,7 +139,7 @@ fn each_says(alloc: Global, source: &[u8], status: u8, said: &[u8]) -> Result<bo
     )
 }
 
-// Whether each engine does so at so many spaces.
+// Whether each engine does so for a source of this many spaces.
 fn each_says_at_spaces(
     alloc: Global,
     length: usize,

@@ -22,20 +22,20 @@ impl Write for WatchedWriter<'_> {
     }
 }
 
-/// Gives the commands of a dialogue, a byte at a time. It fails where a command is asked for and the answers before it
-/// are not handed on, or more than these.
+/// Gives the commands of a dialogue, a byte at a time. It fails if a command is asked for and not exactly the answers
+/// before it are handed on.
 #[derive(Drop)]
 pub struct AwaitingReader<'a> {
     /// What is still to be given of a command.
     pub command: &'a [u8],
-    /// The dialogue behind it: each command stands behind `> `, and the other lines are answered.
+    /// The dialogue after it: each command follows `> `, and the other lines are answered.
     pub dialogue: &'a [u8],
     /// How many bytes the answers so far have.
     pub answered: usize,
     pub handed_on: &'a Cell<usize>,
 }
 
-// The first line of a text with its end, and what stands behind it.
+// The first line of a text with its end, and what comes after it.
 fn first_line(text: &[u8]) -> (&[u8], &[u8]) {
     match text.iter().position(|byte| *byte == b'\n') {
         Some(end) => text.split_at(end + 1),

@@ -8,7 +8,7 @@ use std::test::Fail;
 use tb_engines::Outcome;
 use tb_streams::Tracked;
 
-// In a dialogue each command stands behind `> `, and the other lines are answered.
+// In a dialogue each command follows `> `, and the other lines are answered.
 
 const LINES_FORTH_AND_BACK: &str = "10 LET A=3
 > n
@@ -353,7 +353,7 @@ static DIALOGUES: [(&[u8], &str); 10] = [
     (LOOP, THE_MACHINE),
 ];
 
-// What is written of these commands; nothing where the dialogue ends in a fault.
+// What is written in answer to these commands; nothing if the dialogue ends in a fault.
 fn answers(alloc: Global, source: &[u8], commands: &[u8]) -> Result<Vec<u8>, Fail> {
     let sources = sources_of(alloc, source)?;
     let mut writer = Tracked::new(Vec::new(alloc));
@@ -375,7 +375,8 @@ fn wanted(alloc: Global, dialogue: &[u8]) -> Result<Vec<u8>, AllocError> {
     Ok(wanted)
 }
 
-// The status of a dialogue in which a command is given only where the answers before it are handed on, and what is written.
+// The status of a dialogue in which a command is given only if the answers before it are handed on, and what is
+// written.
 fn awaited(alloc: Global, source: &[u8], dialogue: &[u8]) -> Result<(u8, Vec<u8>), Fail> {
     let sources = sources_of(alloc, source)?;
     let handed_on = Cell::new(0);
@@ -403,7 +404,7 @@ fn dialogues(rt: HostRuntime) -> Result<(), Fail> {
     Ok(())
 }
 
-// A command that is given before its time is a fault.
+// A command that is asked for before its time is a fault.
 #[test]
 fn an_answer_that_is_awaited_in_vain(rt: HostRuntime) -> Result<(), Fail> {
     let (status, text) = awaited(
@@ -418,7 +419,7 @@ fn an_answer_that_is_awaited_in_vain(rt: HostRuntime) -> Result<(), Fail> {
     Ok(())
 }
 
-// A going on that ends at the limit of events.
+// A `c` that ends at the limit of events.
 #[test]
 fn the_limit(rt: HostRuntime) -> Result<(), Fail> {
     let text = answers(rt.alloc(), FOREVER, b"c\nrc\nh\n")?;
@@ -430,7 +431,7 @@ fn the_limit(rt: HostRuntime) -> Result<(), Fail> {
     Ok(())
 }
 
-// Whether a part stands in a text.
+// Whether a part occurs in a text.
 fn contains(text: &[u8], part: &[u8]) -> bool {
     (0..text.len()).any(|from| text[from..].starts_with(part))
 }

@@ -8,12 +8,12 @@ use tb_engines::Outcome;
 use tb_streams::Tracked;
 use tb_test_support::{CountingWriter, FailingReader, FailingWriter, HoldingWriter, no_keys};
 
-/// Each of them once, and some that are none.
+/// Each command once, and some lines that are no commands.
 const COMMANDS: &[u8] =
     b"n\nn 2\np\nb 30\nb\nc\nrc\nw A\nc\ng 50\nt 1\nl\nl 40\nv\nv A\ne A+1\nr\no\nk x\ns 3\nx\n\
 m C000 3\ni\nh\n\n\r\nz\nb 31\nm 0000 2\nq\nn\n";
 
-/// Debugs with no keys beside a quiet ROM.
+/// Debugs with no keys and with a quiet ROM.
 pub fn debugs<R: Read, W: Write>(
     alloc: Global,
     sources: &Sources,
@@ -28,6 +28,7 @@ pub fn debugs<R: Read, W: Write>(
     debug(alloc, sources, no_keys(alloc), setting, reader, writer)
 }
 
+/// A source that is read to be debugged.
 pub fn sources_of(alloc: Global, source: &[u8]) -> Result<Sources, Fail> {
     Ok(
         read_sources(alloc, &mut Tracked::new(source), 0)
@@ -36,7 +37,7 @@ pub fn sources_of(alloc: Global, source: &[u8]) -> Result<Sources, Fail> {
     )
 }
 
-// All that is written of these commands.
+// All that is written in answer to these commands.
 fn written(alloc: Global, sources: &Sources, commands: &[u8]) -> Vec<u8> {
     let mut writer = Tracked::new(Vec::new(alloc));
     debugs(alloc, sources, &mut Tracked::new(commands), &mut writer);
@@ -51,7 +52,7 @@ fn whole_lines(commands: &[u8]) -> &[u8] {
     }
 }
 
-// Whether the whole lines are answered as in all that is written, and a last line without its end as with it.
+// Whether the whole lines are answered as in all that is written, and a last line without its end as if it had one.
 fn is_cut(alloc: Global, sources: &Sources, all: &[u8], commands: &[u8]) -> Result<bool, Fail> {
     let lines = whole_lines(commands);
     let before = written(alloc, sources, lines);
@@ -81,7 +82,7 @@ fn each_cut_of_the_commands(rt: HostRuntime) -> Result<(), Fail> {
     Ok(())
 }
 
-// Whether a reader that fails is a fault, and a beginning is written.
+// Whether a reader that fails ends in a fault, and a prefix of all is written.
 fn reader_fails(alloc: Global, sources: &Sources, all: &[u8], until_fault: usize) -> bool {
     let mut reader = Tracked::new(FailingReader::new(COMMANDS, until_fault, 3));
     let mut writer = Tracked::new(Vec::new(alloc));
@@ -112,7 +113,7 @@ fn a_reader_that_fails(rt: HostRuntime) -> Result<(), Fail> {
     Ok(())
 }
 
-// Whether a writer that fails behind so many bytes is a fault, and takes these.
+// Whether a writer that fails after `until_fault` bytes ends in a fault, and has taken these.
 fn writer_fails(alloc: Global, sources: &Sources, all: &[u8], until_fault: usize) -> bool {
     let mut writer = Tracked::new(FailingWriter::new(alloc, until_fault, 5));
     let status = debugs(alloc, sources, &mut Tracked::new(COMMANDS), &mut writer).status();

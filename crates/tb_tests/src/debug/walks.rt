@@ -1,4 +1,4 @@
-//! Walks back and forth, at random, beside what the interpreter says of each time.
+//! Walks back and forth, at random, compared with what the interpreter says of each time.
 use crate::debug::programs::{ASKS, DRAWS, FAULTS, FOREVER, LOOP, NESTS, RUNS_PAST, TYPED};
 use std::alloc::{AllocError, Global};
 use std::test::Fail;
@@ -19,17 +19,17 @@ const WALKS: usize = 1_430;
 /// How many commands a walk has.
 const MOVES: usize = 12;
 
-/// The first state of RND.
+/// The seed of RND.
 const SEED: u16 = 77;
 
-/// What the interpreter says of each time: the beginnings of lines, and the end where there is one.
+/// What the interpreter says of each time: the beginnings of lines, and the end if there is one.
 #[derive(Drop)]
 struct Outlook {
     runs: Vec<SourceRun>,
     ends: bool,
 }
 
-// The interpreter's run of so many lines, or one more where it has run past the last line.
+// The interpreter's run of this many lines, or one more if it has run past the last line.
 fn run_of(alloc: Global, program: &Program, time: u64) -> Result<SourceRun, AllocError> {
     let run = run_source(alloc, program, SEED, TYPED, &[], time)?;
     let past = u64::from(run.place == Place::Past);
@@ -72,7 +72,7 @@ impl Outlook {
         self.runs.len().saturating_sub(1)
     }
 
-    // Whether a breakpoint stands at a time.
+    // Whether there is a breakpoint at a time.
     fn breaks(&self, time: usize, wanted: Wanted) -> bool {
         match self.runs.get(time) {
             Some(run) => {
@@ -96,7 +96,7 @@ impl Outlook {
         }
     }
 
-    // Where `c` stops; none where it runs off.
+    // The time at which `c` stops; none if it runs on to the limit.
     fn on_from(&self, time: usize, wanted: Wanted) -> Option<usize> {
         for next in time.saturating_add(1)..self.runs.len() {
             if self.breaks(next, wanted) || self.changes(next.saturating_sub(1), wanted) {
@@ -106,7 +106,7 @@ impl Outlook {
         if self.ends { Some(self.last()) } else { None }
     }
 
-    // Where `rc` stops.
+    // The time at which `rc` stops.
     fn back_from(&self, time: usize, wanted: Wanted) -> usize {
         for before in (0..time).rev() {
             if self.breaks(before, wanted) || self.changes(before, wanted) {
@@ -130,7 +130,7 @@ impl Outlook {
     }
 }
 
-// Whether the debugger stands at a place, or at the end.
+// Whether the debugger is at a place, or at the end.
 fn stands(debugger: &Debugger<'_>, program: &Compiled, place: Place, is_end: bool) -> bool {
     let is_line = debugger.standing() == Reached::Line;
     let line = program.line_at(debugger.machine().regs().pc);
@@ -234,7 +234,7 @@ fn set_stops(alloc: Global, debugger: &mut Debugger<'_>, wanted: Wanted) -> Resu
     Ok(())
 }
 
-// By how many commands, each awaited, the debugger agrees with the interpreter.
+// After how many commands, each followed by a comparison, the debugger agrees with the interpreter.
 fn walk_on(
     alloc: Global,
     debugger: &mut Debugger<'_>,
@@ -255,7 +255,7 @@ fn walk_on(
     Ok(MOVES)
 }
 
-// Walks, beside a ROM and with stops that the dice choose.
+// A walk with a ROM and with stops that the dice choose.
 fn walk(
     alloc: Global,
     program: &Compiled,

@@ -8,10 +8,10 @@ use tb_prg::PrgError;
 use tb_streams::Tracked;
 use tb_test_support::{FailingReader, FailingWriter};
 
-/// The bytes of a disk.
+/// The number of bytes of a disk.
 const DISK: usize = 174_848;
 
-/// Where the disk's name stands.
+/// Where the disk's name begins, in bytes.
 const TITLE: usize = 357 * 256 + 144;
 
 const TOO_SHORT: DiskOutcome = DiskOutcome::Refused(DiskRefusal::Prg(PrgError::TooShort));
@@ -27,7 +27,7 @@ const FULL: DiskOutcome = DiskOutcome::Refused(DiskRefusal::Full);
 /// A PRG file that only returns.
 const PRG: &[u8] = &[0x00, 0xc0, 0x60];
 
-/// A PRG file whose last byte would lie behind `$FFFF`.
+/// A PRG file whose last byte would lie after `$FFFF`.
 const PAST: &[u8] = &[0xff, 0xff, 0x60, 0x60];
 
 /// A file that is no PRG file.
@@ -47,7 +47,7 @@ where
     files.add(alloc, name, &mut Tracked::new(reader))
 }
 
-// What a disk of files, named like a path, comes to.
+// What a disk of files comes to that is named by a path.
 fn image(alloc: Global, files: &DiskFiles, path: &str) -> Result<Vec<u8>, DiskOutcome> {
     let mut made = Tracked::new(Vec::new(alloc));
     match files.write(alloc, path, &mut made) {
@@ -112,7 +112,7 @@ fn files_get_names(rt: HostRuntime) -> Result<(), Fail> {
     Ok(())
 }
 
-// What stands where the disk's name does.
+// The bytes where the disk's name is.
 fn title(alloc: Global, path: &str) -> Result<[u8; 16], DiskOutcome> {
     let image = image(alloc, &DiskFiles::new(alloc), path)?;
     let mut title = [0; 16];
@@ -174,14 +174,14 @@ fn the_first_file_is_refused_first(rt: HostRuntime) -> Result<(), Fail> {
     Ok(())
 }
 
-// A PRG file of so many bytes.
+// A PRG file of this many bytes.
 fn prg(alloc: Global, size: usize) -> Result<Vec<u8>, AllocError> {
     let mut bytes = Vec::new(alloc);
     bytes.resize(size, 0)?;
     Ok(bytes)
 }
 
-// So many files of so many bytes each, and a last one.
+// `count` files of `size` bytes each, and a last one.
 fn many(
     alloc: Global,
     count: usize,
@@ -228,7 +228,7 @@ fn a_full_disk_is_refused_last(rt: HostRuntime) -> Result<(), Fail> {
     Ok(())
 }
 
-// What comes of a file whose reader gives so many bytes at once, and fails after some.
+// What comes of a file whose reader gives at most `most` bytes at once, and fails after some.
 fn cut_off(alloc: Global, until_fault: usize, most: usize) -> Option<DiskOutcome> {
     let reader = FailingReader::new(b"\x01\x08 a program", until_fault, most);
     with(alloc, DiskFiles::new(alloc), "a", reader).err()
@@ -265,7 +265,7 @@ fn is_disk_of(alloc: Global, bytes: &[u8]) -> bool {
     }
 }
 
-// Cuts of the first bytes, and round the ends of the first two blocks.
+// Cut within the first bytes, and round the ends of the first two blocks.
 #[test]
 fn each_prefix_of_a_file_is_answered(rt: HostRuntime) -> Result<(), Fail> {
     let file = prg(rt.alloc(), 600)?;
@@ -277,8 +277,8 @@ fn each_prefix_of_a_file_is_answered(rt: HostRuntime) -> Result<(), Fail> {
     Ok(())
 }
 
-// Whether a writer that fails after so many bytes got that much of the image, and a write fault is answered; and all,
-// where it takes all.
+// Whether a writer that fails after `until_fault` bytes got that much of the image, and a write fault is answered; and
+// all of it if it takes all.
 fn is_prefix(alloc: Global, files: &DiskFiles, whole: &[u8], until_fault: usize) -> bool {
     let mut writer = Tracked::new(FailingWriter::new(alloc, until_fault, 4096));
     let outcome = files.write(alloc, "test.d64", &mut writer);
@@ -291,7 +291,7 @@ fn is_prefix(alloc: Global, files: &DiskFiles, whole: &[u8], until_fault: usize)
     outcome == wanted && whole.get(..taken) == Some(writer.stream.taken.as_slice())
 }
 
-// Whether that is so at numbers of bytes from none to all.
+// The same for numbers of bytes from none to all.
 fn are_prefixes(alloc: Global) -> Result<bool, DiskOutcome> {
     let files = with(alloc, DiskFiles::new(alloc), "a", PRG)?;
     let whole = image(alloc, &files, "test.d64")?;

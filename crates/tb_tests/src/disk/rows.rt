@@ -26,7 +26,7 @@ fn name(text: &[u8]) -> Name {
     Name::new(text).unwrap_or(Name { field: [b'?'; 16] })
 }
 
-// The checksum of the disk `TEST` with files of 1,000, 5,000 and so many bytes.
+// The checksum of the disk `TEST` with files of 1,000, 5,000 and `size` bytes.
 fn checksum(alloc: Global, size: usize) -> Result<Option<u32>, AllocError> {
     let a = plain_bytes(alloc, 1, 1000)?;
     let b = plain_bytes(alloc, 2, 5000)?;
@@ -66,7 +66,7 @@ fn images_are_those_of_cc1541(rt: HostRuntime) -> Result<(), Fail> {
     Ok(())
 }
 
-// What comes of files of so many bytes each.
+// What comes of `count` files of `size` bytes each.
 fn outcome(alloc: Global, count: usize, size: usize) -> Result<Option<DiskError>, AllocError> {
     let bytes = plain_bytes(alloc, 0, size)?;
     let file = File {

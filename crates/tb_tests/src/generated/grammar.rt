@@ -1,6 +1,6 @@
-//! The grammar of what is generated. A letter in lower case, or `EDGE`, stands for one of the sixteen texts of its rule,
-//! `AGAIN` for the divisor chosen last, and every other byte for itself. A text that is to come up more often stands there
-//! more than once.
+//! The grammar of what is generated. A letter in lower case, or `EDGE`, stands for one of the sixteen texts of its
+//! rule, `AGAIN` for the divisor chosen last, and every other byte for itself. A text that should come up more often is
+//! in its rule more than once.
 
 /// What stands for the divisor that was chosen last.
 pub const AGAIN: u8 = b'@';
@@ -26,8 +26,8 @@ pub const ANY: Kind = Kind {
 };
 
 /// A program of what has short code: the order of words and constants at the edges, whether a quotient leaves nothing,
-/// remainders, steps, halves and doubles in place and behind a calculation, products with constants, comparisons with them. What may be a fault,
-/// the division by any word, comes last.
+/// remainders, steps, halves and doubles in place and after a calculation, products with constants, comparisons with
+/// them. What may be a fault, the division by any word, comes last.
 pub const SHORT: Kind = Kind {
     source: b"10 A=b\n20 B=b\n30 C=b\n40 D=b\n\
         41 IF A r # GOTO 43\n42 PRINT 1;\n43 IF # r B GOTO 45\n44 PRINT 2;\n\

@@ -19,7 +19,7 @@ fn asks(case: &Case) -> bool {
         .any(|word| word == b"INPUT".as_slice())
 }
 
-// The case with nothing that is polled, and with a return at the end of its keys: they are handed over line by line.
+// The case with nothing that is polled, and with a return at the end of its keys, which are handed over line by line.
 fn in_lines(alloc: Global, case: Case) -> Result<Case, AllocError> {
     let Case {
         source,
@@ -54,7 +54,7 @@ fn lines_of(alloc: Global, keys: &[u8]) -> Result<Vec<u8>, AllocError> {
     Ok(lines)
 }
 
-// So few events for each line that the whole takes no more than `SCANT`.
+// A limit of events for each line that is so low that the whole takes no more than `SCANT`.
 fn limit_of(run: &SourceRun, lines: &[u8]) -> u64 {
     let count = lines.iter().filter(|byte| **byte == b'\n').count();
     match run.end {
@@ -63,7 +63,7 @@ fn limit_of(run: &SourceRun, lines: &[u8]) -> u64 {
     }
 }
 
-// Whether a program that is played sends what its source sends, of lines of which no more are taken than were typed.
+// Whether a program that is played sends what its source sends, and takes no more lines than were typed.
 fn plays_as_its_source(alloc: Global, case: &Case) -> Result<bool, Fail> {
     let run = run_of(alloc, case)?;
     let mut source = Tracked::new(case.source.as_slice());

@@ -14,7 +14,7 @@ pub struct Choices {
     divisor: &'static [u8],
 }
 
-// Appends symbols so that the first of them is the last.
+// Appends symbols in reverse order.
 fn push_reversed(symbols: &mut Vec<u8>, of: &[u8]) -> Result<(), AllocError> {
     for symbol in of.iter().rev() {
         symbols.push(*symbol)?;
@@ -23,6 +23,7 @@ fn push_reversed(symbols: &mut Vec<u8>, of: &[u8]) -> Result<(), AllocError> {
 }
 
 impl Choices {
+    /// Choices that this seed determines.
     pub fn new(seed: u16) -> Choices {
         Choices {
             seed,
@@ -83,7 +84,7 @@ impl Choices {
 #[derive(Debug, Drop)]
 pub struct Case {
     pub source: Vec<u8>,
-    /// The first state of RND.
+    /// The seed of RND.
     pub seed: u16,
     pub keys: Vec<u8>,
     pub answers: Vec<u8>,

@@ -45,12 +45,12 @@ static ENDINGS: [Ending; 11] = [
     Ending::Fault(b'7'),
 ];
 
-// The table is named here alone: each function that names it is dear to prove.
+// The table is named here alone, since each function that names it takes long to prove.
 fn all_endings() -> &'static [Ending] {
     &ENDINGS
 }
 
-// No text of a program has the sign of a fault.
+// How a run ended: no text of a program has the character that a fault's text begins with.
 fn ending_of(run: &SourceRun) -> Ending {
     match run.end {
         RunEnd::GoesOn => Ending::GoesOn,
@@ -83,7 +83,7 @@ pub struct Ran {
     pub shown: Vec<u8>,
 }
 
-// Runs a PRG file, with a quiet ROM where there is no seed of a rude one.
+// Runs a PRG file, with a quiet ROM if there is no seed of a rude one.
 fn run_file(
     alloc: Global,
     file: &[u8],
@@ -111,7 +111,7 @@ fn run_file(
     })
 }
 
-/// Whether a PRG file's run is what the source's run comes to. A run that goes on shows a beginning of it.
+/// Whether a PRG file's run is what the source's run comes to. A run that goes on shows a prefix of it.
 pub fn agrees(alloc: Global, run: &SourceRun, ran: &Ran) -> Result<bool, AllocError> {
     let wanted = host_form(alloc, &run.sent)?;
     let (shown, wanted) = (ran.shown.as_slice(), wanted.as_slice());
@@ -126,7 +126,7 @@ pub fn agrees(alloc: Global, run: &SourceRun, ran: &Ran) -> Result<bool, AllocEr
     })
 }
 
-// Whether a PRG file's run, beside a quiet ROM or a rude one, is what the source's run comes to.
+// Whether a PRG file's run, with a quiet ROM or a rude one, is what the source's run comes to.
 fn file_agrees(
     alloc: Global,
     file: &[u8],
@@ -143,7 +143,7 @@ fn file_agrees(
     agrees(alloc, run, &ran)
 }
 
-// Whether it is so beside both.
+// The same for both ROMs.
 fn file_agrees_twice(
     alloc: Global,
     file: &[u8],
@@ -156,7 +156,7 @@ fn file_agrees_twice(
     )
 }
 
-// Compiles a program, and runs it on a quiet ROM and on a rude one.
+// Compiles a program, and runs it with a quiet ROM and with a rude one.
 fn both_agree(alloc: Global, case: &Case, run: &SourceRun) -> Result<bool, AllocError> {
     let mut file = Tracked::new(Vec::new(alloc));
     let mut source = Tracked::new(case.source.as_slice());

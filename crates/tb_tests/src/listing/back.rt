@@ -1,4 +1,4 @@
-//! Listings that are assembled back, and have every line under its name.
+//! Listings that are assembled back, and that have every line under its name.
 use std::alloc::{AllocError, Global};
 use std::test::Fail;
 use tb_asm::{assemble, read_text};
@@ -106,7 +106,7 @@ fn generated_programs_are_listed(rt: HostRuntime) -> Result<(), Fail> {
     Ok(())
 }
 
-// So many lines of a statement.
+// `count` lines of a statement.
 fn lines_of(alloc: Global, count: u16, statement: &[u8]) -> Result<Vec<u8>, AllocError> {
     let mut source = Vec::new(alloc);
     for number in 1..=count {

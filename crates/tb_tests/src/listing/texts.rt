@@ -1,11 +1,11 @@
-//! A listing, labels and a map as they stand.
+//! A listing, labels and a map, byte for byte.
 use std::test::Fail;
 use tb_listing::make;
 
-/// Of two lines of a number the last counts. A line's number may be an address of the code.
+/// Of two lines with one number the last counts. A line's number may be an address of the code.
 const SOURCE: &str = "10 REM ONCE\n10 PRINT \"H\"\n20 gosub 3072\n3072 LET B=A*2\n3080 RETURN\n";
 
-/// The text of a PRINT, by the names of what lies where.
+/// The text of a PRINT, with the names of the addresses.
 const PRINTED: &str = "  BEQ at0C61 ; 0C05  F0 5A
   LDA #<text0C1A ; 0C07  A9 1A
   STA $FB ; 0C09  85 FB  left

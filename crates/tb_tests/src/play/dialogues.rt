@@ -8,7 +8,7 @@ use tb_play::{MOST_TYPED, Played, play_file};
 use tb_streams::{Tracked, host_form};
 use tb_test_support::{CountingWriter, FailingReader, FailingWriter, HoldingWriter, keyboard_of};
 
-/// At `$C000`: sends a `?`, and then in turn takes a byte and sends it.
+/// At `$C000`: sends a `?`, and then takes a byte and sends it, again and again.
 const ECHO: [u8; 16] = [
     0x00, 0xc0, 0xa9, 0x3f, 0x20, 0xd2, 0xff, 0x20, 0xcf, 0xff, 0x20, 0xd2, 0xff, 0x4c, 0x05, 0xc0,
 ];
@@ -59,7 +59,7 @@ fn lines_are_typed_however_few_bytes_come_at_once(rt: HostRuntime) -> Result<(),
     Ok(())
 }
 
-/// What is handed over of each beginning of what is typed.
+/// What is handed over of each prefix of what is typed.
 const HANDED_OF_BEGINNINGS: [&[u8]; 14] = [
     b"",
     b"A\r",
@@ -84,7 +84,7 @@ fn run_on(alloc: Global, keys: &[u8], shown: &mut Tracked<Vec<u8>>) -> Result<u8
     Ok(run_prg(alloc, &mut file, shown, keyboard, LIMIT, &mut Quiet).status())
 }
 
-// Whether the echo shows of a beginning what a run shows on the keys that are handed over of it.
+// Whether the echo shows of a prefix what a run shows on the keys that are handed over of it.
 fn is_one_run(alloc: Global, beginning: &[u8], handed: &[u8]) -> Result<bool, Fail> {
     let mut shown = Tracked::new(Vec::new(alloc));
     let status = run_on(alloc, handed, &mut shown)?;
@@ -122,7 +122,7 @@ fn only_the_lines_that_are_wanted_are_taken(rt: HostRuntime) -> Result<(), Fail>
     Ok(())
 }
 
-// What was shown where the reader fails after so many bytes: all up to the wait, and nothing of the line.
+// What is shown if the reader fails after this many bytes: all up to the wait, and nothing of the line.
 #[test]
 fn a_reader_that_fails(rt: HostRuntime) -> Result<(), Fail> {
     for until_fault in 0..=TYPED.len() {
@@ -164,7 +164,7 @@ fn each_answer_is_flushed_once(rt: HostRuntime) -> Result<(), Fail> {
     Ok(())
 }
 
-// The status where a line of so many bytes is typed, with its end.
+// The status if a line of this many bytes is typed, with its end.
 fn status_of_line(alloc: Global, length: usize, end: &[u8]) -> Result<u8, Fail> {
     let mut line = Vec::from_elem(alloc, b'A', length)?;
     line.extend_from_slice(end)?;
@@ -187,8 +187,8 @@ fn long_lines(rt: HostRuntime) -> Result<(), Fail> {
     Ok(())
 }
 
-// The status, and how many bytes were handed over, where a first line of `A` has so many bytes, and then come so many
-// empty lines.
+// The status, and how many bytes were handed over, if a first line of `A` has `first` bytes, and then `empty` empty
+// lines follow.
 fn sinks(alloc: Global, first: usize, empty: usize) -> Result<(u8, usize), Fail> {
     let mut lines = Vec::from_elem(alloc, b'A', first)?;
     for _ in 0..=empty {

@@ -1,4 +1,4 @@
-//! Pages: what a browser would take for its own stands escaped, and each row stands once.
+//! Pages: what a browser would take for its own is escaped, and each row occurs once.
 use crate::profile::programs::{Program, profiles, programs};
 use std::alloc::Global;
 use std::test::Fail;
@@ -25,7 +25,7 @@ fn page_of(alloc: Global, program: &Program) -> Vec<u8> {
     page
 }
 
-// At how many places of a text a piece begins.
+// How often a piece occurs in a text.
 fn count(text: &[u8], piece: &[u8]) -> usize {
     let mut found = 0usize;
     for start in 0..text.len() {

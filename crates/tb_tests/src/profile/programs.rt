@@ -162,7 +162,7 @@ start          1          192           634   39.2%
     },
 ];
 
-/// All of them. The table is named here alone: each function that names it is dear to prove.
+/// All of them. The table is named here alone, since each function that names it takes long to prove.
 pub fn programs() -> &'static [Program] {
     &PROGRAMS
 }

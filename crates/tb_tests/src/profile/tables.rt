@@ -1,4 +1,4 @@
-//! Whole tables, beside those that an independent processor counted by the manual's cycles.
+//! Whole tables, compared with those that an independent processor counted by the manual's cycles.
 use crate::profile::programs::{profiles, programs};
 use std::test::Fail;
 use tb_streams::Tracked;

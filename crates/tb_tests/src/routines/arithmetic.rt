@@ -19,7 +19,7 @@ fn multiplies(alloc: Global, pair: Pair, product: u16) -> Result<bool, Fail> {
     Ok(on_two(alloc, Routine::Multiply, pair)?.gives(product))
 }
 
-// Whether Divide gives a quotient, and the size of the remainder, or is fault 2 where there is none.
+// Whether Divide gives a quotient, and the size of the remainder, or is fault 2 if there is none.
 fn divides(alloc: Global, pair: Pair, parts: Option<(i16, i16)>) -> Result<bool, Fail> {
     let called = on_two(alloc, Routine::Divide, pair)?;
     Ok(match parts {
@@ -77,7 +77,7 @@ fn divide_is_the_quotient(rt: HostRuntime) -> Result<(), Fail> {
     Ok(())
 }
 
-// Divisors about the largest that eight rounds do, over dividends about the largest whose quotient is a byte.
+// Divisors near the largest that eight rounds do, over dividends near the largest whose quotient is a byte.
 #[test]
 fn divide_takes_each_way(rt: HostRuntime) -> Result<(), Fail> {
     for right in [1_u8, 2, 10, 126, 127, 128, 129, 255] {
@@ -95,7 +95,7 @@ fn divide_takes_each_way(rt: HostRuntime) -> Result<(), Fail> {
     Ok(())
 }
 
-// Random over a bound, with the state at a place: RIGHT where none is stored yet, else SEED.
+// Random over a bound, with the state at an address: RIGHT if none is stored yet, else SEED.
 fn draw(
     alloc: Global,
     rom: Option<u16>,
@@ -111,7 +111,7 @@ fn draw(
     .run(alloc, rom)
 }
 
-// Whether Random takes the state behind one at a place and gives what the bound leaves of it, or is fault 3.
+// Whether Random takes the state after the one at an address and gives what the bound leaves of it, or is fault 3.
 fn draws(alloc: Global, pair: Pair, place: u16, seeded: u8) -> Result<bool, Fail> {
     let (bound, state) = (pair.left, pair.right);
     let called = draw(alloc, pair.rom, bound, (place, state), seeded)?;

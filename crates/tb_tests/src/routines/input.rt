@@ -8,7 +8,7 @@ use tb_runtime16::{COLUMN, LINE, OPEN, RESULT, Routine};
 use tb_syntax::{Program, Statement};
 use tb_words::{Letter, next_seed};
 
-// One turn at line 10, where a line is open or not.
+// One turn at line 10, with a line open or not.
 fn turn(alloc: Global, rom: Option<u16>, keys: &[u8], is_open: bool) -> Result<Called, Fail> {
     Call {
         words: &[(LINE, 10)],
@@ -80,7 +80,7 @@ fn is_wanted(called: &Called, is_open: bool, want: &Want) -> bool {
     }
 }
 
-// What a turn sends: a prompt where no line is open, and a return where none stays open.
+// What a turn sends: a prompt if no line is open, and a return if none stays open.
 fn sent_in_a_turn(is_open: bool, stays: bool) -> &'static [u8] {
     match (is_open, stays) {
         (false, false) => b"? \r",
@@ -134,7 +134,7 @@ fn by_source(alloc: Global, keys: &[u8]) -> Result<SourceRun, Fail> {
     Ok(run_source(alloc, &program, 1, keys, &[], 1)?)
 }
 
-// Up to three turns one behind the other: what was sent, the values, and how the last one ended.
+// Up to three turns one after the other: what was sent, the values, and how the last one ended.
 fn by_turns(
     alloc: Global,
     rom: Option<u16>,

@@ -13,7 +13,7 @@ fn note_of(number: u16) -> u16 {
     next_seed(number)
 }
 
-// What stands from the first note's low byte to the last one's high byte, where the list is full.
+// The bytes from the first note's low byte to the last one's high byte, if the list is full.
 fn full_list(alloc: Global) -> Result<Vec<u8>, Fail> {
     let mut bytes = Vec::new(alloc);
     for place in 0..RETURN_HIGH - RETURN_LOW {
@@ -25,7 +25,7 @@ fn full_list(alloc: Global) -> Result<Vec<u8>, Fail> {
     Ok(bytes)
 }
 
-// A call at a full list of which so many notes count, at line 10.
+// A call with a full list of which this many notes count, at line 10.
 fn call_with(
     alloc: Global,
     rom: Option<u16>,
@@ -42,7 +42,7 @@ fn call_with(
     .run(alloc, rom)
 }
 
-// Whether all notes of the full list but one stand as they were, and that one is this.
+// Whether all notes of the full list but one are as they were, and that one is this.
 fn holds_list(called: &Called, but: Option<(u16, u16)>) -> bool {
     for number in 0..MOST {
         let return_address = match but {
@@ -59,7 +59,7 @@ fn holds_list(called: &Called, but: Option<(u16, u16)>) -> bool {
     true
 }
 
-// Whether Push notes a word behind so many.
+// Whether Push notes a word after this many notes.
 fn pushes(alloc: Global, rom: Option<u16>, list: &[u8], count: u16) -> Result<bool, Fail> {
     Ok(has_pushed(&call_with(alloc, rom, Routine::Push, list, count)?, count))
 }
@@ -71,12 +71,12 @@ fn has_pushed(called: &Called, count: u16) -> bool {
     called.sends(b"") && holds(called, count.saturating_add(1), Some((count, 0x1234)))
 }
 
-// Whether so many notes count, and the list is as `holds_list` says.
+// Whether this many notes count, and the list is as `holds_list` says.
 fn holds(called: &Called, count: u16, but: Option<(u16, u16)>) -> bool {
     called.word(NOTES) == Some(count) && holds_list(called, but)
 }
 
-// Whether Pop takes the last note of so many.
+// Whether Pop takes the last note of this many.
 fn pops(alloc: Global, rom: Option<u16>, list: &[u8], count: u16) -> Result<bool, Fail> {
     Ok(has_popped(&call_with(alloc, rom, Routine::Pop, list, count)?, count))
 }

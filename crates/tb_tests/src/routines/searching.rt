@@ -40,7 +40,7 @@ fn search(
     .run(alloc, rom)
 }
 
-// Whether Search gives a number's address, or faults where it has none.
+// Whether Search gives a number's address, or faults if it has none.
 fn is_found(
     alloc: Global,
     rom: Option<u16>,

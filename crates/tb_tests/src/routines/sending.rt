@@ -55,7 +55,7 @@ fn number_sends_the_digits(rt: HostRuntime) -> Result<(), Fail> {
     Ok(())
 }
 
-// So many bytes from a seed, 13 among them.
+// This many bytes from a seed, 13 among them.
 fn noisy_text(alloc: Global, count: usize) -> Result<Vec<u8>, Fail> {
     let mut text = Vec::new(alloc);
     let mut seed = 1;
@@ -67,7 +67,7 @@ fn noisy_text(alloc: Global, count: usize) -> Result<Vec<u8>, Fail> {
     Ok(text)
 }
 
-// Whether Text sends the first bytes of a text that lies at a place.
+// Whether Text sends the first bytes of a text that lies at an address.
 fn sends_first(
     alloc: Global,
     rom: Option<u16>,
@@ -102,7 +102,7 @@ fn text_sends_bytes(rt: HostRuntime) -> Result<(), Fail> {
     Ok(())
 }
 
-// Whether Zone sends so many spaces from a column.
+// Whether Zone sends this many spaces from a column.
 fn goes_by(alloc: Global, rom: Option<u16>, column: u8, spaces: u8) -> Result<bool, Fail> {
     let called = Call {
         bytes: &[(COLUMN, column)],

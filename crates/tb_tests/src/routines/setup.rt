@@ -8,22 +8,22 @@ use tb_runtime16::{BLOCK_AT, HOME_S, LINE, LINES_AT, RESULT, Routine, VARS, bloc
 use tb_test_support::keyboard_of;
 use tb_words::{digits, next_seed};
 
-/// Where the caller lies, which is where a program's lines begin.
+/// The address of the caller, which is where a program's lines begin.
 pub const CALLER: u16 = LINES_AT;
 
-/// Where a row's own bytes may lie: a text, a line table.
+/// The address where a row's own bytes may lie: a text, a line table.
 pub const PROGRAM: u16 = 0x0d00;
 
-/// What stands in each data place that a call doesn't set.
+/// The byte at each address of data that a call doesn't set.
 pub const NOISE: u8 = 0xa5;
 
-// A place of no routine, which the caller raises from 0 to 1 behind the call.
+// An address of no routine, whose byte the caller raises from 0 to 1 after the call.
 const BACK: u16 = 0xc0ff;
 
 // More events than any routine takes here.
 const LIMIT: u64 = 100_000;
 
-/// The ROMs that a row runs beside: quiet, and rude from a seed.
+/// The ROMs with which a row runs: quiet, and rude from a seed.
 pub const ROMS: [Option<u16>; 2] = [None, Some(1)];
 
 /// A call of a routine.
@@ -33,11 +33,11 @@ pub struct Call<'a> {
     pub a: u8,
     pub x: u8,
     pub y: u8,
-    /// Words that stand in data places.
+    /// Words at addresses of data.
     pub words: &'a [(u16, u16)],
-    /// Bytes that stand in data places.
+    /// Bytes at addresses of data.
     pub bytes: &'a [(u16, u8)],
-    /// What stands from an address on.
+    /// The bytes from an address on.
     pub loaded: &'a [u8],
     pub at: u16,
     pub keys: &'a [u8],
@@ -79,7 +79,7 @@ pub struct Called {
 }
 
 impl Call<'_> {
-    /// Runs the call beside a ROM.
+    /// Runs the call with a ROM.
     pub fn run(&self, alloc: Global, rom: Option<u16>) -> Result<Called, Fail> {
         let mut machine = self.machine(alloc)?;
         let end = run_to_end(&mut machine, rom)?;
@@ -130,7 +130,7 @@ fn run_to_end(machine: &mut Machine, rom: Option<u16>) -> Result<End, Fail> {
     }
 }
 
-/// Runs a machine until it has returned, went wrong or waits.
+/// Runs a machine until it has returned, gone wrong or waits.
 pub fn run_beside(machine: &mut Machine, rom: Option<u16>) -> Result<Status, Fail> {
     Ok(match rom {
         None => run(machine, &mut Quiet, LIMIT)?,
@@ -168,12 +168,12 @@ pub fn noisy_regs(pc: u16, s: u8, d: bool) -> Regs {
 }
 
 impl Called {
-    /// The byte at a place.
+    /// The byte at an address.
     pub fn byte(&self, place: u16) -> Option<u8> {
         self.machine.memory().read(place).ok()
     }
 
-    /// The word at a place.
+    /// The word at an address.
     pub fn word(&self, place: u16) -> Option<u16> {
         let low = self.byte(place)?;
         let high = self.byte(place.saturating_add(1))?;
@@ -202,7 +202,7 @@ impl Called {
         }
     }
 
-    /// Whether the places that no routine changes are as they were: variables, slots, the held word and the stack
+    /// Whether the addresses that no routine changes are as they were: variables, slots, the held word and the stack
     /// pointer's.
     pub fn keeps(&self) -> bool {
         for place in (0xc000..0xc034u16).chain(0xc040..0xc062) {
@@ -233,7 +233,7 @@ pub const EDGES: [u16; 16] = [
     0, 1, 2, 3, 9, 10, 255, 256, 257, 10000, 32767, 32768, 32769, 55536, 65280, 65535,
 ];
 
-/// Two words and the ROM beside which they are tried.
+/// Two words and the ROM with which they are tried.
 #[derive(Clone, Copy, Drop)]
 pub struct Pair {
     pub rom: Option<u16>,
@@ -241,7 +241,7 @@ pub struct Pair {
     pub right: u16,
 }
 
-/// All pairs of edges, and 1,000 pairs from a seed, each beside a quiet and a rude ROM.
+/// All pairs of edges, and 1,000 pairs from a seed, each with a quiet and a rude ROM.
 pub fn pairs(alloc: Global) -> Result<Vec<Pair>, Fail> {
     let mut pairs = Vec::new(alloc);
     for rom in ROMS {
