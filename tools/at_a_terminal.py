@@ -1,9 +1,9 @@
 #!/usr/bin/env python3
 """Plays a program at a pseudo-terminal: at_a_terminal.py PROMPT LINE .. -- COMMAND ..
 
-Waits for each prompt before it types the line behind it, so a prompt that comes only with the key that it asks for is
+Waits for each prompt before it types the line after it, so a prompt that comes only with the key that it asks for is
 never seen; an empty line is the end of the input. Writes what the terminal showed, with plain line ends, and ends with
-the command's status; or with 124 after so many seconds without a prompt, and with 125 where none comes any more.
+the command's status; or with 124 after some seconds without a prompt, and with 125 if none can come any more.
 """
 import os
 import pty
@@ -15,7 +15,7 @@ END_OF_INPUT = b"\x04"
 
 
 def shown_next(terminal):
-    """What the terminal shows next, nothing where the command has ended."""
+    """What the terminal shows next, nothing if the command has ended."""
     if not select.select([terminal], [], [], SECONDS)[0]:
         sys.exit(124)
     try:

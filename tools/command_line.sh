@@ -1,6 +1,6 @@
 #!/usr/bin/env bash
-# Tries the built program as a user does: every exit status and every text on standard error at least once, but for
-# want of memory (tools/refused_growth.sh). OUT must be written where the status is 0, and else be what it was.
+# Tries the built program as a user does: every exit status and every text on standard error at least once, except that
+# of running out of memory (tools/refused_growth.sh). OUT must be written if the status is 0, and else be what it was.
 # Prints what differs, and then ends with status 1.
 . "$(dirname "${BASH_SOURCE[0]}")/setup.sh"
 needs_program
@@ -12,7 +12,7 @@ rows=0
 failed=0
 from=/dev/null
 to=shown
-by=() # what starts the program, where it is not the shell
+by=() # what starts the program, if it is not the shell
 row() { # STATUS SAID SHOWN WORD..: SAID and SHOWN are patterns of standard error and output, without the last line end
     local status=0 made=new wanted=$1 said=$2 shown=$3 wanted_made=old
     shift 3
@@ -46,14 +46,14 @@ built() { # SHOWN WORD..: rows: a call of `build`, and a run of the PRG file tha
     row 0 '' "$1" run --prg built.prg
 }
 
-steps_to() { # END SOURCE: how many steps the stepper takes until its answer ends so
+steps_to() { # END SOURCE: how many steps the stepper takes until its answer ends in END
     "$tbc" step "$2" < <(yes s | head -n 5000) >walk
     grep -n -m 1 " $1\$" walk | cut -d : -f 1
 }
 
 file() { printf '%b' "$2" >"$1"; } # NAME TEXT
 
-each() { # STATUS FILE WORD..: a row for each line 'SAID|TEXT' of standard input, where FILE holds TEXT
+each() { # STATUS FILE WORD..: a row for each line 'SAID|TEXT' of standard input, with TEXT in FILE
     local status=$1 name=$2 said text
     shift 2
     while IFS='|' read -r said text; do
@@ -94,7 +94,7 @@ row 0 '' 'tbc 1.0.0' --version
 row 0 '' 'Compiles Tiny BASIC*Usage: tbc *' --help
 row 0 '' '*Usage: tbc run *SOURCE*--prg*' run --help
 
-# What is built is the whole program: its last line is found in the table at the end. The first state of RND is the seed
+# What is built is the whole program: its last line is found in the table at the end. RND starts from the seed
 built HELLO hello.bas out.prg
 built FAR22 far.bas out.prg
 built FAR95 far.bas out.prg --seed 2
@@ -106,7 +106,7 @@ row 0 '' .A run --prg spoilt.prg
 row 0 '' '.{F0}' run --prg spoilt.prg --rude 1
 row 0 '' '.{E6}' run --prg spoilt.prg --rude 3
 
-# Disk images: the bytes are looked at in tools/disk.sh
+# Disk images; tools/disk.sh looks at their bytes
 cp routine.prg maze_1.prg
 : >many
 for ((i = 1; i <= 145; i++)); do
@@ -131,7 +131,7 @@ not a PRG: runs past the end|\xff\xff\x60\x60
 END
 row 2 'error: *' '' disk out.prg
 
-# Warnings stand before anything else
+# Warnings come before anything else
 row 0 'tbc: warning: line 20: no line 30' '' build warn.bas out.prg
 row 0 'tbc: warning: line 20: no line 30' $'A\n\n!1 AT 20' run warn.bas
 row 5 $'tbc: warning: line 20: no line 300\ntbc: warning: line 30: no line 400\ntbc: step limit' '' run both.bas --limit 300
@@ -159,7 +159,7 @@ END
 refused_sources build SOURCE out.prg
 refused_sources run SOURCE
 
-# Checks. What is said of which source stands in tb_golden
+# Checks. What is said of which source is tried in tb_golden
 file slips.bas '10 FOR I=1 TO 10\n20 PRINT "\xe4"\n\n30 PRIMT I\n10 END\n'
 file dice.bas '10 PRINT RND(6)+1\n20 GOTO 100\n10 PRINT RND(6)/5000+1\n'
 cat >slips.said <<'END'
@@ -202,7 +202,7 @@ for source in "$root"/examples/*.bas; do
     rows=$((rows + 1))
 done
 
-# vim's default errorformat reads each line that names a place, in what is written here and in all rows, and no other
+# vim's default errorformat reads each line that names a place, in what is written here and in all rows, and no others
 if vim --version 2>/dev/null | grep -q -e +quickfix; then
     "$tbc" check slips.bas dice.bas nowhere.bas hello.bas >places 2>/dev/null || true
     sed -n '/^check /,/^=> /{/^check /d;/^=> /d;p;}' "$root"/crates/*/stdout >>places
@@ -236,7 +236,7 @@ not a PRG: too short|\x01
 not a PRG: runs past the end|\xff\xff\x60\x60
 END
 
-# The words. Key lists and addresses are looked at before any file is opened
+# The words. Key lists and addresses are judged before any file is opened
 row 2 'tbc: bad key list' '' run nowhere.bas --keys 0
 row 2 'tbc: bad key list' '' run nowhere.bas --answers 0g
 row 2 'tbc: bad address' '' asm nowhere.s out.prg --at c00
@@ -280,8 +280,8 @@ row 3 'tbc: write fault' '' --help
 row 3 'tbc: write fault' '' --version
 to=shown
 
-# What a build writes beside the PRG file
-beside() { # NAME: rows: the listing of NAME.bas has its lines by name, and assembles to the bytes behind the BASIC line
+# What a build writes in addition to the PRG file
+beside() { # NAME: rows: the listing of NAME.bas has its lines by name, and assembles to the bytes after the BASIC line
     row 0 '*' '' build $1.bas out.prg --labels out.vs --list out.s --map out.map
     cp out.prg built.prg
     rows=$((rows + 1))
@@ -316,7 +316,7 @@ for name in dense texts; do
     rows=$((rows + 1))
     [ "$(wc -c <out.s)" -le 1048576 ] || failed=$((failed + 1))
 done
-generate() { # SEED: a source of lines drawn by it
+generate() { # SEED: a source of lines that it determines
     awk -v seed="$1" 'function pick(n) { return int(rand() * n) }
         function name() { return substr("ABCDEFGHIJKLMNOPQRSTUVWXYZ", 1 + pick(26), 1) }
         function value(d) {
@@ -356,7 +356,7 @@ row 3 'tbc: write fault' '' build hello.bas folder --labels a
 [ ! -e a ] || failed=$((failed + 1))
 "$tbc" build hello.bas made.prg --labels made.vs --list made.s --map made.map
 for name in /dev/full nowhere/made folder; do
-    # The files before the one that can't be written stand.
+    # The files before the one that can't be written are there.
     for words in "--labels $name" "--labels a --list $name" "--labels a --list b --map $name"; do
         rows=$((rows + 1))
         status=0
@@ -368,8 +368,8 @@ for name in /dev/full nowhere/made folder; do
 done
 row 0 'tbc: warning: line 20: no line 30' '' build warn.bas out.prg --map a
 
-# A file that takes so many bytes and no more: they are there, the files before it too, and none behind it.
-cut_short() { # STEP WHOLE WORD..: rows: `build` writes to the file `cut` what WHOLE holds, cut behind 0, STEP, .. bytes
+# A file that takes some bytes and no more: these are there, the files before it too, and none after it.
+cut_short() { # STEP WHOLE WORD..: rows: `build` writes to the file `cut` what WHOLE holds, cut after 0, STEP, .. bytes
     local step=$1 whole=$2 bytes status text
     shift 2
     for ((bytes = 0; bytes < $(stat -c %s "$whole"); bytes += step)); do
@@ -479,7 +479,7 @@ row 5 'tbc: step limit' '' play double.bas --limit 100
 row 0 'tbc: warning: line 20: no line 30' $'\\? \n\n!1 AT 20' play ask.bas
 from=/dev/null
 
-# All that may be typed, and a byte more
+# All that may be typed, and one byte more
 head -c 1048575 /dev/zero | tr '\0' a >most.typed
 { cat most.typed && printf a; } >more.typed
 from=most.typed
@@ -612,7 +612,7 @@ debug_rows() {
 debug_rows
 
 # Each command of the debugger at a terminal, its answer awaited before the next one is typed.
-TALK=() # the turns: a prompt, and what is typed behind it
+TALK=() # the turns: a prompt, and what is typed after it
 SHOWN=
 asks() { # COMMAND ANSWER: a turn, and what it shows as a pattern
     TALK+=('> ' "$1")

@@ -3,11 +3,11 @@
 # to an end, with keys, for the programs of tools/bench, and for random programs with loops (foreign/looping_programs.py).
 #
 # In sim65 CHROUT is an RTS, as `profile` counts it. GETIN takes 2 cycles more, and is called once a line, so the sum of
-# times is compared too; CHRIN takes 13 more, and its calls are the exit status. What goes before the program and behind
-# it is taken from a PRG that is an RTS alone.
+# times is compared too; CHRIN takes 13 more, and its calls are the exit status. What comes before and after the program
+# is taken from a PRG that is an RTS alone.
 #
-# sim65 (of cc65 2.19) takes a branch that is taken from the page of its own first byte, and not from that of the next
-# instruction, so a program in which a byte like a branch's opcode stands at the end of a page is left out, and counted.
+# sim65 (of cc65 2.19) judges a branch that is taken by the page of its own first byte, and not by that of the next
+# instruction, so a program in which a byte like a branch's opcode is at the end of a page is left out, and counted.
 #
 #   tools/cycles.sh [COUNT] [SEED]    how many random programs; 30 by default
 . "$(dirname "${BASH_SOURCE[0]}")/setup.sh"
@@ -60,7 +60,7 @@ sys.exit(0 if any(code[at] & 0x1F == 0x10 for at in ends) else 1)
 END
 }
 
-agrees() { # NAME KEYS TIMES CYCLES: sim65 counts as many for NAME.prg
+agrees() { # NAME KEYS TIMES CYCLES: sim65 counts as many for NAME.prg as `profile`
     local there keys wanted
     image "$1.prg" "$2" >"$1.sim"
     read -r there keys < <(counts "$1.sim")

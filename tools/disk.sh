@@ -1,6 +1,6 @@
 #!/usr/bin/env bash
 # Makes disk images with the built program and hands them to other tools: `cc1541`, which lists images and makes them, a
-# small walker in this script, and `c1541` where VICE is there, which lists, reads and validates them. Each must find the
+# small walker in this script, and `c1541` if VICE is there, which lists, reads and validates them. Each must find the
 # same files, and each is shown one image that is wrong.
 . "$(dirname "${BASH_SOURCE[0]}")/setup.sh"
 needs_program
@@ -9,7 +9,7 @@ installs cc1541 cc1541
 
 failed=0
 rows=0
-so() { # OTHERWISE WORD..: says OTHERWISE where WORD.. fails
+so() { # OTHERWISE WORD..: says OTHERWISE if WORD.. fails
     local otherwise=$1
     shift
     rows=$((rows + 1))
@@ -20,7 +20,7 @@ so() { # OTHERWISE WORD..: says OTHERWISE where WORD.. fails
 fails() { if "$@"; then return 1; fi; }
 
 # A walker of its own: the directory from track 18, sector 0, and each file's chain of blocks. Writes each file to
-# FOLDER, and its name. Ends with status 1 where a block is used twice or the map of free blocks is wrong.
+# FOLDER, and its name. Ends with status 1 if a block is used twice or the map of free blocks is wrong.
 cat >walk.py <<'END'
 import os, sys
 image, folder = open(sys.argv[1], "rb").read(), sys.argv[2]
@@ -74,7 +74,7 @@ read_back() { # IMAGE: c1541 lists and reads them, and finds nothing to repair
 }
 
 # Two disks: the examples, and one that is full to the last block, with a file of each number of bytes round a block's end.
-make() { # NAME FILE..: an image, and what is wanted of it
+make() { # NAME FILE..: an image, and what must be found in it
     local name=$1 file sign
     shift
     rm -rf wanted
@@ -87,7 +87,7 @@ make() { # NAME FILE..: an image, and what is wanted of it
     done
     "$tbc" disk "$name.d64" "$@"
 }
-judge() { # NAME: each tool finds what is wanted
+judge() { # NAME: each tool finds what it must
     so "the walker finds other files in $1.d64" found "$1.d64"
     so "cc1541 lists other files in $1.d64" listed "$1.d64"
     if command -v c1541 >/dev/null; then so "c1541 reads other files from $1.d64" read_back "$1.d64"; fi

@@ -3,7 +3,7 @@
 #
 #   every example and every program of tools/bench, with keys, in sim65 (of cc65): each sends byte for byte what `tbc run`
 #     shows, and ends the same way; each service spoils every register and bytes of the ROM's memory (foreign/sim65.asm);
-#   the same programs on the Commodore 64 of VICE, where x64sc is there, beside a ROM of our own (foreign/kernal.asm);
+#   the same programs on the Commodore 64 of VICE, if x64sc is there, with a ROM of our own (foreign/kernal.asm);
 #   random PRGs of 64 bytes here and in sim65: registers and memory are the same (foreign/random_programs.py).
 #
 # Each run has a negative case: a wrong wanted byte must be found.
@@ -50,7 +50,7 @@ program() { # SOURCE KEYS: a row for each machine
     done
 }
 
-spoilt() { # NAME KEYS STATUS: each machine finds that the last wanted byte is another
+spoilt() { # NAME KEYS STATUS: each machine finds that the last wanted byte is wrong
     local machine
     cp "$1.prg" spoilt.prg
     { head -c -1 "$1.wanted" && printf '?'; } >spoilt.wanted

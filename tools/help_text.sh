@@ -1,6 +1,6 @@
 #!/usr/bin/env bash
-# Prints what the built program says to no words, to --version and to --help, alone and behind each command. That is
-# tools/help.txt, which ./tbc shows where the program is not built: tools/help_text.sh >tools/help.txt makes it anew.
+# Prints what the built program says to no words, to --version and to --help, alone and after each command. That is
+# tools/help.txt, which ./tbc shows if the program is not built: tools/help_text.sh >tools/help.txt makes it anew.
 . "$(dirname "${BASH_SOURCE[0]}")/setup.sh"
 needs_program
 

@@ -12,7 +12,7 @@
 needs awk
 
 # The groups of crates.txt, and each crate with those that it needs directly, without `tb_`. A crate that is listed
-# above one that it needs is told to stderr, and the status is then 1.
+# above one that it needs is reported on stderr, and the status is then 1.
 layers() {
     awk -F: '
         /^# / { print; next }
@@ -38,7 +38,7 @@ layers() {
         END { exit bad }' "$root/crates.txt"
 }
 
-# The same of the diagram, where what a crate is about comes after two spaces or more.
+# The same of the diagram, in which what a crate is about comes after two spaces or more.
 diagram() {
     awk '/^```/ { if (seen++) exit; next } seen && NF' "$root/docs/MAP.md" |
         sed -E '/^#/b; s/^([a-z0-9_]+) +/\1 /; s/  .*//; s/ +$//'

@@ -1,5 +1,5 @@
 #!/usr/bin/env bash
-# Times `tbc asm` on a text of 5,000 instructions and `tbc dis` on 8,000 bytes beside ca65 and da65 of Debian's cc65,
+# Times `tbc asm` on a text of 5,000 instructions and `tbc dis` on 8,000 bytes, and ca65 and da65 of Debian's cc65,
 # each from the start of its process to its end. Prints the median of the rounds in milliseconds, and the ratios.
 # Usage: tools/measure_assembler.sh [ROUNDS]
 . "$(dirname "${BASH_SOURCE[0]}")/setup.sh"
@@ -7,7 +7,7 @@ needs_program
 needs ca65 da65
 rounds=${1:-101}
 
-# Ten instructions a label, in the syntax that both assemblers read.
+# Ten instructions for each label, in the syntax that both assemblers read.
 for ((i = 1; i <= 500; i++)); do
     printf 'LINE%d:\nLDA #$%02X\nSTA $C010\nLDX $12\nINC $C011\nLDA ($FB),Y\nCLC\nADC $C020,X\nBNE LINE%d\nJSR LINE%d\nRTS\n' \
         "$i" "$((i % 256))" "$i" "$((501 - i))"

@@ -1,18 +1,18 @@
 #!/usr/bin/env bash
-# Measures `tbc build` beside `cc65 -O -t c64` of Debian's cc65 on the same statements, each from the start of its
-# process to its end, and prints the processor time of both, and what part of cc65's tbc takes.
+# Measures `tbc build` and `cc65 -O -t c64` of Debian's cc65 on the same statements, each from the start of its
+# process to its end, and prints the processor time of both, and what part of cc65's time tbc takes.
 #
 #   tools/measure_compiler.sh [ROUNDS]          default: 40 rounds; needs cc65
 #   tools/measure_compiler.sh --instructions    instructions of this processor in place of time; needs valgrind too
 #
-# 200 mixed lines are about the most that a program may cost. Of 1,000 such lines tbc does all but lay the code, and
-# then refuses them as too large; 1,000 lines of PRINT and REM compile. cc65's time for a function grows faster than
-# its length, so its statements stand once ten in a function, and once all in one.
+# 200 mixed lines are about the most that a program may cost. With 1,000 such lines tbc does everything but lay the
+# code, and then refuses them as too large; 1,000 lines of PRINT and REM compile. cc65's time for a function grows
+# faster than its length, so its statements are tried with ten in each function, and with all in one.
 . "$(dirname "${BASH_SOURCE[0]}")/setup.sh"
 needs_program
 needs cc65
 
-write_mixed() { # NAME LINES EACH: NAME.bas, and NAME.c with so many lines in each function
+write_mixed() { # NAME LINES EACH: NAME.bas, and NAME.c with EACH lines in each function
     awk -v name="$1" -v lines="$2" -v each="$3" '
     function basic(text) { print number, text > (name ".bas"); number += 10 }
     function c(text) { print text > (name ".c") }

@@ -1,5 +1,5 @@
 #!/usr/bin/env bash
-# Measures how long `tbc debug` takes to go on by events, and then to go back by a line.
+# Measures how long `tbc debug` takes to go on by some events, and then to go back by a line.
 #
 #   tools/measure_debugger.sh [EVENTS]      default: 100000000 events; needs the built program
 . "$(dirname "${BASH_SOURCE[0]}")/setup.sh"
@@ -9,7 +9,7 @@ events=${1:-100000000}
 printf '%s\n' '10 LET A=0' '20 LET A=A+1' '30 LET B=A*2' '40 IF B>20000 THEN LET A=0' '50 GOTO 20' >count.bas
 coproc debugger { "$tbc" debug count.bas --limit "$events"; }
 
-answered() { # COMMAND: the microseconds up to its answer, which ends where that to a second command comes
+answered() { # COMMAND: the microseconds up to its answer, which ends when that to a second command comes
     local began line=
     began=$(now)
     printf '%s\ne 4711\n' "$1" >&"${debugger[1]}"

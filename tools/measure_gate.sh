@@ -1,14 +1,14 @@
 #!/usr/bin/env bash
 # Runs the gate and prints the seconds of processor time that each crate's proof, tests and edits take in it, the dearest
-# first, and how quiet the machine was: what share of the time in which processors were wanted the host gave to other
-# machines, and, before and behind the gate, how many additions a processor does at once (`additions.c`). It runs a copy
+# first, and how quiet the machine was: what share of the time in which processors were needed the host gave to other
+# machines, and, before and after the gate, how many additions a processor does at once (`additions.c`). It runs a copy
 # of rt that puts `time` before each of the prover's commands. `taskset -c 0,1` before it shows the gate on two
 # processors. Its words are those of `rt ci`: `--anew` takes nothing that earlier runs kept.
 . "$(dirname "${BASH_SOURCE[0]}")/setup.sh"
 needs rt awk cc nproc python3 /usr/bin/time
 kit=$(dirname "$(readlink -f "$(command -v rt)")")
 
-# Its commands all start behind the words that `guarded` gives.
+# Its commands all start after the words that `guarded` gives.
 sed -e "s#^HERE = .*#HERE = '$kit'#" -e '/^rtlib = load()/a\
 def timed(words=rtlib.guarded):\
     return ["/usr/bin/time", "-a", "-o", os.environ["TIMES"], "-f", "%U %S %C", *words()]\
@@ -16,7 +16,7 @@ def timed(words=rtlib.guarded):\
 rtlib.guarded = timed' "$kit/rt" >timed_rt
 
 cc -O2 -o additions "$root/tools/additions.c"
-at_once() { # the mean over the processors, all at work
+at_once() { # the mean of the processors, all at work
     local i
     for ((i = 0; i < $(nproc); i++)); do ./additions & done | awk '{ sum += $1 } END { printf "%.1f", sum / NR }'
 }

@@ -11,7 +11,7 @@ needs_program
 needs cl65 sim65
 cp "$root"/tools/bench/* .
 
-events() { # PRG: the least limit under which it returns
+events() { # PRG: the lowest limit with which it returns
     local low=0 high=1000000 middle
     until "$tbc" run --prg "$1" --limit "$high" >/dev/null 2>&1; do
         low=$high
@@ -27,7 +27,7 @@ events() { # PRG: the least limit under which it returns
 zeros() { head -c "$1" /dev/zero; }
 
 # A program for sim65 from a PRG file: its mark, version 2, a 6502, stack pointer at 0, load address $0801, start $A000.
-# At $A000 stand JSR $080D, LDA #0, JMP to sim65's exit; at $FFD2 RTS; at $FFE4 LDA #0, RTS.
+# At $A000 are JSR $080D, LDA #0, JMP to sim65's exit; at $FFD2 RTS; at $FFE4 LDA #0, RTS.
 image() { # PRG
     printf 'sim65\002\000\000\001\010\000\240'
     tail -c +3 "$1"

@@ -1,18 +1,20 @@
 #!/usr/bin/env bash
-# Measures the machine against sim65 of cc65 on the same 6502 code, and prints events a second of both and their ratio.
+# Measures the machine against sim65 of cc65 on the same 6502 code, and prints the events per second of both, and their
+# ratio.
 #
 #   tools/measure_machine.sh [EVENTS] [ROUNDS]      default: 100000000 events, 5 rounds; needs sim65 (Debian's cc65)
 #   tools/measure_machine.sh --instructions         instructions of this processor for each event, and for each of sim65's
-#                                                   instructions where it is installed; needs valgrind
+#                                                   instructions if it is installed; needs valgrind
 #
-# Each program runs on the machine (`run` with nothing outside), by the processor's `step` alone and, where the program
+# Each program runs on the machine (`run` with nothing outside), by the processor's `step` alone and, if the program
 # is built, by the command line (`tbc run --prg`).
 # The runs go in turn, and the best round of each counts, since other load only ever makes a round longer.
 . "$(dirname "${BASH_SOURCE[0]}")/setup.sh"
 trials=$root/crates/tb_bench/out/tb_bench
 [ -x "$trials" ] || { echo "build the trials first: cd crates/tb_bench && rt run <stdin" >&2; exit 1; }
 
-# A program for sim65: its mark, version 2, a 6502, stack pointer at 0, load address and start $0C00, the bytes of the program in tb_bench.
+# A program for sim65: its mark, version 2, a 6502, stack pointer at 0, load address and start $0C00, and the bytes of
+# the program in tb_bench.
 mark='sim65\x02\x00\x00\x00\x0c\x00\x0c'
 printf "$mark"'\xe8\xd0\xfd\xc8\xd0\xfa\xee\x00\xc0\x4c\x00\x0c' >loop
 printf "$mark"'\xad\x00\xc0\x18\x6d\x02\xc0\x8d\x00\xc0\xad\x01\xc0\x6d\x03\xc0\x8d\x01\xc0\xce\x04\xc0\xd0\xe8\x4c\x00\x0c' >sums
@@ -62,7 +64,7 @@ for name in loop sums; do
         timed "$name.events" "$trials" speed "$name" "$events"
         timed "$name.steps" "$trials" speed "$name" "$events" steps
         [ ! -x "$tbc" ] || timed "$name.line" "$tbc" run --prg "$name.prg" --limit "$events" # ends at the limit
-        timed "$name.sim65" sim65 -x "$cycles" "$name" # ends with a status of its own where the cycles are used up
+        timed "$name.sim65" sim65 -x "$cycles" "$name" # ends with a status of its own when the cycles are used up
     done
     for way in $ways; do
         awk -v name="$name" -v way="$way" -v n="$events" -v a="$(best "$name.$way")" -v b="$(best "$name.sim65")" \

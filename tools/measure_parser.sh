@@ -4,8 +4,8 @@
 #
 #   tools/measure_parser.sh [ROUNDS]    default: 10 rounds; needs valgrind
 #
-# For each it prints the processor time beside that of `wc` on the same file, the least address space in which
-# it answers so, the counted instructions of this processor for a byte, and what tbc says of the source.
+# For each it prints the processor time and that of `wc` on the same file, the least address space in which it gives
+# the same answer, the counted instructions of this processor per byte, and what tbc says of the source.
 . "$(dirname "${BASH_SOURCE[0]}")/setup.sh"
 needs_program
 needs valgrind
@@ -24,7 +24,7 @@ space() { # FILE: the least address space, in KB up to 64 more, in which tbc sti
 
 times() { printf "$2%.0s" $(seq "$1"); } # COUNT TEXT
 
-lines() { # STATEMENT: numbered lines, as many as fit, and byte 10 up to the size
+lines() { # STATEMENT: numbered lines, as many as fit, and then the byte 10 up to the size
     awk -v statement="$1" -v size=$size 'BEGIN {
         for (;;) {
             line = ++number " " statement

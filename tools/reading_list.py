@@ -6,7 +6,7 @@ comes from the toolchain (`std`) or from a library is left out, and Rust types a
 
   tools/reading_list.py            prints each file with its lines to read, its definitions, and the Rust types
   tools/reading_list.py --table    prints the table of docs/MAP.md
-  tools/reading_list.py --check    compares that table with docs/MAP.md; where they differ, ends with status 1
+  tools/reading_list.py --check    compares that table with docs/MAP.md; if they differ, ends with status 1
 """
 import difflib, pathlib, re, sys
 

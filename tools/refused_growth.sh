@@ -1,9 +1,10 @@
 #!/usr/bin/env bash
 # Runs each command of the built program with the first, the second, .. growth of its memory refused, until a run
 # meets no refusal. Each run must end with status 4, `tbc: out of memory` and nothing written (of a program that is
-# played, debugged or profiled, its warnings and a beginning of what it shows), or answer exactly what the command answers with ample memory;
-# where no growth was refused, it must not be out of memory. So must the calls that no command makes or shows, each a
-# name behind `tb_bench call`. The refusing malloc is preloaded, so this needs a C compiler (cc) and glibc.
+# played, debugged or profiled, its warnings and a prefix of what it shows), or answer exactly what the command answers
+# with ample memory; if no growth was refused, it must not run out of memory. The same holds for the calls that no
+# command makes or shows, each a name after `tb_bench call`. The refusing malloc is preloaded, so this needs a C compiler
+# (cc) and glibc.
 . "$(dirname "${BASH_SOURCE[0]}")/setup.sh"
 needs_program
 trials=$root/crates/tb_bench/out/tb_bench
@@ -45,7 +46,7 @@ answer() { # GROWTH PROGRAM WORD..: a run with that growth refused, with none fo
     REFUSE=$growth LD_PRELOAD=$work/refuse.so "$@" <commands >shown 2>said 9>refused || status=$?
 }
 
-# Whether OUT, and the files beside it, are there as they are with ample memory.
+# Whether OUT, and the files that belong to it, are there as they are with ample memory.
 same_made() {
     local name
     if [ -e made.wanted ]; then cmp -s out.prg made.wanted; else [ ! -e out.prg ]; fi || return
@@ -56,10 +57,10 @@ same_made() {
 
 nothing_made() { [ ! -e out.prg ] && ! compgen -G 'beside.*' >/dev/null; }
 
-begins() { cmp -s -n "$(stat -c %s "$1")" "$1" "$2"; } # FILE OTHER: whether it is a beginning of the other
+begins() { cmp -s -n "$(stat -c %s "$1")" "$1" "$2"; } # FILE OTHER: whether it is a prefix of the other
 
-# Whether a run out of memory said so and wrote nothing. A program that is played or debugged has warned and shown a
-# beginning, and so has a profile whose page there is no memory to open.
+# Whether a run that ran out of memory said so and wrote nothing. A program that is played or debugged has warned and
+# shown a prefix, and so has a profile if there is no memory to open its page.
 is_out_of_memory() { # NAME WORD..
     [ "$(tail -n 1 said)" = "$1: out of memory" ] && nothing_made || return
     head -n -1 said >before

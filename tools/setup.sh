@@ -1,5 +1,6 @@
 # shellcheck shell=bash
-# What the scripts of this folder share: a folder that goes when they end, the built program, the clock. To be sourced.
+# What the scripts of this folder share: a folder that is removed when they end, the built program, the clock. To be
+# sourced.
 set -eu
 root=$(cd "$(dirname "${BASH_SOURCE[0]}")/.." && pwd)
 tbc=$root/crates/tbc/out/tbc
@@ -7,14 +8,14 @@ work=$(mktemp -d)
 trap 'rm -rf "$work"' EXIT
 cd "$work"
 
-needs() { # COMMAND..: ends the script where one of them is missing
+needs() { # COMMAND..: ends the script if one of them is missing
     local it
     for it; do
         command -v "$it" >/dev/null || { echo "$(basename "$0") needs $it" >&2; exit 1; }
     done
 }
 
-installs() { # COMMAND PACKAGE: installs a package of Debian where the command is missing
+installs() { # COMMAND PACKAGE: installs a package of Debian if the command is missing
     command -v "$1" >/dev/null && return
     local as=
     [ "$(id -u)" = 0 ] || as=sudo
@@ -37,7 +38,7 @@ timed() { # NAME WORD..: appends the microseconds that a command takes to NAME.u
 
 median() { sort -n "$1.us" | awk '{ round[NR] = $1 } END { print round[int((NR + 1) / 2)] }'; }
 
-processor_time() { # ROUNDS WORD..: the milliseconds of processor time that a command takes, in the mean; other load hardly counts
+processor_time() { # ROUNDS WORD..: the milliseconds of processor time that a command takes on average; other load hardly counts
     local rounds=$1 TIMEFORMAT='%3U %3S'
     shift
     seq "$rounds" >rounds

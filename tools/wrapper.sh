@@ -1,10 +1,11 @@
 #!/usr/bin/env bash
 # Tries ./tbc in copies of this repository: one that is built, one that isn't. Another rt, which only writes what the
-# toolchain would, stands for the toolchain, but for one trial run. Prints what differs, and then ends with status 1.
+# toolchain would, takes the toolchain's place, except in one trial run. Prints what differs, and then ends with
+# status 1.
 . "$(dirname "${BASH_SOURCE[0]}")/setup.sh"
 needs_program
 needs rt python3
-slowest=16 # ./tbc may take so many times what the program takes to start; it is 20 ms where that is 1.25
+slowest=16 # ./tbc may take this many times what the program takes to start; it is 20 ms if that is 1.25
 
 rows=0
 failed=0
@@ -20,7 +21,7 @@ row() { # STATUS SAID SHOWN WORD..: SAID and SHOWN are patterns of standard erro
         "$*" "$status" "$wanted" "$(<said)" "$said" "$(<shown)" "$shown"
 }
 plain() { sed 's/[][*?\\]/\\&/g' <<<"$1"; } # TEXT: a pattern of this text alone
-is_so() { # OTHERWISE WORD..: says OTHERWISE where WORD.. fails
+is_so() { # OTHERWISE WORD..: says OTHERWISE if WORD.. fails
     local otherwise=$1
     shift
     rows=$((rows + 1))
@@ -78,7 +79,7 @@ export STUB=$work/stub TBC=$tbc
 printf '10 PRINT "HELLO"\n20 END\n' >hello.bas
 printf '10 INPUT A\n' >wait.bas
 
-# A copy that is built: the program's own answers, wherever it is called from, and no slower than it may be.
+# A copy that is built: the program's own answers, whatever folder it is called from, and no slower than it may be.
 PATH=/usr/bin:/bin
 row 0 '' HELLO built/tbc run hello.bas
 row 6 'tbc: waits for a key' '\? ' built/tbc run wait.bas
@@ -171,7 +172,7 @@ row 3 "tbc: a run of up to 1000000000 events $beyond" '' unbuilt/tbc run --limit
 row 3 '' "tbc: play at a keyboard $beyond"* at_terminal unbuilt/tbc play hello.bas
 row 3 '' "tbc: step at a keyboard $beyond"* at_terminal unbuilt/tbc step hello.bas
 
-# What is stale: sources, definitions and the list of crates of what the program stands on, and nothing else
+# What is stale: sources, definitions and the list of crates of what the program is made of, and nothing else
 mkdir -p built/crates/tb_words/proofs
 touch built/crates/tb_words/proofs/Lib.antt built/crates/tb_golden/src/main.rt
 row 0 '' HELLO built/tbc run hello.bas
@@ -181,7 +182,7 @@ for file in crates/tb_words/src/lib.rt crates/tb_memmap/specs/Lib.antt crates.tx
     touch -d '1 hour ago' "built/$file"
 done
 
-# Building: how far it is, what it took, the first crate that fails, and no prover left behind
+# Building: how far it is, what it took, the first crate that fails, and no prover still running
 AS=good row 0 'tbc: proving the * crates of the program, * side by side
 tbc: 2 of * crates done, *
 tbc: linking
