@@ -1,5 +1,5 @@
-//! What the lower layers promise, once more and in one place: functions that only hand a call on, each with the clauses
-//! of the call's contract that its wrong bodies are tried on. Some calls promise more than that.
+//! What the lower layers promise, once more and in one place: functions that only hand a call on, each with clauses of
+//! the call's contract. These are the clauses that wrong bodies are tried on; the call may promise more.
 //!
 //! If a call comes to promise less than these clauses, the function here is no longer proved. The wrong bodies are in
 //! `must-fail/`: what refuses them is the promise alone, and not one body's proof.

@@ -1,5 +1,6 @@
 //! What checks, listings, the engines of sources and the stepper promise, once more and in one place: functions that
-//! only hand a call on, each with the clauses of the call's contract that its wrong bodies are tried on.
+//! only hand a call on, each with the clauses of the call's contract that wrong bodies are tried on. The call may
+//! promise more, and a few functions here have no wrong body.
 //!
 //! As in `tb_gate_parts`, the wrong bodies are in `must-fail/`, and no proof of the tools counts here: what refuses
 //! them is the promise alone.
