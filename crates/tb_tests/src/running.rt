@@ -96,7 +96,7 @@ impl Row<'_> {
     }
 }
 
-// A start with a byte in all registers and all open places, and flags of one kind.
+// A start with a byte in all registers and all open addresses, and flags of one kind.
 fn wild_start(byte: u8, s: u8, flag: bool) -> Start {
     let flags = Flags::from_byte(if flag { 0xff } else { 0 });
     let regs = Regs {
