@@ -3,4 +3,4 @@ use Rattle.std.proofs.Common.{◌≡◌, map, take}
 use Rattle.tb_profile_table.proofs.rows.addresses_of.Given as goal
 
 abbrev pub invariant-loop-start : goal.invariant-loop-start
-invariant-loop-start l = l.addresses.items ≡ map (λ s. s.place) (take l.start-index l.starts)
+invariant-loop-start l = l.addresses.items ≡ map (λ s. s.address) (take l.start-index l.starts)
