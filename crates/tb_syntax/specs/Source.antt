@@ -1,5 +1,5 @@
 -- Programs as plain data: no pointers, texts as lists of bytes, letters by their places, from 0 for A.
-use Rattle.std.specs.Prelude.{ℕ, Bool, List, map}
+use Rattle.std.specs.Prelude.{ℕ, suc, ◌≤◌, Bool, List, [], ◌∷◌, map}
 use Rattle.tb_words.specs.declared.Rel.{Rel}
 use Rattle.tb_syntax.specs.declared.expressions.Operator.{Operator}
 
@@ -41,3 +41,8 @@ Program = List (Numbered Statement)
 -- the line numbers of lines, in their order
 abbrev pub numbers : {A : Type 0} → List (Numbered A) → List ℕ
 numbers lines = map (λ line. line.number) lines
+
+-- numbers that rise, from `low` on and up to `high`
+abbrev pub Rises : ℕ → ℕ → List ℕ → Type 0
+Rises low high [] = Unit {0}
+Rises low high (n ∷ ns) = (low ≤ n) × (n ≤ high) × Rises (suc n) high ns
