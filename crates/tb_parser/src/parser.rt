@@ -33,7 +33,7 @@ pub fn parse(alloc: Global, source: &[u8]) -> Result<Program, SourceError>
     // What is answered is what the file's lines make, from line 1 on.
     ensures found { Answers lines_of result (LinesAre 1 [] (lines_of_file source.now)) }
     // The numbers rise, from 1 to 32,767 at most.
-    ensures rising { IfOk result (λ p. Rises 1 32767 (numbers (lines_of p))) }
+    ensures rising { IfOk result (λ p. Rises 1 32768 (numbers (lines_of p))) }
     // Each statement is spelled by a text that fits a line.
     ensures stated { IfOk result (λ p. AreStated (lines_of p)) }
     // What the lines make is answered, unless memory runs out.

@@ -1,5 +1,5 @@
 -- Programs as plain data: no pointers, texts as lists of bytes, letters by their places, from 0 for A.
-use Rattle.std.specs.Prelude.{ℕ, suc, ◌≤◌, Bool, List, [], ◌∷◌, map}
+use Rattle.std.specs.Prelude.{ℕ, ◌+◌, ◌<◌, ◌≤◌, Bool, List, [], ◌∷◌, map}
 use Rattle.tb_words.specs.declared.Rel.{Rel}
 use Rattle.tb_syntax.specs.declared.expressions.Operator.{Operator}
 
@@ -42,7 +42,7 @@ Program = List (Numbered Statement)
 abbrev pub numbers : {A : Type 0} → List (Numbered A) → List ℕ
 numbers lines = map (λ line. line.number) lines
 
--- numbers that rise, from `low` on and up to `high`
+-- numbers that rise, each at least `low` and below `bound`
 abbrev pub Rises : ℕ → ℕ → List ℕ → Type 0
-Rises low high [] = Unit {0}
-Rises low high (n ∷ ns) = (low ≤ n) × (n ≤ high) × Rises (suc n) high ns
+Rises low bound [] = Unit {0}
+Rises low bound (n ∷ ns) = (low ≤ n) × (n < bound) × Rises (n + 1) bound ns

@@ -1,5 +1,6 @@
 //! Tests whether a divisor divides a word, and remainders.
 ghost use Rattle.std.specs.Prelude.{◌≡◌, ◌+◌, ◌<◌, OnOk, [], ◌∷◌, ◌++◌, map};
+ghost use Rattle.tb_syntax.specs.Source.{Rises};
 ghost use Rattle.tb_asm.specs.Layout.{entry_of};
 ghost use Rattle.tb_meaning.specs.Control.{has_line};
 ghost use Rattle.tb_selection.specs.Groups as selection;
@@ -12,7 +13,6 @@ ghost use Rattle.tb_templates.specs.Sources.{AreWhole, IsWhole};
 ghost use Rattle.tb_runtime16.specs.Addresses as places;
 ghost use Rattle.tb_templates.specs.GroupTemplates as groups;
 ghost use Rattle.tb_templates.specs.Masks as masks;
-ghost use Rattle.tb_templates.specs.Program.{RisingFrom};
 
 use crate::groups::{may_be_zero, put_brought, put_lined, put_taken};
 use crate::labels::Target;
@@ -161,7 +161,7 @@ fn put_divided_gone(
     words: Words,
     to: u16,
 ) -> Result<(), AllocError>
-    requires rising { RisingFrom 0 numbers.now }
+    requires rising { Rises 0 65536 numbers.now }
     requires whole { AreWhole words }
     ensures { OnOk result (map entry_of items.new.items ≡ map entry_of items.old.items ++ groups.divided_gone spot.line (divisibility_of how) words.left words.right spot.next (has_line numbers.now to) to) }
 {
@@ -182,7 +182,7 @@ pub fn put_divides(
     words: Words,
     to: Option<u16>,
 ) -> Result<(), AllocError>
-    requires rising { RisingFrom 0 numbers.now }
+    requires rising { Rises 0 65536 numbers.now }
     requires next { spot.next ≡ templates.next_line numbers.now spot.line }
     requires whole { AreWhole words }
     ensures { OnOk result (map entry_of items.new.items ≡ map entry_of items.old.items ++ groups.divides numbers.now spot.line (divisibility_of how) words.left words.right to) }

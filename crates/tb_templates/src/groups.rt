@@ -1,5 +1,6 @@
 //! The code of each group.
 ghost use Rattle.std.specs.Prelude.{◌≡◌, ◌+◌, ◌<◌, ◌≤◌, OnOk, [], ◌∷◌, ◌++◌, map, length};
+ghost use Rattle.tb_syntax.specs.Source.{Rises};
 ghost use Rattle.tb_asm.specs.Layout.{entry_of};
 ghost use Rattle.tb_meaning.specs.Control.{has_line};
 ghost use Rattle.tb_lower.specs.Ranges.{AreInRange, IsInRange};
@@ -15,7 +16,6 @@ ghost use Rattle.tb_templates.specs.Sources as sources;
 ghost use Rattle.tb_templates.specs.Sources.{AreWhole, IsWhole};
 ghost use Rattle.tb_templates.specs.GroupTemplates as groups;
 ghost use Rattle.tb_templates.specs.Scaled.{scaling, shifts};
-ghost use Rattle.tb_templates.specs.Program.{RisingFrom};
 
 use crate::divisions::{put_divides, put_remains};
 use crate::in_place::{change_of, put_changed};
@@ -429,7 +429,7 @@ fn put_gone(
     words: Words,
     to: u16,
 ) -> Result<(), AllocError>
-    requires rising { RisingFrom 0 numbers.now }
+    requires rising { Rises 0 65536 numbers.now }
     requires whole { AreWhole words }
     ensures { OnOk result (map entry_of items.new.items ≡ map entry_of items.old.items ++ groups.gone spot.line rel words.left words.right (Inside Skip spot.line spot.index) spot.next (has_line numbers.now to) to) }
 {
@@ -454,7 +454,7 @@ fn put_single(
     spot: Spot,
     instruction: &SlotInstr,
 ) -> Result<(), AllocError>
-    requires rising { RisingFrom 0 numbers.now }
+    requires rising { Rises 0 65536 numbers.now }
     requires in_range { IsInRange 256 (instr_of instruction.now) }
     requires next { spot.next ≡ templates.next_line numbers.now spot.line }
     ensures { OnOk result (map entry_of items.new.items ≡ map entry_of items.old.items ++ groups.single numbers.now spot.line spot.index (instr_of instruction.now)) }
@@ -473,7 +473,7 @@ pub fn put_group(
     spot: Spot,
     group: Group<'_>,
 ) -> Result<(), AllocError>
-    requires rising { RisingFrom 0 numbers.now }
+    requires rising { Rises 0 65536 numbers.now }
     requires in_range { AreInRange 256 (expand (group_of group)) }
     requires next { spot.next ≡ templates.next_line numbers.now spot.line }
     ensures { OnOk result (map entry_of items.new.items ≡ map entry_of items.old.items ++ groups.group_template numbers.now seed spot.line spot.index (group_of group.entry)) }

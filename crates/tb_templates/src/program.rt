@@ -6,14 +6,14 @@ ghost use Rattle.tb_asm.specs.declared.items.Operand.TheVariants as operand;
 ghost use Rattle.tb_templates.specs.Labels.{label_of};
 ghost use Rattle.tb_runtime16.specs.Addresses as places;
 ghost use Rattle.tb_asm.specs.Layout.{entry_of};
-ghost use Rattle.tb_syntax.specs.Source.{numbers};
+ghost use Rattle.tb_syntax.specs.Source.{numbers, Rises};
 ghost use Rattle.tb_meaning.specs.Control.{highest};
 ghost use Rattle.tb_lower.specs.Ranges.{AreInRange};
 ghost use Rattle.tb_lower.specs.PlainData.{instr_of, slot_line_of, code_of};
 ghost use Rattle.tb_selection.specs.Select.{select};
 ghost use Rattle.tb_templates.specs.Breaks as breaks;
 ghost use Rattle.tb_templates.specs.Program as program;
-ghost use Rattle.tb_templates.specs.Program.{AreCodable, AreInTurn, RisingFrom, first_of, program_code};
+ghost use Rattle.tb_templates.specs.Program.{AreCodable, AreInTurn, first_of, program_code};
 ghost use Rattle.tb_templates.specs.Templates as templates;
 
 use crate::breaks::{put_all_broken, put_polled, some_leaves};
@@ -38,7 +38,7 @@ const RUN_PAST: u8 = 7;
 pub fn program_items(alloc: Global, seed: u16, code: &SlotCode) -> Result<Vec<Item>, AllocError>
     requires lists { AreCodable (code_of code.now) }
     requires lines { length (code_of code.now) < 65536 }
-    requires rising { RisingFrom 0 (numbers (code_of code.now)) }
+    requires rising { Rises 0 65536 (numbers (code_of code.now)) }
     ensures { IfOk result (λ items. map entry_of items.items ≡ program_code seed (code_of code.now)) }
 {
     let numbers = line_numbers(alloc, code.lines())?;
@@ -89,7 +89,7 @@ fn put_lines(
     seed: u16,
     lines: &[SlotLine],
 ) -> Result<Vec<u16>, AllocError>
-    requires rising { RisingFrom 0 numbers.now }
+    requires rising { Rises 0 65536 numbers.now }
     requires lists { AreCodable (code_of lines.now) }
     requires in_turn { AreInTurn numbers.now (code_of lines.now) }
     ensures lines { OnOk result (map entry_of items.new.items ≡ map entry_of items.old.items ++ program.lines_code numbers.now seed [] (code_of lines.now)) }
@@ -127,7 +127,7 @@ fn put_line(
     line: &SlotLine,
     next: Target,
 ) -> Result<bool, AllocError>
-    requires rising { RisingFrom 0 numbers.now }
+    requires rising { Rises 0 65536 numbers.now }
     requires lists { AreInRange 256 (map instr_of line.now.code.items) × (length line.now.code.items < 65536) }
     requires next { next ≡ templates.next_line numbers.now line.now.number }
     ensures line { OnOk result (map entry_of items.new.items ≡ map entry_of items.old.items ++ program.line_code numbers.now seed (slot_line_of line.now)) }
@@ -146,7 +146,7 @@ fn put_list(
     next: Target,
     list: &[SlotInstr],
 ) -> Result<bool, AllocError>
-    requires rising { RisingFrom 0 numbers.now }
+    requires rising { Rises 0 65536 numbers.now }
     requires list { AreInRange 256 (map instr_of list.now) × (length list.now < 65536) }
     requires next { next ≡ templates.next_line numbers.now line }
     ensures list { OnOk result (map entry_of items.new.items ≡ map entry_of items.old.items ++ program.list_code numbers.now seed line (map instr_of list.now)) }
@@ -170,7 +170,7 @@ fn put_groups(
     next: Target,
     list: &[SlotInstr],
 ) -> Result<bool, AllocError>
-    requires rising { RisingFrom 0 numbers.now }
+    requires rising { Rises 0 65536 numbers.now }
     requires list { AreInRange 256 (map instr_of list.now) × (length list.now < 65536) }
     requires next { next ≡ templates.next_line numbers.now line }
     ensures groups { OnOk result (map entry_of items.new.items ≡ map entry_of items.old.items ++ program.rest_code numbers.now seed line 1 (select (map instr_of list.now))) }

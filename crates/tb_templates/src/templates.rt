@@ -1,5 +1,6 @@
 //! The code of single slot instructions.
 ghost use Rattle.std.specs.Prelude.{◌≡◌, ◌+◌, ◌<◌, ◌≤◌, OnOk, [], ◌∷◌, ◌++◌, map, length};
+ghost use Rattle.tb_syntax.specs.Source.{Rises};
 ghost use Rattle.tb_asm.specs.Layout as layout;
 ghost use Rattle.tb_asm.specs.Layout.{entry_of};
 ghost use Rattle.tb_meaning.specs.Control.{has_line};
@@ -10,7 +11,6 @@ ghost use Rattle.tb_templates.specs.declared.labels.Target.TheVariants as target
 ghost use Rattle.tb_templates.specs.Templates as templates;
 ghost use Rattle.tb_templates.specs.Templates.{template};
 ghost use Rattle.tb_runtime16.specs.Addresses as places;
-ghost use Rattle.tb_templates.specs.Program.{RisingFrom};
 
 use crate::labels::{Inner, Target};
 use crate::pieces::{
@@ -114,14 +114,14 @@ fn put_bytes(items: &mut Vec<Item>, bytes: &[u8]) -> Result<(), AllocError>
 
 /// Whether a program with these numbers has a line.
 pub fn has_number(numbers: &[u16], line: u16) -> bool
-    requires rising { RisingFrom 0 numbers.now }
+    requires rising { Rises 0 65536 numbers.now }
     ensures { result ≡ has_line numbers.now line }
 {
     numbers.binary_search(&line).is_ok()
 }
 
 fn put_jump_to(items: &mut Vec<Item>, numbers: &[u16], line: u16, to: u16) -> Result<(), AllocError>
-    requires rising { RisingFrom 0 numbers.now }
+    requires rising { Rises 0 65536 numbers.now }
     ensures { OnOk result (map entry_of items.new.items ≡ map entry_of items.old.items ++ templates.jump_to numbers.now line to) }
 {
     if has_number(numbers, to) {
@@ -242,7 +242,7 @@ fn put_call_to(
     spot: Spot,
     to: u16,
 ) -> Result<(), AllocError>
-    requires rising { RisingFrom 0 numbers.now }
+    requires rising { Rises 0 65536 numbers.now }
     ensures { OnOk result (map entry_of items.new.items ≡ map entry_of items.old.items ++ templates.call_to numbers.now spot.line spot.index to spot.next) }
 {
     if has_number(numbers, to) {
@@ -282,7 +282,7 @@ pub fn put_instruction(
     spot: Spot,
     instruction: &SlotInstr,
 ) -> Result<(), AllocError>
-    requires rising { RisingFrom 0 numbers.now }
+    requires rising { Rises 0 65536 numbers.now }
     requires in_range { IsInRange 256 (instr_of instruction.now) }
     requires next { spot.next ≡ templates.next_line numbers.now spot.line }
     ensures { OnOk result (map entry_of items.new.items ≡ map entry_of items.old.items ++ template numbers.now spot.line spot.index (instr_of instruction.now)) }
