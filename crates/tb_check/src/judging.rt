@@ -1,9 +1,9 @@
 //! Whether a source is compiled, and if not, all the reasons.
 ghost use Rattle.std.specs.Prelude.{◌≡◌, ◌<◌, ℕ, [], Result, IfOk};
-ghost use Rattle.tb_syntax.specs.Source.{Program as SourceProgram, numbers};
+ghost use Rattle.tb_syntax.specs.Source.{Program as SourceProgram, numbers, Rises};
 ghost use Rattle.tb_syntax.specs.PlainData.{lines_of};
 ghost use Rattle.tb_meaning.specs.Cost as costs;
-ghost use Rattle.tb_parser.specs.Files.{AreStated, RisesFrom, at_end};
+ghost use Rattle.tb_parser.specs.Files.{AreStated, at_end};
 ghost use Rattle.tb_compile_errors.specs.declared.refusals.CompileError.{CompileError};
 ghost use Rattle.tb_codegen.specs.Answers.{LinesMake};
 ghost use Rattle.tb_codegen.specs.declared.compiled.Compiled.{Compiled};
@@ -72,7 +72,7 @@ fn judge_lines(alloc: Global, source: &[u8]) -> Result<Verdict, AllocError>
 
 fn judge_program(alloc: Global, program: Program) -> Result<Verdict, AllocError>
     requires stated { AreStated (lines_of program) }
-    requires rising { RisesFrom 0 (numbers (lines_of program)) }
+    requires rising { Rises 1 32768 (numbers (lines_of program)) }
     ensures { IfOk result (JudgesProgram (lines_of program)) }
 {
     let faults = faults_of(alloc, &program)?;

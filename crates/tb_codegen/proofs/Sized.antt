@@ -5,7 +5,7 @@ use Rattle.tb_asm.specs.declared.names.Name.{Name}
 use Rattle.tb_asm.specs.Layout.{Entry, size, address_in, labels_from, image_of, bytes_from}
 use Rattle.tb_asm.specs.Settle.{items_from, SettlesTo}
 use Rattle.tb_asm.proofs.Laws.{all_size, bytes_append}
-use Rattle.tb_syntax.specs.Source.{Program, numbers}
+use Rattle.tb_syntax.specs.Source.{Program, numbers, Rises}
 use Rattle.tb_syntax.specs.Texts.{HasShortTexts}
 use Rattle.tb_meaning.specs.Cost.{cost}
 use Rattle.tb_lower.specs.Lowered as lowered
@@ -14,7 +14,7 @@ use Rattle.tb_lower.specs.Need.{too_deep}
 use Rattle.tb_lower.specs.Ranges.{IsCodeInRange}
 use Rattle.tb_lower.specs.Slots.{Instr, Put, Load, Store, Negate, Compute, Random, SendText, SendNumber, SendZone, SendNewline, Input, Poll, Hold, LeaveUnless}
 use Rattle.tb_lower.specs.Slots.{Jump, Call, JumpTo, CallTo, Return, End, SlotCode}
-use Rattle.tb_parser.specs.Files.{AreStated, RisesFrom}
+use Rattle.tb_parser.specs.Files.{AreStated}
 use Rattle.tb_prg.specs.Prg.{header}
 use Rattle.tb_runtime16.specs.Addresses.{PROLOGUE_AT, LINES_AT}
 use Rattle.tb_settling.specs.Settled.{IsLaid, Suits, most as most_bytes}
@@ -22,7 +22,7 @@ use Rattle.tb_settling.proofs.Forms.{forms_most, items_size, size_append}
 use Rattle.tb_templates.specs.declared.labels.Target.TheVariants.{Past, Table}
 use Rattle.tb_templates.specs.Labels.{label_of}
 use Rattle.tb_templates.specs.Sizes.{room, list_room}
-use Rattle.tb_templates.specs.Program.{lines_code, past_code, find_code, rows_code, still_asking, table_code, block_code, program_code, AreCodable, RisingFrom}
+use Rattle.tb_templates.specs.Program.{lines_code, past_code, find_code, rows_code, still_asking, table_code, block_code, program_code, AreCodable}
 use Rattle.tb_templates.specs.Breaks.{all_broken}
 use Rattle.tb_codegen.proofs.Roomy.{unsettled_long}
 use Rattle.tb_templates.proofs.Fitting.{statement_room, program_fits}
@@ -73,24 +73,24 @@ pub same_numbers : (p : Program) → numbers (lowered.program_code p) ≡ number
 same_numbers [] = refl
 same_numbers (line ∷ lines) = ap (λ ns. line.number ∷ ns) (same_numbers lines)
 
-rising_words : (low : ℕ) (ns : List ℕ) → RisesFrom low ns → RisingFrom (low + 1) ns
+rising_words : (low : ℕ) (ns : List ℕ) → Rises (low + 1) 32768 ns → Rises (low + 1) 65536 ns
 rising_words low [] h = tt
 rising_words low (n ∷ ns) h = (omega (arith, h.0), omega (arith, h.1), rising_words n ns h.2)
 
-rising_zero : (ns : List ℕ) → RisingFrom 1 ns → RisingFrom 0 ns
+rising_zero : (ns : List ℕ) → Rises 1 65536 ns → Rises 0 65536 ns
 rising_zero [] h = tt
 rising_zero (n ∷ ns) h = (omega arith, h.1, h.2)
 
 -- slot code has rising line numbers if its program has
-pub code_rises : (p : Program) → RisesFrom 0 (numbers p) → RisingFrom 0 (numbers (lowered.program_code p))
-code_rises p h = subst (RisingFrom 0) (sym (same_numbers p)) (rising_zero (numbers p) (rising_words 0 (numbers p) h))
+pub code_rises : (p : Program) → Rises 1 32768 (numbers p) → Rises 0 65536 (numbers (lowered.program_code p))
+code_rises p h = subst (Rises 0 65536) (sym (same_numbers p)) (rising_zero (numbers p) (rising_words 0 (numbers p) h))
 
 -- ── a file's code ──
 -- code that is listed and laid out: its lists and lines can be counted, and its numbers rise
 pub record IsListed (code : SlotCode) : Type 0 where
   pub lists : AreCodable code
   pub lines : length code < 65536
-  pub rising : RisingFrom 0 (numbers code)
+  pub rising : Rises 0 65536 (numbers code)
 
 -- a line of a file has a list of a bounded length
 lists_codable : (p : Program) → AreSmall p → IsCodeInRange 256 (lowered.program_code p) → AreCodable (lowered.program_code p)
@@ -101,7 +101,7 @@ lists_codable (line ∷ lines) small ranges = (
   lists_codable lines small.1 ranges.1,
 )
 
-listed_code : (p : Program) → AreSmall p → RisesFrom 0 (numbers p) → IsCodeInRange 256 (lowered.program_code p) → IsListed (lowered.program_code p)
+listed_code : (p : Program) → AreSmall p → Rises 1 32768 (numbers p) → IsCodeInRange 256 (lowered.program_code p) → IsListed (lowered.program_code p)
 listed_code p small rises ranges =
     record {
       lists = lists_codable p small ranges;
@@ -110,7 +110,7 @@ listed_code p small rises ranges =
     }
 
 -- the slot code of a file's program is listed
-pub listed : (p : Program) {code : SlotCode} → code ≡ lowered.program_code p → AreStated p → RisesFrom 0 (numbers p)
+pub listed : (p : Program) {code : SlotCode} → code ≡ lowered.program_code p → AreStated p → Rises 1 32768 (numbers p)
     → ((limit : ℕ) → HasShortTexts limit p → IsCodeInRange limit code) → IsListed code
 listed p same stated rises ranges =
     let small = are_small p stated in
@@ -154,7 +154,7 @@ pub record IsSettling (seed : ℕ) (code : SlotCode) : Type 0 where
   pub ends : PROLOGUE_AT + most_bytes (program_code seed code) ≤ 0xA000
   pub suits : Suits PROLOGUE_AT (program_code seed code)
 
-settling_code : (seed : ℕ) (p : Program) → AreSmall p → RisesFrom 0 (numbers p) → IsCodeInRange 256 (lowered.program_code p) → cost p ≤ most_cost
+settling_code : (seed : ℕ) (p : Program) → AreSmall p → Rises 1 32768 (numbers p) → IsCodeInRange 256 (lowered.program_code p) → cost p ≤ most_cost
     → IsSettling seed (lowered.program_code p)
 settling_code seed p small rises ranges cheap =
     let code = lowered.program_code p in
@@ -168,7 +168,7 @@ settling_code seed p small rises ranges cheap =
     }
 
 -- the code of a program whose cost is small enough settles
-pub settling : (seed : ℕ) (p : Program) {code : SlotCode} {n : ℕ} → code ≡ lowered.program_code p → AreStated p → RisesFrom 0 (numbers p)
+pub settling : (seed : ℕ) (p : Program) {code : SlotCode} {n : ℕ} → code ≡ lowered.program_code p → AreStated p → Rises 1 32768 (numbers p)
     → ((limit : ℕ) → HasShortTexts limit p → IsCodeInRange limit code) → n ≤ most_cost → n ≡ cost p → IsSettling seed code
 settling seed p same stated rises ranges cheap costs =
     let small = are_small p stated in

@@ -2,11 +2,11 @@
 use Rattle.std.proofs.Common.{◌≡◌, ℕ, ◌+◌, ◌*◌, ◌<◌, ◌≤◌, List, [], ◌∷◌, length, arith, None, sum_by}
 use Rattle.std.proofs.lemmas.List.Sums.{sum_by-cons}
 use Rattle.std.proofs.lemmas.List.{length-map}
-use Rattle.tb_syntax.specs.Source.{Statement, Numbered, Program, numbers}
+use Rattle.tb_syntax.specs.Source.{Statement, Numbered, Program, numbers, Rises}
 use Rattle.tb_meaning.specs.Cost.{statement_cost, cost}
 use Rattle.tb_syntax.specs.Texts.{AreShort, HasShortTexts}
 use Rattle.tb_syntax.specs.Texts.{statement_texts}
-use Rattle.tb_parser.specs.Files.{IsStated, AreStated, RisesFrom}
+use Rattle.tb_parser.specs.Files.{IsStated, AreStated}
 use Rattle.tb_templates.specs.Sizes.{IsSpaced, AreSpaced}
 use Rattle.tb_codegen.proofs.Reading.{Told, stated}
 
@@ -41,7 +41,7 @@ pub small_short : (p : Program) → AreSmall p → HasShortTexts 256 p
 small_short [] h = tt
 small_short (line ∷ lines) h = (h.0.short, small_short lines h.1)
 
-rising_length : (low : ℕ) (ns : List ℕ) → low ≤ 32767 → RisesFrom low ns → length ns + low ≤ 32767
+rising_length : (low : ℕ) (ns : List ℕ) → low ≤ 32767 → Rises (low + 1) 32768 ns → length ns + low ≤ 32767
 rising_length low [] l h = omega (arith, l)
 rising_length low (n ∷ ns) l h = let a = rising_length n ns h.1 h.2 in omega (arith, a, h.0)
 
@@ -50,7 +50,7 @@ pub count_numbers : {A : Type 0} (p : List (Numbered A)) → length (numbers p) 
 count_numbers p = length-map p (λ line. line.number)
 
 -- a file has few lines
-pub few_lines : (p : Program) → RisesFrom 0 (numbers p) → length p ≤ 32767
+pub few_lines : (p : Program) → Rises 1 32768 (numbers p) → length p ≤ 32767
 few_lines p r = let a = rising_length 0 (numbers p) (omega arith) r in let b = count_numbers p in omega (arith, a, b)
 
 lines_cost : (p : Program) → AreSmall p → sum_by (λ line. 36 + statement_cost line.content) p ≤ 18396 * length p
@@ -60,7 +60,7 @@ lines_cost (line ∷ lines) h =
     omega (arith, a, b, c)
 
 -- a program of a file costs less than 2^32
-pub cost_small : (p : Program) → AreSmall p → RisesFrom 0 (numbers p) → cost p < 4294967296
+pub cost_small : (p : Program) → AreSmall p → Rises 1 32768 (numbers p) → cost p < 4294967296
 cost_small p h r =
     let a = lines_cost p h in let b = rising_length 0 (numbers p) (omega arith) r in let c : length (numbers p) ≡ length p = length-map p (λ line. line.number) in
     omega (arith, a, b, c)

@@ -3,16 +3,16 @@ ghost use Rattle.std.specs.Prelude.{◌≡◌, ◌<◌, ◌≤◌, ℕ, Ok, All,
 ghost use Rattle.tb_memmap.specs.Regions.{BASIC_START};
 ghost use Rattle.tb_asm.specs.Layout.{address_in};
 ghost use Rattle.tb_syntax.specs.PlainData.{lines_of};
-ghost use Rattle.tb_syntax.specs.Source.{Program as SourceProgram, numbers};
+ghost use Rattle.tb_syntax.specs.Source.{Program as SourceProgram, numbers, Rises};
 ghost use Rattle.tb_meaning.specs.Cost as costs;
 ghost use Rattle.tb_lower.specs.Lowered as lowered;
 ghost use Rattle.tb_lower.specs.Need.{too_deep};
 ghost use Rattle.tb_lower.specs.PlainData.{code_of};
-ghost use Rattle.tb_parser.specs.Files.{AreStated, Outcome, RisesFrom};
+ghost use Rattle.tb_parser.specs.Files.{AreStated, Outcome};
 ghost use Rattle.tb_runtime16.specs.Addresses.{PROLOGUE_AT};
 ghost use Rattle.tb_settling.specs.Settled.{IsLaid, Suits};
 ghost use Rattle.tb_templates.specs.Labels.{label_of};
-ghost use Rattle.tb_templates.specs.Program.{AreCodable, RisingFrom, program_code};
+ghost use Rattle.tb_templates.specs.Program.{AreCodable, program_code};
 ghost use Rattle.tb_compile_errors.specs.declared.refusals.CompileError.TheVariants as error;
 ghost use Rattle.tb_codegen.specs.Answers.{FitAnswer, FitOutcome, GivesSame, HasFitOutcome, HasOutcome, LinesMake, OutcomeAnswer, ProgramAnswer};
 ghost use Rattle.tb_codegen.specs.Roomy.{EndsFrom, SuitsAnywhere};
@@ -67,7 +67,7 @@ pub fn compile(alloc: Global, source: &[u8], options: Options) -> Result<Compile
 // The PRG file of a program.
 fn compile_program(alloc: Global, program: &Program, seed: u16) -> Result<Compiled, CompileError>
     requires stated { AreStated (lines_of program.now) }
-    requires rising { RisesFrom 0 (numbers (lines_of program.now)) }
+    requires rising { Rises 1 32768 (numbers (lines_of program.now)) }
     ensures answer { ProgramAnswer seed (lines_of program.now) result }
     ensures keeps { 1 ≤ length (lines_of program.now) → IfOk result (λ c. Keeps BASIC_START (loaded_of c) (lines_of program.now) seed) }
     ensures marks { 1 ≤ length (lines_of program.now) → IfOk result (λ c. MarksLines BASIC_START (loaded_of c) (lines_of program.now) seed (start_of c)) }
@@ -111,7 +111,7 @@ pub fn compile_to_fit(
 // The PRG file of a program that fits.
 fn fit_program(alloc: Global, program: &Program, seed: u16) -> Result<Compiled, CompileError>
     requires stated { AreStated (lines_of program.now) }
-    requires rising { RisesFrom 0 (numbers (lines_of program.now)) }
+    requires rising { Rises 1 32768 (numbers (lines_of program.now)) }
     ensures answer { FitAnswer seed (lines_of program.now) result }
     ensures keeps { 1 ≤ length (lines_of program.now) → IfOk result (λ c. Keeps BASIC_START (loaded_of c) (lines_of program.now) seed) }
     ensures marks { 1 ≤ length (lines_of program.now) → IfOk result (λ c. MarksLines BASIC_START (loaded_of c) (lines_of program.now) seed (start_of c)) }
@@ -132,7 +132,7 @@ fn fit_program(alloc: Global, program: &Program, seed: u16) -> Result<Compiled, 
 fn fitted(alloc: Global, code: &SlotCode, seed: u16) -> Result<Option<Image>, AllocError>
     requires lists { AreCodable (code_of code.now) }
     requires lines { length (code_of code.now) < 65536 }
-    requires rising { RisingFrom 0 (numbers (code_of code.now)) }
+    requires rising { Rises 0 65536 (numbers (code_of code.now)) }
     requires suited { SuitsAnywhere PROLOGUE_AT (program_code seed (code_of code.now)) }
     ensures fits { IfOk result (λ found. IfSome found (λ image. IsLaid PROLOGUE_AT (program_code seed (code_of code.now)) image.at image.bytes.items image.labels.entries × (PROLOGUE_AT + length image.bytes.items ≤ 0xA000))) }
     ensures too_long { IfOk result (λ found. found ≡ None → EndsFrom 0xA001 PROLOGUE_AT (program_code seed (code_of code.now))) }
@@ -166,7 +166,7 @@ fn has_too_many_lines(code: &SlotCode) -> bool
 fn laid(alloc: Global, code: &SlotCode, seed: u16) -> Result<Image, CompileError>
     requires lists { AreCodable (code_of code.now) }
     requires lines { length (code_of code.now) < 65536 }
-    requires rising { RisingFrom 0 (numbers (code_of code.now)) }
+    requires rising { Rises 0 65536 (numbers (code_of code.now)) }
     requires suited { Suits PROLOGUE_AT (program_code seed (code_of code.now)) }
     ensures ok { IfOk result (λ image. IsLaid PROLOGUE_AT (program_code seed (code_of code.now)) image.at image.bytes.items image.labels.entries) }
     ensures err { IfErr result (λ e. e ≡ error.NoMemory) }

@@ -3,13 +3,12 @@ use Rattle.std.specs.Prelude.{◌≡◌, ◌⊎◌, ℕ, ◌+◌, ◌≤◌, ◌
 use Rattle.tb_asm.specs.declared.names.Name.{Name}
 use Rattle.tb_asm.specs.Layout.{Entry, size}
 use Rattle.tb_asm.specs.Settle.{Form, items_from, some_branch_far}
-use Rattle.tb_syntax.specs.Source.{numbers}
+use Rattle.tb_syntax.specs.Source.{numbers, Rises}
 use Rattle.tb_meaning.specs.Control.{first_place, has_line, content_at}
 use Rattle.tb_lower.specs.Slots.{Instr, Poll, SlotCode}
 use Rattle.tb_lower.specs.Ranges.{AreInRange}
 use Rattle.tb_runtime16.specs.Addresses.{PROLOGUE_AT, LINES_AT}
 use Rattle.tb_runtime16.specs.Block.{block_bytes}
-use Rattle.tb_runtime16.specs.Search.{AreRising}
 use Rattle.tb_settling.specs.Settled.{AreFormsOf}
 use Rattle.tb_templates.specs.declared.labels.Target.TheVariants as target
 use Rattle.tb_templates.specs.Templates.{next_line}
@@ -59,7 +58,7 @@ pub record Laid (labels : List (Name × ℕ)) (seed : ℕ) (code : Part) (progra
   -- the lines begin after the block
   pub first : place_address (layout_of labels (numbers program) seed) (first_place (numbers program)) ≡ LINES_AT
   pub some : 1 ≤ length (numbers program)
-  pub rising : AreRising (numbers program)
+  pub rising : Rises 0 65536 (numbers program)
   pub seed_small : seed < 65536
   pub count_small : length (numbers program) < 65536
   pub bytes_small : (a b : ℕ) → code a ≡ Some b → b < 256

@@ -2,8 +2,8 @@
 ghost use Rattle.std.specs.Prelude.{◌≤◌, drop, length, IfOk};
 ghost use Rattle.tb_memmap.specs.Regions.{BASIC_START};
 ghost use Rattle.tb_syntax.specs.PlainData.{lines_of};
-ghost use Rattle.tb_syntax.specs.Source.{numbers};
-ghost use Rattle.tb_parser.specs.Files.{AreStated, RisesFrom};
+ghost use Rattle.tb_syntax.specs.Source.{numbers, Rises};
+ghost use Rattle.tb_parser.specs.Files.{AreStated};
 ghost use Rattle.tb_simulation.specs.Kept.{Keeps};
 
 use std::alloc::Global;
@@ -19,7 +19,7 @@ use tb_templates::program_items;
 /// if the program is too large or memory runs out.
 pub fn keeping_file(alloc: Global, program: &Program, seed: u16) -> Result<Vec<u8>, CompileError>
     requires stated { AreStated (lines_of program.now) }
-    requires rising { RisesFrom 0 (numbers (lines_of program.now)) }
+    requires rising { Rises 1 32768 (numbers (lines_of program.now)) }
     requires some { 1 ≤ length (lines_of program.now) }
     ensures { IfOk result (λ file. Keeps BASIC_START (drop 2 file.items) (lines_of program.now) seed) }
 {

@@ -6,13 +6,13 @@ use Rattle.tb_asm.specs.Layout.{labels_from, image_of, size}
 use Rattle.tb_asm.specs.Settle.{Form, items_from}
 use Rattle.tb_asm.proofs.Laws.{all_size}
 use Rattle.tb_asm.proofs.Settled.{settled_reaches}
-use Rattle.tb_syntax.specs.Source.{Numbered, Program, numbers}
+use Rattle.tb_syntax.specs.Source.{Numbered, Program, numbers, Rises}
 use Rattle.tb_syntax.specs.PlainData.{lines_of}
 use Rattle.tb_syntax.specs.declared.statements.Statement.{Statement}
 use Rattle.tb_lower.specs.Lowered as lowered
 use Rattle.tb_lower.specs.Slots.{Instr}
 use Rattle.tb_lower.proofs.Ranged.{in_range}
-use Rattle.tb_parser.specs.Files.{AreStated, RisesFrom}
+use Rattle.tb_parser.specs.Files.{AreStated}
 use Rattle.tb_prg.specs.Prg.{header}
 use Rattle.tb_runtime16.specs.Addresses.{PROLOGUE_AT, LINES_AT}
 use Rattle.tb_settling.specs.Settled.{AreFormsOf}
@@ -72,7 +72,7 @@ lines_rise labels ns seed a asking (line ∷ lines) fs end h l le =
     )
 
 -- the parts of a compiled program are laid in this way
-pub are_laid : (seed : ℕ) (ls : List (ℕ × Statement)) (c : Compiled) → AreStated (lines_of ls) → RisesFrom 0 (numbers (lines_of ls))
+pub are_laid : (seed : ℕ) (ls : List (ℕ × Statement)) (c : Compiled) → AreStated (lines_of ls) → Rises 1 32768 (numbers (lines_of ls))
     → IsCompiled seed (lines_of ls) c → AreLaid (starts_of c) (table_of c) (length (prg_of c) - 14)
 are_laid seed ls c stated rises h =
     let p = lines_of ls in

@@ -3,6 +3,7 @@ use Rattle.std.specs.Prelude.{ℕ, ◌+◌, ◌*◌, ◌/◌, ◌%◌, List, [],
 use Rattle.std.specs.List.{range_with_len}
 use Rattle.std.specs.Fmt.{decimal}
 use Rattle.hex.specs.Hex.{encode_lower}
+use Rattle.tb_words.specs.declared.TheConstants.{LETTERS}
 use Rattle.tb_kernal.specs.declared.rom.TheConstants.{CHRIN, CHROUT, GETIN}
 use Rattle.tb_runtime16.specs.Addresses.{VARS, NOTES, PROLOGUE_AT, SEND_AT, entry_of}
 use Rattle.tb_runtime16.specs.declared.addresses.Routine.{Routine}
@@ -51,7 +52,7 @@ service_labels = (codes "notes", NOTES) ∷ (codes "chrin", CHRIN) ∷ (codes "c
 
 -- the 26 variables, and what lies after them
 abbrev pub data_labels : List (List ℕ × ℕ)
-data_labels = map variable_label (range_with_len 0 26) ++ service_labels
+data_labels = map variable_label (range_with_len 0 LETTERS) ++ service_labels
 
 -- a program's labels, by where its lines begin and where its line table does
 abbrev pub all_labels : List (ℕ × ℕ) → ℕ → List (List ℕ × ℕ)

@@ -1,6 +1,7 @@
 //! The label file that VICE's monitor reads: a line for each address that has a name, by rising address.
 ghost use Rattle.std.specs.Prelude.{◌≡◌, ◌<◌, ◌++◌, OnOk, IfOk, map};
 ghost use Rattle.std.specs.List.{range_with_len};
+ghost use Rattle.tb_words.specs.declared.TheConstants.{LETTERS};
 ghost use Rattle.tb_codegen.specs.Compiled.{pair_of};
 ghost use Rattle.tb_listing.specs.Labels.{name_of, all_routines, routine_label, line_label, variable_label, block_labels, data_labels, all_labels, label_text, labels_text};
 
@@ -9,9 +10,7 @@ use std::alloc::{AllocError, Global};
 use tb_codegen::LineStart;
 use tb_kernal::{CHRIN, CHROUT, GETIN};
 use tb_runtime16::{BLOCK_AT, NOTES, Routine, SEND_AT, VARS, entry};
-
-/// How many variables there are.
-const VARIABLES: u16 = 26;
+use tb_words::LETTERS;
 
 /// The routines by rising address.
 pub const ROUTINES: [Routine; 13] = [
@@ -124,16 +123,16 @@ fn push_data(alloc: Global, text: &mut Vec<u8>) -> Result<(), AllocError>
 }
 
 fn push_variables(alloc: Global, text: &mut Vec<u8>) -> Result<(), AllocError>
-    ensures { OnOk result (text.new.items ≡ text.old.items ++ labels_text (map variable_label (range_with_len 0 26))) }
+    ensures { OnOk result (text.new.items ≡ text.old.items ++ labels_text (map variable_label (range_with_len 0 LETTERS))) }
 {
-    'variables: for index in 0..VARIABLES {
+    'variables: for index in 0..LETTERS as u16 {
         push_variable(alloc, text, index)?;
     }
     Ok(())
 }
 
 fn push_variable(alloc: Global, text: &mut Vec<u8>, index: u16) -> Result<(), AllocError>
-    requires { index < 26 }
+    requires { index < LETTERS }
     ensures { OnOk result (text.new.items ≡ text.old.items ++ label_text (variable_label index)) }
 {
     push_label(

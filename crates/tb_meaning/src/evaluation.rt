@@ -6,7 +6,7 @@ ghost use Rattle.tb_meaning.specs.Evaluation.{IsEvaluation};
 ghost use Rattle.tb_meaning.specs.Values.{known_value, constant, apply, has_random};
 
 use tb_syntax::{Expr, Operator};
-use tb_words::{add, div_rem, mul, neg, sub};
+use tb_words::{LETTERS, add, div_rem, mul, neg, sub};
 
 /// Why an expression has no value.
 #[derive(Clone, Copy, PartialEq, Eq, Debug, Drop)]
@@ -18,7 +18,7 @@ pub enum EvalError {
 }
 
 /// The value of an expression without RND, from -32,768 to 32,767, over the variables A to Z. It takes no memory.
-pub fn eval(e: &Expr, variables: &[i16; 26]) -> Result<i16, EvalError>
+pub fn eval(e: &Expr, variables: &[i16; LETTERS]) -> Result<i16, EvalError>
     ensures { IsEvaluation (expression_of e.now) (map word_of variables.now) result }
 {
     if has_random(e) {

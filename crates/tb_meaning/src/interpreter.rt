@@ -18,7 +18,7 @@ use crate::places::{Place, first_place, has_line, highest, next_after, statement
 use crate::turns::{Turn, take_number};
 use std::alloc::{AllocError, Global};
 use tb_syntax::{Expr, PrintItem, Program, Statement};
-use tb_words::{Letter, Rel, holds, next_seed};
+use tb_words::{LETTERS, Letter, Rel, holds, next_seed};
 
 /// How many returns can be noted.
 pub const DEEPEST: usize = 500;
@@ -44,7 +44,7 @@ pub struct SourceRun {
     /// The place at which it goes on.
     pub place: Place,
     /// The words of A to Z, if it goes on.
-    pub variables: [u16; 26],
+    pub variables: [u16; LETTERS],
 }
 
 /// Runs at most `limit` lines of a program with the first seed of RND, the keyboard's text and the answers to the polls
@@ -74,7 +74,7 @@ pub fn run_source(
 pub struct Interpreter<'a> {
     pub place: Place,
     /// The words of A to Z.
-    pub variables: [u16; 26],
+    pub variables: [u16; LETTERS],
     pub seed: u16,
     /// The places to return to, the newest last.
     pub returns: Vec<Place>,
@@ -94,7 +94,7 @@ impl<'a> Interpreter<'a> {
     {
         Interpreter {
             place: first_place(program),
-            variables: [0; 26],
+            variables: [0; LETTERS],
             seed,
             returns: Vec::new(alloc),
             open_line: false,
@@ -386,7 +386,7 @@ fn push_return(returns: &mut Vec<Place>, place: Place) -> Result<(), AllocError>
 }
 
 // The value of an expression, the left operand first; RND moves the seed on.
-fn value(e: &Expr, variables: &[u16; 26], seed: &mut u16) -> Result<u16, Fault>
+fn value(e: &Expr, variables: &[u16; LETTERS], seed: &mut u16) -> Result<u16, Fault>
     ensures { MatchResult result (λ v. value (expression_of e.now) variables.now seed.old ≡ Gives v seed.new) (λ k. value (expression_of e.now) variables.now seed.old ≡ Fails (fault_of k)) }
 {
     match e {

@@ -53,11 +53,6 @@ pub data LinesAre : ℕ → Program → List (List ℕ) → Outcome → Type 0 w
   good : (n : ℕ) (p : Program) (line : List ℕ) (lines : List (List ℕ)) (edit : Edit) (outcome : Outcome)
       → LineIs line (Ok edit) → LinesAre (n + 1) (edited edit p) lines outcome → LinesAre n p (line ∷ lines) outcome
 
--- numbers that rise, all above a bound and none above 32,767
-abbrev pub RisesFrom : ℕ → List ℕ → Type 0
-RisesFrom low [] = Unit {0}
-RisesFrom low (n ∷ ns) = (low < n) × (n ≤ 32767) × RisesFrom n ns
-
 -- a statement that is spelled by a text of at most 255 bytes
 pub record IsStated (c : Statement) : Type 0 where
   pub text : List ℕ

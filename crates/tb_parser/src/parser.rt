@@ -1,11 +1,11 @@
 //! Source texts read: a file, a line of it, one expression.
 ghost use Rattle.std.specs.Prelude.{◌≡◌, ◌≢◌, ℕ, [], None, Some, Result, Ok, Err, IfErr, IfOk, IfSome, MatchOption, MatchResult, length};
-ghost use Rattle.tb_syntax.specs.Source.{Statement as SourceStatement, Expression, numbers};
+ghost use Rattle.tb_syntax.specs.Source.{Statement as SourceStatement, Expression, Rises, numbers};
 ghost use Rattle.tb_syntax.specs.PlainData.{statement_of, expression_of, lines_of};
 ghost use Rattle.tb_grammar.specs.Statements.{States};
 ghost use Rattle.tb_parser.specs.declared.errors.SourceErrorKind.TheVariants.{NoMemory, NotCompiled, NumberTooLarge, Syntax};
 ghost use Rattle.tb_parser.specs.Answers.{edit_of, refusal_of, Answers, InLineOne, Says};
-ghost use Rattle.tb_parser.specs.Files.{AreStated, FileRefusal, LinesAre, Outcome, RisesFrom};
+ghost use Rattle.tb_parser.specs.Files.{AreStated, FileRefusal, LinesAre, Outcome};
 ghost use Rattle.tb_parser.specs.Lines.{lines_of_file};
 ghost use Rattle.tb_parser.specs.Readings.{Expresses, ExpressionIs, IsFit, IsUnfit, LineIs, TextIs};
 ghost use Rattle.tb_parser.specs.Refusals.{out_of_memory};
@@ -33,7 +33,7 @@ pub fn parse(alloc: Global, source: &[u8]) -> Result<Program, SourceError>
     // What is answered is what the file's lines make, from line 1 on.
     ensures found { Answers lines_of result (LinesAre 1 [] (lines_of_file source.now)) }
     // The numbers rise, from 1 to 32,767 at most.
-    ensures rising { IfOk result (λ p. RisesFrom 0 (numbers (lines_of p))) }
+    ensures rising { IfOk result (λ p. Rises 1 32768 (numbers (lines_of p))) }
     // Each statement is spelled by a text that fits a line.
     ensures stated { IfOk result (λ p. AreStated (lines_of p)) }
     // What the lines make is answered, unless memory runs out.

@@ -9,6 +9,7 @@ use Rattle.tb_kernal.specs.Machine.{first_or_zero}
 use Rattle.tb_words.specs.Words.{digits_of}
 use Rattle.tb_meaning.specs.Control.{fault_text, zone, column_after, deepest}
 use Rattle.tb_meaning.specs.Input.{Turn, Got, Bad, Dry, Nothing, turn}
+use Rattle.tb_syntax.specs.Source.{Rises}
 use Rattle.tb_runtime16.specs.Addresses.{COLUMN, OPEN, HOME_S, SEED, LINE, NOTES, TABLE, WANTED, COUNT, RANDOM_AT, INPUT_AT, SEARCH_AT, FAULT_LINE_AT}
 use Rattle.tb_reaching.specs.View.{View, Setup, Holds, Fits, Comes, view, back_at}
 use Rattle.tb_reaching.specs.Start.{IsHome, IsWaiting}
@@ -20,7 +21,7 @@ use Rattle.tb_opcodes.specs.Bytes.{AreBytes}
 use Rattle.tb_runtime16.specs.Input as asking
 use Rattle.tb_runtime16.specs.Input.{prompt, Taken}
 use Rattle.tb_runtime16.specs.Returns.{AreReturns, ReturnList}
-use Rattle.tb_runtime16.specs.Search.{AreRising, address_of, Searched}
+use Rattle.tb_runtime16.specs.Search.{address_of, Searched}
 use Rattle.tb_runtime16.specs.Routines.{WordAt, SeedAt, stored, first, Entered, line_end, Tabled, entries, limit_by, Routines, AllLaws}
 use Rattle.tb_runtime16.proofs.Gathered.{from_here, from_a, from_line, beside, unchanged, faulting, entries_length, entries_numbers, found, not_found}
 use Rattle.tb_runtime16.proofs.StatePlaces.{unless_scratch, not_argument, not_pointer}
@@ -79,7 +80,7 @@ module _ (table seed_option : ℕ) (numbers : List ℕ) (start : ℕ → ℕ) (f
       let size = entries_length start numbers in
       subst (λ o. Comes (under f own) (view x y z b v i c d SEARCH_AT (l ∷ h ∷ []) m text answers) (Searched l h m text answers o) [] 510) is
       (search_law (under f own) (omega (arith, fits)) block l h text answers m x y z b v i c d n table (entries start numbers) left at (subst (WordAt m COUNT) (sym size) count)
-      laid.shown laid.from (omega (arith, size, laid.to)) (omega (arith, size, laid.some)) (subst AreRising (sym (entries_numbers start numbers)) laid.rising) laid.words)
+      laid.shown laid.from (omega (arith, size, laid.to)) (omega (arith, size, laid.some)) (subst (Rises 0 65536) (sym (entries_numbers start numbers)) laid.rising) laid.words)
 
   asks : (l h : ℕ) (m : ℕ → ℕ) (text answers : List ℕ) (o : Bool) (j : ℕ) (t : Turn) → m OPEN ≡ bit o → m COLUMN < 256 → AreBytes text
       → WordAt m LINE j → Entered f lo hi m → turn Nothing text ≡ t → (x y z : ℕ) (n b i c d : Bool)

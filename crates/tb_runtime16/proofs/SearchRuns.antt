@@ -14,7 +14,7 @@ use Rattle.tb_reaching.proofs.Comes.{after, ending, looser}
 use Rattle.tb_runtime16.specs.Addresses.{SEARCH_AT, POINTER, WANTED, RESULT, TABLE, COUNT, SCRATCH}
 use Rattle.tb_runtime16.specs.Block.{block_part}
 use Rattle.tb_runtime16.specs.Laws.{Changes}
-use Rattle.tb_runtime16.specs.Search.{Line, table_bytes, AreRising, numbers_in, AllWords, address_of, search_changes, Searched, SearchLaw}
+use Rattle.tb_runtime16.specs.Search.{Line, table_bytes, numbers_in, AllWords, address_of, search_changes, Searched, SearchLaw}
 use Rattle.tb_runtime16.proofs.InMemory.{IsWord, bytes_of, value}
 use Rattle.tb_runtime16.proofs.Within.{search_part, search_in}
 use Rattle.tb_runtime16.proofs.Words.{halved}
@@ -22,7 +22,7 @@ use Rattle.tb_words.proofs.Powers.{pow2}
 use Rattle.tb_runtime16.proofs.Frames.{changes_put, leaves_now}
 use Rattle.tb_runtime16.proofs.Pointed.{carry_at_least, carry_below}
 use Rattle.tb_runtime16.proofs.Through.{loading, comparing, subtracting, times_four, summed, difference}
-use Rattle.tb_runtime16.proofs.Tables.{cut, entry_bytes, bytes_front, bytes_back, rising_front, rising_back, words_front, words_back, other_line, address_front, address_back}
+use Rattle.tb_runtime16.proofs.Tables.{AreRising, are_rising, cut, entry_bytes, bytes_front, bytes_back, rising_front, rising_back, words_front, words_back, other_line, address_front, address_back}
 
 other_byte : (b k : ℕ) → b < 256 → k < 256 → b ≢ k → eqb ((b + 256 - k) % 256) 0 ≡ false
 other_byte b k p q n = ne_eqb _ _ (λ h. n (omega (arith, p, q, h)))
@@ -554,4 +554,4 @@ search_law f fits block lo hi text answers m a x y n v i z c number table lines 
     let place = value m TABLE table at in
     whole f fits block lo hi text answers m (bytes_of m WANTED number wanted) (address_of number lines) a x y n v i z c lines (bytes_of m TABLE table at) (bytes_of m COUNT (length lines) count)
     (subst (λ p. Bytes f.code p (table_bytes lines)) (sym place) shown) (omega (arith, place, from)) (omega (arith, place, to))
-    (value m COUNT (length lines) count) some rising words (ap (λ n. address_of n lines) (value m WANTED number wanted))
+    (value m COUNT (length lines) count) some (are_rising 0 (numbers_in lines) rising) words (ap (λ n. address_of n lines) (value m WANTED number wanted))

@@ -3,7 +3,8 @@ use Rattle.std.proofs.Common.{◌≡◌, ◌≢◌, ℕ, zero, suc, ◌+◌, ◌
 use Rattle.std.proofs.Common.{length, refl, ap, ◌∙◌, subst, arith, if◌then◌else◌, eqb, Some, None}
 use Rattle.std.proofs.lemmas.Bool.{ne_eqb}
 use Rattle.tb_reaching.specs.View.{Part, Bytes}
-use Rattle.tb_runtime16.specs.Search.{Line, table_bytes, IsBelowAll, AreRising, numbers_in, AllWords, address_of}
+use Rattle.tb_syntax.specs.Source.{Rises}
+use Rattle.tb_runtime16.specs.Search.{Line, table_bytes, numbers_in, AllWords, address_of}
 
 -- a table cut before its entry h
 pub record Cut (es : List Line) (h : ℕ) : Type 0 where
@@ -49,6 +50,26 @@ bytes_back code at (e ∷ a) b r h =
     subst (λ n. Bytes code n (table_bytes b)) (let e : at + 4 + 4 * length a ≡ at + 4 * suc (length a) = omega arith in e) (bytes_back code (at + 4) a b (omega (arith, r)) rest)
 
 -- ---- the order
+-- a number is below all of these
+abbrev pub IsBelowAll : ℕ → List ℕ → Type 0
+IsBelowAll k [] = Unit {0}
+IsBelowAll k (n ∷ ns) = (k < n) × IsBelowAll k ns
+
+-- each number is below all that follow it
+abbrev pub AreRising : List ℕ → Type 0
+AreRising [] = Unit {0}
+AreRising (n ∷ ns) = IsBelowAll n ns × AreRising ns
+
+-- numbers that rise from a greater one are all above
+below_all : (k low : ℕ) (ns : List ℕ) → k < low → Rises low 65536 ns → IsBelowAll k ns
+below_all k low [] l h = tt
+below_all k low (n ∷ ns) l h = (omega (arith, l, h.0), below_all k (n + 1) ns (omega (arith, l, h.0)) h.2)
+
+-- of numbers that rise each is below all that follow it
+pub are_rising : (low : ℕ) (ns : List ℕ) → Rises low 65536 ns → AreRising ns
+are_rising low [] h = tt
+are_rising low (n ∷ ns) h = (below_all n (n + 1) ns (omega arith) h.2, are_rising (n + 1) ns h.2)
+
 pub above_front : (k : ℕ) (a b : List Line) → IsBelowAll k (numbers_in (a ++ b)) → IsBelowAll k (numbers_in a)
 above_front k [] b h = tt
 above_front k (e ∷ a) b h = (h.0, above_front k a b h.1)

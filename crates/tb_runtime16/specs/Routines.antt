@@ -7,6 +7,7 @@ use Rattle.tb_memmap.specs.Regions.{within}
 use Rattle.tb_words.specs.Words.{word, magnitude, quotient, digits_of}
 use Rattle.tb_meaning.specs.Control.{fault_text, zone, column_after, has_line, deepest}
 use Rattle.tb_meaning.specs.Input.{Got, Bad, Dry, Nothing, turn}
+use Rattle.tb_syntax.specs.Source.{Rises}
 use Rattle.tb_runtime16.specs.Addresses.{VARS, HELD, RETURN_LOW, RETURN_HIGH, POINTER, COLUMN, OPEN, SEEDED, SEED, LINE, NOTES, LEFT, RIGHT, TABLE, WANTED, COUNT}
 use Rattle.tb_runtime16.specs.Addresses.{LENGTH, SEND_AT, MULTIPLY_AT, DIVIDE_AT, RANDOM_AT, NUMBER_AT, TEXT_AT, ZONE_AT, INPUT_AT, SEARCH_AT, PUSH_AT, POP_AT}
 use Rattle.tb_runtime16.specs.Addresses.{FAULT_LINE_AT, FAULT_AT, POLL_AT}
@@ -20,7 +21,7 @@ pub use Rattle.tb_runtime16.specs.Ends.{Entered}
 use Rattle.tb_runtime16.specs.Input.{prompt, Taken}
 pub use Rattle.tb_runtime16.specs.Returns.{AreReturns}
 use Rattle.tb_runtime16.specs.Returns.{Popped, Pushed}
-use Rattle.tb_runtime16.specs.Search.{Line, table_bytes, AreRising, AllWords, search_changes}
+use Rattle.tb_runtime16.specs.Search.{Line, table_bytes, AllWords, search_changes}
 
 -- ---- memory
 
@@ -146,7 +147,7 @@ pub record Tabled (code : Part) (table : ℕ) (numbers : List ℕ) (start : ℕ 
   pub from : 0x0800 ≤ table
   pub to : table + 4 * length numbers ≤ 0xa000
   pub some : 1 ≤ length numbers
-  pub rising : AreRising numbers
+  pub rising : Rises 0 65536 numbers
   pub words : AllWords (entries start numbers)
 
 -- how many Go events a routine takes at most, by the length of the keyboard's text

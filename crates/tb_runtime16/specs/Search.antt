@@ -2,6 +2,7 @@
 use Rattle.std.specs.Prelude.{◌<◌, ◌≤◌, Bool, ℕ, List, [], ◌∷◌, ◌+◌, ◌*◌, ◌/◌, ◌%◌, ◌||◌, if◌then◌else◌, nat_eq, length, map, Option, Some, None}
 use Rattle.tb_memmap.specs.Regions.{within}
 use Rattle.tb_reaching.specs.View.{View, Setup, Holds, Fits, Comes, view, Bytes}
+use Rattle.tb_syntax.specs.Source.{Rises}
 use Rattle.tb_runtime16.specs.Addresses.{SEARCH_AT, POINTER, WANTED, RESULT, TABLE, COUNT, SCRATCH}
 use Rattle.tb_runtime16.specs.Block.{block_part}
 use Rattle.tb_runtime16.specs.Laws.{WordAt, Changes, Back, Faults, Gives}
@@ -15,16 +16,6 @@ Line = ℕ × ℕ
 abbrev pub table_bytes : List Line → List ℕ
 table_bytes [] = []
 table_bytes (e ∷ es) = e.0 % 256 ∷ e.0 / 256 ∷ e.1 % 256 ∷ e.1 / 256 ∷ table_bytes es
-
--- a number is below all of these
-abbrev pub IsBelowAll : ℕ → List ℕ → Type 0
-IsBelowAll k [] = Unit {0}
-IsBelowAll k (n ∷ ns) = (k < n) × IsBelowAll k ns
-
--- the numbers of a list rise
-abbrev pub AreRising : List ℕ → Type 0
-AreRising [] = Unit {0}
-AreRising (n ∷ ns) = IsBelowAll n ns × AreRising ns
 
 -- the numbers of the lines of a table
 abbrev pub numbers_in : List Line → List ℕ
@@ -53,5 +44,5 @@ Searched lo hi m text answers None w = Faults lo hi text answers 1 (Changes sear
 abbrev pub SearchLaw : Type 0
 SearchLaw = (f : Setup) → Fits f 2 → Holds block_part f.code → (lo hi : ℕ) (text answers : List ℕ) (m : ℕ → ℕ) (a x y : ℕ) (n v i z c : Bool)
     (number table : ℕ) (lines : List Line) → WordAt m WANTED number → WordAt m TABLE table → WordAt m COUNT (length lines)
-    → Bytes f.code table (table_bytes lines) → 0x0800 ≤ table → table + 4 * length lines ≤ 0xa000 → 1 ≤ length lines → AreRising (numbers_in lines)
+    → Bytes f.code table (table_bytes lines) → 0x0800 ≤ table → table + 4 * length lines ≤ 0xa000 → 1 ≤ length lines → Rises 0 65536 (numbers_in lines)
     → AllWords lines → Comes f (view a x y n v i z c SEARCH_AT (lo ∷ hi ∷ []) m text answers) (Searched lo hi m text answers (address_of number lines)) [] 510

@@ -1,5 +1,6 @@
 -- When a machine that runs a program's code begins a line, the program does.
 use Rattle.std.specs.Prelude.{◌≡◌, ℕ, ◌+◌, ◌≤◌, ◌<◌, true, false, if◌then◌else◌, List, [], ◌∷◌, ◌++◌, length, slice_index}
+use Rattle.tb_words.specs.declared.TheConstants.{LETTERS}
 use Rattle.tb_cpu.specs.Operands.{word_from, word_in}
 use Rattle.tb_kernal.specs.declared.events.Event.{Event}
 use Rattle.tb_kernal.specs.declared.events.Event.TheVariants.{Go, Interrupt}
@@ -42,7 +43,7 @@ pub record BeginsLine (program : Program) (seed : ℕ) (start : ℕ → ℕ) (s 
   pub state : State
   pub done : source_run program seed s.text s.answers m ≡ GoesOn state t.sent
   pub place : state.place ≡ At number
-  pub vars : (x : ℕ) → x < 26 → word_in t.mem (var_at x) ≡ slice_index state.vars x
+  pub vars : (x : ℕ) → x < LETTERS → word_in t.mem (var_at x) ≡ slice_index state.vars x
   pub depth : word_in t.mem NOTES ≡ length state.returns
   pub few : length state.returns ≤ deepest
   pub returns : HoldsReturns start (numbers program) t.mem state.returns

@@ -1,5 +1,5 @@
 -- Programs as plain data: no pointers, texts as lists of bytes, letters by their places, from 0 for A.
-use Rattle.std.specs.Prelude.{ℕ, Bool, List, map}
+use Rattle.std.specs.Prelude.{ℕ, ◌+◌, ◌<◌, ◌≤◌, Bool, List, [], ◌∷◌, map}
 use Rattle.tb_words.specs.declared.Rel.{Rel}
 use Rattle.tb_syntax.specs.declared.expressions.Operator.{Operator}
 
@@ -41,3 +41,8 @@ Program = List (Numbered Statement)
 -- the line numbers of lines, in their order
 abbrev pub numbers : {A : Type 0} → List (Numbered A) → List ℕ
 numbers lines = map (λ line. line.number) lines
+
+-- numbers that rise, each at least `low` and below `bound`
+abbrev pub Rises : ℕ → ℕ → List ℕ → Type 0
+Rises low bound [] = Unit {0}
+Rises low bound (n ∷ ns) = (low ≤ n) × (n < bound) × Rises (n + 1) bound ns

@@ -8,7 +8,7 @@ use Rattle.tb_opcodes.specs.declared.Mnemonic.TheVariants.{Adc, Sbc}
 use Rattle.tb_words.specs.declared.Rel.{Rel}
 use Rattle.tb_syntax.specs.declared.expressions.Operator.{Operator}
 use Rattle.tb_syntax.specs.declared.expressions.Operator.TheVariants.{Add, Subtract, Multiply, Divide}
-use Rattle.tb_syntax.specs.Source.{numbers}
+use Rattle.tb_syntax.specs.Source.{numbers, Rises}
 use Rattle.tb_asm.specs.Layout.{Entry}
 use Rattle.tb_meaning.specs.Control.{At, has_line, next_after}
 use Rattle.tb_lower.specs.Slots.{Instr, SendText, JumpTo, CallTo, Return, SlotCode}
@@ -32,7 +32,7 @@ use Rattle.tb_templates.specs.Masks.{mask}
 use Rattle.tb_templates.proofs.Divided.{asked_rest_plain, copied_plain, left_over_plain}
 use Rattle.tb_templates.specs.Orders.{Side, Order, BySign, ByConstant, ByDifference, lifted, ordered_by, signed, unless_carry, wanted_side, weighed}
 use Rattle.tb_templates.specs.Program.{rest_code, list_code, line_code, lines_code, past_code, find_code, rows_code, table_code, program_code, AreCodable}
-use Rattle.tb_templates.specs.Program.{RisingFrom, first_of, AreInTurn, still_asking}
+use Rattle.tb_templates.specs.Program.{first_of, AreInTurn, still_asking}
 use Rattle.tb_templates.specs.Breaks.{polled, all_broken, ends_away, done_behind, left_behind}
 use Rattle.tb_templates.proofs.Listed.{tested_by, by_poll}
 use Rattle.tb_templates.proofs.Plain.{lifted_plain, plain_rises, times_plain, shifted_plain}
@@ -262,7 +262,7 @@ list_rises ns seed n is h l =
     groups js k = rest_rises ns seed n 1 (select js) h (let f = selected_few js in omega (arith, f, k))
 
 -- after a line comes the first of the lines that rise from it
-first_behind : (n : ℕ) (lines : SlotCode) → RisingFrom (n + 1) (numbers lines) → first_of lines ≡ next_line (numbers lines) n
+first_behind : (n : ℕ) (lines : SlotCode) → Rises (n + 1) 65536 (numbers lines) → first_of lines ≡ next_line (numbers lines) n
 first_behind n [] r = refl
 first_behind n (line ∷ lines) r = by (nat_lt n line.number) refl
   where
@@ -278,7 +278,7 @@ not_behind n m ms h = by (nat_lt n m) refl
     by false e = refl
 
 -- lines are in turn if they rise and all lines before them are lower
-in_turn : (ns : List ℕ) (low : ℕ) (lines : SlotCode) → RisingFrom low (numbers lines) → ((n : ℕ) → low ≤ n → next_after ns n ≡ next_after (numbers lines) n) → AreInTurn ns lines
+in_turn : (ns : List ℕ) (low : ℕ) (lines : SlotCode) → Rises low 65536 (numbers lines) → ((n : ℕ) → low ≤ n → next_after ns n ≡ next_after (numbers lines) n) → AreInTurn ns lines
 in_turn ns low [] r same = tt
 in_turn ns low (line ∷ lines) r same =
     let m = line.number in (
@@ -287,20 +287,20 @@ in_turn ns low (line ∷ lines) r same =
     )
 
 -- lines that rise are in turn
-pub lines_in_turn : (lines : SlotCode) → RisingFrom 0 (numbers lines) → AreInTurn (numbers lines) lines
+pub lines_in_turn : (lines : SlotCode) → Rises 0 65536 (numbers lines) → AreInTurn (numbers lines) lines
 lines_in_turn lines r = in_turn (numbers lines) 0 lines r (λ n h. refl)
 
 -- what is done for the STOP key after lines, before other items
-done_woven : (low from : ℕ) (t : Bool) (ns ms : List ℕ) (ys : List Entry) → RisingFrom from (ns ++ ms)
-    → ((to : ℕ) → RisingFrom to (left_behind t ns ++ ms) → Woven low (break_base to) ys) → Woven low (break_base from) (done_behind t ns ++ ys)
+done_woven : (low from : ℕ) (t : Bool) (ns ms : List ℕ) (ys : List Entry) → Rises from 65536 (ns ++ ms)
+    → ((to : ℕ) → Rises to 65536 (left_behind t ns ++ ms) → Woven low (break_base to) ys) → Woven low (break_base from) (done_behind t ns ++ ys)
 done_woven low from true ns ms ys r f = broken_woven low from ns ms ys r f
 done_woven low from false ns ms ys r f = f from r
 
-lines_woven : (ns : List ℕ) (seed low from : ℕ) (asking : List ℕ) (lines : SlotCode) (ys : List Entry) → low ≤ 65536 → RisingFrom low (numbers lines)
-    → AreCodable lines → RisingFrom from (asking ++ numbers lines)
-    → ((to : ℕ) → RisingFrom to (still_asking asking lines) → Woven (base 65536 0) (break_base to) ys) → Woven (base low 0) (break_base from) (lines_code ns seed asking lines ++ ys)
+lines_woven : (ns : List ℕ) (seed low from : ℕ) (asking : List ℕ) (lines : SlotCode) (ys : List Entry) → low ≤ 65536 → Rises low 65536 (numbers lines)
+    → AreCodable lines → Rises from 65536 (asking ++ numbers lines)
+    → ((to : ℕ) → Rises to 65536 (still_asking asking lines) → Woven (base 65536 0) (break_base to) ys) → Woven (base low 0) (break_base from) (lines_code ns seed asking lines ++ ys)
 lines_woven ns seed low from asking [] ys l r c a f = woven_lower (base low 0) (base 65536 0) (break_base from) (break_base from) ys
-    (omega (arith, l)) (omega arith) (f from (subst (RisingFrom from) (append-nil asking) a))
+    (omega (arith, l)) (omega arith) (f from (subst (Rises from 65536) (append-nil asking) a))
 lines_woven ns seed low from asking (line ∷ lines) ys l r c a f =
     let n = line.number in
     let k = line_key n r.1 in
@@ -311,7 +311,7 @@ lines_woven ns seed low from asking (line ∷ lines) ys l r c a f =
     subst (Woven (base low 0) (break_base from)) (sym (append_assoc code (done ++ more) ys ∙ ap (λ es. code ++ es) (append_assoc done more ys)))
     (rising_woven (base low 0) (base (n + 1) 0) (break_base from) code (done ++ (more ++ ys)) (omega arith)
     (omega (arith, k, least), subst (λ x. Rising (x + 1) (list_code ns seed n line.content) (base (n + 1) 0)) (sym k) (list_rises ns seed n line.content r.1 c.1))
-    (done_woven (base (n + 1) 0) from away all (numbers lines) (more ++ ys) (subst (RisingFrom from) (sym (append_assoc asking (n ∷ []) (numbers lines))) a)
+    (done_woven (base (n + 1) 0) from away all (numbers lines) (more ++ ys) (subst (Rises from 65536) (sym (append_assoc asking (n ∷ []) (numbers lines))) a)
     (λ to b. lines_woven ns seed (n + 1) to (left_behind away all) lines ys (omega (arith, small)) r.2 c.2 b f)))
 
 rows_woven : (ns : List ℕ) (low breaks : ℕ) → Woven low breaks (rows_code ns)
@@ -319,17 +319,17 @@ rows_woven [] low breaks = tt
 rows_woven (n ∷ ns) low breaks = rows_woven ns low breaks
 
 -- what belongs to no line
-rest_woven : (ns asking : List ℕ) (from : ℕ) → RisingFrom from asking → Woven (base 65536 0) (break_base from) (past_code ns ++ (all_broken asking ++ (find_code ns ++ table_code ns)))
+rest_woven : (ns asking : List ℕ) (from : ℕ) → Rises from 65536 asking → Woven (base 65536 0) (break_base from) (past_code ns ++ (all_broken asking ++ (find_code ns ++ table_code ns)))
 rest_woven ns asking from r =
     inl (
       omega arith,
       omega arith,
-      broken_woven (key_of (label_of Past) + 1) from asking [] (find_code ns ++ table_code ns) (subst (RisingFrom from) (sym (append-nil asking)) r)
+      broken_woven (key_of (label_of Past) + 1) from asking [] (find_code ns ++ table_code ns) (subst (Rises from 65536) (sym (append-nil asking)) r)
           (λ to b. inl (omega arith, omega arith, inl (omega arith, omega arith, rows_woven ns (key_of (label_of Table) + 1) (break_base to)))),
     )
 
 -- the labels of a whole program rise in their two orders
-pub program_woven : (seed : ℕ) (code : SlotCode) → RisingFrom 0 (numbers code) → AreCodable code → Woven lowest 0 (program_code seed code)
+pub program_woven : (seed : ℕ) (code : SlotCode) → Rises 0 65536 (numbers code) → AreCodable code → Woven lowest 0 (program_code seed code)
 program_woven seed code r c =
     let ns = numbers code in
     let rest = past_code ns ++ (all_broken (still_asking [] code) ++ (find_code ns ++ table_code ns)) in

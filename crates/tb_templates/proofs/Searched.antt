@@ -6,16 +6,16 @@ use Rattle.std.specs.List.Sorted.{IsBinarySearchResult}
 use Rattle.std.proofs.lemmas.List.Sorted.{searched}
 use Rattle.std.proofs.lemmas.Bool.Decides.{nat_tests}
 use Rattle.std.proofs.lemmas.Bool.{or_right}
+use Rattle.tb_syntax.specs.Source.{Rises}
 use Rattle.tb_meaning.specs.Control.{has_line}
-use Rattle.tb_templates.specs.Program.{RisingFrom}
 
 -- each of the numbers is at least the lowest
-at_least : (low : ℕ) (ns : List ℕ) (i : ℕ) → RisingFrom low ns → i < length ns → low ≤ get_or ns i 0
+at_least : (low : ℕ) (ns : List ℕ) (i : ℕ) → Rises low 65536 ns → i < length ns → low ≤ get_or ns i 0
 at_least low [] i r h = absurd (let no : ⊥ = omega (arith, h) in no)
 at_least low (n ∷ ns) zero r h = r.0
 at_least low (n ∷ ns) (suc i) r h = let k = at_least (n + 1) ns i r.2 (omega (arith, h)) in let l = r.0 in omega (arith, k, l)
 
-rises : (low : ℕ) (ns : List ℕ) → RisingFrom low ns → (i j : ℕ) → i ≤ j → j < length ns → get_or ns i 0 ≤ get_or ns j 0
+rises : (low : ℕ) (ns : List ℕ) → Rises low 65536 ns → (i j : ℕ) → i ≤ j → j < length ns → get_or ns i 0 ≤ get_or ns j 0
 rises low [] r i j le h = absurd (let no : ⊥ = omega (arith, h) in no)
 rises low (n ∷ ns) r zero zero le h = omega arith
 rises low (n ∷ ns) r zero (suc j) le h = let k = at_least (n + 1) ns j r.2 (omega (arith, h)) in omega (arith, k)
@@ -36,7 +36,7 @@ absent (n ∷ ns) x none = by (nat_eq n x) refl (absent ns x (λ k h e. none (su
     by false e rest = rest
 
 -- a binary search finds a line number exactly if there is one
-pub found : (low : ℕ) (ns : List ℕ) → RisingFrom low ns → (x : ℕ) (r : Result ℕ ℕ) → IsBinarySearchResult (λ y. nat_cmp y x) ns r → is_ok r ≡ has_line ns x
+pub found : (low : ℕ) (ns : List ℕ) → Rises low 65536 ns → (x : ℕ) (r : Result ℕ ℕ) → IsBinarySearchResult (λ y. nat_cmp y x) ns r → is_ok r ≡ has_line ns x
 found low ns rising x (Ok i) h = let s = searched ns x (Ok i) h (rises low ns rising) in sym (there ns i x s.0 s.1)
 found low ns rising x (Err i) h = sym (absent ns x (λ k l e. other k l e (nat_lt k i) refl (searched ns x (Err i) h (rises low ns rising))))
   where

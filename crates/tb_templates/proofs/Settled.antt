@@ -6,7 +6,7 @@ use Rattle.tb_asm.specs.declared.names.Name.{Name}
 use Rattle.tb_asm.specs.Layout.{Entry, label, instr, bytes, word, size, size_of, address_in, labels_from}
 use Rattle.tb_asm.specs.Settle.{Form, kept, long, items_from}
 use Rattle.tb_asm.proofs.Settled.{items_kept}
-use Rattle.tb_syntax.specs.Source.{Numbered, numbers}
+use Rattle.tb_syntax.specs.Source.{Numbered, numbers, Rises}
 use Rattle.tb_lower.specs.Slots.{Instr, Poll, SlotCode}
 use Rattle.tb_runtime16.specs.Addresses.{PROLOGUE_AT, LINES_AT}
 use Rattle.tb_settling.specs.Settled.{AreFormsOf, IsSettled}
@@ -15,7 +15,7 @@ use Rattle.tb_templates.specs.declared.labels.Target.TheVariants.{Line, Past, Ta
 use Rattle.tb_templates.specs.Labels.{label_of}
 use Rattle.tb_templates.specs.Layout.{LabelAt, LabelsAt}
 use Rattle.tb_templates.specs.Breaks.{all_broken}
-use Rattle.tb_templates.specs.Program.{still_asking, line_code, lines_code, past_code, find_code, rows_code, table_code, block_code, program_code, AreCodable, RisingFrom}
+use Rattle.tb_templates.specs.Program.{still_asking, line_code, lines_code, past_code, find_code, rows_code, table_code, block_code, program_code, AreCodable}
 use Rattle.tb_templates.proofs.Ordered.{program_woven}
 use Rattle.tb_templates.proofs.Reached.{labels_split}
 use Rattle.tb_templates.proofs.Rising.{key_of}
@@ -116,7 +116,7 @@ pub record Sections (seed : ℕ) (code : SlotCode) (items : List Entry) (labels 
   pub table : address_in labels (label_of Table) ≡ Some (LINES_AT + forms_size lines + size (past_code (numbers code)) + size (last_broken code) + size (find_code (numbers code)))
 
 -- the settled items of a program consist of these sections
-pub sections : (seed : ℕ) (code : SlotCode) → AreCodable code → RisingFrom 0 (numbers code) → (items : List Entry)
+pub sections : (seed : ℕ) (code : SlotCode) → AreCodable code → Rises 0 65536 (numbers code) → (items : List Entry)
     → IsSettled PROLOGUE_AT (program_code seed code) items → Sections seed code items (labels_from PROLOGUE_AT items)
 sections seed code lists rises items settled =
     let ns = numbers code in

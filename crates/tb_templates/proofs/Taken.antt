@@ -2,11 +2,11 @@
 use Rattle.std.proofs.Common.{◌≡◌, ℕ, ◌+◌, ◌*◌, ◌<◌, ◌≤◌, Bool, true, false, List, [], ◌∷◌, ◌++◌, length, length-append, refl, arith}
 use Rattle.tb_asm.specs.Layout.{size, labels_from}
 use Rattle.tb_lower.specs.Slots.{SlotCode}
-use Rattle.tb_syntax.specs.Source.{numbers}
+use Rattle.tb_syntax.specs.Source.{numbers, Rises}
 use Rattle.tb_runtime16.specs.Addresses.{PROLOGUE_AT}
 use Rattle.tb_templates.specs.Layout.{LabelsAt}
 use Rattle.tb_templates.specs.Breaks.{all_broken, ends_away, done_behind, left_behind}
-use Rattle.tb_templates.specs.Program.{still_asking, line_code, lines_code, past_code, find_code, rows_code, table_code, block_code, program_code, AreCodable, RisingFrom}
+use Rattle.tb_templates.specs.Program.{still_asking, line_code, lines_code, past_code, find_code, rows_code, table_code, block_code, program_code, AreCodable}
 use Rattle.tb_settling.specs.Settled.{most, Suits}
 use Rattle.tb_templates.specs.Sizes.{lines_room, rest_room}
 use Rattle.tb_settling.proofs.Forms.{most_append}
@@ -63,12 +63,12 @@ program_most seed code =
 
 -- ── what settling needs ──
 -- each label of a program gives the address of its item
-pub program_labels : (seed : ℕ) (code : SlotCode) → RisingFrom 0 (numbers code) → AreCodable code
+pub program_labels : (seed : ℕ) (code : SlotCode) → Rises 0 65536 (numbers code) → AreCodable code
     → LabelsAt (labels_from PROLOGUE_AT (program_code seed code)) PROLOGUE_AT (program_code seed code)
 program_labels seed code r c = labels_hold PROLOGUE_AT lowest 0 [] (program_code seed code) tt (program_woven seed code r c)
 
 -- nothing of a program's code is refused
-pub program_suits : (seed : ℕ) (code : SlotCode) → RisingFrom 0 (numbers code) → AreCodable code → PROLOGUE_AT + most (program_code seed code) < 65536
+pub program_suits : (seed : ℕ) (code : SlotCode) → Rises 0 65536 (numbers code) → AreCodable code → PROLOGUE_AT + most (program_code seed code) < 65536
     → Suits PROLOGUE_AT (program_code seed code)
 program_suits seed code r c l =
     let es = program_code seed code in record {

@@ -5,6 +5,7 @@ use Rattle.std.proofs.Common.{◌∙◌, arith, inl, inr, Some, None, subst, app
 use Rattle.std.specs.Prelude.{◌||◌}
 use Rattle.std.specs.List.{list_any}
 use lib.Pointwise.{bytes_decides}
+use Rattle.tb_syntax.specs.Source.{Rises}
 use Rattle.tb_asm.specs.declared.names.Name.{Name}
 use Rattle.tb_asm.specs.Layout.{Entry, instr, label, bytes, word, size, size_of, label_at, labels_from, same_name, address_in}
 use Rattle.tb_asm.specs.Suited.{names_of, AreDistinct}
@@ -14,7 +15,6 @@ use Rattle.tb_templates.specs.declared.labels.Target.TheVariants.{Break}
 use Rattle.tb_templates.specs.Labels.{label_of}
 use Rattle.tb_templates.specs.Breaks.{all_broken}
 use Rattle.tb_templates.specs.Layout.{LabelsAt}
-use Rattle.tb_templates.specs.Program.{RisingFrom}
 use Rattle.tb_templates.proofs.Rising.{key, key_of, base, break_base, break_key, Rising}
 
 -- where the numbers of lines' labels begin; those of what is done for the STOP key lie below
@@ -47,8 +47,8 @@ rising_woven low middle breaks (bytes bs ∷ xs) ys l h k = rising_woven low mid
 rising_woven low middle breaks (word o ∷ xs) ys l h k = rising_woven low middle breaks xs ys l h k
 
 -- what is done for the STOP key in lines before others
-pub broken_woven : (low from : ℕ) (ns ms : List ℕ) (ys : List Entry) → RisingFrom from (ns ++ ms)
-    → ((to : ℕ) → RisingFrom to ms → Woven low (break_base to) ys) → Woven low (break_base from) (all_broken ns ++ ys)
+pub broken_woven : (low from : ℕ) (ns ms : List ℕ) (ys : List Entry) → Rises from 65536 (ns ++ ms)
+    → ((to : ℕ) → Rises to 65536 ms → Woven low (break_base to) ys) → Woven low (break_base from) (all_broken ns ++ ys)
 broken_woven low from [] ms ys r f = f from r
 broken_woven low from (n ∷ ns) ms ys r f =
     let k = break_key n r.1 in let least = r.0 in let small = r.1 in

@@ -25,3 +25,4 @@ pub mod Program
 pub mod Sizes
 -- the addresses of a list of items
 pub mod Layout
+pub mod Putting

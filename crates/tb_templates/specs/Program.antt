@@ -82,11 +82,6 @@ abbrev pub AreCodable : SlotCode → Type 0
 AreCodable [] = Unit {0}
 AreCodable (line ∷ lines) = AreInRange 256 line.content × (length line.content < 65536) × AreCodable lines
 
--- line numbers that rise from a number on, and are words
-abbrev pub RisingFrom : ℕ → List ℕ → Type 0
-RisingFrom low [] = Unit {0}
-RisingFrom low (n ∷ ns) = (low ≤ n) × (n < 65536) × RisingFrom (n + 1) ns
-
 -- the first of these lines, or past all of them
 abbrev pub first_of : SlotCode → Target
 first_of [] = Past

@@ -1,8 +1,8 @@
 //! The STOP key: it is asked for at the beginning of each line, and what is done for it is out of the way.
-ghost use Rattle.std.specs.Prelude.{◌≡◌, OnOk, ◌++◌, map};
-ghost use Rattle.tb_asm.specs.Layout.{entry_of};
+ghost use Rattle.std.specs.Prelude.{◌≡◌, map};
 ghost use Rattle.tb_lower.specs.PlainData.{instr_of};
 ghost use Rattle.tb_selection.specs.PlainData.{group_of};
+ghost use Rattle.tb_templates.specs.Putting.{Puts};
 ghost use Rattle.tb_templates.specs.Breaks as breaks;
 
 use crate::labels::Target;
@@ -22,7 +22,7 @@ const BREAK: u8 = 0;
 
 /// Takes an answer at the beginning of a line; if it is the STOP key's, it branches elsewhere.
 pub fn put_polled(items: &mut Vec<Item>, line: u16) -> Result<(), AllocError>
-    ensures { OnOk result (map entry_of items.new.items ≡ map entry_of items.old.items ++ breaks.polled line) }
+    ensures { Puts result items.old items.new (breaks.polled line) }
 {
     put_at(items, Mnemonic::Jsr, GETIN)?;
     put_const(items, Mnemonic::Cmp, STOP)?;
@@ -32,7 +32,7 @@ pub fn put_polled(items: &mut Vec<Item>, line: u16) -> Result<(), AllocError>
 
 /// What is done for the STOP key in these lines: a break is a fault.
 pub fn put_all_broken(items: &mut Vec<Item>, lines: &[u16]) -> Result<(), AllocError>
-    ensures { OnOk result (map entry_of items.new.items ≡ map entry_of items.old.items ++ breaks.all_broken lines.now) }
+    ensures { Puts result items.old items.new (breaks.all_broken lines.now) }
 {
     for line in lines {
         put_broken(items, *line)?;
@@ -41,7 +41,7 @@ pub fn put_all_broken(items: &mut Vec<Item>, lines: &[u16]) -> Result<(), AllocE
 }
 
 fn put_broken(items: &mut Vec<Item>, line: u16) -> Result<(), AllocError>
-    ensures { OnOk result (map entry_of items.new.items ≡ map entry_of items.old.items ++ breaks.broken line) }
+    ensures { Puts result items.old items.new (breaks.broken line) }
 {
     put_here(items, Target::Break(line))?;
     put_faulted(items, line, BREAK)?;

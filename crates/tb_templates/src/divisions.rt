@@ -1,9 +1,10 @@
 //! Tests whether a divisor divides a word, and remainders.
-ghost use Rattle.std.specs.Prelude.{◌≡◌, ◌+◌, ◌<◌, OnOk, [], ◌∷◌, ◌++◌, map};
-ghost use Rattle.tb_asm.specs.Layout.{entry_of};
+ghost use Rattle.std.specs.Prelude.{◌≡◌, ◌+◌, ◌<◌, [], ◌∷◌, ◌++◌};
+ghost use Rattle.tb_syntax.specs.Source.{Rises};
 ghost use Rattle.tb_meaning.specs.Control.{has_line};
 ghost use Rattle.tb_selection.specs.Groups as selection;
 ghost use Rattle.tb_selection.specs.PlainData.{divisibility_of};
+ghost use Rattle.tb_templates.specs.Putting.{Puts};
 ghost use Rattle.tb_templates.specs.Templates as templates;
 ghost use Rattle.tb_templates.specs.declared.labels.Inner.TheVariants.{Skip};
 ghost use Rattle.tb_templates.specs.declared.labels.Target.TheVariants.{Inside};
@@ -12,7 +13,6 @@ ghost use Rattle.tb_templates.specs.Sources.{AreWhole, IsWhole};
 ghost use Rattle.tb_runtime16.specs.Addresses as places;
 ghost use Rattle.tb_templates.specs.GroupTemplates as groups;
 ghost use Rattle.tb_templates.specs.Masks as masks;
-ghost use Rattle.tb_templates.specs.Program.{RisingFrom};
 
 use crate::groups::{may_be_zero, put_brought, put_lined, put_taken};
 use crate::labels::Target;
@@ -54,7 +54,7 @@ fn mask(divisor: Source) -> Option<u8>
 
 // These bits of a word.
 fn put_lowest_bits(items: &mut Vec<Item>, bits: u8, word: Source) -> Result<(), AllocError>
-    ensures { OnOk result (map entry_of items.new.items ≡ map entry_of items.old.items ++ masks.lowest_bits bits word) }
+    ensures { Puts result items.old items.new (masks.lowest_bits bits word) }
 {
     put_low(items, Mnemonic::Lda, word)?;
     put_const(items, Mnemonic::And, bits)
@@ -62,7 +62,7 @@ fn put_lowest_bits(items: &mut Vec<Item>, bits: u8, word: Source) -> Result<(), 
 
 // The size of a division's remainder.
 fn put_told(items: &mut Vec<Item>) -> Result<(), AllocError>
-    ensures { OnOk result (map entry_of items.new.items ≡ map entry_of items.old.items ++ groups.told) }
+    ensures { Puts result items.old items.new groups.told }
 {
     put_call(items, Routine::Divide)?;
     put_at(items, Mnemonic::Lda, RESULT)?;
@@ -72,7 +72,7 @@ fn put_told(items: &mut Vec<Item>) -> Result<(), AllocError>
 // The same for a word divided by another one.
 fn put_remainder(items: &mut Vec<Item>, words: Words) -> Result<(), AllocError>
     requires { AreWhole words }
-    ensures { OnOk result (map entry_of items.new.items ≡ map entry_of items.old.items ++ groups.remainder words.left words.right) }
+    ensures { Puts result items.old items.new (groups.remainder words.left words.right) }
 {
     put_brought(items, words.left, LEFT)?;
     put_brought(items, words.right, RIGHT)?;
@@ -83,7 +83,7 @@ fn put_remainder(items: &mut Vec<Item>, words: Words) -> Result<(), AllocError>
 // The remainder in a line.
 fn put_remainder_in(items: &mut Vec<Item>, line: u16, words: Words) -> Result<(), AllocError>
     requires { AreWhole words }
-    ensures { OnOk result (map entry_of items.new.items ≡ map entry_of items.old.items ++ groups.lined (groups.may_be_zero words.right) line (groups.remainder words.left words.right)) }
+    ensures { Puts result items.old items.new (groups.lined (groups.may_be_zero words.right) line (groups.remainder words.left words.right)) }
 {
     put_lined(items, may_be_zero(words.right), line)?;
     put_remainder(items, words)?;
@@ -93,7 +93,7 @@ fn put_remainder_in(items: &mut Vec<Item>, line: u16, words: Words) -> Result<()
 // The remainder of a word by a divisor, or its lowest bits, as a test needs it.
 fn put_left_over(items: &mut Vec<Item>, line: u16, words: Words) -> Result<(), AllocError>
     requires { AreWhole words }
-    ensures { OnOk result (map entry_of items.new.items ≡ map entry_of items.old.items ++ groups.left_over line (masks.mask words.right) words.left words.right) }
+    ensures { Puts result items.old items.new (groups.left_over line (masks.mask words.right) words.left words.right) }
 {
     match mask(words.right) {
         Some(bits) => put_lowest_bits(items, bits, words.left),
@@ -130,7 +130,7 @@ fn put_divided_by(
     next: Target,
 ) -> Result<(), AllocError>
     requires { AreWhole words }
-    ensures { OnOk result (map entry_of items.new.items ≡ map entry_of items.old.items ++ groups.divided_by line (divisibility_of how) words.left words.right next) }
+    ensures { Puts result items.old items.new (groups.divided_by line (divisibility_of how) words.left words.right next) }
 {
     put_left_over(items, line, words)?;
     put_branch(items, unless(how), next)?;
@@ -145,7 +145,7 @@ fn put_divided_lost(
     words: Words,
 ) -> Result<(), AllocError>
     requires { AreWhole words }
-    ensures { OnOk result (map entry_of items.new.items ≡ map entry_of items.old.items ++ (groups.divided_by spot.line (divisibility_of how) words.left words.right spot.next ++ templates.faulted spot.line 1)) }
+    ensures { Puts result items.old items.new (groups.divided_by spot.line (divisibility_of how) words.left words.right spot.next ++ templates.faulted spot.line 1) }
 {
     put_divided_by(items, spot.line, how, words, spot.next)?;
     put_faulted(items, spot.line, NO_LINE)?;
@@ -161,9 +161,9 @@ fn put_divided_gone(
     words: Words,
     to: u16,
 ) -> Result<(), AllocError>
-    requires rising { RisingFrom 0 numbers.now }
+    requires rising { Rises 0 65536 numbers.now }
     requires whole { AreWhole words }
-    ensures { OnOk result (map entry_of items.new.items ≡ map entry_of items.old.items ++ groups.divided_gone spot.line (divisibility_of how) words.left words.right spot.next (has_line numbers.now to) to) }
+    ensures { Puts result items.old items.new (groups.divided_gone spot.line (divisibility_of how) words.left words.right spot.next (has_line numbers.now to) to) }
 {
     if has_number(numbers, to) {
         let line = Target::Line(to);
@@ -182,10 +182,10 @@ pub fn put_divides(
     words: Words,
     to: Option<u16>,
 ) -> Result<(), AllocError>
-    requires rising { RisingFrom 0 numbers.now }
+    requires rising { Rises 0 65536 numbers.now }
     requires next { spot.next ≡ templates.next_line numbers.now spot.line }
     requires whole { AreWhole words }
-    ensures { OnOk result (map entry_of items.new.items ≡ map entry_of items.old.items ++ groups.divides numbers.now spot.line (divisibility_of how) words.left words.right to) }
+    ensures { Puts result items.old items.new (groups.divides numbers.now spot.line (divisibility_of how) words.left words.right to) }
 {
     match to {
         Some(to) => put_divided_gone(items, numbers, spot, how, words, to),
@@ -196,7 +196,7 @@ pub fn put_divides(
 // The routine divides a word by another one.
 fn put_called(items: &mut Vec<Item>, words: Words) -> Result<(), AllocError>
     requires { AreWhole words }
-    ensures { OnOk result (map entry_of items.new.items ≡ map entry_of items.old.items ++ (groups.brought words.left places.LEFT ++ (groups.brought words.right places.RIGHT ++ (templates.call places.DIVIDE_AT ∷ [])))) }
+    ensures { Puts result items.old items.new (groups.brought words.left places.LEFT ++ (groups.brought words.right places.RIGHT ++ (templates.call places.DIVIDE_AT ∷ []))) }
 {
     put_brought(items, words.left, LEFT)?;
     put_brought(items, words.right, RIGHT)?;
@@ -207,7 +207,7 @@ fn put_called(items: &mut Vec<Item>, words: Words) -> Result<(), AllocError>
 // The same in a line: it leaves the remainder's size.
 fn put_asked_rest(items: &mut Vec<Item>, line: u16, words: Words) -> Result<(), AllocError>
     requires { AreWhole words }
-    ensures { OnOk result (map entry_of items.new.items ≡ map entry_of items.old.items ++ groups.asked_rest line words.left words.right) }
+    ensures { Puts result items.old items.new (groups.asked_rest line words.left words.right) }
 {
     put_lined(items, may_be_zero(words.right), line)?;
     put_called(items, words)?;
@@ -216,7 +216,7 @@ fn put_asked_rest(items: &mut Vec<Item>, line: u16, words: Words) -> Result<(), 
 
 // The remainder is negated, for a word below 0 that was divided.
 fn put_rest_taken(items: &mut Vec<Item>) -> Result<(), AllocError>
-    ensures { OnOk result (map entry_of items.new.items ≡ map entry_of items.old.items ++ groups.taken (sources.FixedWord 0) (sources.AtAddress places.RESULT) places.RESULT) }
+    ensures { Puts result items.old items.new (groups.taken (sources.FixedWord 0) (sources.AtAddress places.RESULT) places.RESULT) }
 {
     put_taken(items, against_none(Source::AtAddress(RESULT)), RESULT)
 }
@@ -229,7 +229,7 @@ fn put_signed_rest(
     to: u16,
 ) -> Result<(), AllocError>
     requires { IsWhole word × (to < 65535) }
-    ensures { OnOk result (map entry_of items.new.items ≡ map entry_of items.old.items ++ groups.signed_rest skip word to) }
+    ensures { Puts result items.old items.new (groups.signed_rest skip word to) }
 {
     put_high(items, Mnemonic::Lda, word)?;
     put_branch(items, Mnemonic::Bpl, skip)?;
@@ -247,7 +247,7 @@ pub fn put_remains(
     to: u16,
 ) -> Result<(), AllocError>
     requires { AreWhole words × (to < 65535) }
-    ensures { OnOk result (map entry_of items.new.items ≡ map entry_of items.old.items ++ groups.remains spot.line (Inside Skip spot.line spot.index) words.left words.right to) }
+    ensures { Puts result items.old items.new (groups.remains spot.line (Inside Skip spot.line spot.index) words.left words.right to) }
 {
     put_asked_rest(items, spot.line, words)?;
     put_signed_rest(items, spot.skip(), words.left, to)?;

@@ -1,5 +1,6 @@
 //! The code of each group.
-ghost use Rattle.std.specs.Prelude.{◌≡◌, ◌+◌, ◌<◌, ◌≤◌, OnOk, [], ◌∷◌, ◌++◌, map, length};
+ghost use Rattle.std.specs.Prelude.{◌≡◌, ◌+◌, ◌<◌, [], ◌∷◌, ◌++◌};
+ghost use Rattle.tb_syntax.specs.Source.{Rises};
 ghost use Rattle.tb_asm.specs.Layout.{entry_of};
 ghost use Rattle.tb_meaning.specs.Control.{has_line};
 ghost use Rattle.tb_lower.specs.Ranges.{AreInRange, IsInRange};
@@ -8,6 +9,7 @@ ghost use Rattle.tb_selection.specs.Groups as selection;
 ghost use Rattle.tb_selection.specs.Groups.{expand};
 ghost use Rattle.tb_selection.specs.PlainData.{conversion_of, usage_of, group_of};
 ghost use Rattle.tb_runtime16.specs.Addresses as places;
+ghost use Rattle.tb_templates.specs.Putting.{Puts};
 ghost use Rattle.tb_templates.specs.declared.labels.Inner.TheVariants.{Behind, Skip};
 ghost use Rattle.tb_templates.specs.declared.labels.Target.TheVariants.{Inside};
 ghost use Rattle.tb_templates.specs.Templates as templates;
@@ -15,7 +17,6 @@ ghost use Rattle.tb_templates.specs.Sources as sources;
 ghost use Rattle.tb_templates.specs.Sources.{AreWhole, IsWhole};
 ghost use Rattle.tb_templates.specs.GroupTemplates as groups;
 ghost use Rattle.tb_templates.specs.Scaled.{scaling, shifts};
-ghost use Rattle.tb_templates.specs.Program.{RisingFrom};
 
 use crate::divisions::{put_divides, put_remains};
 use crate::in_place::{change_of, put_changed};
@@ -43,7 +44,7 @@ use tb_words::Rel;
 /// A word to an address.
 pub fn put_brought(items: &mut Vec<Item>, word: Source, to: u16) -> Result<(), AllocError>
     requires { IsWhole word × (to < 65535) }
-    ensures { OnOk result (map entry_of items.new.items ≡ map entry_of items.old.items ++ groups.brought word to) }
+    ensures { Puts result items.old items.new (groups.brought word to) }
 {
     put_low(items, Mnemonic::Lda, word)?;
     put_on(items, Mnemonic::Sta, to)?;
@@ -59,7 +60,7 @@ fn put_joined(
     to: u16,
 ) -> Result<(), AllocError>
     requires { AreWhole words × (to < 65535) }
-    ensures { OnOk result (map entry_of items.new.items ≡ map entry_of items.old.items ++ groups.joined mnemonic words.left words.right to) }
+    ensures { Puts result items.old items.new (groups.joined mnemonic words.left words.right to) }
 {
     put_low(items, Mnemonic::Lda, words.left)?;
     put_low(items, mnemonic, words.right)?;
@@ -72,7 +73,7 @@ fn put_joined(
 // The sum of two words.
 fn put_summed(items: &mut Vec<Item>, words: Words, to: u16) -> Result<(), AllocError>
     requires { AreWhole words × (to < 65535) }
-    ensures { OnOk result (map entry_of items.new.items ≡ map entry_of items.old.items ++ groups.summed words.left words.right to) }
+    ensures { Puts result items.old items.new (groups.summed words.left words.right to) }
 {
     put_alone(items, Mnemonic::Clc)?;
     put_joined(items, Mnemonic::Adc, words, to)
@@ -81,7 +82,7 @@ fn put_summed(items: &mut Vec<Item>, words: Words, to: u16) -> Result<(), AllocE
 /// The left word less the right one.
 pub fn put_taken(items: &mut Vec<Item>, words: Words, to: u16) -> Result<(), AllocError>
     requires { AreWhole words × (to < 65535) }
-    ensures { OnOk result (map entry_of items.new.items ≡ map entry_of items.old.items ++ groups.taken words.left words.right to) }
+    ensures { Puts result items.old items.new (groups.taken words.left words.right to) }
 {
     put_alone(items, Mnemonic::Sec)?;
     put_joined(items, Mnemonic::Sbc, words, to)
@@ -96,7 +97,7 @@ fn put_handed(
     to: u16,
 ) -> Result<(), AllocError>
     requires { AreWhole words × (from < 65535) × (to < 65535) }
-    ensures { OnOk result (map entry_of items.new.items ≡ map entry_of items.old.items ++ groups.handed (places.entry_of routine) from words.left words.right to) }
+    ensures { Puts result items.old items.new (groups.handed (places.entry_of routine) from words.left words.right to) }
 {
     put_brought(items, words.left, LEFT)?;
     put_brought(items, words.right, RIGHT)?;
@@ -107,7 +108,7 @@ fn put_handed(
 
 /// The line's number, if what follows may fault.
 pub fn put_lined(items: &mut Vec<Item>, may_fault: bool, line: u16) -> Result<(), AllocError>
-    ensures { OnOk result (map entry_of items.new.items ≡ map entry_of items.old.items ++ groups.lined may_fault line []) }
+    ensures { Puts result items.old items.new (groups.lined may_fault line []) }
 {
     if may_fault {
         put_constant(items, line, LINE)
@@ -139,7 +140,7 @@ fn may_have_none(word: Source) -> bool
 // The quotient of two words.
 fn put_quotient(items: &mut Vec<Item>, line: u16, words: Words, to: u16) -> Result<(), AllocError>
     requires { AreWhole words × (to < 65535) }
-    ensures { OnOk result (map entry_of items.new.items ≡ map entry_of items.old.items ++ groups.lined (groups.may_be_zero words.right) line (groups.handed places.DIVIDE_AT places.LEFT words.left words.right to)) }
+    ensures { Puts result items.old items.new (groups.lined (groups.may_be_zero words.right) line (groups.handed places.DIVIDE_AT places.LEFT words.left words.right to)) }
 {
     put_lined(items, may_be_zero(words.right), line)?;
     put_handed(items, Routine::Divide, LEFT, words, to)?;
@@ -155,7 +156,7 @@ fn put_drawn(
     to: u16,
 ) -> Result<(), AllocError>
     requires { IsWhole bound × (to < 65535) }
-    ensures { OnOk result (map entry_of items.new.items ≡ map entry_of items.old.items ++ groups.lined (groups.may_have_none bound) line (groups.handed places.RANDOM_AT places.RESULT bound (sources.FixedWord seed) to)) }
+    ensures { Puts result items.old items.new (groups.lined (groups.may_have_none bound) line (groups.handed places.RANDOM_AT places.RESULT bound (sources.FixedWord seed) to)) }
 {
     put_lined(items, may_have_none(bound), line)?;
     let words = Words {
@@ -169,7 +170,7 @@ fn put_drawn(
 // A product: of a constant and a word by the constant's bits, if they are few.
 fn put_multiplied(items: &mut Vec<Item>, words: Words, to: u16) -> Result<(), AllocError>
     requires { AreWhole words × (to < 65535) }
-    ensures { OnOk result (map entry_of items.new.items ≡ map entry_of items.old.items ++ groups.multiplied (scaling words.left words.right) words.left words.right to) }
+    ensures { Puts result items.old items.new (groups.multiplied (scaling words.left words.right) words.left words.right to) }
 {
     match scaling(words.left, words.right) {
         Some((factor, word)) => put_times(items, factor, word, to),
@@ -180,7 +181,7 @@ fn put_multiplied(items: &mut Vec<Item>, words: Words, to: u16) -> Result<(), Al
 // A quotient of a line: over a power of two by shifts.
 fn put_divided(items: &mut Vec<Item>, line: u16, words: Words, to: u16) -> Result<(), AllocError>
     requires { AreWhole words × (to < 65535) }
-    ensures { OnOk result (map entry_of items.new.items ≡ map entry_of items.old.items ++ groups.divided line (shifts words.right) words.left words.right to) }
+    ensures { Puts result items.old items.new (groups.divided line (shifts words.right) words.left words.right to) }
 {
     match shifts(words.right) {
         Some(more) => put_shifted(items, more, words.left, to),
@@ -197,7 +198,7 @@ fn put_calculated(
     to: u16,
 ) -> Result<(), AllocError>
     requires { AreWhole words × (to < 65535) }
-    ensures { OnOk result (map entry_of items.new.items ≡ map entry_of items.old.items ++ groups.calculated line operator words.left words.right to) }
+    ensures { Puts result items.old items.new (groups.calculated line operator words.left words.right to) }
 {
     match operator {
         Operator::Add => put_summed(items, words, to),
@@ -217,7 +218,7 @@ fn put_computed(
     to: u16,
 ) -> Result<(), AllocError>
     requires { AreWhole words × (to < 65535) }
-    ensures { OnOk result (map entry_of items.new.items ≡ map entry_of items.old.items ++ groups.computed line skip operator words.left words.right to) }
+    ensures { Puts result items.old items.new (groups.computed line skip operator words.left words.right to) }
 {
     match change_of(operator, words.left, words.right, to) {
         Some(change) => put_changed(items, change, to, skip),
@@ -234,7 +235,7 @@ fn put_going_on(
     to: u16,
 ) -> Result<(), AllocError>
     requires { IsWhole constant × (to < 65535) }
-    ensures { OnOk result (map entry_of items.new.items ≡ map entry_of items.old.items ++ groups.computed spot.line (Inside Behind spot.line spot.index) operator (sources.AtAddress to) constant to) }
+    ensures { Puts result items.old items.new (groups.computed spot.line (Inside Behind spot.line spot.index) operator (sources.AtAddress to) constant to) }
 {
     let words = Words {
         left: Source::AtAddress(to),
@@ -253,7 +254,7 @@ fn put_stepped(
     to: u16,
 ) -> Result<(), AllocError>
     requires { AreWhole words × IsWhole by.1 × (to < 65535) }
-    ensures { OnOk result (map entry_of items.new.items ≡ map entry_of items.old.items ++ groups.stepped spot.line (Inside Skip spot.line spot.index) (Inside Behind spot.line spot.index) operator words.left words.right by.0 by.1 to) }
+    ensures { Puts result items.old items.new (groups.stepped spot.line (Inside Skip spot.line spot.index) (Inside Behind spot.line spot.index) operator words.left words.right by.0 by.1 to) }
 {
     put_computed(items, spot.line, spot.skip(), operator, words, to)?;
     put_going_on(items, spot, by.0, by.1, to)?;
@@ -270,7 +271,7 @@ fn put_converted(
     to: u16,
 ) -> Result<(), AllocError>
     requires { IsWhole word × (to < 65535) }
-    ensures { OnOk result (map entry_of items.new.items ≡ map entry_of items.old.items ++ groups.converted line seed (conversion_of conversion) word to) }
+    ensures { Puts result items.old items.new (groups.converted line seed (conversion_of conversion) word to) }
 {
     match conversion {
         Conversion::Negated => put_taken(items, against_none(word), to),
@@ -281,7 +282,7 @@ fn put_converted(
 // The search in the line table for a word.
 fn put_searched(items: &mut Vec<Item>, line: u16, word: Source) -> Result<(), AllocError>
     requires { IsWhole word }
-    ensures { OnOk result (map entry_of items.new.items ≡ map entry_of items.old.items ++ groups.searched line word) }
+    ensures { Puts result items.old items.new (groups.searched line word) }
 {
     put_constant(items, line, LINE)?;
     put_brought(items, word, WANTED)?;
@@ -292,7 +293,7 @@ fn put_searched(items: &mut Vec<Item>, line: u16, word: Source) -> Result<(), Al
 // A number that is sent.
 fn put_sent(items: &mut Vec<Item>, word: Source) -> Result<(), AllocError>
     requires { IsWhole word }
-    ensures { OnOk result (map entry_of items.new.items ≡ map entry_of items.old.items ++ (groups.brought word places.LEFT ++ (templates.call places.NUMBER_AT ∷ []))) }
+    ensures { Puts result items.old items.new (groups.brought word places.LEFT ++ (templates.call places.NUMBER_AT ∷ [])) }
 {
     put_brought(items, word, LEFT)?;
     put_call(items, Routine::Number)?;
@@ -302,7 +303,7 @@ fn put_sent(items: &mut Vec<Item>, word: Source) -> Result<(), AllocError>
 // Goes to the line of a number.
 fn put_gone_to(items: &mut Vec<Item>, line: u16, word: Source) -> Result<(), AllocError>
     requires { IsWhole word }
-    ensures { OnOk result (map entry_of items.new.items ≡ map entry_of items.old.items ++ (groups.searched line word ++ templates.jump_through)) }
+    ensures { Puts result items.old items.new (groups.searched line word ++ templates.jump_through) }
 {
     put_searched(items, line, word)?;
     put_jump_through(items)?;
@@ -317,7 +318,7 @@ fn put_called(
     word: Source,
 ) -> Result<(), AllocError>
     requires { IsWhole word }
-    ensures { OnOk result (map entry_of items.new.items ≡ map entry_of items.old.items ++ (groups.searched line word ++ (templates.return_address next ++ templates.jump_through))) }
+    ensures { Puts result items.old items.new (groups.searched line word ++ (templates.return_address next ++ templates.jump_through)) }
 {
     put_searched(items, line, word)?;
     put_return(items, next)?;
@@ -334,7 +335,7 @@ fn put_used(
     word: Source,
 ) -> Result<(), AllocError>
     requires { IsWhole word }
-    ensures { OnOk result (map entry_of items.new.items ≡ map entry_of items.old.items ++ groups.used line next (usage_of usage) word) }
+    ensures { Puts result items.old items.new (groups.used line next (usage_of usage) word) }
 {
     match usage {
         Usage::AsNumber => put_sent(items, word),
@@ -346,7 +347,7 @@ fn put_used(
 // Goes on in the line if both bytes are equal.
 fn put_equal(items: &mut Vec<Item>, words: Words, next: Target) -> Result<(), AllocError>
     requires { AreWhole words }
-    ensures { OnOk result (map entry_of items.new.items ≡ map entry_of items.old.items ++ groups.equal words.left words.right next) }
+    ensures { Puts result items.old items.new (groups.equal words.left words.right next) }
 {
     put_low(items, Mnemonic::Lda, words.left)?;
     put_low(items, Mnemonic::Cmp, words.right)?;
@@ -364,7 +365,7 @@ fn put_unequal(
     next: Target,
 ) -> Result<(), AllocError>
     requires { AreWhole words }
-    ensures { OnOk result (map entry_of items.new.items ≡ map entry_of items.old.items ++ groups.unequal words.left words.right stays next) }
+    ensures { Puts result items.old items.new (groups.unequal words.left words.right stays next) }
 {
     put_low(items, Mnemonic::Lda, words.left)?;
     put_low(items, Mnemonic::Cmp, words.right)?;
@@ -384,7 +385,7 @@ fn put_tested(
     next: Target,
 ) -> Result<(), AllocError>
     requires { AreWhole words }
-    ensures { OnOk result (map entry_of items.new.items ≡ map entry_of items.old.items ++ groups.tested rel words.left words.right skip next) }
+    ensures { Puts result items.old items.new (groups.tested rel words.left words.right skip next) }
 {
     match rel {
         Rel::Eq => put_equal(items, words, next),
@@ -413,7 +414,7 @@ fn denied(rel: Rel) -> Rel
 // Leaves the line unless two words are in this relation, and else faults for lack of a line.
 fn put_lost(items: &mut Vec<Item>, spot: Spot, rel: Rel, words: Words) -> Result<(), AllocError>
     requires { AreWhole words }
-    ensures { OnOk result (map entry_of items.new.items ≡ map entry_of items.old.items ++ (groups.tested rel words.left words.right (Inside Skip spot.line spot.index) spot.next ++ templates.faulted spot.line 1)) }
+    ensures { Puts result items.old items.new (groups.tested rel words.left words.right (Inside Skip spot.line spot.index) spot.next ++ templates.faulted spot.line 1) }
 {
     put_tested(items, rel, words, spot.skip(), spot.next)?;
     put_faulted(items, spot.line, NO_LINE)?;
@@ -429,9 +430,9 @@ fn put_gone(
     words: Words,
     to: u16,
 ) -> Result<(), AllocError>
-    requires rising { RisingFrom 0 numbers.now }
+    requires rising { Rises 0 65536 numbers.now }
     requires whole { AreWhole words }
-    ensures { OnOk result (map entry_of items.new.items ≡ map entry_of items.old.items ++ groups.gone spot.line rel words.left words.right (Inside Skip spot.line spot.index) spot.next (has_line numbers.now to) to) }
+    ensures { Puts result items.old items.new (groups.gone spot.line rel words.left words.right (Inside Skip spot.line spot.index) spot.next (has_line numbers.now to) to) }
 {
     if has_number(numbers, to) {
         put_tested(items, denied(rel), words, spot.skip(), Target::Line(to))
@@ -454,10 +455,10 @@ fn put_single(
     spot: Spot,
     instruction: &SlotInstr,
 ) -> Result<(), AllocError>
-    requires rising { RisingFrom 0 numbers.now }
+    requires rising { Rises 0 65536 numbers.now }
     requires in_range { IsInRange 256 (instr_of instruction.now) }
     requires next { spot.next ≡ templates.next_line numbers.now spot.line }
-    ensures { OnOk result (map entry_of items.new.items ≡ map entry_of items.old.items ++ groups.single numbers.now spot.line spot.index (instr_of instruction.now)) }
+    ensures { Puts result items.old items.new (groups.single numbers.now spot.line spot.index (instr_of instruction.now)) }
 {
     if may_fault(instruction) {
         put_constant(items, spot.line, LINE)?;
@@ -473,10 +474,10 @@ pub fn put_group(
     spot: Spot,
     group: Group<'_>,
 ) -> Result<(), AllocError>
-    requires rising { RisingFrom 0 numbers.now }
+    requires rising { Rises 0 65536 numbers.now }
     requires in_range { AreInRange 256 (expand (group_of group)) }
     requires next { spot.next ≡ templates.next_line numbers.now spot.line }
-    ensures { OnOk result (map entry_of items.new.items ≡ map entry_of items.old.items ++ groups.group_template numbers.now seed spot.line spot.index (group_of group.entry)) }
+    ensures { Puts result items.old items.new (groups.group_template numbers.now seed spot.line spot.index (group_of group.entry)) }
 {
     match group {
         Group::Calculate(operator, left, right, destination) => {

@@ -1,6 +1,6 @@
 //! Words that are changed in place: by a constant, to their half or to their double.
-ghost use Rattle.std.specs.Prelude.{◌≡◌, ◌<◌, OnOk, ◌++◌, map};
-ghost use Rattle.tb_asm.specs.Layout.{entry_of};
+ghost use Rattle.std.specs.Prelude.{◌≡◌, ◌<◌};
+ghost use Rattle.tb_templates.specs.Putting.{Puts};
 ghost use Rattle.tb_templates.specs.InPlace as in_place;
 
 use crate::labels::Target;
@@ -110,7 +110,7 @@ fn put_counted(
     address: u16,
 ) -> Result<(), AllocError>
     requires { address < 65535 }
-    ensures { OnOk result (map entry_of items.new.items ≡ map entry_of items.old.items ++ in_place.counted leaves skip counts address) }
+    ensures { Puts result items.old items.new (in_place.counted leaves skip counts address) }
 {
     put_branch(items, leaves, skip)?;
     put_at(items, counts, address + 1)?;
@@ -120,7 +120,7 @@ fn put_counted(
 // One more.
 fn put_incremented(items: &mut Vec<Item>, address: u16, skip: Target) -> Result<(), AllocError>
     requires { address < 65535 }
-    ensures { OnOk result (map entry_of items.new.items ≡ map entry_of items.old.items ++ in_place.changed in_place.Increment address skip) }
+    ensures { Puts result items.old items.new (in_place.changed in_place.Increment address skip) }
 {
     put_at(items, Mnemonic::Inc, address)?;
     put_counted(items, Mnemonic::Bne, skip, Mnemonic::Inc, address)
@@ -129,7 +129,7 @@ fn put_incremented(items: &mut Vec<Item>, address: u16, skip: Target) -> Result<
 // One less.
 fn put_decremented(items: &mut Vec<Item>, address: u16, skip: Target) -> Result<(), AllocError>
     requires { address < 65535 }
-    ensures { OnOk result (map entry_of items.new.items ≡ map entry_of items.old.items ++ in_place.changed in_place.Decrement address skip) }
+    ensures { Puts result items.old items.new (in_place.changed in_place.Decrement address skip) }
 {
     put_at(items, Mnemonic::Lda, address)?;
     put_counted(items, Mnemonic::Bne, skip, Mnemonic::Dec, address)?;
@@ -144,7 +144,7 @@ fn put_raised_by(
     skip: Target,
 ) -> Result<(), AllocError>
     requires { address < 65535 }
-    ensures { OnOk result (map entry_of items.new.items ≡ map entry_of items.old.items ++ in_place.changed (in_place.Raise by) address skip) }
+    ensures { Puts result items.old items.new (in_place.changed (in_place.Raise by) address skip) }
 {
     put_alone(items, Mnemonic::Clc)?;
     put_at(items, Mnemonic::Lda, address)?;
@@ -161,7 +161,7 @@ fn put_lowered_by(
     skip: Target,
 ) -> Result<(), AllocError>
     requires { address < 65535 }
-    ensures { OnOk result (map entry_of items.new.items ≡ map entry_of items.old.items ++ in_place.changed (in_place.Lower by) address skip) }
+    ensures { Puts result items.old items.new (in_place.changed (in_place.Lower by) address skip) }
 {
     put_alone(items, Mnemonic::Sec)?;
     put_at(items, Mnemonic::Lda, address)?;
@@ -173,7 +173,7 @@ fn put_lowered_by(
 // One more if C is set.
 fn put_one_more(items: &mut Vec<Item>, address: u16) -> Result<(), AllocError>
     requires { address < 65535 }
-    ensures { OnOk result (map entry_of items.new.items ≡ map entry_of items.old.items ++ in_place.one_more address) }
+    ensures { Puts result items.old items.new (in_place.one_more address) }
 {
     put_at(items, Mnemonic::Lda, address)?;
     put_const(items, Mnemonic::Adc, 0)?;
@@ -186,7 +186,7 @@ fn put_one_more(items: &mut Vec<Item>, address: u16) -> Result<(), AllocError>
 // Half as much, rounded toward zero.
 fn put_half_in_place(items: &mut Vec<Item>, address: u16, skip: Target) -> Result<(), AllocError>
     requires { address < 65535 }
-    ensures { OnOk result (map entry_of items.new.items ≡ map entry_of items.old.items ++ in_place.half_in_place address skip) }
+    ensures { Puts result items.old items.new (in_place.half_in_place address skip) }
 {
     put_at(items, Mnemonic::Lda, address + 1)?;
     put_on_a(items, Mnemonic::Asl)?;
@@ -201,7 +201,7 @@ fn put_half_in_place(items: &mut Vec<Item>, address: u16, skip: Target) -> Resul
 // Twice as much.
 fn put_doubled_in_place(items: &mut Vec<Item>, address: u16) -> Result<(), AllocError>
     requires { address < 65535 }
-    ensures { OnOk result (map entry_of items.new.items ≡ map entry_of items.old.items ++ in_place.doubled_in_place address) }
+    ensures { Puts result items.old items.new (in_place.doubled_in_place address) }
 {
     put_at(items, Mnemonic::Asl, address)?;
     put_at(items, Mnemonic::Rol, address + 1)
@@ -215,7 +215,7 @@ pub fn put_changed(
     skip: Target,
 ) -> Result<(), AllocError>
     requires { address < 65535 }
-    ensures { OnOk result (map entry_of items.new.items ≡ map entry_of items.old.items ++ in_place.changed change address skip) }
+    ensures { Puts result items.old items.new (in_place.changed change address skip) }
 {
     match change {
         Change::Increment => put_incremented(items, address, skip),

@@ -1,6 +1,6 @@
 //! The order of two signed words, and the branch that leaves the line by it.
-ghost use Rattle.std.specs.Prelude.{◌≡◌, ◌+◌, ◌<◌, OnOk, [], ◌∷◌, ◌++◌, map};
-ghost use Rattle.tb_asm.specs.Layout.{entry_of};
+ghost use Rattle.std.specs.Prelude.{◌≡◌, ◌+◌, ◌<◌, [], ◌∷◌, ◌++◌};
+ghost use Rattle.tb_templates.specs.Putting.{Puts};
 ghost use Rattle.tb_templates.specs.Orders as orders;
 ghost use Rattle.tb_templates.specs.Sources.{AreWhole, IsWhole};
 ghost use Rattle.tb_templates.specs.Templates.{branch};
@@ -125,7 +125,7 @@ fn put_signed(
     next: Target,
 ) -> Result<(), AllocError>
     requires { IsWhole word }
-    ensures { OnOk result (map entry_of items.new.items ≡ map entry_of items.old.items ++ orders.signed side word next) }
+    ensures { Puts result items.old items.new (orders.signed side word next) }
 {
     put_high(items, Mnemonic::Lda, word)?;
     put_branch(items, unless_negative(side), next)
@@ -134,7 +134,7 @@ fn put_signed(
 // A word compared with a constant, the highest bits of both turned.
 fn put_lifted(items: &mut Vec<Item>, word: Source, constant: u16) -> Result<(), AllocError>
     requires { IsWhole word }
-    ensures { OnOk result (map entry_of items.new.items ≡ map entry_of items.old.items ++ orders.lifted word constant) }
+    ensures { Puts result items.old items.new (orders.lifted word constant) }
 {
     put_low(items, Mnemonic::Lda, word)?;
     put_const(items, Mnemonic::Cmp, (constant % 256) as u8)?;
@@ -153,7 +153,7 @@ fn put_against(
     next: Target,
 ) -> Result<(), AllocError>
     requires { IsWhole word }
-    ensures { OnOk result (map entry_of items.new.items ≡ map entry_of items.old.items ++ (orders.lifted word constant ++ (branch (orders.unless_carry side) next ∷ []))) }
+    ensures { Puts result items.old items.new (orders.lifted word constant ++ (branch (orders.unless_carry side) next ∷ [])) }
 {
     put_lifted(items, word, constant)?;
     put_branch(items, unless_carry(side), next)?;
@@ -169,7 +169,7 @@ fn put_weighed(
     next: Target,
 ) -> Result<(), AllocError>
     requires { AreWhole words }
-    ensures { OnOk result (map entry_of items.new.items ≡ map entry_of items.old.items ++ orders.weighed side words.left words.right skip next) }
+    ensures { Puts result items.old items.new (orders.weighed side words.left words.right skip next) }
 {
     put_low(items, Mnemonic::Lda, words.left)?;
     put_low(items, Mnemonic::Cmp, words.right)?;
@@ -190,7 +190,7 @@ pub fn put_ordered(
     next: Target,
 ) -> Result<(), AllocError>
     requires { AreWhole words }
-    ensures { OnOk result (map entry_of items.new.items ≡ map entry_of items.old.items ++ orders.ordered wanted words.left words.right skip next) }
+    ensures { Puts result items.old items.new (orders.ordered wanted words.left words.right skip next) }
 {
     match order_of(words.left, words.right) {
         Order::BySign(side, word) => put_signed(items, wanted_side(wanted, side), word, next),

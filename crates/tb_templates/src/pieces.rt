@@ -1,6 +1,7 @@
 //! Small pieces of code, as items of the assembler.
-ghost use Rattle.std.specs.Prelude.{◌≡◌, ◌+◌, ◌<◌, ◌≤◌, OnOk, [], ◌∷◌, ◌++◌, map};
+ghost use Rattle.std.specs.Prelude.{◌+◌, ◌<◌, [], ◌∷◌};
 ghost use Rattle.tb_asm.specs.Layout.{entry_of};
+ghost use Rattle.tb_templates.specs.Putting.{Puts};
 ghost use Rattle.tb_templates.specs.Templates as templates;
 ghost use Rattle.tb_runtime16.specs.Addresses as places;
 
@@ -12,7 +13,7 @@ use tb_runtime16::{LEFT, RESULT, Routine, entry};
 
 /// One more item.
 pub fn put(items: &mut Vec<Item>, item: Item) -> Result<(), AllocError>
-    ensures { OnOk result (map entry_of items.new.items ≡ map entry_of items.old.items ++ entry_of item ∷ []) }
+    ensures { Puts result items.old items.new (entry_of item ∷ []) }
 {
     items.push(item)?;
     Ok(())
@@ -20,7 +21,7 @@ pub fn put(items: &mut Vec<Item>, item: Item) -> Result<(), AllocError>
 
 /// An instruction on the byte at an address.
 pub fn put_at(items: &mut Vec<Item>, mnemonic: Mnemonic, address: u16) -> Result<(), AllocError>
-    ensures { OnOk result (map entry_of items.new.items ≡ map entry_of items.old.items ++ templates.at mnemonic address ∷ []) }
+    ensures { Puts result items.old items.new (templates.at mnemonic address ∷ []) }
 {
     put(
         items,
@@ -30,7 +31,7 @@ pub fn put_at(items: &mut Vec<Item>, mnemonic: Mnemonic, address: u16) -> Result
 
 /// An instruction on the byte at an address, in the mode of page zero if it is there.
 pub fn put_on(items: &mut Vec<Item>, mnemonic: Mnemonic, address: u16) -> Result<(), AllocError>
-    ensures { OnOk result (map entry_of items.new.items ≡ map entry_of items.old.items ++ templates.on mnemonic address ∷ []) }
+    ensures { Puts result items.old items.new (templates.on mnemonic address ∷ []) }
 {
     if address < 256 {
         let operand = Operand::Byte(address as u8);
@@ -42,7 +43,7 @@ pub fn put_on(items: &mut Vec<Item>, mnemonic: Mnemonic, address: u16) -> Result
 
 /// An instruction on the byte X after an address.
 pub fn put_by_x(items: &mut Vec<Item>, mnemonic: Mnemonic, address: u16) -> Result<(), AllocError>
-    ensures { OnOk result (map entry_of items.new.items ≡ map entry_of items.old.items ++ templates.by_x mnemonic address ∷ []) }
+    ensures { Puts result items.old items.new (templates.by_x mnemonic address ∷ []) }
 {
     put(
         items,
@@ -52,7 +53,7 @@ pub fn put_by_x(items: &mut Vec<Item>, mnemonic: Mnemonic, address: u16) -> Resu
 
 /// A load of the low byte of a label's address.
 pub fn put_low_part(items: &mut Vec<Item>, of: Target) -> Result<(), AllocError>
-    ensures { OnOk result (map entry_of items.new.items ≡ map entry_of items.old.items ++ templates.low_part of ∷ []) }
+    ensures { Puts result items.old items.new (templates.low_part of ∷ []) }
 {
     put(
         items,
@@ -62,7 +63,7 @@ pub fn put_low_part(items: &mut Vec<Item>, of: Target) -> Result<(), AllocError>
 
 /// A load of the high byte of a label's address.
 pub fn put_high_part(items: &mut Vec<Item>, of: Target) -> Result<(), AllocError>
-    ensures { OnOk result (map entry_of items.new.items ≡ map entry_of items.old.items ++ templates.high_part of ∷ []) }
+    ensures { Puts result items.old items.new (templates.high_part of ∷ []) }
 {
     put(
         items,
@@ -72,7 +73,7 @@ pub fn put_high_part(items: &mut Vec<Item>, of: Target) -> Result<(), AllocError
 
 /// An instruction on a constant.
 pub fn put_const(items: &mut Vec<Item>, mnemonic: Mnemonic, byte: u8) -> Result<(), AllocError>
-    ensures { OnOk result (map entry_of items.new.items ≡ map entry_of items.old.items ++ templates.const mnemonic byte ∷ []) }
+    ensures { Puts result items.old items.new (templates.const mnemonic byte ∷ []) }
 {
     put(
         items,
@@ -82,7 +83,7 @@ pub fn put_const(items: &mut Vec<Item>, mnemonic: Mnemonic, byte: u8) -> Result<
 
 /// An instruction without an operand.
 pub fn put_alone(items: &mut Vec<Item>, mnemonic: Mnemonic) -> Result<(), AllocError>
-    ensures { OnOk result (map entry_of items.new.items ≡ map entry_of items.old.items ++ templates.alone mnemonic ∷ []) }
+    ensures { Puts result items.old items.new (templates.alone mnemonic ∷ []) }
 {
     put(
         items,
@@ -92,7 +93,7 @@ pub fn put_alone(items: &mut Vec<Item>, mnemonic: Mnemonic) -> Result<(), AllocE
 
 /// A branch to a label.
 pub fn put_branch(items: &mut Vec<Item>, mnemonic: Mnemonic, to: Target) -> Result<(), AllocError>
-    ensures { OnOk result (map entry_of items.new.items ≡ map entry_of items.old.items ++ templates.branch mnemonic to ∷ []) }
+    ensures { Puts result items.old items.new (templates.branch mnemonic to ∷ []) }
 {
     put(
         items,
@@ -102,14 +103,14 @@ pub fn put_branch(items: &mut Vec<Item>, mnemonic: Mnemonic, to: Target) -> Resu
 
 /// A label.
 pub fn put_here(items: &mut Vec<Item>, target: Target) -> Result<(), AllocError>
-    ensures { OnOk result (map entry_of items.new.items ≡ map entry_of items.old.items ++ templates.here target ∷ []) }
+    ensures { Puts result items.old items.new (templates.here target ∷ []) }
 {
     put(items, Item::Label(label(target)))
 }
 
 /// A jump to a label.
 pub fn put_jump(items: &mut Vec<Item>, to: Target) -> Result<(), AllocError>
-    ensures { OnOk result (map entry_of items.new.items ≡ map entry_of items.old.items ++ templates.jump to ∷ []) }
+    ensures { Puts result items.old items.new (templates.jump to ∷ []) }
 {
     put(
         items,
@@ -119,7 +120,7 @@ pub fn put_jump(items: &mut Vec<Item>, to: Target) -> Result<(), AllocError>
 
 /// A call of a routine of the block.
 pub fn put_call(items: &mut Vec<Item>, routine: Routine) -> Result<(), AllocError>
-    ensures { OnOk result (map entry_of items.new.items ≡ map entry_of items.old.items ++ templates.call (places.entry_of routine) ∷ []) }
+    ensures { Puts result items.old items.new (templates.call (places.entry_of routine) ∷ []) }
 {
     put_at(items, Mnemonic::Jsr, entry(routine))
 }
@@ -127,7 +128,7 @@ pub fn put_call(items: &mut Vec<Item>, routine: Routine) -> Result<(), AllocErro
 /// Copies a word to an address above page zero.
 pub fn put_copied(items: &mut Vec<Item>, from: u16, to: u16) -> Result<(), AllocError>
     requires { (from < 65535) × (to < 65535) }
-    ensures { OnOk result (map entry_of items.new.items ≡ map entry_of items.old.items ++ templates.copied from to) }
+    ensures { Puts result items.old items.new (templates.copied from to) }
 {
     put_on(items, Mnemonic::Lda, from)?;
     put_at(items, Mnemonic::Sta, to)?;
@@ -138,7 +139,7 @@ pub fn put_copied(items: &mut Vec<Item>, from: u16, to: u16) -> Result<(), Alloc
 /// Stores a constant word.
 pub fn put_constant(items: &mut Vec<Item>, word: u16, to: u16) -> Result<(), AllocError>
     requires { to < 65535 }
-    ensures { OnOk result (map entry_of items.new.items ≡ map entry_of items.old.items ++ templates.constant word to) }
+    ensures { Puts result items.old items.new (templates.constant word to) }
 {
     put_const(items, Mnemonic::Lda, (word % 256) as u8)?;
     put_at(items, Mnemonic::Sta, to)?;
@@ -149,7 +150,7 @@ pub fn put_constant(items: &mut Vec<Item>, word: u16, to: u16) -> Result<(), All
 /// Stores the address of a label in page zero.
 pub fn put_address(items: &mut Vec<Item>, of: Target, to: u8) -> Result<(), AllocError>
     requires { to < 255 }
-    ensures { OnOk result (map entry_of items.new.items ≡ map entry_of items.old.items ++ templates.address of to) }
+    ensures { Puts result items.old items.new (templates.address of to) }
 {
     put_low_part(items, of)?;
     put(
@@ -165,7 +166,7 @@ pub fn put_address(items: &mut Vec<Item>, of: Target, to: u8) -> Result<(), Allo
 
 /// Puts the return to the next line on the return list.
 pub fn put_return(items: &mut Vec<Item>, next: Target) -> Result<(), AllocError>
-    ensures { OnOk result (map entry_of items.new.items ≡ map entry_of items.old.items ++ templates.return_address next) }
+    ensures { Puts result items.old items.new (templates.return_address next) }
 {
     put_address(items, next, LEFT as u8)?;
     put_call(items, Routine::Push)
@@ -173,7 +174,7 @@ pub fn put_return(items: &mut Vec<Item>, next: Target) -> Result<(), AllocError>
 
 /// Calls the search in the line table.
 pub fn put_find(items: &mut Vec<Item>) -> Result<(), AllocError>
-    ensures { OnOk result (map entry_of items.new.items ≡ map entry_of items.old.items ++ templates.find ∷ []) }
+    ensures { Puts result items.old items.new (templates.find ∷ []) }
 {
     put(
         items,
@@ -187,7 +188,7 @@ pub fn put_find(items: &mut Vec<Item>) -> Result<(), AllocError>
 
 /// Goes on at the address in the result: a return or the search's answer.
 pub fn put_jump_through(items: &mut Vec<Item>) -> Result<(), AllocError>
-    ensures { OnOk result (map entry_of items.new.items ≡ map entry_of items.old.items ++ templates.jump_through) }
+    ensures { Puts result items.old items.new templates.jump_through }
 {
     put(
         items,
@@ -197,7 +198,7 @@ pub fn put_jump_through(items: &mut Vec<Item>) -> Result<(), AllocError>
 
 /// A fault of a line, by its number.
 pub fn put_faulted(items: &mut Vec<Item>, line: u16, number: u8) -> Result<(), AllocError>
-    ensures { OnOk result (map entry_of items.new.items ≡ map entry_of items.old.items ++ templates.faulted line number) }
+    ensures { Puts result items.old items.new (templates.faulted line number) }
 {
     put_const(items, Mnemonic::Ldx, (line % 256) as u8)?;
     put_const(items, Mnemonic::Ldy, (line / 256) as u8)?;

@@ -1,19 +1,20 @@
 //! The code of a whole program.
-ghost use Rattle.std.specs.Prelude.{◌≡◌, ◌+◌, ◌-◌, ◌<◌, ◌≤◌, OnOk, IfOk, [], ◌∷◌, ◌++◌, map, length, replicate};
+ghost use Rattle.std.specs.Prelude.{◌≡◌, ◌-◌, ◌<◌, IfOk, [], ◌∷◌, map, length, replicate};
 ghost use Rattle.tb_opcodes.specs.declared.Mnemonic.TheVariants.{Jmp};
 ghost use Rattle.tb_asm.specs.Layout.{word};
 ghost use Rattle.tb_asm.specs.declared.items.Operand.TheVariants as operand;
+ghost use Rattle.tb_templates.specs.Putting.{Puts};
 ghost use Rattle.tb_templates.specs.Labels.{label_of};
 ghost use Rattle.tb_runtime16.specs.Addresses as places;
 ghost use Rattle.tb_asm.specs.Layout.{entry_of};
-ghost use Rattle.tb_syntax.specs.Source.{numbers};
+ghost use Rattle.tb_syntax.specs.Source.{numbers, Rises};
 ghost use Rattle.tb_meaning.specs.Control.{highest};
 ghost use Rattle.tb_lower.specs.Ranges.{AreInRange};
 ghost use Rattle.tb_lower.specs.PlainData.{instr_of, slot_line_of, code_of};
 ghost use Rattle.tb_selection.specs.Select.{select};
 ghost use Rattle.tb_templates.specs.Breaks as breaks;
 ghost use Rattle.tb_templates.specs.Program as program;
-ghost use Rattle.tb_templates.specs.Program.{AreCodable, AreInTurn, RisingFrom, first_of, program_code};
+ghost use Rattle.tb_templates.specs.Program.{AreCodable, AreInTurn, first_of, program_code};
 ghost use Rattle.tb_templates.specs.Templates as templates;
 
 use crate::breaks::{put_all_broken, put_polled, some_leaves};
@@ -38,7 +39,7 @@ const RUN_PAST: u8 = 7;
 pub fn program_items(alloc: Global, seed: u16, code: &SlotCode) -> Result<Vec<Item>, AllocError>
     requires lists { AreCodable (code_of code.now) }
     requires lines { length (code_of code.now) < 65536 }
-    requires rising { RisingFrom 0 (numbers (code_of code.now)) }
+    requires rising { Rises 0 65536 (numbers (code_of code.now)) }
     ensures { IfOk result (λ items. map entry_of items.items ≡ program_code seed (code_of code.now)) }
 {
     let numbers = line_numbers(alloc, code.lines())?;
@@ -65,7 +66,7 @@ fn line_numbers(alloc: Global, lines: &[SlotLine]) -> Result<Vec<u16>, AllocErro
 
 // The block, and zero bytes up to the lines.
 fn put_block(items: &mut Vec<Item>) -> Result<(), AllocError>
-    ensures { OnOk result (map entry_of items.new.items ≡ map entry_of items.old.items ++ program.block_code) }
+    ensures { Puts result items.old items.new program.block_code }
 {
     let alloc = *items.allocator();
     let block = block();
@@ -89,10 +90,10 @@ fn put_lines(
     seed: u16,
     lines: &[SlotLine],
 ) -> Result<Vec<u16>, AllocError>
-    requires rising { RisingFrom 0 numbers.now }
+    requires rising { Rises 0 65536 numbers.now }
     requires lists { AreCodable (code_of lines.now) }
     requires in_turn { AreInTurn numbers.now (code_of lines.now) }
-    ensures lines { OnOk result (map entry_of items.new.items ≡ map entry_of items.old.items ++ program.lines_code numbers.now seed [] (code_of lines.now)) }
+    ensures lines { Puts result items.old items.new (program.lines_code numbers.now seed [] (code_of lines.now)) }
     ensures asking { IfOk result (λ ns. ns.items ≡ program.still_asking [] (code_of lines.now)) }
 {
     let mut asking = Vec::new(*items.allocator());
@@ -127,10 +128,10 @@ fn put_line(
     line: &SlotLine,
     next: Target,
 ) -> Result<bool, AllocError>
-    requires rising { RisingFrom 0 numbers.now }
+    requires rising { Rises 0 65536 numbers.now }
     requires lists { AreInRange 256 (map instr_of line.now.code.items) × (length line.now.code.items < 65536) }
     requires next { next ≡ templates.next_line numbers.now line.now.number }
-    ensures line { OnOk result (map entry_of items.new.items ≡ map entry_of items.old.items ++ program.line_code numbers.now seed (slot_line_of line.now)) }
+    ensures line { Puts result items.old items.new (program.line_code numbers.now seed (slot_line_of line.now)) }
     ensures ends { IfOk result (λ away. away ≡ breaks.ends_away (map instr_of line.now.code.items)) }
 {
     put_here(items, Target::Line(line.number))?;
@@ -146,10 +147,10 @@ fn put_list(
     next: Target,
     list: &[SlotInstr],
 ) -> Result<bool, AllocError>
-    requires rising { RisingFrom 0 numbers.now }
+    requires rising { Rises 0 65536 numbers.now }
     requires list { AreInRange 256 (map instr_of list.now) × (length list.now < 65536) }
     requires next { next ≡ templates.next_line numbers.now line }
-    ensures list { OnOk result (map entry_of items.new.items ≡ map entry_of items.old.items ++ program.list_code numbers.now seed line (map instr_of list.now)) }
+    ensures list { Puts result items.old items.new (program.list_code numbers.now seed line (map instr_of list.now)) }
     ensures ends { IfOk result (λ away. away ≡ breaks.ends_away (map instr_of list.now)) }
 {
     match list {
@@ -170,10 +171,10 @@ fn put_groups(
     next: Target,
     list: &[SlotInstr],
 ) -> Result<bool, AllocError>
-    requires rising { RisingFrom 0 numbers.now }
+    requires rising { Rises 0 65536 numbers.now }
     requires list { AreInRange 256 (map instr_of list.now) × (length list.now < 65536) }
     requires next { next ≡ templates.next_line numbers.now line }
-    ensures groups { OnOk result (map entry_of items.new.items ≡ map entry_of items.old.items ++ program.rest_code numbers.now seed line 1 (select (map instr_of list.now))) }
+    ensures groups { Puts result items.old items.new (program.rest_code numbers.now seed line 1 (select (map instr_of list.now))) }
     ensures leaves { IfOk result (λ away. away ≡ breaks.some_leaves (select (map instr_of list.now))) }
 {
     let groups = select(*items.allocator(), list)?;
@@ -187,7 +188,7 @@ fn put_groups(
 
 // Fault 7, at the highest line.
 fn put_past(items: &mut Vec<Item>, numbers: &[u16]) -> Result<(), AllocError>
-    ensures { OnOk result (map entry_of items.new.items ≡ map entry_of items.old.items ++ program.past_code numbers.now) }
+    ensures { Puts result items.old items.new (program.past_code numbers.now) }
 {
     put_here(items, Target::Past)?;
     put_faulted(items, last(numbers), RUN_PAST)?;
@@ -208,7 +209,7 @@ fn last(numbers: &[u16]) -> u16
 // The search in the line table.
 fn put_find(items: &mut Vec<Item>, numbers: &[u16]) -> Result<(), AllocError>
     requires { length numbers.now < 65536 }
-    ensures { OnOk result (map entry_of items.new.items ≡ map entry_of items.old.items ++ program.find_code numbers.now) }
+    ensures { Puts result items.old items.new (program.find_code numbers.now) }
 {
     put_here(items, Target::Find)?;
     put_address(items, Target::Table, TABLE as u8)?;
@@ -219,14 +220,14 @@ fn put_find(items: &mut Vec<Item>, numbers: &[u16]) -> Result<(), AllocError>
 
 // A jump to a routine of the block.
 fn put_jump_to_routine(items: &mut Vec<Item>, routine: Routine) -> Result<(), AllocError>
-    ensures { OnOk result (map entry_of items.new.items ≡ map entry_of items.old.items ++ templates.at Jmp (places.entry_of routine) ∷ []) }
+    ensures { Puts result items.old items.new (templates.at Jmp (places.entry_of routine) ∷ []) }
 {
     put_at(items, Mnemonic::Jmp, entry(routine))
 }
 
 // The line table.
 fn put_table(items: &mut Vec<Item>, numbers: &[u16]) -> Result<(), AllocError>
-    ensures { OnOk result (map entry_of items.new.items ≡ map entry_of items.old.items ++ program.table_code numbers.now) }
+    ensures { Puts result items.old items.new (program.table_code numbers.now) }
 {
     put_here(items, Target::Table)?;
     put_rows(items, numbers)?;
@@ -235,7 +236,7 @@ fn put_table(items: &mut Vec<Item>, numbers: &[u16]) -> Result<(), AllocError>
 
 // An entry for each line: its number and the address of its code.
 fn put_rows(items: &mut Vec<Item>, numbers: &[u16]) -> Result<(), AllocError>
-    ensures { OnOk result (map entry_of items.new.items ≡ map entry_of items.old.items ++ program.rows_code numbers.now) }
+    ensures { Puts result items.old items.new (program.rows_code numbers.now) }
 {
     for number in numbers {
         put_row(items, *number)?;
@@ -244,7 +245,7 @@ fn put_rows(items: &mut Vec<Item>, numbers: &[u16]) -> Result<(), AllocError>
 }
 
 fn put_row(items: &mut Vec<Item>, number: u16) -> Result<(), AllocError>
-    ensures { OnOk result (map entry_of items.new.items ≡ map entry_of items.old.items ++ program.row_code number) }
+    ensures { Puts result items.old items.new (program.row_code number) }
 {
     put(items, Item::Word(Operand::Word(number)))?;
     put_address_word(items, Target::Line(number))?;
@@ -253,7 +254,7 @@ fn put_row(items: &mut Vec<Item>, number: u16) -> Result<(), AllocError>
 
 // The address of a label as a word.
 fn put_address_word(items: &mut Vec<Item>, of: Target) -> Result<(), AllocError>
-    ensures { OnOk result (map entry_of items.new.items ≡ map entry_of items.old.items ++ word (operand.Label (label_of of)) ∷ []) }
+    ensures { Puts result items.old items.new (word (operand.Label (label_of of)) ∷ []) }
 {
     put(items, Item::Word(Operand::Label(label(of))))
 }

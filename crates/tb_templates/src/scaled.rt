@@ -1,7 +1,7 @@
 //! Products with a constant and quotients over a power of two, by shifts and sums.
-ghost use Rattle.std.specs.Prelude.{◌≡◌, ◌+◌, ◌<◌, IfSome, OnOk, [], ◌∷◌, ◌++◌, map};
-ghost use Rattle.tb_asm.specs.Layout.{entry_of};
+ghost use Rattle.std.specs.Prelude.{◌≡◌, ◌+◌, ◌<◌, IfSome, [], ◌∷◌};
 ghost use Rattle.tb_runtime16.specs.Addresses as places;
+ghost use Rattle.tb_templates.specs.Putting.{Puts};
 ghost use Rattle.tb_templates.specs.Sources.{IsWhole};
 ghost use Rattle.tb_templates.specs.Scaled as scaled;
 
@@ -20,7 +20,7 @@ pub const SIGN: u8 = 128;
 
 /// An instruction on A.
 pub fn put_on_a(items: &mut Vec<Item>, mnemonic: Mnemonic) -> Result<(), AllocError>
-    ensures { OnOk result (map entry_of items.new.items ≡ map entry_of items.old.items ++ scaled.on_a mnemonic ∷ []) }
+    ensures { Puts result items.old items.new (scaled.on_a mnemonic ∷ []) }
 {
     put(
         items,
@@ -30,7 +30,7 @@ pub fn put_on_a(items: &mut Vec<Item>, mnemonic: Mnemonic) -> Result<(), AllocEr
 
 // An instruction on the byte in LEFT.
 fn put_at_left(items: &mut Vec<Item>, mnemonic: Mnemonic) -> Result<(), AllocError>
-    ensures { OnOk result (map entry_of items.new.items ≡ map entry_of items.old.items ++ scaled.at_zero mnemonic places.LEFT ∷ []) }
+    ensures { Puts result items.old items.new (scaled.at_zero mnemonic places.LEFT ∷ []) }
 {
     put(
         items,
@@ -68,7 +68,7 @@ pub fn shifts(divisor: Source) -> Option<u8>
 // The low byte of a word, and what rounds it up if C is set.
 fn put_rounded(items: &mut Vec<Item>, more: u8, word: Source) -> Result<(), AllocError>
     requires { more < 6 }
-    ensures { OnOk result (map entry_of items.new.items ≡ map entry_of items.old.items ++ scaled.rounded more word) }
+    ensures { Puts result items.old items.new (scaled.rounded more word) }
 {
     if more == 0 {
         put_low(items, Mnemonic::Lda, word)?;
@@ -86,7 +86,7 @@ fn put_rounded(items: &mut Vec<Item>, more: u8, word: Source) -> Result<(), Allo
 fn put_raised(items: &mut Vec<Item>, more: u8, word: Source) -> Result<(), AllocError>
     requires more { more < 6 }
     requires whole { IsWhole word }
-    ensures { OnOk result (map entry_of items.new.items ≡ map entry_of items.old.items ++ scaled.raised more word) }
+    ensures { Puts result items.old items.new (scaled.raised more word) }
 {
     put_high(items, Mnemonic::Lda, word)?;
     put_const(items, Mnemonic::Cmp, SIGN)?;
@@ -98,7 +98,7 @@ fn put_raised(items: &mut Vec<Item>, more: u8, word: Source) -> Result<(), Alloc
 
 // A word is shifted to the right, its sign kept.
 fn put_halved(items: &mut Vec<Item>) -> Result<(), AllocError>
-    ensures { OnOk result (map entry_of items.new.items ≡ map entry_of items.old.items ++ scaled.halved) }
+    ensures { Puts result items.old items.new scaled.halved }
 {
     put_const(items, Mnemonic::Cmp, SIGN)?;
     put_on_a(items, Mnemonic::Ror)?;
@@ -107,7 +107,7 @@ fn put_halved(items: &mut Vec<Item>) -> Result<(), AllocError>
 
 // A word is shifted this many times.
 fn put_halvings(items: &mut Vec<Item>, count: u8) -> Result<(), AllocError>
-    ensures { OnOk result (map entry_of items.new.items ≡ map entry_of items.old.items ++ scaled.halvings count) }
+    ensures { Puts result items.old items.new (scaled.halvings count) }
 {
     for _ in 0..count {
         put_halved(items)?;
@@ -118,7 +118,7 @@ fn put_halvings(items: &mut Vec<Item>, count: u8) -> Result<(), AllocError>
 // The word whose high byte is in A is stored at its address.
 fn put_high_first(items: &mut Vec<Item>, to: u16) -> Result<(), AllocError>
     requires { to < 65535 }
-    ensures { OnOk result (map entry_of items.new.items ≡ map entry_of items.old.items ++ scaled.high_first to) }
+    ensures { Puts result items.old items.new (scaled.high_first to) }
 {
     put_at(items, Mnemonic::Sta, to + 1)?;
     put_at_left(items, Mnemonic::Lda)?;
@@ -129,7 +129,7 @@ fn put_high_first(items: &mut Vec<Item>, to: u16) -> Result<(), AllocError>
 pub fn put_shifted(items: &mut Vec<Item>, more: u8, word: Source, to: u16) -> Result<(), AllocError>
     requires more { more < 6 }
     requires whole { IsWhole word × (to < 65535) }
-    ensures { OnOk result (map entry_of items.new.items ≡ map entry_of items.old.items ++ scaled.shifted more word to) }
+    ensures { Puts result items.old items.new (scaled.shifted more word to) }
 {
     put_raised(items, more, word)?;
     put_halvings(items, more + 1)?;
@@ -138,7 +138,7 @@ pub fn put_shifted(items: &mut Vec<Item>, more: u8, word: Source, to: u16) -> Re
 
 // Twice the product so far.
 fn put_doubled(items: &mut Vec<Item>) -> Result<(), AllocError>
-    ensures { OnOk result (map entry_of items.new.items ≡ map entry_of items.old.items ++ scaled.doubled) }
+    ensures { Puts result items.old items.new scaled.doubled }
 {
     put_on_a(items, Mnemonic::Asl)?;
     put_at_left(items, Mnemonic::Rol)
@@ -147,7 +147,7 @@ fn put_doubled(items: &mut Vec<Item>) -> Result<(), AllocError>
 // The product so far and a word more.
 fn put_increased(items: &mut Vec<Item>, word: Source) -> Result<(), AllocError>
     requires { IsWhole word }
-    ensures { OnOk result (map entry_of items.new.items ≡ map entry_of items.old.items ++ scaled.increased word) }
+    ensures { Puts result items.old items.new (scaled.increased word) }
 {
     put_alone(items, Mnemonic::Clc)?;
     put_low(items, Mnemonic::Adc, word)?;
@@ -161,7 +161,7 @@ fn put_increased(items: &mut Vec<Item>, word: Source) -> Result<(), AllocError>
 // The product so far, on by one bit of the factor.
 fn put_by_bit(items: &mut Vec<Item>, bit: bool, word: Source) -> Result<(), AllocError>
     requires { IsWhole word }
-    ensures { OnOk result (map entry_of items.new.items ≡ map entry_of items.old.items ++ scaled.by_bit bit word) }
+    ensures { Puts result items.old items.new (scaled.by_bit bit word) }
 {
     put_doubled(items)?;
     if bit {
@@ -173,7 +173,7 @@ fn put_by_bit(items: &mut Vec<Item>, bit: bool, word: Source) -> Result<(), Allo
 // The product by the bits of a factor below its highest one.
 fn put_by_bits(items: &mut Vec<Item>, factor: u16, word: Source) -> Result<(), AllocError>
     requires { IsWhole word }
-    ensures { OnOk result (map entry_of items.new.items ≡ map entry_of items.old.items ++ scaled.by_bits 15 factor word) }
+    ensures { Puts result items.old items.new (scaled.by_bits 15 factor word) }
 {
     if factor < 2 {
         return Ok(());
@@ -214,7 +214,7 @@ pub fn scaling(left: Source, right: Source) -> Option<(u16, Source)>
 // The word whose low byte is in A is stored at its address.
 fn put_low_first(items: &mut Vec<Item>, to: u16) -> Result<(), AllocError>
     requires { to < 65535 }
-    ensures { OnOk result (map entry_of items.new.items ≡ map entry_of items.old.items ++ scaled.low_first to) }
+    ensures { Puts result items.old items.new (scaled.low_first to) }
 {
     put_at(items, Mnemonic::Sta, to)?;
     put_at_left(items, Mnemonic::Lda)?;
@@ -229,7 +229,7 @@ pub fn put_times(
     to: u16,
 ) -> Result<(), AllocError>
     requires { IsWhole word × (to < 65535) }
-    ensures { OnOk result (map entry_of items.new.items ≡ map entry_of items.old.items ++ scaled.times factor word to) }
+    ensures { Puts result items.old items.new (scaled.times factor word to) }
 {
     put_high(items, Mnemonic::Lda, word)?;
     put_at_left(items, Mnemonic::Sta)?;

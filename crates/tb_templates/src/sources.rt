@@ -1,9 +1,9 @@
 //! Where the operands of a group come from, and where its result goes.
-ghost use Rattle.std.specs.Prelude.{◌≡◌, ◌+◌, ◌<◌, ◌≤◌, OnOk, [], ◌∷◌, ◌++◌, map};
-ghost use Rattle.tb_asm.specs.Layout.{entry_of};
+ghost use Rattle.std.specs.Prelude.{◌≡◌, ◌+◌, ◌<◌, [], ◌∷◌};
 ghost use Rattle.tb_words.specs.Letters.{letter_index};
 ghost use Rattle.tb_selection.specs.Groups as groups;
 ghost use Rattle.tb_selection.specs.PlainData.{operand_of, home_of, tested_of, destination_of};
+ghost use Rattle.tb_templates.specs.Putting.{Puts};
 ghost use Rattle.tb_templates.specs.Templates.{var_at, slot_at};
 ghost use Rattle.tb_templates.specs.Sources as sources;
 ghost use Rattle.tb_templates.specs.Sources.{AreWhole, IsWhole};
@@ -155,7 +155,7 @@ pub fn destination_at(destination: Destination) -> u16
 
 /// An instruction on the low byte of a word.
 pub fn put_low(items: &mut Vec<Item>, mnemonic: Mnemonic, word: Source) -> Result<(), AllocError>
-    ensures { OnOk result (map entry_of items.new.items ≡ map entry_of items.old.items ++ sources.low_of mnemonic word ∷ []) }
+    ensures { Puts result items.old items.new (sources.low_of mnemonic word ∷ []) }
 {
     match word {
         Source::FixedWord(word) => put_const(items, mnemonic, (word % 256) as u8),
@@ -166,7 +166,7 @@ pub fn put_low(items: &mut Vec<Item>, mnemonic: Mnemonic, word: Source) -> Resul
 /// An instruction on the high byte of a word.
 pub fn put_high(items: &mut Vec<Item>, mnemonic: Mnemonic, word: Source) -> Result<(), AllocError>
     requires { IsWhole word }
-    ensures { OnOk result (map entry_of items.new.items ≡ map entry_of items.old.items ++ sources.high_of mnemonic word ∷ []) }
+    ensures { Puts result items.old items.new (sources.high_of mnemonic word ∷ []) }
 {
     match word {
         Source::FixedWord(word) => put_const(items, mnemonic, (word / 256) as u8),

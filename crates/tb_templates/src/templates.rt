@@ -1,16 +1,16 @@
 //! The code of single slot instructions.
-ghost use Rattle.std.specs.Prelude.{◌≡◌, ◌+◌, ◌<◌, ◌≤◌, OnOk, [], ◌∷◌, ◌++◌, map, length};
+ghost use Rattle.std.specs.Prelude.{◌≡◌, ◌+◌, ◌<◌, [], ◌∷◌, ◌++◌, length};
+ghost use Rattle.tb_syntax.specs.Source.{Rises};
 ghost use Rattle.tb_asm.specs.Layout as layout;
-ghost use Rattle.tb_asm.specs.Layout.{entry_of};
 ghost use Rattle.tb_meaning.specs.Control.{has_line};
 ghost use Rattle.tb_lower.specs.Ranges.{IsInRange};
 ghost use Rattle.tb_lower.specs.PlainData.{instr_of};
+ghost use Rattle.tb_templates.specs.Putting.{Puts};
 ghost use Rattle.tb_templates.specs.declared.labels.Inner.TheVariants as inner;
 ghost use Rattle.tb_templates.specs.declared.labels.Target.TheVariants as target;
 ghost use Rattle.tb_templates.specs.Templates as templates;
 ghost use Rattle.tb_templates.specs.Templates.{template};
 ghost use Rattle.tb_runtime16.specs.Addresses as places;
-ghost use Rattle.tb_templates.specs.Program.{RisingFrom};
 
 use crate::labels::{Inner, Target};
 use crate::pieces::{
@@ -57,7 +57,7 @@ impl Spot {
 
 // A 13 is sent, after which the column is 0.
 fn put_newline(items: &mut Vec<Item>) -> Result<(), AllocError>
-    ensures { OnOk result (map entry_of items.new.items ≡ map entry_of items.old.items ++ templates.newline) }
+    ensures { Puts result items.old items.new templates.newline }
 {
     put_const(items, Mnemonic::Lda, 0)?;
     put_at(items, Mnemonic::Sta, COLUMN)?;
@@ -73,7 +73,7 @@ fn put_text(
     text: &[u8],
 ) -> Result<(), AllocError>
     requires { length text.now < 256 }
-    ensures { OnOk result (map entry_of items.new.items ≡ map entry_of items.old.items ++ templates.text of behind text.now) }
+    ensures { Puts result items.old items.new (templates.text of behind text.now) }
 {
     put_address(items, of, POINTER)?;
     put_text_call(items, text.len() as u8)?;
@@ -83,7 +83,7 @@ fn put_text(
 
 // The call that sends a text of that length.
 fn put_text_call(items: &mut Vec<Item>, length: u8) -> Result<(), AllocError>
-    ensures { OnOk result (map entry_of items.new.items ≡ map entry_of items.old.items ++ templates.text_call length) }
+    ensures { Puts result items.old items.new (templates.text_call length) }
 {
     put_const(items, Mnemonic::Lda, length)?;
     put_at(items, Mnemonic::Sta, LENGTH)?;
@@ -97,7 +97,7 @@ fn put_inline(
     behind: Target,
     text: &[u8],
 ) -> Result<(), AllocError>
-    ensures { OnOk result (map entry_of items.new.items ≡ map entry_of items.old.items ++ templates.inline of behind text.now) }
+    ensures { Puts result items.old items.new (templates.inline of behind text.now) }
 {
     put_jump(items, behind)?;
     put_here(items, of)?;
@@ -107,22 +107,22 @@ fn put_inline(
 
 // Bytes as they are.
 fn put_bytes(items: &mut Vec<Item>, bytes: &[u8]) -> Result<(), AllocError>
-    ensures { OnOk result (map entry_of items.new.items ≡ map entry_of items.old.items ++ layout.bytes bytes.now ∷ []) }
+    ensures { Puts result items.old items.new (layout.bytes bytes.now ∷ []) }
 {
     put(items, Item::Bytes(bytes.to_vec(*items.allocator())?))
 }
 
 /// Whether a program with these numbers has a line.
 pub fn has_number(numbers: &[u16], line: u16) -> bool
-    requires rising { RisingFrom 0 numbers.now }
+    requires rising { Rises 0 65536 numbers.now }
     ensures { result ≡ has_line numbers.now line }
 {
     numbers.binary_search(&line).is_ok()
 }
 
 fn put_jump_to(items: &mut Vec<Item>, numbers: &[u16], line: u16, to: u16) -> Result<(), AllocError>
-    requires rising { RisingFrom 0 numbers.now }
-    ensures { OnOk result (map entry_of items.new.items ≡ map entry_of items.old.items ++ templates.jump_to numbers.now line to) }
+    requires rising { Rises 0 65536 numbers.now }
+    ensures { Puts result items.old items.new (templates.jump_to numbers.now line to) }
 {
     if has_number(numbers, to) {
         put_jump(items, Target::Line(to))
@@ -138,7 +138,7 @@ fn put_by_zero(
     place: u16,
     to: Target,
 ) -> Result<(), AllocError>
-    ensures { OnOk result (map entry_of items.new.items ≡ map entry_of items.old.items ++ templates.by_zero mnemonic place to) }
+    ensures { Puts result items.old items.new (templates.by_zero mnemonic place to) }
 {
     put_at(items, Mnemonic::Ldx, place)?;
     put_branch(items, mnemonic, to)
@@ -146,7 +146,7 @@ fn put_by_zero(
 
 // A return's two bytes go after the others, and the low byte of their count goes up.
 fn put_return_stored(items: &mut Vec<Item>, next: Target) -> Result<(), AllocError>
-    ensures { OnOk result (map entry_of items.new.items ≡ map entry_of items.old.items ++ templates.return_stored next) }
+    ensures { Puts result items.old items.new (templates.return_stored next) }
 {
     put_at(items, Mnemonic::Ldx, NOTES)?;
     put_low_part(items, next)?;
@@ -158,7 +158,7 @@ fn put_return_stored(items: &mut Vec<Item>, next: Target) -> Result<(), AllocErr
 
 // A carry goes to the count's high byte.
 fn put_carried(items: &mut Vec<Item>, skip: Target) -> Result<(), AllocError>
-    ensures { OnOk result (map entry_of items.new.items ≡ map entry_of items.old.items ++ templates.carried skip) }
+    ensures { Puts result items.old items.new (templates.carried skip) }
 {
     put_branch(items, Mnemonic::Bne, skip)?;
     put_at(items, Mnemonic::Inc, NOTES + 1)?;
@@ -172,7 +172,7 @@ fn put_returned_to(
     skip: Target,
     over: Target,
 ) -> Result<(), AllocError>
-    ensures { OnOk result (map entry_of items.new.items ≡ map entry_of items.old.items ++ templates.held next skip over) }
+    ensures { Puts result items.old items.new (templates.held next skip over) }
 {
     put_by_zero(items, Mnemonic::Bne, NOTES + 1, over)?;
     put_return_stored(items, next)?;
@@ -182,7 +182,7 @@ fn put_returned_to(
 
 // X is the low byte of the count of returns: it goes down, and the newest return's two bytes go to the result.
 fn put_return_taken(items: &mut Vec<Item>) -> Result<(), AllocError>
-    ensures { OnOk result (map entry_of items.new.items ≡ map entry_of items.old.items ++ templates.return_taken) }
+    ensures { Puts result items.old items.new templates.return_taken }
 {
     put_alone(items, Mnemonic::Dex)?;
     put_at(items, Mnemonic::Stx, NOTES)?;
@@ -194,7 +194,7 @@ fn put_return_taken(items: &mut Vec<Item>) -> Result<(), AllocError>
 
 // Takes the newest return in line and goes on there, if it is one of the first 255.
 fn put_taken_back(items: &mut Vec<Item>, over: Target) -> Result<(), AllocError>
-    ensures { OnOk result (map entry_of items.new.items ≡ map entry_of items.old.items ++ templates.taken_back over) }
+    ensures { Puts result items.old items.new (templates.taken_back over) }
 {
     put_by_zero(items, Mnemonic::Bne, NOTES + 1, over)?;
     put_by_zero(items, Mnemonic::Beq, NOTES, over)?;
@@ -210,7 +210,7 @@ fn put_line_called_by_routine(
     to: u16,
     next: Target,
 ) -> Result<(), AllocError>
-    ensures { OnOk result (map entry_of items.new.items ≡ map entry_of items.old.items ++ (templates.constant line places.LINE ++ (templates.return_address next ++ (templates.jump (target.Line to) ∷ [])))) }
+    ensures { Puts result items.old items.new (templates.constant line places.LINE ++ (templates.return_address next ++ (templates.jump (target.Line to) ∷ []))) }
 {
     put_constant(items, line, LINE)?;
     put_return(items, next)?;
@@ -227,7 +227,7 @@ fn put_line_called(
     skip: Target,
     over: Target,
 ) -> Result<(), AllocError>
-    ensures { OnOk result (map entry_of items.new.items ≡ map entry_of items.old.items ++ templates.called line to next skip over) }
+    ensures { Puts result items.old items.new (templates.called line to next skip over) }
 {
     put_returned_to(items, next, skip, over)?;
     put_jump(items, Target::Line(to))?;
@@ -242,8 +242,8 @@ fn put_call_to(
     spot: Spot,
     to: u16,
 ) -> Result<(), AllocError>
-    requires rising { RisingFrom 0 numbers.now }
-    ensures { OnOk result (map entry_of items.new.items ≡ map entry_of items.old.items ++ templates.call_to numbers.now spot.line spot.index to spot.next) }
+    requires rising { Rises 0 65536 numbers.now }
+    ensures { Puts result items.old items.new (templates.call_to numbers.now spot.line spot.index to spot.next) }
 {
     if has_number(numbers, to) {
         let skip = Target::Inside(Inner::Skip, spot.line, spot.index);
@@ -256,7 +256,7 @@ fn put_call_to(
 
 // Takes the newest return by the routine and goes on there.
 fn put_returned_by_routine(items: &mut Vec<Item>, line: u16) -> Result<(), AllocError>
-    ensures { OnOk result (map entry_of items.new.items ≡ map entry_of items.old.items ++ (templates.constant line places.LINE ++ (templates.call places.POP_AT ∷ templates.jump_through))) }
+    ensures { Puts result items.old items.new (templates.constant line places.LINE ++ (templates.call places.POP_AT ∷ templates.jump_through)) }
 {
     put_constant(items, line, LINE)?;
     put_call(items, Routine::Pop)?;
@@ -266,7 +266,7 @@ fn put_returned_by_routine(items: &mut Vec<Item>, line: u16) -> Result<(), Alloc
 
 // Goes from a line to the newest return.
 fn put_returned(items: &mut Vec<Item>, line: u16, over: Target) -> Result<(), AllocError>
-    ensures { OnOk result (map entry_of items.new.items ≡ map entry_of items.old.items ++ templates.returned line over) }
+    ensures { Puts result items.old items.new (templates.returned line over) }
 {
     put_taken_back(items, over)?;
     put_here(items, over)?;
@@ -282,10 +282,10 @@ pub fn put_instruction(
     spot: Spot,
     instruction: &SlotInstr,
 ) -> Result<(), AllocError>
-    requires rising { RisingFrom 0 numbers.now }
+    requires rising { Rises 0 65536 numbers.now }
     requires in_range { IsInRange 256 (instr_of instruction.now) }
     requires next { spot.next ≡ templates.next_line numbers.now spot.line }
-    ensures { OnOk result (map entry_of items.new.items ≡ map entry_of items.old.items ++ template numbers.now spot.line spot.index (instr_of instruction.now)) }
+    ensures { Puts result items.old items.new (template numbers.now spot.line spot.index (instr_of instruction.now)) }
 {
     match instruction {
         SlotInstr::Put(slot, word) => put_constant(items, *word, slot_address(*slot)),

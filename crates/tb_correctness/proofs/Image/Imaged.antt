@@ -10,7 +10,7 @@ use Rattle.tb_asm.specs.Layout.{Entry, labels_from, image_of, size}
 use Rattle.tb_asm.specs.Settle.{Form, items_from, some_branch_far}
 use Rattle.tb_reaching.specs.View.{Part, Bytes}
 use Rattle.tb_reaching.proofs.Parts.{bytes_front}
-use Rattle.tb_syntax.specs.Source.{Numbered, numbers}
+use Rattle.tb_syntax.specs.Source.{Numbered, numbers, Rises}
 use Rattle.tb_meaning.specs.Control.{has_line, content_at, first_place}
 use Rattle.tb_lower.specs.Slots.{Instr, Poll, SlotCode}
 use Rattle.tb_lower.specs.Ranges.{AreInRange}
@@ -21,26 +21,17 @@ use Rattle.tb_settling.proofs.Forms.{forms_size, is_straight, items_size, near_s
 use Rattle.tb_templates.specs.declared.labels.Target.TheVariants as target
 use Rattle.tb_templates.specs.Templates.{next_line}
 use Rattle.tb_templates.specs.Breaks.{broken, all_broken, ends_away, done_behind, left_behind}
-use Rattle.tb_templates.specs.Program.{still_asking, line_code, lines_code, past_code, find_code, table_code, block_code, program_code, first_of, AreCodable, AreInTurn, RisingFrom}
+use Rattle.tb_templates.specs.Program.{still_asking, line_code, lines_code, past_code, find_code, table_code, block_code, program_code, first_of, AreCodable, AreInTurn}
 use Rattle.tb_templates.proofs.Ordered.{lines_in_turn}
 use Rattle.tb_templates.proofs.Reached.{either}
 use Rattle.tb_templates.proofs.Settled.{Sections, broken_straight, joined_items, last_broken, line_at, sections, some_bytes, straight_items, total_size}
 use Rattle.tb_templates.proofs.Taken.{block_size}
 use Rattle.tb_simulation.specs.Layout.{Lies, label_address, layout_of, place_address}
-use Rattle.tb_runtime16.specs.Search.{IsBelowAll, AreRising}
 use Rattle.tb_correctness.specs.Laid.{ArePolled, Laid}
 use Rattle.tb_correctness.proofs.Image.Laying.{front, back}
 use Rattle.tb_simulation.proofs.Numbers.{start_of_line}
 
 -- ---- the numbers
-below_all : (k low : ℕ) (ns : List ℕ) → k < low → RisingFrom low ns → IsBelowAll k ns
-below_all k low [] l h = tt
-below_all k low (n ∷ ns) l h = (omega (arith, l, h.0), below_all k (n + 1) ns (omega (arith, l, h.0)) h.2)
-
-are_rising : (low : ℕ) (ns : List ℕ) → RisingFrom low ns → AreRising ns
-are_rising low [] h = tt
-are_rising low (n ∷ ns) h = (below_all n (n + 1) ns (omega arith) h.2, are_rising (n + 1) ns h.2)
-
 count_same : (lines : SlotCode) → length (numbers lines) ≡ length lines
 count_same [] = refl
 count_same (line ∷ lines) = ap suc (count_same lines)
@@ -57,7 +48,7 @@ ranged (l ∷ ls) h n is e = go (nat_eq l.number n) (ranged ls h.2 n is) e
     go true later e = subst (AreInRange 256) (same_some l.content is e) h.0
     go false later e = later e
 
-small_number : (low : ℕ) (lines : SlotCode) → RisingFrom low (numbers lines) → (n : ℕ) (is : List Instr) → content_at lines n ≡ Some is → n < 65536
+small_number : (low : ℕ) (lines : SlotCode) → Rises low 65536 (numbers lines) → (n : ℕ) (is : List Instr) → content_at lines n ≡ Some is → n < 65536
 small_number low [] h n is e = cc
 small_number low (l ∷ ls) h n is e = go (nat_eq l.number n) refl (small_number (l.number + 1) ls h.2 n is) e
   where
@@ -315,7 +306,7 @@ first_at labels seed [] some h = absurd (let no : ⊥ = omega (arith, some) in n
 first_at labels seed (l ∷ ls) some h = sym (start_of_line labels (numbers (l ∷ ls)) seed l.number (ap (λ b. b || has_line (numbers ls) l.number) (eq-eqb l.number l.number refl))) ∙ h
 
 -- settled code that is laid from the block's address is laid as its labels say
-pub image_laid : (seed : ℕ) (code : SlotCode) → seed < 65536 → RisingFrom 0 (numbers code) → AreCodable code → ArePolled code
+pub image_laid : (seed : ℕ) (code : SlotCode) → seed < 65536 → Rises 0 65536 (numbers code) → AreCodable code → ArePolled code
     → 1 ≤ length (numbers code) → length code < 65536 → (items : List Entry) → IsSettled PROLOGUE_AT (program_code seed code) items → PROLOGUE_AT + size items ≤ 0xa000 →
     (part : Part) → ((a b : ℕ) → part a ≡ Some b → b < 256) → Bytes part PROLOGUE_AT (image_of PROLOGUE_AT items) → Laid (labels_from PROLOGUE_AT items) seed part code
 image_laid seed code seed_small rises codable polls some few items settled ends part small shown =
@@ -383,7 +374,7 @@ image_laid seed code seed_small rises codable polls some few items settled ends 
       table_clear = λ m e. inl (before (label_address labels target.Table) (omega (arith, at_table)) m e);
       first = first_at labels seed code some (first_there part labels ns seed code LINES_AT [] g.lines polls own (sym at_past));
       some = some;
-      rising = are_rising 0 ns rises;
+      rising = rises;
       seed_small = seed_small;
       count_small = omega (arith, few, count_same code);
       bytes_small = small;

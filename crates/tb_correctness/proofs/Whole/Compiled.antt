@@ -7,11 +7,11 @@ use Rattle.tb_asm.proofs.Laws.{all_size}
 use Rattle.tb_kernal.specs.Machine as machine
 use Rattle.tb_reaching.specs.View.{Part, Bytes, Holds, part_at}
 use Rattle.tb_reaching.proofs.Parts.{holds_bytes, part_back}
-use Rattle.tb_syntax.specs.Source.{Program, numbers}
+use Rattle.tb_syntax.specs.Source.{Program, numbers, Rises}
 use Rattle.tb_lower.specs.Follows.{Follows, longest}
 use Rattle.tb_lower.specs.Slots.{SlotCode}
 use Rattle.tb_runtime16.specs.Addresses.{PROLOGUE_AT}
-use Rattle.tb_templates.specs.Program.{program_code, AreCodable, RisingFrom}
+use Rattle.tb_templates.specs.Program.{program_code, AreCodable}
 use Rattle.tb_runtime16.specs.Routines.{limit_by}
 use Rattle.tb_simulation.specs.Kept.{Starts, Keeps}
 use Rattle.tb_selection.specs.Laws.{AreClosed}
@@ -27,7 +27,7 @@ use Rattle.tb_correctness.proofs.Image.Served.{routines, prologue}
 use Rattle.tb_correctness.proofs.Image.Imaged.{image_laid}
 
 module _ (seed : ℕ) (program : Program) (code : SlotCode) (seed_small : seed < 65536) (follows : Follows program code)
-    (rises : RisingFrom 0 (numbers code)) (codable : AreCodable code) (polled : ArePolled code) (closed : AreClosed code)
+    (rises : Rises 0 65536 (numbers code)) (codable : AreCodable code) (polled : ArePolled code) (closed : AreClosed code)
     (some : 1 ≤ length (numbers code)) (few : length code < 65536) (items : List Entry)
     (settled : IsSettled PROLOGUE_AT (program_code seed code) items) (ends : PROLOGUE_AT + size items ≤ 0xa000) (line : List ℕ)
     (line_is : BASIC_START + length line ≡ PROLOGUE_AT) where
