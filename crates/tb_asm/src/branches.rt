@@ -1,8 +1,11 @@
 //! Branches that do not reach, replaced by the inverse branch over a jump.
-ghost use Rattle.std.specs.Prelude.{◌≡◌, ◌+◌, ◌%◌, ◌≤◌, ◌++◌, ◌∷◌, [], true, false, None, Some, Ok, length, map, IfOk, OnOk, IfErr, MatchResult, if◌then◌else◌, not, ◌&&◌};
+ghost use Rattle.std.specs.Prelude.{◌≡◌, ◌+◌, ◌%◌, ◌≤◌, ◌++◌, ◌∷◌, [], true, false, None, Some, Ok, length, map, IfOk};
+ghost use Rattle.std.specs.Prelude.{OnOk, IfErr, MatchResult, if◌then◌else◌, not, ◌&&◌};
 ghost use Rattle.tb_asm.specs.Layout.{entry_of, size, size_of, labels_from, place_refusal};
 ghost use Rattle.tb_asm.specs.Assembled.{refusal, Refuses};
-ghost use Rattle.tb_asm.specs.Settle.{inverse, branch_to, is_far, form_size, kept, long, round_labels, items_at, items_from, form_past, past_from, unknown_fault, unknown_refusal, early_refusal, Settles, SettlesTo, AllReach};
+ghost use Rattle.tb_asm.specs.Settle.{inverse, branch_to, is_far, form_size, kept, long, round_labels, items_at};
+ghost use Rattle.tb_asm.specs.Settle.{items_from, form_past, past_from, unknown_fault, unknown_refusal, early_refusal};
+ghost use Rattle.tb_asm.specs.Settle.{Settles, SettlesTo, AllReach};
 ghost use Rattle.tb_asm.specs.Marks.{form_of, forms_of, marks_from, new_mark, FoundAs, AddsLabel, PushesEntries, SettleErr, UnknownAt};
 
 use crate::assembler::{
@@ -27,7 +30,8 @@ pub fn settle(alloc: Global, at: u16, items: &[Item]) -> Result<Vec<Item>, AsmEr
     ensures settled { IfOk result (λ settled. SettlesTo at (map entry_of items.now) (map entry_of settled.items)) }
     ensures reach { IfOk result (λ settled. AllReach at (map entry_of settled.items)) }
     ensures refused { IfErr result (λ e. SettleErr at (map entry_of items.now) e.kind e.item) }
-    ensures same { refusal at (map entry_of items.now) ≡ None → IfOk result (λ settled. map entry_of settled.items ≡ map entry_of items.now) }
+    ensures same { refusal at (map entry_of items.now) ≡ None → IfOk result (λ settled. map entry_of settled.items
+        ≡ map entry_of items.now) }
     ensures accepted { refusal at (map entry_of items.now) ≡ None → IfErr result (λ e. e.kind ≡ AsmErrorKind.NoMemory) }
 {
     refuse_early(alloc, at, items)?;
@@ -129,7 +133,8 @@ fn place_forms(
 
 // Adds the label of an item, unless an earlier item has it.
 fn add_label(labels: &mut Labels, address: u16, item: &Item) -> Result<(), AsmErrorKind>
-    ensures { MatchResult result (λ _. AddsLabel labels.old.entries address (entry_of item.now) labels.new.entries) (λ k. k ≡ AsmErrorKind.NoMemory) }
+    ensures { MatchResult result (λ _. AddsLabel labels.old.entries address (entry_of item.now) labels.new.entries)
+        (λ k. k ≡ AsmErrorKind.NoMemory) }
 {
     match item {
         Item::Label(name) if !labels.contains_key(name) => define(labels, name, address),
@@ -146,7 +151,8 @@ fn round(
     labels: &Labels,
 ) -> Result<(Vec<bool>, bool), AsmErrorKind>
     requires { length long.now ≡ length items.now }
-    ensures marks { IfOk result (λ r. (r.0.items ≡ marks_from labels.now.entries at (map entry_of items.now) long.now) × (r.1 ≡ new_mark labels.now.entries at (map entry_of items.now) long.now)) }
+    ensures marks { IfOk result (λ r. (r.0.items ≡ marks_from labels.now.entries at (map entry_of items.now) long.now)
+        × (r.1 ≡ new_mark labels.now.entries at (map entry_of items.now) long.now)) }
     ensures memory { IfErr result (λ k. k ≡ AsmErrorKind.NoMemory) }
 {
     let mut next = Vec::new(alloc);

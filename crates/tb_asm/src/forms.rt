@@ -2,7 +2,10 @@
 ghost use Rattle.std.specs.Prelude.{◌≡◌, ◌<◌, ◌≤◌, ◌∷◌, [], ◌++◌, length, Some, IsTrue, MatchOption, MatchResult};
 ghost use Rattle.tb_asm.specs.Layout.{entry_of};
 ghost use Rattle.tb_asm.specs.Names.{name_in};
-ghost use Rattle.tb_asm.specs.Text.{by_index, after_byte, after_address, after_hash, byte_in_brackets, after_left, after_identifier, operand_form, is_branch, byte_list, word_operand, item_of, one_item, behind_label, behind_first, is_colon_first, items_of, labelled, is_register};
+ghost use Rattle.tb_asm.specs.Text.{by_index, after_byte, after_address, after_hash, byte_in_brackets, after_left};
+ghost use Rattle.tb_asm.specs.Text.{after_identifier, operand_form, is_branch, byte_list, word_operand, item_of};
+ghost use Rattle.tb_asm.specs.Text.{one_item, behind_label, behind_first, is_colon_first, items_of, labelled};
+ghost use Rattle.tb_asm.specs.Text.{is_register};
 ghost use Rattle.tb_asm.specs.Reads.{Reads, Pushes, IsNoWord};
 
 use crate::errors::LineError;

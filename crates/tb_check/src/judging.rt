@@ -46,7 +46,8 @@ pub enum Verdict {
 pub fn judge(alloc: Global, source: &[u8]) -> Result<Verdict, AllocError>
     ensures judged { IfOk result (Judges source.now) }
     // What the compiler answers agrees with it.
-    ensures agrees { IfOk result (λ v. (seed : ℕ) (answer : Result Compiled CompileError) → Compiles seed source.now answer → AgreesWith v answer) }
+    ensures agrees { IfOk result (λ v. (seed : ℕ) (answer : Result Compiled CompileError)
+        → Compiles seed source.now answer → AgreesWith v answer) }
 {
     let bad = bad_lines(alloc, source)?;
     if bad.is_empty() {

@@ -2,7 +2,8 @@
 ghost use Rattle.std.specs.Prelude.{◌≡◌, ◌++◌, IfOk, OnOk, flat_map, string_bytes};
 ghost use Rattle.std.specs.Fmt.{decimal};
 ghost use Rattle.tb_engines.specs.Texts.{too_deep_text};
-ghost use Rattle.tb_check_engine.specs.Reports.{bad_line_rows, deep_rows, error_row, file_row, line_at, lines_in, note_row, place_rows, report, too_large_row, warning_rows};
+ghost use Rattle.tb_check_engine.specs.Reports.{bad_line_rows, deep_rows, error_row, file_row, line_at, lines_in};
+ghost use Rattle.tb_check_engine.specs.Reports.{note_row, place_rows, report, too_large_row, warning_rows};
 ghost use Rattle.tb_check_engine.specs.Rows.{line_row};
 
 use crate::rows::{push_caret, push_line};
@@ -93,7 +94,8 @@ fn push_bad_lines(
     source: &Source<'_>,
     lines: &[BadLine],
 ) -> Result<(), AllocError>
-    ensures { OnOk result (text.new.items ≡ text.old.items ++ flat_map (bad_line_rows source.now.name.now (lines_in source.now)) lines.now) }
+    ensures { OnOk result (text.new.items ≡ text.old.items
+        ++ flat_map (bad_line_rows source.now.name.now (lines_in source.now)) lines.now) }
 {
     for line in lines {
         push_bad_line(alloc, text, source, line)?;
@@ -236,7 +238,8 @@ fn push_warnings(
     source: &Source<'_>,
     warnings: &[LineWarning],
 ) -> Result<(), AllocError>
-    ensures { OnOk result (text.new.items ≡ text.old.items ++ flat_map (warning_rows source.now.name.now (lines_in source.now)) warnings.now) }
+    ensures { OnOk result (text.new.items ≡ text.old.items
+        ++ flat_map (warning_rows source.now.name.now (lines_in source.now)) warnings.now) }
 {
     for warning in warnings {
         push_warning(alloc, text, source, *warning)?;

@@ -1,5 +1,6 @@
 //! From a source text to a PRG file.
-ghost use Rattle.std.specs.Prelude.{◌≡◌, ◌<◌, ◌≤◌, ℕ, Ok, All, IfOk, IfErr, IfSome, IsTrue, ◌+◌, ◌*◌, Some, None, true, is_some, length, map};
+ghost use Rattle.std.specs.Prelude.{◌≡◌, ◌<◌, ◌≤◌, ℕ, Ok, All, IfOk, IfErr, IfSome, IsTrue, ◌+◌, ◌*◌, Some, None, true};
+ghost use Rattle.std.specs.Prelude.{is_some, length, map};
 ghost use Rattle.tb_memmap.specs.Regions.{BASIC_START};
 ghost use Rattle.tb_asm.specs.Layout.{address_in};
 ghost use Rattle.tb_syntax.specs.PlainData.{lines_of};
@@ -14,7 +15,8 @@ ghost use Rattle.tb_settling.specs.Settled.{IsLaid, Suits};
 ghost use Rattle.tb_templates.specs.Labels.{label_of};
 ghost use Rattle.tb_templates.specs.Program.{AreCodable, program_code};
 ghost use Rattle.tb_compile_errors.specs.declared.refusals.CompileError.TheVariants as error;
-ghost use Rattle.tb_codegen.specs.Answers.{FitAnswer, FitOutcome, GivesSame, HasFitOutcome, HasOutcome, LinesMake, OutcomeAnswer, ProgramAnswer};
+ghost use Rattle.tb_codegen.specs.Answers.{FitAnswer, FitOutcome, GivesSame, HasFitOutcome, HasOutcome, LinesMake};
+ghost use Rattle.tb_codegen.specs.Answers.{OutcomeAnswer, ProgramAnswer};
 ghost use Rattle.tb_codegen.specs.Roomy.{EndsFrom, SuitsAnywhere};
 ghost use Rattle.tb_simulation.specs.Kept.{Keeps};
 ghost use Rattle.tb_simulation.specs.LineStarts.{MarksLines};
@@ -56,9 +58,11 @@ pub fn compile(alloc: Global, source: &[u8], options: Options) -> Result<Compile
     // and whatever they make is what is answered.
     ensures only { (outcome : Outcome) → LinesMake source.now outcome → OutcomeAnswer options.seed outcome result }
     // A compiled file's code, loaded at $0801, keeps the program that its source makes, whatever the ROM does.
-    ensures keeps { IfOk result (λ c. (program : SourceProgram) × LinesMake source.now (Ok program) × Keeps BASIC_START (loaded_of c) program options.seed) }
+    ensures keeps { IfOk result (λ c. (program : SourceProgram) × LinesMake source.now (Ok program)
+        × Keeps BASIC_START (loaded_of c) program options.seed) }
     // When it comes to the address that start_of answers for a line, the program begins that line, in the same state.
-    ensures marks { IfOk result (λ c. (program : SourceProgram) × LinesMake source.now (Ok program) × MarksLines BASIC_START (loaded_of c) program options.seed (start_of c)) }
+    ensures marks { IfOk result (λ c. (program : SourceProgram) × LinesMake source.now (Ok program)
+        × MarksLines BASIC_START (loaded_of c) program options.seed (start_of c)) }
 {
     let program = parse(alloc, source)?;
     compile_program(alloc, &program, options.seed)
@@ -70,7 +74,8 @@ fn compile_program(alloc: Global, program: &Program, seed: u16) -> Result<Compil
     requires rising { Rises 1 32768 (numbers (lines_of program.now)) }
     ensures answer { ProgramAnswer seed (lines_of program.now) result }
     ensures keeps { 1 ≤ length (lines_of program.now) → IfOk result (λ c. Keeps BASIC_START (loaded_of c) (lines_of program.now) seed) }
-    ensures marks { 1 ≤ length (lines_of program.now) → IfOk result (λ c. MarksLines BASIC_START (loaded_of c) (lines_of program.now) seed (start_of c)) }
+    ensures marks { 1 ≤ length (lines_of program.now)
+        → IfOk result (λ c. MarksLines BASIC_START (loaded_of c) (lines_of program.now) seed (start_of c)) }
 {
     let code = lower(alloc, program)?;
     let cost = cost(program);
@@ -100,9 +105,11 @@ pub fn compile_to_fit(
     // If `compile` answers a program, it is the same one.
     ensures same { (compiled : Compiled) → HasOutcome options.seed source.now (Ok compiled) → GivesSame compiled result }
     // A compiled file's code, loaded at $0801, keeps the program that its source makes, whatever the ROM does.
-    ensures keeps { IfOk result (λ c. (program : SourceProgram) × LinesMake source.now (Ok program) × Keeps BASIC_START (loaded_of c) program options.seed) }
+    ensures keeps { IfOk result (λ c. (program : SourceProgram) × LinesMake source.now (Ok program)
+        × Keeps BASIC_START (loaded_of c) program options.seed) }
     // When it comes to the address that start_of answers for a line, the program begins that line, in the same state.
-    ensures marks { IfOk result (λ c. (program : SourceProgram) × LinesMake source.now (Ok program) × MarksLines BASIC_START (loaded_of c) program options.seed (start_of c)) }
+    ensures marks { IfOk result (λ c. (program : SourceProgram) × LinesMake source.now (Ok program)
+        × MarksLines BASIC_START (loaded_of c) program options.seed (start_of c)) }
 {
     let program = parse(alloc, source)?;
     fit_program(alloc, &program, options.seed)
@@ -114,7 +121,8 @@ fn fit_program(alloc: Global, program: &Program, seed: u16) -> Result<Compiled, 
     requires rising { Rises 1 32768 (numbers (lines_of program.now)) }
     ensures answer { FitAnswer seed (lines_of program.now) result }
     ensures keeps { 1 ≤ length (lines_of program.now) → IfOk result (λ c. Keeps BASIC_START (loaded_of c) (lines_of program.now) seed) }
-    ensures marks { 1 ≤ length (lines_of program.now) → IfOk result (λ c. MarksLines BASIC_START (loaded_of c) (lines_of program.now) seed (start_of c)) }
+    ensures marks { 1 ≤ length (lines_of program.now)
+        → IfOk result (λ c. MarksLines BASIC_START (loaded_of c) (lines_of program.now) seed (start_of c)) }
 {
     let code = lower(alloc, program)?;
     let Some(image) = fitted(alloc, &code, seed)? else {
@@ -134,7 +142,9 @@ fn fitted(alloc: Global, code: &SlotCode, seed: u16) -> Result<Option<Image>, Al
     requires lines { length (code_of code.now) < 65536 }
     requires rising { Rises 0 65536 (numbers (code_of code.now)) }
     requires suited { SuitsAnywhere PROLOGUE_AT (program_code seed (code_of code.now)) }
-    ensures fits { IfOk result (λ found. IfSome found (λ image. IsLaid PROLOGUE_AT (program_code seed (code_of code.now)) image.at image.bytes.items image.labels.entries × (PROLOGUE_AT + length image.bytes.items ≤ 0xA000))) }
+    ensures fits { IfOk result (λ found. IfSome found
+        (λ image. IsLaid PROLOGUE_AT (program_code seed (code_of code.now)) image.at image.bytes.items
+        image.labels.entries × (PROLOGUE_AT + length image.bytes.items ≤ 0xA000))) }
     ensures too_long { IfOk result (λ found. found ≡ None → EndsFrom 0xA001 PROLOGUE_AT (program_code seed (code_of code.now))) }
 {
     // An entry of the line table takes four bytes.
@@ -168,7 +178,8 @@ fn laid(alloc: Global, code: &SlotCode, seed: u16) -> Result<Image, CompileError
     requires lines { length (code_of code.now) < 65536 }
     requires rising { Rises 0 65536 (numbers (code_of code.now)) }
     requires suited { Suits PROLOGUE_AT (program_code seed (code_of code.now)) }
-    ensures ok { IfOk result (λ image. IsLaid PROLOGUE_AT (program_code seed (code_of code.now)) image.at image.bytes.items image.labels.entries) }
+    ensures ok { IfOk result (λ image. IsLaid PROLOGUE_AT (program_code seed (code_of code.now)) image.at
+        image.bytes.items image.labels.entries) }
     ensures err { IfErr result (λ e. e ≡ error.NoMemory) }
 {
     let items = program_items(alloc, seed, code)?;

@@ -5,7 +5,8 @@ ghost use Rattle.tb_commands.specs.Lines.{lines_of};
 /// The first line of a text and what stands behind it; none of an empty text. A line ends at a byte 10 or at the end
 /// of the text.
 pub fn next_line(text: &[u8]) -> Option<(&[u8], &[u8])>
-    ensures { MatchOption result (text.now ≡ []) (λ p. (lines_of text.now ≡ p.0.now ∷ lines_of p.1.now) × (length p.1.now < length text.now)) }
+    ensures { MatchOption result (text.now ≡ []) (λ p. (lines_of text.now ≡ p.0.now ∷ lines_of p.1.now)
+        × (length p.1.now < length text.now)) }
 {
     if text.is_empty() {
         return None;

@@ -11,7 +11,8 @@ ghost use Rattle.tb_opcodes.specs.declared.Mode.TheVariants.{Relative};
 ghost use Rattle.tb_memmap.specs.Bytes.{at};
 ghost use Rattle.tb_cpu.specs.Operands.{reading};
 ghost use Rattle.tb_cpu.specs.Instructions.{advanced, branch_target};
-ghost use Rattle.tb_cycles.specs.Cycles.{base_by, reads_indexed, crosses_page, index_extra, is_taken, taken_extra, branch_extra, extra_of, same_page, cycles_at};
+ghost use Rattle.tb_cycles.specs.Cycles.{base_by, reads_indexed, crosses_page, index_extra, is_taken, taken_extra};
+ghost use Rattle.tb_cycles.specs.Cycles.{branch_extra, extra_of, same_page, cycles_at};
 
 use tb_cpu::{Flags, Regs, operand_address};
 use tb_memmap::Memory;

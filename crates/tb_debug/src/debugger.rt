@@ -112,8 +112,10 @@ impl<'a> Debugger<'a> {
             → EndsAt self.old.starts start limit self.old.present reached self.new.present) }
         ensures shown { OnOk result (self.new.shown ≡ self.old.shown) }
         ensures advances { IfOk result (λ reached. Advances reached self.old.present self.new.present) }
-        ensures within { OnOk result ((self.old.present.events ≤ self.new.present.events) × (self.new.present.events ≤ self.old.present.events + limit)) }
-        ensures begun { OnOk result (self.new.present.begun ≤ self.old.present.begun + (if is_marked self.old.starts self.old.present.machine.regs.pc then 1 else 0)) }
+        ensures within { OnOk result ((self.old.present.events ≤ self.new.present.events)
+            × (self.new.present.events ≤ self.old.present.events + limit)) }
+        ensures begun { OnOk result (self.new.present.begun ≤ self.old.present.begun
+            + (if is_marked self.old.starts self.old.present.machine.regs.pc then 1 else 0)) }
         ensures stands { IfOk result (λ reached. StandsBy self.old.starts reached self.new.present) }
         ensures limited { IfOk result (λ reached. IsLimited limit reached self.old.present self.new.present) }
     {
@@ -192,7 +194,8 @@ impl<'a> Debugger<'a> {
     pub fn rewind_to(&mut self, alloc: Global, time: u64) -> Result<Reached, AllocError>
         ensures run { OnOk result (KeepsRun self.old self.new) }
         ensures time { IfOk result (λ reached. IsAtTime time self.old.starts reached self.new.present) }
-        ensures back { IfOk result (λ reached. (start : Point) → start.begun ≡ 0 → OnRun start self.old → time < begun_by self.old → reached ≡ Line) }
+        ensures back { IfOk result (λ reached. (start : Point) → start.begun ≡ 0 → OnRun start self.old
+            → time < begun_by self.old → reached ≡ Line) }
         ensures stands { IfOk result (λ reached. StandsBy self.old.starts reached self.new.present) }
         ensures shown { OnOk result (self.new.shown ≡ self.old.shown) }
         ensures stops { OnOk result (self.new.stops ≡ self.old.stops) }
@@ -210,7 +213,8 @@ impl<'a> Debugger<'a> {
         ensures run { OnOk result (KeepsRun self.old self.new) }
         ensures shown { OnOk result (self.new.shown ≡ self.old.shown) }
         ensures stops { OnOk result (self.new.stops ≡ self.old.stops) }
-        ensures before { OnOk result ((time : ℕ) (start : Point) → IsUntil time self.old.history.later.items (vec_len self.old.history.later) index → start.begun ≡ 0 → OnRun start self.old
+        ensures before { OnOk result ((time : ℕ) (start : Point) → IsUntil time self.old.history.later.items
+            (vec_len self.old.history.later) index → start.begun ≡ 0 → OnRun start self.old
             → begun_by self.new ≤ time) }
     {
         let Some(kept) = self.history.get(index) else {

@@ -1,8 +1,10 @@
 //! The moments that are kept, from which a run is run again.
-ghost use Rattle.std.specs.Prelude.{◌≡◌, ◌∷◌, ◌++◌, ◌+◌, ◌<◌, ◌≤◌, [], ℕ, List, Bool, IfOk, IfSome, IsSome, OnOk, IsTrue, ◌↔◌, length, slice_index_or, vec_len};
+ghost use Rattle.std.specs.Prelude.{◌≡◌, ◌∷◌, ◌++◌, ◌+◌, ◌<◌, ◌≤◌, [], ℕ, List, Bool, IfOk, IfSome, IsSome, OnOk};
+ghost use Rattle.std.specs.Prelude.{IsTrue, ◌↔◌, length, slice_index_or, vec_len};
 ghost use Rattle.tb_debug.specs.declared.history.Checkpoint.{Checkpoint};
 ghost use Rattle.tb_debug.specs.Searching.{IsUntil};
-ghost use Rattle.tb_debug.specs.Runs.{Point, IsOfRun, IsFirst, IsKept, IsTyped, AreKept, AreTyped, KeepsOneMore, WithoutOne, most_kept, newest_events, spacing};
+ghost use Rattle.tb_debug.specs.Runs.{Point, IsOfRun, IsFirst, IsKept, IsTyped, AreKept, AreTyped, KeepsOneMore};
+ghost use Rattle.tb_debug.specs.Runs.{WithoutOne, most_kept, newest_events, spacing};
 
 use crate::moment::Moment;
 use std::alloc::{AllocError, Global};
@@ -35,7 +37,8 @@ impl Checkpoint {
 
     /// The moment that was kept, of a run that has sent at least these bytes.
     pub fn again(&self, alloc: Global, sent: &[u8]) -> Result<Moment, AllocError>
-        ensures again { IfOk result (λ m. (marks : List Bool) (start : Point) (now : Moment) → IsOfRun marks start now → sent.now ≡ now.machine.sent
+        ensures again { IfOk result (λ m. (marks : List Bool) (start : Point) (now : Moment) → IsOfRun marks start now
+            → sent.now ≡ now.machine.sent
             → IsKept marks start self.now → self.now.moment.events ≤ now.events → IsOfRun marks start m) }
         ensures events { IfOk result (λ m. m.events ≡ self.now.moment.events) }
         ensures begun { IfOk result (λ m. m.begun ≡ self.now.moment.begun) }
@@ -74,11 +77,13 @@ impl History {
 
     /// The kept moment at a place among them, from the first one on.
     pub fn get(&self, index: usize) -> Option<&Checkpoint>
-        ensures kept { (marks : List Bool) (start : Point) (n : ℕ) → IsFirst marks start self.now.first → AreKept marks start n self.now.later.items
+        ensures kept { (marks : List Bool) (start : Point) (n : ℕ) → IsFirst marks start self.now.first
+            → AreKept marks start n self.now.later.items
             → IfSome result (λ k. IsKept marks start k.now × (k.now.moment.events ≤ n)) }
         ensures some { index < vec_len self.now.later + 1 → IsSome result }
         ensures first { index ≡ 0 → IfSome result (λ k. k.now ≡ self.now.first) }
-        ensures later { (place : ℕ) (d : Checkpoint) → index ≡ place + 1 → IfSome result (λ k. k.now ≡ slice_index_or self.now.later.items place d) }
+        ensures later { (place : ℕ) (d : Checkpoint) → index ≡ place + 1
+            → IfSome result (λ k. k.now ≡ slice_index_or self.now.later.items place d) }
     {
         match index.checked_sub(1) {
             Some(place) => self.later.get(place),
@@ -136,7 +141,8 @@ impl History {
     // Leaves the moment out that can be spared, where as many are kept as may be.
     fn make_room(&mut self, now: u64)
         ensures first { self.new.first ≡ self.old.first }
-        ensures later { (marks : List Bool) (start : Point) (n : ℕ) → AreKept marks start n self.old.later.items → AreKept marks start n self.new.later.items }
+        ensures later { (marks : List Bool) (start : Point) (n : ℕ) → AreKept marks start n self.old.later.items
+            → AreKept marks start n self.new.later.items }
         ensures room { length self.old.later.items < most_kept → length self.new.later.items + 1 < most_kept }
         ensures all { length self.old.later.items + 1 < most_kept → self.new.later.items ≡ self.old.later.items }
         ensures one { most_kept ≤ length self.old.later.items + 1 → WithoutOne self.old.later.items self.new.later.items }
@@ -179,7 +185,8 @@ impl History {
     /// Forgets all moments behind so many events, but the first one.
     pub fn forget_behind(&mut self, events: u64)
         ensures first { self.new.first ≡ self.old.first }
-        ensures later { (marks : List Bool) (start : Point) (n : ℕ) → AreKept marks start n self.old.later.items → AreKept marks start events self.new.later.items }
+        ensures later { (marks : List Bool) (start : Point) (n : ℕ) → AreKept marks start n self.old.later.items
+            → AreKept marks start events self.new.later.items }
         ensures few { length self.new.later.items ≤ length self.old.later.items }
     {
         self.later.retain(|kept| kept.moment.events <= events);

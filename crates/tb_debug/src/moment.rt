@@ -133,8 +133,10 @@ impl Moment {
         requires runs { status (state_of self.old.machine) ≡ status.Running }
         ensures run { OnOk result (StaysOnRun starts.now self.old self.new) }
         ensures one { OnOk result (self.new.events ≡ self.old.events + 1) }
-        ensures own { IfOk result (λ own. (start : Point) → IsOfRun starts.now start self.old → own ≡ own_at starts.now start self.old.events) }
-        ensures begun { IfOk result (λ own. self.new.begun ≡ self.old.begun + (if own && is_marked starts.now self.old.machine.regs.pc then 1 else 0)) }
+        ensures own { IfOk result (λ own. (start : Point) → IsOfRun starts.now start self.old
+            → own ≡ own_at starts.now start self.old.events) }
+        ensures begun { IfOk result (λ own. self.new.begun ≡ self.old.begun
+            + (if own && is_marked starts.now self.old.machine.regs.pc then 1 else 0)) }
         ensures interrupted { IfOk result (λ own. own ≡ false → self.new.machine.regs.pc ≡ self.old.machine.regs.pc) }
     {
         let pc = self.machine.regs().pc;
@@ -157,7 +159,8 @@ impl Moment {
         ensures begun { OnOk result (self.new.begun ≤ self.old.begun + (if is_marked starts.now self.old.machine.regs.pc then 1 else 0)) }
         ensures stands { IfOk result (λ reached. StandsBy starts.now reached self.new) }
         ensures limited { IfOk result (λ reached. IsLimited limit reached self.old self.new) }
-        ensures ends { IfOk result (λ reached. (start : Point) → IsOfRun starts.now start self.old → EndsAt starts.now start limit self.old reached self.new) }
+        ensures ends { IfOk result (λ reached. (start : Point) → IsOfRun starts.now start self.old
+            → EndsAt starts.now start limit self.old reached self.new) }
     {
         let last = self.events.saturating_add(limit);
         while self.events < last {

@@ -5,7 +5,8 @@ ghost use Rattle.tb_disasm.specs.Lines.{shown};
 ghost use Rattle.tb_cpu.specs.Operands.{word_from};
 ghost use Rattle.tb_kernal.specs.Machine.{state_of};
 ghost use Rattle.tb_codegen.specs.Compiled.{pair_of, starts_of};
-ghost use Rattle.tb_debug.specs.Readings.{IsCodeLine, as_read, byte_at, bytes_of, code_bytes, code_of, word_at, variable_of, variables_of, return_read, returns_in, returns_of};
+ghost use Rattle.tb_debug.specs.Readings.{IsCodeLine, as_read, byte_at, bytes_of, code_bytes, code_of, word_at};
+ghost use Rattle.tb_debug.specs.Readings.{variable_of, variables_of, return_read, returns_in, returns_of};
 ghost use Rattle.tb_debug.specs.Lines.{line_at};
 
 use crate::breakpoints::Variables;

@@ -8,7 +8,9 @@ ghost use Rattle.tb_debug.specs.Debuggers.{KeepsRun, KeepsRunTyped, Responds, ke
 ghost use Rattle.tb_debug.specs.Leaving.{Leaves, LeavesPlace, TurnsBreakpoint, TurnsWatch};
 ghost use Rattle.tb_debug.specs.Kinds.{IsAct, IsShown, IsTold, IsWalk, Walks};
 ghost use Rattle.tb_debug.specs.Readings.{bytes_of, code_of, most_code};
-ghost use Rattle.tb_debug.specs.Telling.{Tells, TellsStop, TellsText, TellsValue, breakpoint_answer, breakpoints_told, code_told, is_limit, line_here, list_answer, memory_told, output_told, place_here, returns_here, returns_told, set_or_cleared, value_answer};
+ghost use Rattle.tb_debug.specs.Telling.{Tells, TellsStop, TellsText, TellsValue, breakpoint_answer, breakpoints_told};
+ghost use Rattle.tb_debug.specs.Telling.{code_told, is_limit, line_here, list_answer, memory_told, output_told};
+ghost use Rattle.tb_debug.specs.Telling.{place_here, returns_here, returns_told, set_or_cleared, value_answer};
 
 use crate::answer::{Answer, Location, Stand};
 use crate::debugger::Debugger;
@@ -206,7 +208,9 @@ impl<'a> Debugger<'a> {
         ensures run { OnOk result (KeepsRun self.old self.new) }
         ensures shown { OnOk result (self.new.shown ≡ self.old.shown) }
         ensures turns { OnOk result (TurnsBreakpoint (start_in (starts_of self.old.program.now) line) line self.old self.new) }
-        ensures answer { IfOk result (λ told. told ≡ breakpoint_answer (start_in (starts_of self.old.program.now) line) (not (is_among (breakpoints_of self.old.stops) line))) }
+        ensures answer { IfOk result (λ told. told
+            ≡ breakpoint_answer (start_in (starts_of self.old.program.now) line) (not
+            (is_among (breakpoints_of self.old.stops) line))) }
     {
         if self.program.start_of(line).is_none() {
             return Ok(Answer::NoSuchLine);
@@ -277,7 +281,8 @@ impl<'a> Debugger<'a> {
 
     // The code from PC on, up to a closed place.
     fn code(&self, alloc: Global) -> Result<Answer, AllocError>
-        ensures { IfOk result (λ told. code_told (Some told) ≡ Some (code_of most_code (state_of self.now.present.machine).mem self.now.present.machine.regs.pc)) }
+        ensures { IfOk result (λ told. code_told (Some told)
+            ≡ Some (code_of most_code (state_of self.now.present.machine).mem self.now.present.machine.regs.pc)) }
     {
         let machine = &self.present.machine;
         let lines = code_from(alloc, machine.memory(), machine.regs().pc, CODE_LINES)?;

@@ -138,7 +138,8 @@ impl<'a> Debugger<'a> {
     ) -> Result<u64, AllocError>
         ensures { IfOk result (λ time. (start : Point) → start.begun ≡ 0 → OnRun start self.now → IsKept self.now.starts start kept.now
             → kept.now.moment.events ≤ self.now.present.events
-            → last ≤ self.now.present.events → KnowsBehind self.now start last newest → KnowsBehind self.now start kept.now.moment.events time) }
+            → last ≤ self.now.present.events → KnowsBehind self.now start last newest
+            → KnowsBehind self.now start kept.now.moment.events time) }
     {
         if last <= kept.moment.events {
             return Ok(newest);

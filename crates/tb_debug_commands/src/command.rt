@@ -2,7 +2,8 @@
 ghost use Rattle.std.specs.Prelude.{◌≡◌, ◌≤◌, ◌<◌, length, IfSome};
 ghost use Rattle.tb_debug_commands.specs.Parts.{number_of};
 ghost use Rattle.tb_grammar.specs.Grammar.{word_of};
-ghost use Rattle.tb_debug_commands.specs.Commands.{asked_of, asked_in, alone, words, with_text, with_number, counting, memory_in, memory_at, address_of, digit_of, most_digits};
+ghost use Rattle.tb_debug_commands.specs.Commands.{asked_of, asked_in, alone, words, with_text, with_number, counting};
+ghost use Rattle.tb_debug_commands.specs.Commands.{memory_in, memory_at, address_of, digit_of, most_digits};
 
 use crate::parts::{number, variable};
 use tb_words::Letter;

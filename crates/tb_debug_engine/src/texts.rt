@@ -4,7 +4,9 @@ ghost use Rattle.tb_source_text.specs.Lines.{pair_of};
 ghost use Rattle.tb_debug_engine.specs.Lists.{written};
 ghost use Rattle.tb_debug_engine.specs.Sources.{shown_of};
 ghost use Rattle.tb_debug_engine.specs.Texts as texts;
-ghost use Rattle.tb_debug_engine.specs.Texts.{address_text, barred_from, byte_text, bytes_text, code_text, or_none, place_text, return_text, row_text, sent_text, stand_text, status_text, unless_zero, variable_text, variables_from};
+ghost use Rattle.tb_debug_engine.specs.Texts.{address_text, barred_from, byte_text, bytes_text, code_text, or_none};
+ghost use Rattle.tb_debug_engine.specs.Texts.{place_text, return_text, row_text, sent_text, stand_text, status_text};
+ghost use Rattle.tb_debug_engine.specs.Texts.{unless_zero, variable_text, variables_from};
 
 use crate::lists::{push_list, push_written};
 use crate::sources::Written;

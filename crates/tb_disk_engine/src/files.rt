@@ -2,7 +2,8 @@
 ghost use Rattle.std.specs.Prelude.{◌≡◌, ◌+◌, [], map, IfOk, MatchBool, MatchResult};
 ghost use Rattle.tb_streams.specs.Failures.{failures_of};
 ghost use Rattle.tb_streams.specs.Streams.{most_input, ConsumesAtMost};
-ghost use Rattle.tb_disk_engine.specs.Files.{entry_of, entry_in, entries, IsUsed, NamesNext, Adds, AddFaults, IsImageOf, HasNoImage, Writes, WriteFaults};
+ghost use Rattle.tb_disk_engine.specs.Files.{entry_of, entry_in, entries, IsUsed, NamesNext, Adds, AddFaults};
+ghost use Rattle.tb_disk_engine.specs.Files.{IsImageOf, HasNoImage, Writes, WriteFaults};
 
 use crate::names::{disk_name, file_name};
 use crate::outcome::{DiskOutcome, DiskRefusal};

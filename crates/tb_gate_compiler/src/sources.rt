@@ -19,8 +19,10 @@ pub fn source_compiled(
 ) -> Result<Compiled, CompileError>
     ensures found { HasOutcome options.seed source.now result }
     ensures only { (outcome : Outcome) → LinesMake source.now outcome → OutcomeAnswer options.seed outcome result }
-    ensures keeps { IfOk result (λ c. (program : SourceProgram) × LinesMake source.now (Ok program) × Keeps BASIC_START (loaded_of c) program options.seed) }
-    ensures marks { IfOk result (λ c. (program : SourceProgram) × LinesMake source.now (Ok program) × MarksLines BASIC_START (loaded_of c) program options.seed (start_of c)) }
+    ensures keeps { IfOk result (λ c. (program : SourceProgram) × LinesMake source.now (Ok program)
+        × Keeps BASIC_START (loaded_of c) program options.seed) }
+    ensures marks { IfOk result (λ c. (program : SourceProgram) × LinesMake source.now (Ok program)
+        × MarksLines BASIC_START (loaded_of c) program options.seed (start_of c)) }
 {
     compile(alloc, source, options)
 }
@@ -32,7 +34,9 @@ pub fn marked_lines(
     source: &[u8],
     options: Options,
 ) -> Result<(Compiled, Vec<LineStart>), CompileError>
-    ensures { IfOk result (λ made. (program : SourceProgram) × LinesMake source.now (Ok program) × MarksLines BASIC_START (loaded_of made.0) program options.seed (λ n. unwrap_or (start_in (map pair_of made.1.items) n) 0)) }
+    ensures { IfOk result (λ made. (program : SourceProgram) × LinesMake source.now (Ok program)
+        × MarksLines BASIC_START (loaded_of made.0) program options.seed (λ n. unwrap_or
+        (start_in (map pair_of made.1.items) n) 0)) }
 {
     let compiled = compile(alloc, source, options)?;
     let starts = Vec::from_slice(alloc, compiled.starts())?;

@@ -14,7 +14,8 @@ use tb_settling::assemble_settled;
 
 /// Calls `assemble`.
 pub fn assembled(alloc: Global, at: u16, items: &[Item]) -> Result<Image, AsmError>
-    ensures laid { IfOk result (λ image. (image.at ≡ at) × (image.bytes.items ≡ image_of at (map entry_of items.now)) × (image.labels.entries ≡ labels_from at (map entry_of items.now))) }
+    ensures laid { IfOk result (λ image. (image.at ≡ at) × (image.bytes.items ≡ image_of at (map entry_of items.now))
+        × (image.labels.entries ≡ labels_from at (map entry_of items.now))) }
     ensures refused { IfErr result (λ e. RefusesAt (refusal at (map entry_of items.now)) e.kind e.item) }
 {
     assemble(alloc, at, items)

@@ -29,7 +29,8 @@ pub fn spelling_of(keyword: Keyword) -> &'static str
 /// Calls `read_statement`.
 pub fn statement_of(alloc: Global, text: &[u8]) -> Result<ReadStatement, ReadError>
     ensures found { IfOk result (λ r. States text.now (statement_of r.statement) r.large) }
-    ensures only { (s : SourceStatement) (large : Option ℕ) → States text.now s large → shown.Answers result (λ r. (statement_of r.statement ≡ s) × (r.large ≡ large)) }
+    ensures only { (s : SourceStatement) (large : Option ℕ) → States text.now s large
+        → shown.Answers result (λ r. (statement_of r.statement ≡ s) × (r.large ≡ large)) }
 {
     read_statement(alloc, text)
 }
@@ -37,7 +38,8 @@ pub fn statement_of(alloc: Global, text: &[u8]) -> Result<ReadStatement, ReadErr
 /// Calls `read_expression`.
 pub fn expression_of(alloc: Global, text: &[u8]) -> Result<ReadExpression, ReadError>
     ensures found { IfOk result (λ r. Reads Whole text.now (expression_of r.expr) r.large []) }
-    ensures only { (e : Expression) (large : Option ℕ) → Reads Whole text.now e large [] → shown.Answers result (λ r. (expression_of r.expr ≡ e) × (r.large ≡ large)) }
+    ensures only { (e : Expression) (large : Option ℕ) → Reads Whole text.now e large []
+        → shown.Answers result (λ r. (expression_of r.expr ≡ e) × (r.large ≡ large)) }
 {
     read_expression(alloc, text)
 }
@@ -52,7 +54,8 @@ pub fn tokens_of(alloc: Global, line: &[u8]) -> Result<Vec<Token<'_>>, AllocErro
 /// Calls `parse`.
 pub fn parsed(alloc: Global, source: &[u8]) -> Result<Program, SourceError>
     ensures found { Answers lines_of result (LinesAre 1 [] (lines_of_file source.now)) }
-    ensures only { (outcome : Outcome) → LinesAre 1 [] (lines_of_file source.now) outcome → Answers lines_of result (λ said. said ≡ outcome) }
+    ensures only { (outcome : Outcome) → LinesAre 1 [] (lines_of_file source.now) outcome
+        → Answers lines_of result (λ said. said ≡ outcome) }
 {
     parse(alloc, source)
 }
@@ -60,7 +63,8 @@ pub fn parsed(alloc: Global, source: &[u8]) -> Result<Program, SourceError>
 /// Calls `parse_expr`.
 pub fn parsed_expression(alloc: Global, text: &[u8]) -> Result<Expr, SourceError>
     ensures found { Answers expression_of result (InLineOne (ExpressionIs text.now)) }
-    ensures only { (outcome : Result Expression FileRefusal) → InLineOne (ExpressionIs text.now) outcome → Answers expression_of result (λ said. said ≡ outcome) }
+    ensures only { (outcome : Result Expression FileRefusal) → InLineOne (ExpressionIs text.now) outcome
+        → Answers expression_of result (λ said. said ≡ outcome) }
 {
     parse_expr(alloc, text)
 }

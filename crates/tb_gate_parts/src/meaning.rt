@@ -39,7 +39,8 @@ pub fn run_of(
     answers: &[u8],
     limit: u64,
 ) -> Result<SourceRun, AllocError>
-    ensures { IfOk result (λ run. IsRun (source_run (shown.lines_of program.now) seed text.now answers.now limit) run.end run.sent.items (place_of run.place) run.variables) }
+    ensures { IfOk result (λ run. IsRun (source_run (shown.lines_of program.now) seed text.now answers.now limit)
+        run.end run.sent.items (place_of run.place) run.variables) }
 {
     run_source(alloc, program, seed, text, answers, limit)
 }

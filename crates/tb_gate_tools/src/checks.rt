@@ -29,7 +29,8 @@ pub fn lines_that_are_bad(alloc: Global, source: &[u8]) -> Result<Vec<SourceErro
 /// Calls `judge`.
 pub fn judged(alloc: Global, source: &[u8]) -> Result<Verdict, AllocError>
     ensures judged { IfOk result (Judges source.now) }
-    ensures agrees { IfOk result (λ v. (seed : ℕ) (answer : Result Compiled CompileError) → Compiles seed source.now answer → AgreesWith v answer) }
+    ensures agrees { IfOk result (λ v. (seed : ℕ) (answer : Result Compiled CompileError)
+        → Compiles seed source.now answer → AgreesWith v answer) }
 {
     judge(alloc, source)
 }

@@ -37,7 +37,8 @@ pub fn listing_of(alloc: Global, compiled: &Compiled, source: &[u8]) -> Result<V
 pub fn map_of(alloc: Global, compiled: &Compiled, program: &Program) -> Result<Vec<u8>, AllocError>
     requires small { cost.cost (lines_of program.now) ≤ most_cost }
     requires ends { PROLOGUE_AT + (length (prg_of compiled.now) - 14) ≤ 0xA000 }
-    ensures { IfOk result (λ text. text.items ≡ map_text (starts_of compiled.now) (table_of compiled.now) (length (prg_of compiled.now) - 14) (lines_of program.now)) }
+    ensures { IfOk result (λ text. text.items ≡ map_text (starts_of compiled.now) (table_of compiled.now)
+        (length (prg_of compiled.now) - 14) (lines_of program.now)) }
 {
     chart(alloc, compiled, program)
 }

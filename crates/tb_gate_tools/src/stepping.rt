@@ -86,7 +86,8 @@ pub fn stepped_through<R: Read, C: Read, W: Write>(
     limit: u64,
 ) -> Report
     ensures answers { Answers (MadeFromBoth (R.remaining source.old.stream) (C.remaining commands.old.stream)
-        (C.remaining commands.new.stream) (StepsThrough seed keyboard.text.items keyboard.answers.items limit result.warnings.items)) result.outcome
+        (C.remaining commands.new.stream) (StepsThrough seed keyboard.text.items keyboard.answers.items limit
+        result.warnings.items)) result.outcome
         (W.contents writer.old.stream) (W.contents writer.new.stream) }
     ensures warned { WarnsOfRead result.outcome result.warnings.items }
     ensures faults { FaultsOfBoth result.outcome

@@ -4,7 +4,9 @@ ghost use Rattle.tb_words.specs.Letters.{letter_index};
 ghost use Rattle.tb_syntax.specs.PlainData.{expression_of};
 ghost use Rattle.tb_syntax.specs.Source.{Expression};
 ghost use Rattle.tb_grammar.specs.Grammar.{Whole, Term, Reads};
-ghost use Rattle.tb_grammar.specs.Reading.{starts_digit, behind, behind_word, literal_at, letter_at, variable_at, factor_at, term_at, whole_at, operator_at, group_by, signed_by, whole_by, front_of, expression_in, joined as join};
+ghost use Rattle.tb_grammar.specs.Reading.{starts_digit, behind, behind_word, literal_at, letter_at, variable_at};
+ghost use Rattle.tb_grammar.specs.Reading.{factor_at, term_at, whole_at, operator_at, group_by, signed_by, whole_by};
+ghost use Rattle.tb_grammar.specs.Reading.{front_of, expression_in, joined as join};
 ghost use Rattle.tb_grammar.specs.ReadValues.{seen, whole_seen, Gives, Answers};
 
 use crate::read_error::{ReadError, left_at};
@@ -32,7 +34,8 @@ pub(crate) fn behind(byte: u8, text: &[u8]) -> Option<&[u8]>
 }
 
 pub(crate) fn behind_word<'a>(word: &[u8], text: &'a [u8]) -> Option<&'a [u8]>
-    ensures { MatchOption result (behind_word word.now text.entry.now ≡ None) (λ rest. behind_word word.now text.entry.now ≡ Some rest.now) }
+    ensures { MatchOption result (behind_word word.now text.entry.now ≡ None)
+        (λ rest. behind_word word.now text.entry.now ≡ Some rest.now) }
 {
     text.strip_prefix(word)
 }
@@ -266,7 +269,8 @@ pub fn read_expression(alloc: Global, text: &[u8]) -> Result<ReadExpression, Rea
     // What is read is in the grammar.
     ensures found { IfOk result (λ r. Reads Whole text.now (expression_of r.expr) r.large []) }
     // What is in the grammar is read, unless memory runs out.
-    ensures only { (e : Expression) (large : Option ℕ) → Reads Whole text.now e large [] → Answers result (λ r. (expression_of r.expr ≡ e) × (r.large ≡ large)) }
+    ensures only { (e : Expression) (large : Option ℕ) → Reads Whole text.now e large []
+        → Answers result (λ r. (expression_of r.expr ≡ e) × (r.large ≡ large)) }
 {
     expression(alloc, text)
 }

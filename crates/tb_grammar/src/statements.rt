@@ -4,7 +4,9 @@ ghost use Rattle.tb_words.specs.Letters.{letter_index};
 ghost use Rattle.tb_syntax.specs.Source.{Statement as SourceStatement, Let, Goto, Gosub};
 ghost use Rattle.tb_syntax.specs.PlainData.{statement_of};
 ghost use Rattle.tb_grammar.specs.ReadValues.{told, Gives, Answers};
-ghost use Rattle.tb_grammar.specs.StatementReading.{target_at, relation_at, made, alone, behind_then, conditional_by, keyword_at, assigned_at, behind_keyword, statement_at, statement_in};
+ghost use Rattle.tb_grammar.specs.StatementReading.{target_at, relation_at, made, alone, behind_then, conditional_by};
+ghost use Rattle.tb_grammar.specs.StatementReading.{keyword_at, assigned_at, behind_keyword, statement_at};
+ghost use Rattle.tb_grammar.specs.StatementReading.{statement_in};
 ghost use Rattle.tb_grammar.specs.Statements.{States};
 
 use crate::expressions::{behind, behind_word, expression, leading, split_letter};
@@ -190,7 +192,8 @@ pub fn read_statement(alloc: Global, text: &[u8]) -> Result<ReadStatement, ReadE
     // What is read is in the grammar.
     ensures found { IfOk result (λ r. States text.now (statement_of r.statement) r.large) }
     // What is in the grammar is read, unless memory runs out.
-    ensures only { (s : SourceStatement) (large : Option ℕ) → States text.now s large → Answers result (λ r. (statement_of r.statement ≡ s) × (r.large ≡ large)) }
+    ensures only { (s : SourceStatement) (large : Option ℕ) → States text.now s large
+        → Answers result (λ r. (statement_of r.statement ≡ s) × (r.large ≡ large)) }
 {
     whole_statement(alloc, text)
 }

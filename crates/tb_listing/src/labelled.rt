@@ -26,7 +26,8 @@ pub struct View<'a> {
 /// The text of a listing: a row for each piece, below its label, and above the first piece of a line the source's text of
 /// it. Each row is ended by 10. Fails if memory runs out.
 pub fn labelled(alloc: Global, view: &View<'_>) -> Result<Vec<u8>, AllocError>
-    ensures { IfOk result (λ text. comments text.items ≡ map (comment_on (map pair_of view.now.sources.now)) (map start_pair view.now.program.starts.now)) }
+    ensures { IfOk result (λ text. comments text.items ≡ map (comment_on (map pair_of view.now.sources.now))
+        (map start_pair view.now.program.starts.now)) }
 {
     let mut text = Vec::new(alloc);
     let mut done = 0;

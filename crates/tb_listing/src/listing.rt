@@ -93,7 +93,8 @@ fn gives_back(alloc: Global, text: &[u8], image: &[u8]) -> Result<bool, AllocErr
 }
 
 fn assembles_to(alloc: Global, items: &[Item], image: &[u8]) -> Result<bool, AllocError>
-    ensures { IfOk result (λ same. same ≡ true → (refusal PROLOGUE_AT (map entry_of items.now) ≡ None) × (image_of PROLOGUE_AT (map entry_of items.now) ≡ image.now)) }
+    ensures { IfOk result (λ same. same ≡ true → (refusal PROLOGUE_AT (map entry_of items.now) ≡ None)
+        × (image_of PROLOGUE_AT (map entry_of items.now) ≡ image.now)) }
 {
     match assemble(alloc, BLOCK_AT, items) {
         Ok(made) => Ok(made.bytes.as_slice() == image),

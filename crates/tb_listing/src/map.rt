@@ -31,7 +31,8 @@ const NUMBER_WIDTH: usize = 8;
 pub fn chart(alloc: Global, compiled: &Compiled, program: &Program) -> Result<Vec<u8>, AllocError>
     requires small { cost.cost (lines_of program.now) ≤ most_cost }
     requires ends { PROLOGUE_AT + (length (prg_of compiled.now) - 14) ≤ 0xA000 }
-    ensures { IfOk result (λ text. text.items ≡ map_text (starts_of compiled.now) (table_of compiled.now) (length (prg_of compiled.now) - 14) (lines_of program.now)) }
+    ensures { IfOk result (λ text. text.items ≡ map_text (starts_of compiled.now) (table_of compiled.now)
+        (length (prg_of compiled.now) - 14) (lines_of program.now)) }
 {
     let size = compiled.prg().len().saturating_sub(HEADER);
     let end = usize::from(BLOCK_AT) + size;
@@ -54,7 +55,10 @@ fn push_parts(
     requires small { cost.cost (lines_of program.now) ≤ most_cost }
     requires ends { PROLOGUE_AT + size ≤ 0xA000 }
     ensures sum { IfOk result (λ sum. sum ≡ cost.cost (lines_of program.now)) }
-    ensures rows { OnOk result (text.new.items ≡ text.old.items ++ (row_text (block_part (starts_of compiled.now) (table_of compiled.now)) ++ (rows_text (line_parts (starts_of compiled.now) (table_of compiled.now) (lines_of program.now)) ++ row_text (table_part (table_of compiled.now) size)))) }
+    ensures rows { OnOk result (text.new.items ≡ text.old.items
+        ++ (row_text (block_part (starts_of compiled.now) (table_of compiled.now))
+        ++ (rows_text (line_parts (starts_of compiled.now) (table_of compiled.now) (lines_of program.now))
+        ++ row_text (table_part (table_of compiled.now) size)))) }
 {
     push_row(alloc, text, b"block", BLOCK_AT, block_size(compiled), BASE)?;
     let (starts, table) = (compiled.starts(), compiled.table());
@@ -89,7 +93,9 @@ fn push_lines(
     program: &Program,
 ) -> Result<u32, AllocError>
     requires { cost.cost (lines_of program.now) ≤ most_cost }
-    ensures { IfOk result (λ sum. (sum ≡ cost.cost (lines_of program.now)) × (text.new.items ≡ text.old.items ++ rows_text (line_parts (map pair_of starts.now) table (lines_of program.now)))) }
+    ensures { IfOk result (λ sum. (sum ≡ cost.cost (lines_of program.now))
+        × (text.new.items ≡ text.old.items ++ rows_text (line_parts (map pair_of starts.now) table
+        (lines_of program.now)))) }
 {
     let mut sum = BASE;
     let mut rest = starts;

@@ -157,7 +157,8 @@ fn put_inputs(code: &mut Vec<SlotInstr>, letters: &[Letter]) -> Result<(), Alloc
 
 fn put_goto(code: &mut Vec<SlotInstr>, target: &Expr) -> Result<(), AllocError>
     requires { need (expression_of target.now) ≤ 16 }
-    ensures { OnOk result (map instr_of code.new.items ≡ map instr_of code.old.items ++ statement_code (source.Goto (expression_of target.now))) }
+    ensures { OnOk result (map instr_of code.new.items ≡ map instr_of code.old.items ++ statement_code
+        (source.Goto (expression_of target.now))) }
 {
     if let Some(number) = constant(target) {
         return put(code, SlotInstr::JumpTo(number));
@@ -168,7 +169,8 @@ fn put_goto(code: &mut Vec<SlotInstr>, target: &Expr) -> Result<(), AllocError>
 
 fn put_gosub(code: &mut Vec<SlotInstr>, target: &Expr) -> Result<(), AllocError>
     requires { need (expression_of target.now) ≤ 16 }
-    ensures { OnOk result (map instr_of code.new.items ≡ map instr_of code.old.items ++ statement_code (source.Gosub (expression_of target.now))) }
+    ensures { OnOk result (map instr_of code.new.items ≡ map instr_of code.old.items ++ statement_code
+        (source.Gosub (expression_of target.now))) }
 {
     if let Some(number) = constant(target) {
         return put(code, SlotInstr::CallTo(number));

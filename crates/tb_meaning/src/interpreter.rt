@@ -57,7 +57,8 @@ pub fn run_source(
     answers: &[u8],
     limit: u64,
 ) -> Result<SourceRun, AllocError>
-    ensures { IfOk result (λ run. IsRun (source_run (lines_of program.now) seed text.now answers.now limit) run.end run.sent.items (place_of run.place) run.variables) }
+    ensures { IfOk result (λ run. IsRun (source_run (lines_of program.now) seed text.now answers.now limit) run.end
+        run.sent.items (place_of run.place) run.variables) }
 {
     let mut interpreter = Interpreter::new(alloc, program, seed, text, answers);
     let end = interpreter.run(program, limit)?;
@@ -106,7 +107,9 @@ impl<'a> Interpreter<'a> {
 
     // Runs at most `limit` lines, and sends a fault's text.
     fn run(&mut self, program: &Program, limit: u64) -> Result<RunEnd, AllocError>
-        ensures { IfOk result (λ end. IsRun (advance_by (line (lines_of program.now)) limit (GoesOn (state_of self.old) self.old.output.sent.items)) end self.new.output.sent.items (place_of self.new.place) self.new.variables) }
+        ensures { IfOk result (λ end. IsRun (advance_by (line (lines_of program.now)) limit
+            (GoesOn (state_of self.old) self.old.output.sent.items)) end self.new.output.sent.items
+            (place_of self.new.place) self.new.variables) }
     {
         for _ in 0..limit {
             match self.line(program) {
@@ -118,7 +121,8 @@ impl<'a> Interpreter<'a> {
     }
 
     fn stop(&mut self, stop: RunStop) -> Result<RunEnd, AllocError>
-        ensures { IfOk result (λ end. (r : Run State) → IsStopped r self.old.output.sent.items stop → IsRun r end self.new.output.sent.items (place_of self.new.place) self.new.variables) }
+        ensures { IfOk result (λ end. (r : Run State) → IsStopped r self.old.output.sent.items stop
+            → IsRun r end self.new.output.sent.items (place_of self.new.place) self.new.variables) }
     {
         match stop {
             RunStop::Ended => Ok(RunEnd::Ended),
@@ -150,7 +154,8 @@ impl<'a> Interpreter<'a> {
         number: u16,
         statement: &Statement,
     ) -> Result<(), RunStop>
-        ensures { Ran (and_then (poll number (state_of self.old)) (does (numbers (lines_of program.now)) number (statement_of statement.now))) self.old self.new result }
+        ensures { Ran (and_then (poll number (state_of self.old)) (does (numbers (lines_of program.now)) number
+            (statement_of statement.now))) self.old self.new result }
     {
         self.poll(number)?;
         self.statement(program, number, statement)
@@ -175,7 +180,8 @@ impl<'a> Interpreter<'a> {
         number: u16,
         statement: &Statement,
     ) -> Result<(), RunStop>
-        ensures { Ran (does (numbers (lines_of program.now)) number (statement_of statement.now) (state_of self.old)) self.old self.new result }
+        ensures { Ran (does (numbers (lines_of program.now)) number (statement_of statement.now) (state_of self.old))
+            self.old self.new result }
     {
         match statement {
             Statement::Let(x, e) => self.assign(program, number, *x, e),
@@ -203,7 +209,8 @@ impl<'a> Interpreter<'a> {
         letter: Letter,
         e: &Expr,
     ) -> Result<(), RunStop>
-        ensures { Ran (does (numbers (lines_of program.now)) number (Let (letter_index letter) (expression_of e.now)) (state_of self.old)) self.old self.new result }
+        ensures { Ran (does (numbers (lines_of program.now)) number (Let (letter_index letter) (expression_of e.now))
+            (state_of self.old)) self.old self.new result }
     {
         let value = self.value(number, e)?;
         self.store(letter, value);
@@ -217,7 +224,8 @@ impl<'a> Interpreter<'a> {
         items: &[PrintItem],
         ends_line: bool,
     ) -> Result<(), RunStop>
-        ensures { Ran (does (numbers (lines_of program.now)) number (Print (map item_of items.now) ends_line) (state_of self.old)) self.old self.new result }
+        ensures { Ran (does (numbers (lines_of program.now)) number (Print (map item_of items.now) ends_line)
+            (state_of self.old)) self.old self.new result }
     {
         self.print_items(number, items)?;
         if ends_line {
@@ -227,7 +235,8 @@ impl<'a> Interpreter<'a> {
     }
 
     fn input(&mut self, program: &Program, number: u16, letters: &[Letter]) -> Result<(), RunStop>
-        ensures { Ran (does (numbers (lines_of program.now)) number (Input (letters_of letters.now)) (state_of self.old)) self.old self.new result }
+        ensures { Ran (does (numbers (lines_of program.now)) number (Input (letters_of letters.now))
+            (state_of self.old)) self.old self.new result }
     {
         self.take_inputs(number, letters)?;
         self.fall(program, number)
@@ -251,7 +260,8 @@ impl<'a> Interpreter<'a> {
     }
 
     fn go_to(&mut self, program: &Program, number: u16, target: &Expr) -> Result<(), RunStop>
-        ensures { Ran (does (numbers (lines_of program.now)) number (Goto (expression_of target.now)) (state_of self.old)) self.old self.new result }
+        ensures { Ran (does (numbers (lines_of program.now)) number (Goto (expression_of target.now))
+            (state_of self.old)) self.old self.new result }
     {
         let target = self.value(number, target)?;
         self.jump(program, number, target)
@@ -268,7 +278,8 @@ impl<'a> Interpreter<'a> {
     }
 
     fn go_sub(&mut self, program: &Program, number: u16, target: &Expr) -> Result<(), RunStop>
-        ensures { Ran (does (numbers (lines_of program.now)) number (Gosub (expression_of target.now)) (state_of self.old)) self.old self.new result }
+        ensures { Ran (does (numbers (lines_of program.now)) number (Gosub (expression_of target.now))
+            (state_of self.old)) self.old self.new result }
     {
         let target = self.value(number, target)?;
         self.call(program, number, target)
@@ -343,7 +354,8 @@ impl<'a> Interpreter<'a> {
     }
 
     fn take_turn(&mut self, number: u16, letter: Letter) -> Result<(), RunStop>
-        ensures { Ran (take_turn number (letter_index letter) (turn Nothing (state_of self.old).text) (state_of self.old)) self.old self.new result }
+        ensures { Ran (take_turn number (letter_index letter) (turn Nothing (state_of self.old).text)
+            (state_of self.old)) self.old self.new result }
     {
         match take_number(self.text) {
             Turn::Got(word, stays_open, rest) => {
@@ -387,7 +399,8 @@ fn push_return(returns: &mut Vec<Place>, place: Place) -> Result<(), AllocError>
 
 // The value of an expression, the left operand first; RND moves the seed on.
 fn value(e: &Expr, variables: &[u16; LETTERS], seed: &mut u16) -> Result<u16, Fault>
-    ensures { MatchResult result (λ v. value (expression_of e.now) variables.now seed.old ≡ Gives v seed.new) (λ k. value (expression_of e.now) variables.now seed.old ≡ Fails (fault_of k)) }
+    ensures { MatchResult result (λ v. value (expression_of e.now) variables.now seed.old ≡ Gives v seed.new)
+        (λ k. value (expression_of e.now) variables.now seed.old ≡ Fails (fault_of k)) }
 {
     match e {
         Expr::Number(n) => Ok(*n),

@@ -5,7 +5,8 @@ ghost use Rattle.tb_parser.specs.Lines.{lines_from, starts_with_end};
 /// The first line without its end, and what is left after that end, which is a byte 10, a byte 13, or both, 13
 /// first. `None` if the text is empty.
 pub fn next_line(text: &[u8]) -> Option<(&[u8], &[u8])>
-    ensures { MatchOption result (text.now ≡ []) (λ p. (lines_from false text.now ≡ p.0.now ∷ lines_from false p.1.now) × (length p.1.now < length text.now)) }
+    ensures { MatchOption result (text.now ≡ [])
+        (λ p. (lines_from false text.now ≡ p.0.now ∷ lines_from false p.1.now) × (length p.1.now < length text.now)) }
 {
     if text.is_empty() {
         return None;

@@ -37,7 +37,8 @@ pub fn parse(alloc: Global, source: &[u8]) -> Result<Program, SourceError>
     // Each statement is spelled by a text that fits a line.
     ensures stated { IfOk result (λ p. AreStated (lines_of p)) }
     // What the lines make is answered, unless memory runs out.
-    ensures only { (outcome : Outcome) → LinesAre 1 [] (lines_of_file source.now) outcome → Answers lines_of result (λ said. said ≡ outcome) }
+    ensures only { (outcome : Outcome) → LinesAre 1 [] (lines_of_file source.now) outcome
+        → Answers lines_of result (λ said. said ≡ outcome) }
     ensures memory { IfErr result (λ e. e.kind ≡ NoMemory → e ≡ out_of_memory) }
 {
     let mut program = Program::new(alloc);
@@ -64,7 +65,8 @@ pub fn parse(alloc: Global, source: &[u8]) -> Result<Program, SourceError>
 /// The expression that a text is, or what is wrong with it as line 1. It needs no line number.
 pub fn parse_expr(alloc: Global, text: &[u8]) -> Result<Expr, SourceError>
     ensures found { Answers expression_of result (InLineOne (ExpressionIs text.now)) }
-    ensures only { (outcome : Result Expression FileRefusal) → InLineOne (ExpressionIs text.now) outcome → Answers expression_of result (λ said. said ≡ outcome) }
+    ensures only { (outcome : Result Expression FileRefusal) → InLineOne (ExpressionIs text.now) outcome
+        → Answers expression_of result (λ said. said ≡ outcome) }
     ensures memory { IfErr result (λ e. e.kind ≡ NoMemory → e ≡ out_of_memory) }
 {
     match read_expression_line(alloc, text) {
@@ -155,7 +157,8 @@ fn read_value(alloc: Global, line: &[u8], text: &[Placed]) -> Result<Expr, LineF
 
 // What was read, unless a literal is too large; `large` is the number of bytes left from the first such literal on.
 fn in_range<T: Drop>(tree: T, large: Option<usize>, text: &[Placed]) -> Result<T, LineFault>
-    ensures { MatchOption large (result ≡ Ok tree) (λ left. result ≡ Err (record { kind = NumberTooLarge; column = column_left left text.now })) }
+    ensures { MatchOption large (result ≡ Ok tree) (λ left. result
+        ≡ Err (record { kind = NumberTooLarge; column = column_left left text.now })) }
 {
     match large {
         None => Ok(tree),
@@ -168,7 +171,8 @@ fn in_range<T: Drop>(tree: T, large: Option<usize>, text: &[Placed]) -> Result<T
 
 // Why a text of a line has no reading; `left` is the number of bytes left from the first token that does not fit.
 fn unread(line: &[u8], text: &[Placed], left: usize) -> LineFault
-    ensures { MatchOption (left_out_word text.now) (result.kind ≡ Syntax) (λ column. result ≡ record { kind = NotCompiled; column = column }) }
+    ensures { MatchOption (left_out_word text.now) (result.kind ≡ Syntax) (λ column. result
+        ≡ record { kind = NotCompiled; column = column }) }
 {
     match left_out(text) {
         Some(column) => LineFault {

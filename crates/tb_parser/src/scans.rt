@@ -1,7 +1,8 @@
 //! What is looked for in a line before it is read.
 ghost use Rattle.std.specs.Prelude.{◌≡◌, ℕ, ◌+◌, ◌*◌, ◌<◌, false, true, length, MatchOption};
 ghost use Rattle.tb_parser.specs.Readings.{IsLineNumber};
-ghost use Rattle.tb_parser.specs.Scans.{begins, column_left, first_bad, first_written, is_bad, is_left_out, left_out_word, number_at, starts_with_digit};
+ghost use Rattle.tb_parser.specs.Scans.{begins, column_left, first_bad, first_written, is_bad, is_left_out};
+ghost use Rattle.tb_parser.specs.Scans.{left_out_word, number_at, starts_with_digit};
 ghost use Rattle.tb_parser.specs.declared.squeeze.Mode.TheVariants.{Code};
 
 use crate::squeeze::{Mode, Placed};
@@ -54,7 +55,9 @@ pub(crate) fn is_numbered(placed: &[Placed]) -> bool
 // The digit at the front, and what is left after it.
 #[tactic(auto, unfolding(crate::specs::Scans::number_at))]
 fn split_digit(placed: &[Placed]) -> Option<(u8, &[Placed])>
-    ensures { MatchOption result (starts_with_digit placed.now ≡ false) (λ p. (p.0 < 10) × (starts_with_digit placed.now ≡ true) × (length p.1.now < length placed.now) × ((n : ℕ) → number_at n placed.now ≡ number_at (10 * n + p.0) p.1.now)) }
+    ensures { MatchOption result (starts_with_digit placed.now ≡ false) (λ p. (p.0 < 10)
+        × (starts_with_digit placed.now ≡ true) × (length p.1.now < length placed.now) × ((n : ℕ)
+        → number_at n placed.now ≡ number_at (10 * n + p.0) p.1.now)) }
 {
     match placed {
         [first, rest @ ..] if first.byte.is_ascii_digit() => Some((first.byte - b'0', rest)),
@@ -64,7 +67,8 @@ fn split_digit(placed: &[Placed]) -> Option<(u8, &[Placed])>
 
 /// The line number, `None` unless it is from 1 to 32,767, and what is left after it.
 pub(crate) fn line_number(placed: &[Placed]) -> Option<(u16, &[Placed])>
-    ensures { MatchOption result (IsLineNumber (number_at 0 placed.now).value → ⊥) (λ p. IsLineNumber p.0 × ((number_at 0 placed.now).value ≡ p.0) × ((number_at 0 placed.now).rest ≡ p.1.now)) }
+    ensures { MatchOption result (IsLineNumber (number_at 0 placed.now).value → ⊥) (λ p. IsLineNumber p.0
+        × ((number_at 0 placed.now).value ≡ p.0) × ((number_at 0 placed.now).rest ≡ p.1.now)) }
 {
     let mut value: u32 = 0;
     let mut rest = placed;

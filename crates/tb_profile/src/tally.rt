@@ -1,5 +1,6 @@
 //! What is counted, by address.
-ghost use Rattle.std.specs.Prelude.{◌≡◌, ◌<◌, ◌≤◌, ◌+◌, ◌*◌, ◌^◌, ◌||◌, ℕ, [], length, slice_index, slice_index_or, vec_len, IfOk, false, replicate};
+ghost use Rattle.std.specs.Prelude.{◌≡◌, ◌<◌, ◌≤◌, ◌+◌, ◌*◌, ◌^◌, ◌||◌, ℕ, [], length, slice_index, slice_index_or};
+ghost use Rattle.std.specs.Prelude.{vec_len, IfOk, false, replicate};
 ghost use Rattle.tb_profile.specs.Steps.{begins_line};
 ghost use Rattle.tb_profile.specs.Tallies.{IsTally, with_more, after_step, most_cycles};
 

@@ -1,7 +1,8 @@
 //! The page of a profile: one file that needs nothing else, no script, and no colours to be read.
 ghost use Rattle.std.specs.Prelude.{◌≡◌, ◌++◌, ◌<◌, ◌^◌, OnOk, IfOk, flat_map, map};
 ghost use Rattle.tb_profile_table.specs.Lines.{line_pair};
-ghost use Rattle.tb_profile_table.specs.Page.{bar, cell, cells, escaped, line_row, numbered_row, opening, page_of, row_text, rows_of, share_cell, source, start_row, sum_row, sums};
+ghost use Rattle.tb_profile_table.specs.Page.{bar, cell, cells, escaped, line_row, numbered_row, opening, page_of};
+ghost use Rattle.tb_profile_table.specs.Page.{row_text, rows_of, share_cell, source, start_row, sum_row, sums};
 
 use crate::figures::{percent, push_number, share};
 use crate::lines::Line;

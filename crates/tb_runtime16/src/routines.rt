@@ -1,5 +1,6 @@
 //! The routines, each by its law.
-ghost use Rattle.tb_runtime16.specs.Laws.{SendLaw, TextLaw, ZoneLaw, MultiplyLaw, UnsignedLaw, DivideLaw, DivideByZeroLaw, NumberLaw, RandomLaw, RandomRangeLaw};
+ghost use Rattle.tb_runtime16.specs.Laws.{SendLaw, TextLaw, ZoneLaw, MultiplyLaw, UnsignedLaw, DivideLaw};
+ghost use Rattle.tb_runtime16.specs.Laws.{DivideByZeroLaw, NumberLaw, RandomLaw, RandomRangeLaw};
 ghost use Rattle.tb_runtime16.specs.Ends.{FaultLaw, FaultLineLaw, PollLaw, PrologueLaw};
 ghost use Rattle.tb_runtime16.specs.Input.{InputLaw};
 ghost use Rattle.tb_runtime16.specs.Returns.{PushLaw, PushFullLaw, PopLaw, PopNoneLaw};

@@ -2,7 +2,8 @@
 ghost use Rattle.std.specs.Prelude.{◌≡◌, option_map};
 ghost use Rattle.tb_words.specs.Letters.{letter_index};
 ghost use Rattle.tb_selection.specs.Select as select;
-ghost use Rattle.tb_selection.specs.PlainData.{against_of, destination_of, divisibility_of, equality_of, factor_of, group_of, loaded_of, multiple_of, operand_of};
+ghost use Rattle.tb_selection.specs.PlainData.{against_of, destination_of, divisibility_of, equality_of, factor_of};
+ghost use Rattle.tb_selection.specs.PlainData.{group_of, loaded_of, multiple_of, operand_of};
 
 use crate::groups::{Destination, Divisibility, Group, Home, Operand, Side, Tested};
 use crate::selecting::slot_of;
@@ -146,7 +147,9 @@ fn divides_right<'a>(
     product: Group<'a>,
     test: Group<'a>,
 ) -> Option<Group<'a>>
-    ensures { option_map group_of result ≡ select.divides_right (select.held_in (group_of held.entry)) (select.multiple_in (group_of quotient.entry) (group_of product.entry)) (select.against_in (group_of test.entry)) }
+    ensures { option_map group_of result ≡ select.divides_right (select.held_in (group_of held.entry))
+        (select.multiple_in (group_of quotient.entry) (group_of product.entry)) (select.against_in
+        (group_of test.entry)) }
 {
     let x = held_in(held)?;
     let (slot, y, divisor) = multiple_in(quotient, product)?;
@@ -167,7 +170,9 @@ fn remains<'a>(
     product: Group<'a>,
     difference: Group<'a>,
 ) -> Option<Group<'a>>
-    ensures { option_map group_of result ≡ select.remains (select.loaded_in (group_of loaded.entry)) (select.multiple_in (group_of quotient.entry) (group_of product.entry)) (select.difference_in (group_of difference.entry)) }
+    ensures { option_map group_of result ≡ select.remains (select.loaded_in (group_of loaded.entry))
+        (select.multiple_in (group_of quotient.entry) (group_of product.entry)) (select.difference_in
+        (group_of difference.entry)) }
 {
     let (into, x) = loaded_in(loaded)?;
     let (slot, y, divisor) = multiple_in(quotient, product)?;
@@ -205,7 +210,8 @@ pub fn four_as_one<'a>(
     product: Group<'a>,
     last: Group<'a>,
 ) -> Option<Group<'a>>
-    ensures { option_map group_of result ≡ select.four_as_one (group_of first.entry) (group_of quotient.entry) (group_of product.entry) (group_of last.entry) }
+    ensures { option_map group_of result ≡ select.four_as_one (group_of first.entry) (group_of quotient.entry)
+        (group_of product.entry) (group_of last.entry) }
 {
     match divides_right(first, quotient, product, last) {
         Some(group) => Some(group),

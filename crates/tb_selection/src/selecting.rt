@@ -5,7 +5,8 @@ ghost use Rattle.tb_selection.specs.Groups.{expand_all};
 ghost use Rattle.tb_selection.specs.Laws.{AreLive, IsJoined};
 ghost use Rattle.tb_selection.specs.Liveness.{live};
 ghost use Rattle.tb_selection.specs.Select as select;
-ghost use Rattle.tb_selection.specs.PlainData.{both_of, conversion_of, destination_of, group_of, groups_in, in_order, operand_of, placed_of, tested_of, words_of};
+ghost use Rattle.tb_selection.specs.PlainData.{both_of, conversion_of, destination_of, group_of, groups_in, in_order};
+ghost use Rattle.tb_selection.specs.PlainData.{operand_of, placed_of, tested_of, words_of};
 
 use crate::fusion::{four_as_one, three_as_one};
 use crate::groups::{Conversion, Destination, Group, Home, Operand, Tested, Usage};
@@ -49,7 +50,8 @@ fn alone(instr: &SlotInstr) -> Group<'_>
 
 // A conversion of the word in a slot.
 fn convert_in_slot<'a>(what: Conversion, slot: u8) -> Group<'a>
-    ensures { group_of result ≡ Rattle.tb_selection.specs.Groups.Convert (conversion_of what) Rattle.tb_selection.specs.Groups.InSlot (Rattle.tb_selection.specs.Groups.IntoSlot slot) }
+    ensures { group_of result ≡ Rattle.tb_selection.specs.Groups.Convert
+        (conversion_of what) Rattle.tb_selection.specs.Groups.InSlot (Rattle.tb_selection.specs.Groups.IntoSlot slot) }
 {
     Group::Convert(what, Operand::InSlot, Destination::IntoSlot(slot))
 }
@@ -73,7 +75,8 @@ fn calculate_with<'a>(
     right: Operand,
     destination: Destination,
 ) -> Option<Group<'a>>
-    ensures { option_map group_of result ≡ select.calculate_with slot (operand_of word) op (operand_of left) (operand_of right) (destination_of destination) }
+    ensures { option_map group_of result ≡ select.calculate_with slot (operand_of word) op (operand_of left)
+        (operand_of right) (destination_of destination) }
 {
     let into = slot_of(destination);
     match (left, right) {
@@ -319,7 +322,8 @@ fn joined<'a>(first: Group<'a>, groups: &[Placed<'a>]) -> Option<(Placed<'a>, us
 // Puts a group before groups, the first of which is last in the list: as one with the first of them, if possible.
 fn put_before<'a>(groups: &mut Vec<Placed<'a>>, first: Placed<'a>) -> Result<(), AllocError>
     requires { AreLive (placed_of first ∷ in_order groups.old.items) }
-    ensures put { OnOk result (groups_in (in_order groups.new.items) ≡ select.fused (group_of first.entry.group) (groups_in (in_order groups.old.items))) }
+    ensures put { OnOk result (groups_in (in_order groups.new.items) ≡ select.fused (group_of first.entry.group)
+        (groups_in (in_order groups.old.items))) }
     ensures live { OnOk result (AreLive (in_order groups.new.items)) }
 {
     let whole = match joined(first.group, groups) {
@@ -341,7 +345,8 @@ fn attach<'a>(
 ) -> Result<(), AllocError>
     requires before { before ≡ live (expand_all (groups_in (in_order groups.old.items))) }
     requires live { AreLive (in_order groups.old.items) }
-    ensures attached { OnOk result (groups_in (in_order groups.new.items) ≡ select.attach (instr_of instr.now) (groups_in (in_order groups.old.items))) }
+    ensures attached { OnOk result (groups_in (in_order groups.new.items) ≡ select.attach (instr_of instr.now)
+        (groups_in (in_order groups.old.items))) }
     ensures live { OnOk result (AreLive (in_order groups.new.items)) }
 {
     let group = alone(instr);

@@ -83,7 +83,8 @@ fn put_remainder(items: &mut Vec<Item>, words: Words) -> Result<(), AllocError>
 // The remainder in a line.
 fn put_remainder_in(items: &mut Vec<Item>, line: u16, words: Words) -> Result<(), AllocError>
     requires { AreWhole words }
-    ensures { Puts result items.old items.new (groups.lined (groups.may_be_zero words.right) line (groups.remainder words.left words.right)) }
+    ensures { Puts result items.old items.new (groups.lined (groups.may_be_zero words.right) line
+        (groups.remainder words.left words.right)) }
 {
     put_lined(items, may_be_zero(words.right), line)?;
     put_remainder(items, words)?;
@@ -145,7 +146,8 @@ fn put_divided_lost(
     words: Words,
 ) -> Result<(), AllocError>
     requires { AreWhole words }
-    ensures { Puts result items.old items.new (groups.divided_by spot.line (divisibility_of how) words.left words.right spot.next ++ templates.faulted spot.line 1) }
+    ensures { Puts result items.old items.new (groups.divided_by spot.line (divisibility_of how) words.left
+        words.right spot.next ++ templates.faulted spot.line 1) }
 {
     put_divided_by(items, spot.line, how, words, spot.next)?;
     put_faulted(items, spot.line, NO_LINE)?;
@@ -163,7 +165,8 @@ fn put_divided_gone(
 ) -> Result<(), AllocError>
     requires rising { Rises 0 65536 numbers.now }
     requires whole { AreWhole words }
-    ensures { Puts result items.old items.new (groups.divided_gone spot.line (divisibility_of how) words.left words.right spot.next (has_line numbers.now to) to) }
+    ensures { Puts result items.old items.new (groups.divided_gone spot.line (divisibility_of how) words.left
+        words.right spot.next (has_line numbers.now to) to) }
 {
     if has_number(numbers, to) {
         let line = Target::Line(to);
@@ -196,7 +199,8 @@ pub fn put_divides(
 // The routine divides a word by another one.
 fn put_called(items: &mut Vec<Item>, words: Words) -> Result<(), AllocError>
     requires { AreWhole words }
-    ensures { Puts result items.old items.new (groups.brought words.left places.LEFT ++ (groups.brought words.right places.RIGHT ++ (templates.call places.DIVIDE_AT ∷ []))) }
+    ensures { Puts result items.old items.new (groups.brought words.left places.LEFT
+        ++ (groups.brought words.right places.RIGHT ++ (templates.call places.DIVIDE_AT ∷ []))) }
 {
     put_brought(items, words.left, LEFT)?;
     put_brought(items, words.right, RIGHT)?;

@@ -140,7 +140,8 @@ fn may_have_none(word: Source) -> bool
 // The quotient of two words.
 fn put_quotient(items: &mut Vec<Item>, line: u16, words: Words, to: u16) -> Result<(), AllocError>
     requires { AreWhole words × (to < 65535) }
-    ensures { Puts result items.old items.new (groups.lined (groups.may_be_zero words.right) line (groups.handed places.DIVIDE_AT places.LEFT words.left words.right to)) }
+    ensures { Puts result items.old items.new (groups.lined (groups.may_be_zero words.right) line
+        (groups.handed places.DIVIDE_AT places.LEFT words.left words.right to)) }
 {
     put_lined(items, may_be_zero(words.right), line)?;
     put_handed(items, Routine::Divide, LEFT, words, to)?;
@@ -156,7 +157,8 @@ fn put_drawn(
     to: u16,
 ) -> Result<(), AllocError>
     requires { IsWhole bound × (to < 65535) }
-    ensures { Puts result items.old items.new (groups.lined (groups.may_have_none bound) line (groups.handed places.RANDOM_AT places.RESULT bound (sources.FixedWord seed) to)) }
+    ensures { Puts result items.old items.new (groups.lined (groups.may_have_none bound) line
+        (groups.handed places.RANDOM_AT places.RESULT bound (sources.FixedWord seed) to)) }
 {
     put_lined(items, may_have_none(bound), line)?;
     let words = Words {
@@ -235,7 +237,8 @@ fn put_going_on(
     to: u16,
 ) -> Result<(), AllocError>
     requires { IsWhole constant × (to < 65535) }
-    ensures { Puts result items.old items.new (groups.computed spot.line (Inside Behind spot.line spot.index) operator (sources.AtAddress to) constant to) }
+    ensures { Puts result items.old items.new (groups.computed spot.line (Inside Behind spot.line spot.index) operator
+        (sources.AtAddress to) constant to) }
 {
     let words = Words {
         left: Source::AtAddress(to),
@@ -254,7 +257,8 @@ fn put_stepped(
     to: u16,
 ) -> Result<(), AllocError>
     requires { AreWhole words × IsWhole by.1 × (to < 65535) }
-    ensures { Puts result items.old items.new (groups.stepped spot.line (Inside Skip spot.line spot.index) (Inside Behind spot.line spot.index) operator words.left words.right by.0 by.1 to) }
+    ensures { Puts result items.old items.new (groups.stepped spot.line (Inside Skip spot.line spot.index)
+        (Inside Behind spot.line spot.index) operator words.left words.right by.0 by.1 to) }
 {
     put_computed(items, spot.line, spot.skip(), operator, words, to)?;
     put_going_on(items, spot, by.0, by.1, to)?;
@@ -414,7 +418,8 @@ fn denied(rel: Rel) -> Rel
 // Leaves the line unless two words are in this relation, and else faults for lack of a line.
 fn put_lost(items: &mut Vec<Item>, spot: Spot, rel: Rel, words: Words) -> Result<(), AllocError>
     requires { AreWhole words }
-    ensures { Puts result items.old items.new (groups.tested rel words.left words.right (Inside Skip spot.line spot.index) spot.next ++ templates.faulted spot.line 1) }
+    ensures { Puts result items.old items.new (groups.tested rel words.left words.right
+        (Inside Skip spot.line spot.index) spot.next ++ templates.faulted spot.line 1) }
 {
     put_tested(items, rel, words, spot.skip(), spot.next)?;
     put_faulted(items, spot.line, NO_LINE)?;
@@ -432,7 +437,8 @@ fn put_gone(
 ) -> Result<(), AllocError>
     requires rising { Rises 0 65536 numbers.now }
     requires whole { AreWhole words }
-    ensures { Puts result items.old items.new (groups.gone spot.line rel words.left words.right (Inside Skip spot.line spot.index) spot.next (has_line numbers.now to) to) }
+    ensures { Puts result items.old items.new (groups.gone spot.line rel words.left words.right
+        (Inside Skip spot.line spot.index) spot.next (has_line numbers.now to) to) }
 {
     if has_number(numbers, to) {
         put_tested(items, denied(rel), words, spot.skip(), Target::Line(to))

@@ -210,7 +210,8 @@ fn put_line_called_by_routine(
     to: u16,
     next: Target,
 ) -> Result<(), AllocError>
-    ensures { Puts result items.old items.new (templates.constant line places.LINE ++ (templates.return_address next ++ (templates.jump (target.Line to) ∷ []))) }
+    ensures { Puts result items.old items.new (templates.constant line places.LINE
+        ++ (templates.return_address next ++ (templates.jump (target.Line to) ∷ []))) }
 {
     put_constant(items, line, LINE)?;
     put_return(items, next)?;
@@ -256,7 +257,8 @@ fn put_call_to(
 
 // Takes the newest return by the routine and goes on there.
 fn put_returned_by_routine(items: &mut Vec<Item>, line: u16) -> Result<(), AllocError>
-    ensures { Puts result items.old items.new (templates.constant line places.LINE ++ (templates.call places.POP_AT ∷ templates.jump_through)) }
+    ensures { Puts result items.old items.new (templates.constant line places.LINE
+        ++ (templates.call places.POP_AT ∷ templates.jump_through)) }
 {
     put_constant(items, line, LINE)?;
     put_call(items, Routine::Pop)?;

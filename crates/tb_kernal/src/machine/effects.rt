@@ -2,7 +2,8 @@
 ghost use Rattle.std.specs.Prelude.{◌≡◌, ◌≢◌, ◌<◌, ◌+◌, true, false, [], length, Some};
 ghost use Rattle.tb_memmap.specs.Bytes.{at, written};
 ghost use Rattle.tb_cpu.specs.Instructions.{next};
-ghost use Rattle.tb_kernal.specs.Machine.{state_of, SameKeyboard, text_left, is_lawful_go, waits_for, gone_at, stepped, served, after_service};
+ghost use Rattle.tb_kernal.specs.Machine.{state_of, SameKeyboard, text_left, is_lawful_go, waits_for, gone_at, stepped};
+ghost use Rattle.tb_kernal.specs.Machine.{served, after_service};
 ghost use Rattle.tb_kernal.specs.Rom.{all_writable, service_at};
 ghost use Rattle.tb_kernal.specs.declared.rom.Service.TheVariants.{Chrout, Chrin, Getin};
 
