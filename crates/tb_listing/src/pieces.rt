@@ -5,24 +5,8 @@ use std::alloc::{AllocError, Global};
 use tb_asm::Operand;
 use tb_codegen::LineStart;
 use tb_disasm::{Content, first_line};
-use tb_opcodes::Mode;
+use tb_opcodes::{Mnemonic, Mode};
 use tb_runtime16::{BLOCK_AT, LINES_AT, RETURN_LOW, Routine, block, entry};
-
-// The opcodes by which texts and addresses are found.
-const JSR: u8 = 0x20;
-
-const JMP: u8 = 0x4c;
-
-const LDA: u8 = 0xa9;
-
-const STA: u8 = 0x8d;
-
-const STA_ZERO_PAGE: u8 = 0x85;
-
-const STA_BY_X: u8 = 0x9d;
-
-/// How many bytes a call and a jump take.
-const CALL_AND_JUMP: u16 = 6;
 
 /// How many bytes the low bytes of Number's powers of ten take, and also the high ones. They follow its code.
 const POWERS: u16 = 4;
@@ -123,7 +107,7 @@ pub fn pieces<'a>(alloc: Global, program: &Program<'a>) -> Result<Vec<Piece<'a>>
     let mut at = BLOCK_AT;
     let mut text = Span { from: 0, to: 0 };
     while !rest.is_empty() {
-        if let Some(found) = text_behind_call(at, rest) {
+        if let Some(found) = text_after_call(at, rest) {
             text = found;
         }
         let (kind, size) = first_kind(program, text, at, rest);
@@ -161,17 +145,61 @@ struct Span {
     to: u16,
 }
 
+// An instruction, and what follows it.
+#[derive(Clone, Copy, Drop)]
+struct Instruction<'a> {
+    mnemonic: Mnemonic,
+    mode: Mode,
+    // Its operand, 0 if it has none.
+    operand: u16,
+    // The address after it, and the bytes from there on.
+    after: u16,
+    rest: &'a [u8],
+}
+
+impl Instruction<'_> {
+    fn is(&self, mnemonic: Mnemonic, mode: Mode) -> bool {
+        self.mnemonic == mnemonic && self.mode == mode
+    }
+
+    fn calls(&self, routine: Routine) -> bool {
+        self.is(Mnemonic::Jsr, Mode::Absolute) && self.operand == entry(routine)
+    }
+}
+
+// The instruction that begins here; `None` if there is none.
+fn first_instruction(at: u16, bytes: &[u8]) -> Option<Instruction<'_>> {
+    if bytes.is_empty() {
+        return None;
+    }
+    let (line, size) = first_line(at, bytes);
+    let Content::Instr(mnemonic, mode, operand) = line.content else {
+        return None;
+    };
+    Some(Instruction {
+        mnemonic,
+        mode,
+        operand: match operand {
+            Operand::Word(word) => word,
+            Operand::Byte(byte) => u16::from(byte),
+            Operand::Nothing | Operand::Label(_) | Operand::LowOf(_) | Operand::HighOf(_) => 0,
+        },
+        after: at.wrapping_add(low_word(size)),
+        rest: bytes.split_at(size.min(bytes.len())).1,
+    })
+}
+
 // Where the text of a PRINT is, if its call of Text is here: the jump after the call leads past the text.
-fn text_behind_call(at: u16, rest: &[u8]) -> Option<Span> {
-    match rest {
-        [JSR, low, high, JMP, to_low, to_high, ..]
-            if u16::from_le_bytes([*low, *high]) == entry(Routine::Text) => {
-            Some(Span {
-                from: at.wrapping_add(CALL_AND_JUMP),
-                to: u16::from_le_bytes([*to_low, *to_high]),
-            })
-        }
-        _ => None,
+fn text_after_call(at: u16, rest: &[u8]) -> Option<Span> {
+    let call = first_instruction(at, rest)?;
+    let jump = first_instruction(call.after, call.rest)?;
+    if call.calls(Routine::Text) && jump.is(Mnemonic::Jmp, Mode::Absolute) {
+        Some(Span {
+            from: jump.after,
+            to: jump.operand,
+        })
+    } else {
+        None
     }
 }
 
@@ -213,15 +241,20 @@ fn data_size(text: Span, at: u16) -> usize {
 fn what_is_named(program: &Program<'_>, kind: Kind, at: u16, rest: &[u8]) -> Named {
     match (kind, rest) {
         (Kind::Address, [low, high, ..]) => Named::Whole(u16::from_le_bytes([*low, *high])),
-        (Kind::Code, [LDA, ..]) => loaded(program, at, rest),
-        (Kind::Code, [_, ..]) => match first_line(at, rest).0.content {
-            Content::Instr(_, _, Operand::Word(address)) => Named::Whole(address),
-            Content::Instr(_, mode, Operand::Byte(byte)) if mode != Mode::Immediate => {
-                Named::Whole(u16::from(byte))
-            }
-            _ => Named::Nothing,
-        },
+        (Kind::Code, _) => named_by_code(program, at, rest),
         _ => Named::Nothing,
+    }
+}
+
+// What the first instruction names.
+fn named_by_code(program: &Program<'_>, at: u16, rest: &[u8]) -> Named {
+    let Some(instruction) = first_instruction(at, rest) else {
+        return Named::Nothing;
+    };
+    match instruction.mode {
+        Mode::Immediate if instruction.mnemonic == Mnemonic::Lda => loaded(program, at, rest),
+        Mode::Immediate | Mode::Implied | Mode::Accumulator => Named::Nothing,
+        _ => Named::Whole(instruction.operand),
     }
 }
 
@@ -253,38 +286,68 @@ fn last(bytes: &[u8], count: usize) -> &[u8] {
     bytes.split_at(bytes.len().saturating_sub(count)).1
 }
 
-// A load of an address by its two bytes, with this distance between the loads.
-fn loads(low: u8, high: u8, apart: usize) -> Option<Load> {
-    Some(Load {
-        address: u16::from_le_bytes([low, high]),
-        apart,
-    })
-}
-
-// Whether these two bytes are the address of a routine's entry.
-fn is_entry(low: u8, high: u8, routine: Routine) -> bool {
-    u16::from_le_bytes([low, high]) == entry(routine)
-}
-
 // Whether the code after the loads hands the address to Push or to Text.
-fn hands_over(rest: &[u8]) -> bool {
-    match rest {
-        [STA_ZERO_PAGE, _, JSR, low, high, ..] => is_entry(*low, *high, Routine::Push),
-        [STA_ZERO_PAGE, _, LDA, _, STA, _, _, JSR, low, high, ..] => {
-            is_entry(*low, *high, Routine::Text)
-        }
-        _ => false,
-    }
+fn hands_over(at: u16, rest: &[u8]) -> bool {
+    hands_to_push(at, rest).unwrap_or(false) || hands_to_text(at, rest).unwrap_or(false)
+}
+
+// STA to page zero, JSR Push.
+fn hands_to_push(at: u16, rest: &[u8]) -> Option<bool> {
+    let store = first_instruction(at, rest)?;
+    let call = first_instruction(store.after, store.rest)?;
+    Some(store.is(Mnemonic::Sta, Mode::ZeroPage) && call.calls(Routine::Push))
+}
+
+// STA to page zero, LDA of the length, STA, JSR Text.
+fn hands_to_text(at: u16, rest: &[u8]) -> Option<bool> {
+    let store = first_instruction(at, rest)?;
+    let length = first_instruction(store.after, store.rest)?;
+    let kept = first_instruction(length.after, length.rest)?;
+    let call = first_instruction(kept.after, kept.rest)?;
+    Some(
+        store.is(Mnemonic::Sta, Mode::ZeroPage)
+            && length.is(Mnemonic::Lda, Mode::Immediate)
+            && kept.is(Mnemonic::Sta, Mode::Absolute)
+            && call.calls(Routine::Text),
+    )
 }
 
 // The load that begins here: of the line to return to, in line or by Push, of the line table for the search, or of a
 // text.
 fn first_load(program: &Program<'_>, at: u16, rest: &[u8]) -> Option<Load> {
-    match rest {
-        [LDA, low, STA_ZERO_PAGE, _, LDA, high, behind @ ..]
-            if at == program.search() || hands_over(behind) => loads(*low, *high, 4),
-        [LDA, low, STA_BY_X, to_low, to_high, LDA, high, STA_BY_X, ..]
-            if u16::from_le_bytes([*to_low, *to_high]) == RETURN_LOW => loads(*low, *high, 5),
-        _ => None,
+    let low = first_instruction(at, rest)?;
+    let store = first_instruction(low.after, low.rest)?;
+    let high = first_instruction(store.after, store.rest)?;
+    if !low.is(Mnemonic::Lda, Mode::Immediate) || !high.is(Mnemonic::Lda, Mode::Immediate) {
+        return None;
     }
+    let is_load = match (store.mnemonic, store.mode) {
+        (Mnemonic::Sta, Mode::ZeroPage) => {
+            at == program.search() || hands_over(high.after, high.rest)
+        }
+        (Mnemonic::Sta, Mode::AbsoluteX) => {
+            store.operand == RETURN_LOW && stores_by_x(high.after, high.rest)
+        }
+        _ => false,
+    };
+    if !is_load {
+        return None;
+    }
+    Some(Load {
+        address: u16::from_le_bytes([low_byte(low.operand), low_byte(high.operand)]),
+        apart: usize::from(high.after.wrapping_sub(low.after)),
+    })
+}
+
+// Whether STA by X begins here.
+fn stores_by_x(at: u16, rest: &[u8]) -> bool {
+    match first_instruction(at, rest) {
+        Some(store) => store.is(Mnemonic::Sta, Mode::AbsoluteX),
+        None => false,
+    }
+}
+
+// A number modulo 256.
+fn low_byte(number: u16) -> u8 {
+    (number % 0x100) as u8
 }
