@@ -1,6 +1,7 @@
 //! The label file that VICE's monitor reads: a line for each address that has a name, by rising address.
-ghost use Rattle.std.specs.Prelude.{◌≡◌, ◌<◌, ◌++◌, OnOk, IfOk, map};
+ghost use Rattle.std.specs.Prelude.{◌≡◌, ◌<◌, IfOk, map};
 ghost use Rattle.std.specs.List.{range_with_len};
+ghost use Rattle.tb_words.specs.Texts.{AppendsBytes};
 ghost use Rattle.tb_words.specs.declared.TheConstants.{LETTERS};
 ghost use Rattle.tb_codegen.specs.Compiled.{pair_of};
 ghost use Rattle.tb_listing.specs.Labels.{name_of, all_routines, routine_label, line_label, variable_label};
@@ -45,7 +46,7 @@ pub fn labels(alloc: Global, starts: &[LineStart], table: u16) -> Result<Vec<u8>
 
 // Appends the line of a label.
 fn push_label(alloc: Global, text: &mut Vec<u8>, name: &[u8], at: u16) -> Result<(), AllocError>
-    ensures { OnOk result (text.new.items ≡ text.old.items ++ label_text (name.now, at)) }
+    ensures { AppendsBytes result text.old text.new (label_text (name.now, at)) }
 {
     text.extend_from_slice(b"al C:")?;
     text.extend_from_slice(encode(alloc, at.to_be_bytes())?.as_bytes())?;
@@ -56,7 +57,7 @@ fn push_label(alloc: Global, text: &mut Vec<u8>, name: &[u8], at: u16) -> Result
 
 // Appends the labels of the block.
 fn push_block(alloc: Global, text: &mut Vec<u8>) -> Result<(), AllocError>
-    ensures { OnOk result (text.new.items ≡ text.old.items ++ labels_text block_labels) }
+    ensures { AppendsBytes result text.old text.new (labels_text block_labels) }
 {
     push_label(alloc, text, b"prologue", BLOCK_AT)?;
     push_label(alloc, text, b"send", SEND_AT)?;
@@ -65,7 +66,7 @@ fn push_block(alloc: Global, text: &mut Vec<u8>) -> Result<(), AllocError>
 }
 
 fn push_routines(alloc: Global, text: &mut Vec<u8>) -> Result<(), AllocError>
-    ensures { OnOk result (text.new.items ≡ text.old.items ++ labels_text (map routine_label all_routines)) }
+    ensures { AppendsBytes result text.old text.new (labels_text (map routine_label all_routines)) }
 {
     for routine in ROUTINES {
         push_label(alloc, text, name(routine), entry(routine))?;
@@ -96,7 +97,7 @@ pub fn name(routine: Routine) -> &'static [u8]
 
 // Appends where the code of each line begins.
 fn push_lines(alloc: Global, text: &mut Vec<u8>, starts: &[LineStart]) -> Result<(), AllocError>
-    ensures { OnOk result (text.new.items ≡ text.old.items ++ labels_text (map line_label (map pair_of starts.now))) }
+    ensures { AppendsBytes result text.old text.new (labels_text (map line_label (map pair_of starts.now))) }
 {
     for start in starts {
         push_line(alloc, text, start.number, start.at)?;
@@ -105,7 +106,7 @@ fn push_lines(alloc: Global, text: &mut Vec<u8>, starts: &[LineStart]) -> Result
 }
 
 fn push_line(alloc: Global, text: &mut Vec<u8>, number: u16, at: u16) -> Result<(), AllocError>
-    ensures { OnOk result (text.new.items ≡ text.old.items ++ label_text (line_label (number, at))) }
+    ensures { AppendsBytes result text.old text.new (label_text (line_label (number, at))) }
 {
     let name = format!(in alloc; "line{number}")?;
     push_label(alloc, text, name.as_bytes(), at)
@@ -113,7 +114,7 @@ fn push_line(alloc: Global, text: &mut Vec<u8>, number: u16, at: u16) -> Result<
 
 // Appends the variables, the count of returns, and the services.
 fn push_data(alloc: Global, text: &mut Vec<u8>) -> Result<(), AllocError>
-    ensures { OnOk result (text.new.items ≡ text.old.items ++ labels_text data_labels) }
+    ensures { AppendsBytes result text.old text.new (labels_text data_labels) }
 {
     push_variables(alloc, text)?;
     push_label(alloc, text, b"notes", NOTES)?;
@@ -124,7 +125,7 @@ fn push_data(alloc: Global, text: &mut Vec<u8>) -> Result<(), AllocError>
 }
 
 fn push_variables(alloc: Global, text: &mut Vec<u8>) -> Result<(), AllocError>
-    ensures { OnOk result (text.new.items ≡ text.old.items ++ labels_text (map variable_label (range_with_len 0 LETTERS))) }
+    ensures { AppendsBytes result text.old text.new (labels_text (map variable_label (range_with_len 0 LETTERS))) }
 {
     'variables: for index in 0..LETTERS as u16 {
         push_variable(alloc, text, index)?;
@@ -134,7 +135,7 @@ fn push_variables(alloc: Global, text: &mut Vec<u8>) -> Result<(), AllocError>
 
 fn push_variable(alloc: Global, text: &mut Vec<u8>, index: u16) -> Result<(), AllocError>
     requires { index < LETTERS }
-    ensures { OnOk result (text.new.items ≡ text.old.items ++ label_text (variable_label index)) }
+    ensures { AppendsBytes result text.old text.new (label_text (variable_label index)) }
 {
     push_label(
         alloc,

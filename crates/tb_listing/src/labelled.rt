@@ -1,5 +1,6 @@
 //! The listing with names, row by row.
 ghost use Rattle.std.specs.Prelude.{◌≡◌, ◌≤◌, ◌∷◌, ◌++◌, [], IfOk, OnOk, length, map};
+ghost use Rattle.tb_words.specs.Texts.{AppendsBytes};
 ghost use Rattle.tb_codegen.specs.Compiled.{pair_of as start_pair};
 ghost use Rattle.tb_listing.specs.Comments.{KeepsComments, comment_on, comment_row, comments};
 ghost use Rattle.tb_source_text.specs.Lines.{pair_of};
@@ -55,7 +56,7 @@ fn count_before(pieces: &[Piece<'_>], at: u16) -> usize
 
 // Appends the front of a row and what follows it.
 fn push_row(text: &mut Vec<u8>, front: &[u8], row: &[u8]) -> Result<(), AllocError>
-    ensures { OnOk result (text.new.items ≡ text.old.items ++ map shown front.now ++ map shown row.now ++ 10 ∷ []) }
+    ensures { AppendsBytes result text.old text.new (map shown front.now ++ map shown row.now ++ 10 ∷ []) }
 {
     push_shown(text, front)?;
     push_shown(text, row)?;
@@ -64,7 +65,7 @@ fn push_row(text: &mut Vec<u8>, front: &[u8], row: &[u8]) -> Result<(), AllocErr
 
 // Appends a line of the source as a comment.
 fn push_comment(text: &mut Vec<u8>, line: &[u8]) -> Result<(), AllocError>
-    ensures { OnOk result (text.new.items ≡ text.old.items ++ comment_row line.now) }
+    ensures { AppendsBytes result text.old text.new (comment_row line.now) }
 {
     push_row(text, b"; ", cut(line))
 }

@@ -1,5 +1,6 @@
 //! The map of a program: the address of each part, what it takes and what it costs.
-ghost use Rattle.std.specs.Prelude.{◌≡◌, ◌≤◌, ◌+◌, ◌-◌, ◌++◌, ◌∷◌, [], IfOk, OnOk, map, drop, length, replicate};
+ghost use Rattle.std.specs.Prelude.{◌≡◌, ◌≤◌, ◌+◌, ◌-◌, ◌++◌, [], IfOk, map, drop, length, replicate};
+ghost use Rattle.tb_words.specs.Texts.{AppendsBytes};
 ghost use Rattle.tb_syntax.specs.PlainData.{lines_of};
 ghost use Rattle.tb_meaning.specs.Cost as cost;
 ghost use Rattle.tb_runtime16.specs.Addresses.{PROLOGUE_AT};
@@ -55,10 +56,9 @@ fn push_parts(
     requires small { cost.cost (lines_of program.now) ≤ most_cost }
     requires ends { PROLOGUE_AT + size ≤ 0xA000 }
     ensures sum { IfOk result (λ sum. sum ≡ cost.cost (lines_of program.now)) }
-    ensures rows { OnOk result (text.new.items ≡ text.old.items
-        ++ (row_text (block_part (starts_of compiled.now) (table_of compiled.now))
+    ensures rows { AppendsBytes result text.old text.new (row_text (block_part (starts_of compiled.now) (table_of compiled.now))
         ++ (rows_text (line_parts (starts_of compiled.now) (table_of compiled.now) (lines_of program.now))
-        ++ row_text (table_part (table_of compiled.now) size)))) }
+        ++ row_text (table_part (table_of compiled.now) size))) }
 {
     push_row(alloc, text, b"block", BLOCK_AT, block_size(compiled), BASE)?;
     let (starts, table) = (compiled.starts(), compiled.table());
@@ -117,7 +117,7 @@ fn push_first(
     number: u16,
     cost: u32,
 ) -> Result<(), AllocError>
-    ensures { OnOk result (text.new.items ≡ text.old.items ++ rows_text (first_part (map pair_of starts.now) table number cost)) }
+    ensures { AppendsBytes result text.old text.new (rows_text (first_part (map pair_of starts.now) table number cost)) }
 {
     let [first, behind @ ..] = starts else {
         return Ok(());
@@ -162,7 +162,7 @@ fn push_row(
     bytes: usize,
     cost: u32,
 ) -> Result<(), AllocError>
-    ensures { OnOk result (text.new.items ≡ text.old.items ++ row_text (record { name = name.now; at = at; bytes = bytes; price = cost })) }
+    ensures { AppendsBytes result text.old text.new (row_text (record { name = name.now; at = at; bytes = bytes; price = cost })) }
 {
     push_left(text, name)?;
     text.extend_from_slice(encode_upper(alloc, at.to_be_bytes())?.as_bytes())?;
@@ -173,7 +173,7 @@ fn push_row(
 
 // Appends a text, filled up with spaces.
 fn push_left(text: &mut Vec<u8>, name: &[u8]) -> Result<(), AllocError>
-    ensures { OnOk result (text.new.items ≡ text.old.items ++ left 12 name.now) }
+    ensures { AppendsBytes result text.old text.new (left 12 name.now) }
 {
     text.extend_from_slice(name)?;
     push_spaces(text, NAME_WIDTH.saturating_sub(name.len()))
@@ -181,7 +181,7 @@ fn push_left(text: &mut Vec<u8>, name: &[u8]) -> Result<(), AllocError>
 
 // Appends a number with spaces before it.
 fn push_right(alloc: Global, text: &mut Vec<u8>, number: usize) -> Result<(), AllocError>
-    ensures { OnOk result (text.new.items ≡ text.old.items ++ right 8 number) }
+    ensures { AppendsBytes result text.old text.new (right 8 number) }
 {
     let digits = format!(in alloc; "{number}")?;
     push_spaces(text, NUMBER_WIDTH.saturating_sub(digits.len()))?;
@@ -189,7 +189,7 @@ fn push_right(alloc: Global, text: &mut Vec<u8>, number: usize) -> Result<(), Al
 }
 
 fn push_spaces(text: &mut Vec<u8>, count: usize) -> Result<(), AllocError>
-    ensures { OnOk result (text.new.items ≡ text.old.items ++ replicate count 32) }
+    ensures { AppendsBytes result text.old text.new (replicate count 32) }
 {
     let size = text.len();
     text.resize(size.saturating_add(count), b' ')

@@ -1,6 +1,7 @@
 //! The names of addresses.
-ghost use Rattle.std.specs.Prelude.{◌≡◌, ◌++◌, false, true, IfOk, OnOk};
+ghost use Rattle.std.specs.Prelude.{◌≡◌, ◌++◌, false, true, IfOk};
 ghost use Rattle.std.specs.Fmt.{decimal};
+ghost use Rattle.tb_words.specs.Texts.{AppendsBytes};
 ghost use Rattle.tb_listing.specs.Comments.{begins_plainly, is_comment};
 
 use crate::label_file::{ROUTINES, name};
@@ -96,7 +97,7 @@ fn push_number(
     name: &[u8],
     number: u16,
 ) -> Result<(), AllocError>
-    ensures { OnOk result (text.new.items ≡ text.old.items ++ name.now ++ decimal number) }
+    ensures { AppendsBytes result text.old text.new (name.now ++ decimal number) }
 {
     text.extend_from_slice(name)?;
     text.extend_from_slice(format!(in alloc; "{number}")?.as_bytes())

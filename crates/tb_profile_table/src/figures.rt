@@ -1,6 +1,7 @@
 //! Numbers and words in texts.
-ghost use Rattle.std.specs.Prelude.{◌≡◌, ◌<◌, ◌++◌, ◌^◌, OnOk, IfOk, string_bytes};
+ghost use Rattle.std.specs.Prelude.{◌≡◌, ◌<◌, ◌^◌, IfOk, string_bytes};
 ghost use Rattle.std.specs.Fmt.{decimal};
+ghost use Rattle.tb_words.specs.Texts.{AppendsBytes};
 ghost use Rattle.tb_profile_table.specs.Figures.{percent, right, share};
 
 use std::alloc::{AllocError, Global};
@@ -8,7 +9,7 @@ use tb_source_text::push_spaces;
 
 /// Appends a number in decimal.
 pub fn push_number(alloc: Global, text: &mut Vec<u8>, number: u128) -> Result<(), AllocError>
-    ensures { OnOk result (text.new.items ≡ text.old.items ++ decimal number) }
+    ensures { AppendsBytes result text.old text.new (decimal number) }
 {
     text.extend_from_slice(format!(in alloc; "{number}")?.as_bytes())
 }
@@ -16,7 +17,7 @@ pub fn push_number(alloc: Global, text: &mut Vec<u8>, number: u128) -> Result<()
 /// Appends a word, right-aligned in `columns` columns; a longer word takes as many as it has.
 #[tactic(auto, unfolding(crate::specs::Figures::right))]
 pub fn push_right(text: &mut Vec<u8>, columns: usize, word: &[u8]) -> Result<(), AllocError>
-    ensures { OnOk result (text.new.items ≡ text.old.items ++ right columns word.now) }
+    ensures { AppendsBytes result text.old text.new (right columns word.now) }
 {
     push_spaces(text, columns.saturating_sub(word.len()))?;
     text.extend_from_slice(word)
@@ -29,7 +30,7 @@ pub fn push_column(
     columns: usize,
     number: u128,
 ) -> Result<(), AllocError>
-    ensures { OnOk result (text.new.items ≡ text.old.items ++ right columns (decimal number)) }
+    ensures { AppendsBytes result text.old text.new (right columns (decimal number)) }
 {
     push_right(text, columns, format!(in alloc; "{number}")?.as_bytes())
 }

@@ -1,5 +1,6 @@
 //! The page of a profile: one file that needs nothing else, no script, and no colours to be read.
-ghost use Rattle.std.specs.Prelude.{◌≡◌, ◌++◌, ◌<◌, ◌^◌, OnOk, IfOk, flat_map, map};
+ghost use Rattle.std.specs.Prelude.{◌≡◌, ◌<◌, ◌^◌, IfOk, flat_map, map};
+ghost use Rattle.tb_words.specs.Texts.{AppendsBytes};
 ghost use Rattle.tb_profile_table.specs.Lines.{line_pair};
 ghost use Rattle.tb_profile_table.specs.Page.{bar, cell, cells, escaped, line_row, numbered_row, opening, page_of};
 ghost use Rattle.tb_profile_table.specs.Page.{row_text, rows_of, share_cell, source, start_row, sum_row, sums};
@@ -59,7 +60,7 @@ pub const FOOT: &[u8] = b"</tbody>
 // Appends a byte of a text, escaped if HTML would read it otherwise.
 #[tactic(auto, unfolding(crate::specs::Page::escaped))]
 fn push_escaped(text: &mut Vec<u8>, byte: u8) -> Result<(), AllocError>
-    ensures { OnOk result (text.new.items ≡ text.old.items ++ escaped byte) }
+    ensures { AppendsBytes result text.old text.new (escaped byte) }
 {
     match byte {
         b'&' => text.extend_from_slice(b"&amp;"),
@@ -73,7 +74,7 @@ fn push_escaped(text: &mut Vec<u8>, byte: u8) -> Result<(), AllocError>
 
 // Appends the cell of a statement.
 fn push_source(text: &mut Vec<u8>, statement: &[u8]) -> Result<(), AllocError>
-    ensures { OnOk result (text.new.items ≡ text.old.items ++ source statement.now) }
+    ensures { AppendsBytes result text.old text.new (source statement.now) }
 {
     text.extend_from_slice(b"<td class=\"source\">")?;
     push_all_escaped(text, statement)?;
@@ -82,7 +83,7 @@ fn push_source(text: &mut Vec<u8>, statement: &[u8]) -> Result<(), AllocError>
 
 // Appends the bytes of a statement, each escaped if need be.
 fn push_all_escaped(text: &mut Vec<u8>, statement: &[u8]) -> Result<(), AllocError>
-    ensures { OnOk result (text.new.items ≡ text.old.items ++ flat_map escaped statement.now) }
+    ensures { AppendsBytes result text.old text.new (flat_map escaped statement.now) }
 {
     for byte in statement {
         push_escaped(text, *byte)?;
@@ -93,7 +94,7 @@ fn push_all_escaped(text: &mut Vec<u8>, statement: &[u8]) -> Result<(), AllocErr
 // Appends the cell of a number.
 #[tactic(auto, unfolding(crate::specs::Page::cell))]
 fn push_cell(alloc: Global, text: &mut Vec<u8>, number: u128) -> Result<(), AllocError>
-    ensures { OnOk result (text.new.items ≡ text.old.items ++ cell number) }
+    ensures { AppendsBytes result text.old text.new (cell number) }
 {
     text.extend_from_slice(b"<td>")?;
     push_number(alloc, text, number)?;
@@ -103,7 +104,7 @@ fn push_cell(alloc: Global, text: &mut Vec<u8>, number: u128) -> Result<(), Allo
 // Appends the cells of times, instructions and cycles.
 #[tactic(auto, unfolding(crate::specs::Page::cells))]
 fn push_cells(alloc: Global, text: &mut Vec<u8>, figures: &Figures) -> Result<(), AllocError>
-    ensures { OnOk result (text.new.items ≡ text.old.items ++ cells figures.now) }
+    ensures { AppendsBytes result text.old text.new (cells figures.now) }
 {
     push_cell(alloc, text, figures.times)?;
     push_cell(alloc, text, u128::from(figures.instructions))?;
@@ -112,7 +113,7 @@ fn push_cells(alloc: Global, text: &mut Vec<u8>, figures: &Figures) -> Result<()
 
 // Appends the share, and the beginning of its bar.
 fn push_share(alloc: Global, text: &mut Vec<u8>, thousandths: u128) -> Result<(), AllocError>
-    ensures { OnOk result (text.new.items ≡ text.old.items ++ share_cell thousandths) }
+    ensures { AppendsBytes result text.old text.new (share_cell thousandths) }
 {
     text.extend_from_slice(b"<td>")?;
     text.extend_from_slice(percent(alloc, thousandths)?.as_bytes())?;
@@ -122,7 +123,7 @@ fn push_share(alloc: Global, text: &mut Vec<u8>, thousandths: u128) -> Result<()
 // Appends a cell with a bar, 1 em long for each tenth of the whole.
 #[tactic(auto, unfolding(crate::specs::Page::bar))]
 fn push_bar(alloc: Global, text: &mut Vec<u8>, thousandths: u128) -> Result<(), AllocError>
-    ensures { OnOk result (text.new.items ≡ text.old.items ++ bar thousandths) }
+    ensures { AppendsBytes result text.old text.new (bar thousandths) }
 {
     push_share(alloc, text, thousandths)?;
     push_number(alloc, text, thousandths / 100)?;
@@ -139,7 +140,7 @@ fn push_name(
     name: &[u8],
 ) -> Result<(), AllocError>
     requires { thousandths < 2 ^ 80 }
-    ensures { OnOk result (text.new.items ≡ text.old.items ++ opening thousandths name.now) }
+    ensures { AppendsBytes result text.old text.new (opening thousandths name.now) }
 {
     text.extend_from_slice(b"<tr class=\"h")?;
     push_number(alloc, text, (thousandths * 9 + 999) / 1000)?;
@@ -157,7 +158,7 @@ fn push_row(
     row: &Row,
     all: u64,
 ) -> Result<(), AllocError>
-    ensures { OnOk result (text.new.items ≡ text.old.items ++ row_text name.now row.now all) }
+    ensures { AppendsBytes result text.old text.new (row_text name.now row.now all) }
 {
     let thousandths = share(row.cycles, all);
     push_name(alloc, text, thousandths, name)?;
@@ -168,7 +169,7 @@ fn push_row(
 // Appends the row of a line up to its statement.
 #[tactic(auto, unfolding(crate::specs::Page::numbered_row))]
 fn push_numbered(alloc: Global, text: &mut Vec<u8>, row: &Row, all: u64) -> Result<(), AllocError>
-    ensures { OnOk result (text.new.items ≡ text.old.items ++ numbered_row row.now all) }
+    ensures { AppendsBytes result text.old text.new (numbered_row row.now all) }
 {
     let number = format!(in alloc; "{}", row.line)?;
     push_row(alloc, text, number.as_bytes(), row, all)
@@ -177,7 +178,7 @@ fn push_numbered(alloc: Global, text: &mut Vec<u8>, row: &Row, all: u64) -> Resu
 // Appends the row of a line.
 #[tactic(auto, unfolding(crate::specs::Page::line_row))]
 fn push_line(alloc: Global, text: &mut Vec<u8>, line: &Line<'_>, all: u64) -> Result<(), AllocError>
-    ensures { OnOk result (text.new.items ≡ text.old.items ++ line_row all (line_pair line.now)) }
+    ensures { AppendsBytes result text.old text.new (line_row all (line_pair line.now)) }
 {
     push_numbered(alloc, text, &line.row, all)?;
     push_source(text, line.statement)?;
@@ -190,7 +191,7 @@ fn push_lines(
     lines: &[Line<'_>],
     all: u64,
 ) -> Result<(), AllocError>
-    ensures { OnOk result (text.new.items ≡ text.old.items ++ flat_map (line_row all) (map line_pair lines.now)) }
+    ensures { AppendsBytes result text.old text.new (flat_map (line_row all) (map line_pair lines.now)) }
 {
     for line in lines {
         push_line(alloc, text, line, all)?;
@@ -200,7 +201,7 @@ fn push_lines(
 
 // Appends a row of the sums.
 fn push_sum(alloc: Global, text: &mut Vec<u8>, name: &[u8], number: u128) -> Result<(), AllocError>
-    ensures { OnOk result (text.new.items ≡ text.old.items ++ sum_row name.now number) }
+    ensures { AppendsBytes result text.old text.new (sum_row name.now number) }
 {
     text.extend_from_slice(b"<tr><th scope=\"row\">")?;
     text.extend_from_slice(name)?;
@@ -211,7 +212,7 @@ fn push_sum(alloc: Global, text: &mut Vec<u8>, name: &[u8], number: u128) -> Res
 
 // Appends the table of the sums.
 fn push_sums(alloc: Global, text: &mut Vec<u8>, all: &Figures) -> Result<(), AllocError>
-    ensures { OnOk result (text.new.items ≡ text.old.items ++ sums all.now) }
+    ensures { AppendsBytes result text.old text.new (sums all.now) }
 {
     text.extend_from_slice(b"<table class=\"sums\">\n<caption>The whole run.</caption>\n")?;
     push_sum(alloc, text, b"lines begun", all.times)?;
@@ -223,7 +224,7 @@ fn push_sums(alloc: Global, text: &mut Vec<u8>, all: &Figures) -> Result<(), All
 // Appends the row of what came before the first line.
 #[tactic(auto, unfolding(crate::specs::Page::start_row))]
 fn push_start(alloc: Global, text: &mut Vec<u8>, whole: &Whole) -> Result<(), AllocError>
-    ensures { OnOk result (text.new.items ≡ text.old.items ++ start_row whole.now) }
+    ensures { AppendsBytes result text.old text.new (start_row whole.now) }
 {
     push_row(alloc, text, b"start", &whole.start, whole.cycles)?;
     push_source(text, b"")?;
@@ -238,7 +239,7 @@ fn push_rows(
     whole: &Whole,
     lines: &[Line<'_>],
 ) -> Result<(), AllocError>
-    ensures { OnOk result (text.new.items ≡ text.old.items ++ rows_of whole.now (map line_pair lines.now)) }
+    ensures { AppendsBytes result text.old text.new (rows_of whole.now (map line_pair lines.now)) }
 {
     text.extend_from_slice(ROWS)?;
     push_start(alloc, text, whole)?;

@@ -1,5 +1,6 @@
 //! The table of a profile.
-ghost use Rattle.std.specs.Prelude.{◌≡◌, ◌++◌, OnOk, IfOk, map, flat_map};
+ghost use Rattle.std.specs.Prelude.{◌≡◌, IfOk, map, flat_map};
+ghost use Rattle.tb_words.specs.Texts.{AppendsBytes};
 ghost use Rattle.tb_profile_table.specs.Lines.{line_pair};
 ghost use Rattle.tb_profile_table.specs.Figures.{percent, right, share};
 ghost use Rattle.tb_profile_table.specs.Table.{counts, figures_of, figures_text, line_text, named, numbered, sum_of, table_of};
@@ -61,7 +62,7 @@ pub fn sum_of(whole: &Whole, lines: &[Line<'_>]) -> Figures
 // Appends the times, instructions and cycles of a row, each in its column.
 #[tactic(auto, unfolding(crate::specs::Table::counts))]
 fn push_counts(alloc: Global, text: &mut Vec<u8>, figures: &Figures) -> Result<(), AllocError>
-    ensures { OnOk result (text.new.items ≡ text.old.items ++ counts figures.now) }
+    ensures { AppendsBytes result text.old text.new (counts figures.now) }
 {
     push_column(alloc, text, TIMES, figures.times)?;
     push_column(alloc, text, INSTRUCTIONS, u128::from(figures.instructions))?;
@@ -70,7 +71,7 @@ fn push_counts(alloc: Global, text: &mut Vec<u8>, figures: &Figures) -> Result<(
 
 // Appends the share of all cycles, in its column.
 fn push_share(alloc: Global, text: &mut Vec<u8>, cycles: u64, all: u64) -> Result<(), AllocError>
-    ensures { OnOk result (text.new.items ≡ text.old.items ++ right 8 (percent (share cycles all))) }
+    ensures { AppendsBytes result text.old text.new (right 8 (percent (share cycles all))) }
 {
     push_right(text, SHARE, percent(alloc, share(cycles, all))?.as_bytes())
 }
@@ -84,7 +85,7 @@ fn push_figures(
     figures: &Figures,
     all: u64,
 ) -> Result<(), AllocError>
-    ensures { OnOk result (text.new.items ≡ text.old.items ++ figures_text name.now figures.now all) }
+    ensures { AppendsBytes result text.old text.new (figures_text name.now figures.now all) }
 {
     push_right(text, NUMBER, name)?;
     push_counts(alloc, text, figures)?;
@@ -94,7 +95,7 @@ fn push_figures(
 // Appends the number of a line, and its figures.
 #[tactic(auto, unfolding(crate::specs::Table::numbered))]
 fn push_numbered(alloc: Global, text: &mut Vec<u8>, row: &Row, all: u64) -> Result<(), AllocError>
-    ensures { OnOk result (text.new.items ≡ text.old.items ++ numbered row.now all) }
+    ensures { AppendsBytes result text.old text.new (numbered row.now all) }
 {
     let number = format!(in alloc; "{}", row.line)?;
     push_figures(alloc, text, number.as_bytes(), &figures_of(row), all)
@@ -103,7 +104,7 @@ fn push_numbered(alloc: Global, text: &mut Vec<u8>, row: &Row, all: u64) -> Resu
 // Appends the row of a line.
 #[tactic(auto, unfolding(crate::specs::Table::line_text))]
 fn push_line(alloc: Global, text: &mut Vec<u8>, line: &Line<'_>, all: u64) -> Result<(), AllocError>
-    ensures { OnOk result (text.new.items ≡ text.old.items ++ line_text all (line_pair line.now)) }
+    ensures { AppendsBytes result text.old text.new (line_text all (line_pair line.now)) }
 {
     push_numbered(alloc, text, &line.row, all)?;
     text.extend_from_slice(b"  ")?;
@@ -118,7 +119,7 @@ fn push_lines(
     lines: &[Line<'_>],
     all: u64,
 ) -> Result<(), AllocError>
-    ensures { OnOk result (text.new.items ≡ text.old.items ++ flat_map (line_text all) (map line_pair lines.now)) }
+    ensures { AppendsBytes result text.old text.new (flat_map (line_text all) (map line_pair lines.now)) }
 {
     for line in lines {
         push_line(alloc, text, line, all)?;
@@ -135,7 +136,7 @@ fn push_named(
     figures: &Figures,
     all: u64,
 ) -> Result<(), AllocError>
-    ensures { OnOk result (text.new.items ≡ text.old.items ++ named name.now figures.now all) }
+    ensures { AppendsBytes result text.old text.new (named name.now figures.now all) }
 {
     push_figures(alloc, text, name, figures, all)?;
     text.extend_from_slice(b"\n")
@@ -148,7 +149,7 @@ fn push_table(
     whole: &Whole,
     lines: &[Line<'_>],
 ) -> Result<(), AllocError>
-    ensures { OnOk result (text.new.items ≡ text.old.items ++ table_of whole.now (map line_pair lines.now)) }
+    ensures { AppendsBytes result text.old text.new (table_of whole.now (map line_pair lines.now)) }
 {
     text.extend_from_slice(HEAD)?;
     push_named(

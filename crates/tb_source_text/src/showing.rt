@@ -1,5 +1,6 @@
 //! Bytes as they are shown.
-ghost use Rattle.std.specs.Prelude.{◌≡◌, ◌++◌, OnOk, map, replicate, take};
+ghost use Rattle.std.specs.Prelude.{◌≡◌, map, replicate, take};
+ghost use Rattle.tb_words.specs.Texts.{AppendsBytes};
 ghost use Rattle.tb_source_text.specs.ShownBytes.{shown};
 
 use std::alloc::AllocError;
@@ -16,7 +17,7 @@ pub fn shown(byte: u8) -> u8
 
 /// Appends bytes as they are shown.
 pub fn push_shown(text: &mut Vec<u8>, bytes: &[u8]) -> Result<(), AllocError>
-    ensures { OnOk result (text.new.items ≡ text.old.items ++ map shown bytes.now) }
+    ensures { AppendsBytes result text.old text.new (map shown bytes.now) }
 {
     for byte in bytes {
         text.push(shown(*byte))?;
@@ -26,7 +27,7 @@ pub fn push_shown(text: &mut Vec<u8>, bytes: &[u8]) -> Result<(), AllocError>
 
 /// Appends `count` spaces.
 pub fn push_spaces(text: &mut Vec<u8>, count: usize) -> Result<(), AllocError>
-    ensures { OnOk result (text.new.items ≡ text.old.items ++ replicate count 32) }
+    ensures { AppendsBytes result text.old text.new (replicate count 32) }
 {
     let size = text.len();
     text.resize(size.saturating_add(count), b' ')

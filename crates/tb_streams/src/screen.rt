@@ -1,12 +1,13 @@
 //! The text in which the bytes that a program sent are shown on the host.
-ghost use Rattle.std.specs.Prelude.{◌≡◌, ◌<◌, [], ◌∷◌, ◌++◌, IfOk, OnOk};
+ghost use Rattle.std.specs.Prelude.{◌≡◌, IfOk};
+ghost use Rattle.tb_words.specs.Texts.{AppendsBytes};
 ghost use Rattle.tb_streams.specs.HostForm.{host_byte, host_form_of};
 
 use std::alloc::{AllocError, Global};
 use tb_words::hex_digits;
 
 fn push_host_byte(text: &mut Vec<u8>, byte: u8) -> Result<(), AllocError>
-    ensures { OnOk result (text.new.items ≡ text.old.items ++ host_byte byte) }
+    ensures { AppendsBytes result text.old text.new (host_byte byte) }
 {
     match byte {
         13 => text.push(b'\n')?,
