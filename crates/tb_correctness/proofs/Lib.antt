@@ -11,7 +11,7 @@ pub mod Testing
 -- the laws of instructions that are groups of their own, and of uses of a word
 pub mod Alone
 -- the code of groups as instructions and as bytes
-pub mod Code
+pub mod CodeBytes
 -- how that code is laid out in a program's image
 pub mod Image
 -- from the laws of groups to the program

@@ -22,9 +22,9 @@ use Rattle.tb_simulation.proofs.Returning.{back_here, apart, behind_call, homed_
 use Rattle.tb_selection.specs.Groups.{Single}
 use Rattle.tb_selection.specs.Liveness.{live}
 use Rattle.tb_correctness.proofs.Pieces.Branches.{branch_behind, branches}
-use Rattle.tb_correctness.proofs.Code.GroupCode.{BranchReaches, CallReaches, GroupsLaid, Way, Zero, call_code, called_code, counted_at, going_code, low_code}
-use Rattle.tb_correctness.proofs.Code.GroupCode.{held_at, noting_code, popping_at, popping_code, pushing_at, pushing_code, raising_code, some_at, taking_code}
-use Rattle.tb_correctness.proofs.Code.GroupCode.{way_size}
+use Rattle.tb_correctness.proofs.CodeBytes.GroupCode.{BranchReaches, CallReaches, GroupsLaid, Way, Zero, call_code, called_code, counted_at, going_code, low_code}
+use Rattle.tb_correctness.proofs.CodeBytes.GroupCode.{held_at, noting_code, popping_at, popping_code, pushing_at, pushing_code, raising_code, some_at, taking_code}
+use Rattle.tb_correctness.proofs.CodeBytes.GroupCode.{way_size}
 use Rattle.tb_correctness.proofs.Alone.Faults.{faults_at}
 use Rattle.tb_correctness.proofs.Relation.GroupInvariants.{Kept, arrived, kept_lined, kept_put, lined, numbered}
 use Rattle.tb_correctness.proofs.Relation.Matching.{Matches}

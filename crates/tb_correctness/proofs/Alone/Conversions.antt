@@ -24,7 +24,7 @@ use Rattle.tb_correctness.proofs.Arithmetic.Calculations.{subtracted_word}
 use Rattle.tb_templates.specs.declared.sources.Source.{Source}
 use Rattle.tb_templates.specs.declared.sources.Source.TheVariants.{FixedWord}
 use Rattle.tb_templates.specs.Sources.{destination_at, source_of}
-use Rattle.tb_correctness.proofs.Code.GroupCode.{GroupsLie, routine, taken}
+use Rattle.tb_correctness.proofs.CodeBytes.GroupCode.{GroupsLie, routine, taken}
 use Rattle.tb_correctness.proofs.Relation.Frames.{live_same}
 use Rattle.tb_correctness.proofs.Alone.Handed.{asks, gives, result_gives}
 use Rattle.tb_correctness.proofs.Relation.GroupInvariants.{Kept, going_on, kept as kept_first, lies_by, lines_by, number_set, rest_by, word_lands}

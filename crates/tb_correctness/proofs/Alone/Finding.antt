@@ -25,7 +25,7 @@ use Rattle.tb_correctness.proofs.Relation.GroupInvariants.{Kept, arrived, kept_l
 use Rattle.tb_correctness.proofs.Relation.Matching.{Matches}
 use Rattle.tb_templates.specs.declared.sources.Source.{Source}
 use Rattle.tb_templates.specs.Sources.{source_of}
-use Rattle.tb_correctness.proofs.Code.GroupCode.{GroupsLaid, brought, high, low, searched}
+use Rattle.tb_correctness.proofs.CodeBytes.GroupCode.{GroupsLaid, brought, high, low, searched}
 use Rattle.tb_correctness.proofs.Slots.OneWord.{spread_use, use_fits, use_reads, word_asked}
 use Rattle.tb_correctness.proofs.Relation.Operands.{OperandFits, operand_before, operand_held}
 use Rattle.tb_correctness.proofs.Relation.Ready.{Ready}

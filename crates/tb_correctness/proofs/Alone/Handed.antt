@@ -16,7 +16,7 @@ use Rattle.tb_selection.specs.Liveness.{live}
 use Rattle.tb_selection.specs.Select.{select}
 use Rattle.tb_templates.specs.declared.sources.Source.{Source}
 use Rattle.tb_templates.specs.Sources.{destination_at}
-use Rattle.tb_correctness.proofs.Code.GroupCode.{GroupsLie, brought, high, low, routine}
+use Rattle.tb_correctness.proofs.CodeBytes.GroupCode.{GroupsLie, brought, high, low, routine}
 use Rattle.tb_correctness.proofs.Relation.Landing.{DestFits}
 use Rattle.tb_correctness.proofs.Relation.GroupInvariants.{Kept, kept_put, word_lands}
 use Rattle.tb_correctness.proofs.Relation.Matching.{Matches}

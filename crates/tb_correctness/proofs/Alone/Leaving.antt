@@ -14,7 +14,7 @@ use Rattle.tb_correctness.proofs.Alone.Faults.{faults_at}
 use Rattle.tb_correctness.proofs.Relation.Frames.{state_placed}
 use Rattle.tb_correctness.proofs.Relation.GroupInvariants.{arrived}
 use Rattle.tb_correctness.proofs.Relation.Matching.{Matches}
-use Rattle.tb_correctness.proofs.Code.GroupCode.{GroupsLaid}
+use Rattle.tb_correctness.proofs.CodeBytes.GroupCode.{GroupsLaid}
 use Rattle.tb_correctness.proofs.Relation.Ready.{Ready, here}
 use Rattle.tb_correctness.proofs.Relation.Surroundings.{Serves, Surroundings}
 

@@ -23,7 +23,7 @@ use Rattle.tb_selection.specs.Select.{omits_only_dead, select}
 use Rattle.tb_selection.specs.GroupSteps.{steps}
 use Rattle.tb_correctness.proofs.Pieces.Sources.{value}
 use Rattle.tb_templates.specs.Sources.{source_of, home_at}
-use Rattle.tb_correctness.proofs.Code.GroupCode.{GroupsLie, low, high, brought}
+use Rattle.tb_correctness.proofs.CodeBytes.GroupCode.{GroupsLie, low, high, brought}
 use Rattle.tb_correctness.proofs.Relation.Matching.{HoldsLive, Target}
 use Rattle.tb_correctness.proofs.Slots.SlotSide.{line, fetches, keeps, fetched, with_fetched, fetched_same, fetched_held, fetched_length, fetch_held, landed, slots_landed, StandsIn}
 use Rattle.tb_correctness.proofs.Relation.Landing.{DestFits, Elsewhere, home_kept, state_landed}

@@ -29,7 +29,7 @@ use Rattle.tb_selection.specs.Laws.{AreClosed}
 use Rattle.tb_correctness.proofs.Pieces.Sources.{Fixed, compares_byte}
 use Rattle.tb_correctness.proofs.Pieces.Branches.{branch_behind, branches}
 use Rattle.tb_correctness.proofs.Alone.Faults.{faults_at}
-use Rattle.tb_correctness.proofs.Code.GroupCode.{BranchReaches, GroupsLaid, GroupsLie, LineStands, Way, Zero, way_size}
+use Rattle.tb_correctness.proofs.CodeBytes.GroupCode.{BranchReaches, GroupsLaid, GroupsLie, LineStands, Way, Zero, way_size}
 use Rattle.tb_correctness.proofs.Relation.Matching.{HoldsLive, Matches, Target}
 use Rattle.tb_correctness.proofs.Slots.SlotSide.{line, next}
 use Rattle.tb_correctness.proofs.Relation.Beginnings.{nothing_read, line_step}

@@ -12,7 +12,7 @@ use Rattle.tb_simulation.proofs.Resolved.{copied, size}
 use Rattle.tb_selection.specs.Groups.{IntoSlot, Single}
 use Rattle.tb_selection.specs.Liveness.{live}
 use Rattle.tb_selection.specs.Select.{select}
-use Rattle.tb_correctness.proofs.Code.GroupCode.{GroupsLie}
+use Rattle.tb_correctness.proofs.CodeBytes.GroupCode.{GroupsLie}
 use Rattle.tb_correctness.proofs.Relation.Matching.{Matches}
 use Rattle.tb_correctness.proofs.Slots.SlotSide.{Lasting, line, written_reads}
 use Rattle.tb_correctness.proofs.Relation.GroupInvariants.{kept, word_lands}

@@ -18,7 +18,7 @@ use Rattle.tb_simulation.proofs.Mirrors.{Flagged}
 use Rattle.tb_simulation.proofs.Pieces.{loads_last, stores, stores_last, whatever}
 use Rattle.tb_simulation.proofs.Resolved.{Code, Lies, Piece, highest_code}
 use Rattle.tb_correctness.proofs.Pieces.Branches.{branch_behind, branches, is_taken}
-use Rattle.tb_correctness.proofs.Code.GroupCode.{BranchReaches, Way, Zero, asked, branch_code, branch_on, return_stored, return_taken, way_size}
+use Rattle.tb_correctness.proofs.CodeBytes.GroupCode.{BranchReaches, Way, Zero, asked, branch_code, branch_on, return_stored, return_taken, way_size}
 
 return_there : (a : ℕ) → 0xC100 ≤ a → a ≤ 0xC4F3 → is_data a ≡ true
 return_there a lo hi = grind (arith, nat_tests)

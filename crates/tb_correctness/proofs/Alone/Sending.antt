@@ -22,7 +22,7 @@ use Rattle.tb_selection.specs.Groups.{AsNumber, Group, Operand, Single, Use}
 use Rattle.tb_selection.specs.Liveness.{live}
 use Rattle.tb_selection.specs.Select.{select}
 use Rattle.tb_templates.specs.Sources.{source_of}
-use Rattle.tb_correctness.proofs.Code.GroupCode.{GroupsLie, brought, high, low}
+use Rattle.tb_correctness.proofs.CodeBytes.GroupCode.{GroupsLie, brought, high, low}
 use Rattle.tb_correctness.proofs.Relation.GroupInvariants.{Kept, kept, kept_put, kept_scratch, kept_told}
 use Rattle.tb_correctness.proofs.Relation.Matching.{HoldsLive, Matches}
 use Rattle.tb_correctness.proofs.Slots.OneWord.{spread_use, use_fits, used_read, word_asked}

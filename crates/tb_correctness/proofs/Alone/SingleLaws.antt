@@ -17,7 +17,7 @@ use Rattle.tb_correctness.proofs.Alone.Asking.{input_fails, input_law, input_wai
 use Rattle.tb_correctness.proofs.Alone.Calling.{call_to_fails, call_to_found, call_to_full, return_fails, return_law}
 use Rattle.tb_correctness.proofs.Alone.Leaving.{end_law, to_fails, to_found}
 use Rattle.tb_correctness.proofs.Relation.Matching.{Target}
-use Rattle.tb_correctness.proofs.Code.GroupCode.{GroupsLaid}
+use Rattle.tb_correctness.proofs.CodeBytes.GroupCode.{GroupsLaid}
 use Rattle.tb_correctness.proofs.Alone.Quiet.{load_law, put_law}
 use Rattle.tb_correctness.proofs.Relation.Ready.{Ready}
 use Rattle.tb_correctness.proofs.Alone.Sending.{newline_law, text_law, zone_law}

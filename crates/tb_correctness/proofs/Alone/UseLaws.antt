@@ -10,7 +10,7 @@ use Rattle.tb_reaching.specs.View.{Fits, View}
 use Rattle.tb_selection.specs.Groups.{AsLine, AsNumber, AsSubroutine, Operand, Usage, Use, expand}
 use Rattle.tb_selection.specs.GroupSteps.{steps}
 use Rattle.tb_correctness.proofs.Alone.SingleLaws.{Leads}
-use Rattle.tb_correctness.proofs.Code.GroupCode.{GroupsLaid}
+use Rattle.tb_correctness.proofs.CodeBytes.GroupCode.{GroupsLaid}
 use Rattle.tb_correctness.proofs.Alone.Finding.{call_fails, call_found, call_full, jump_fails, jump_found}
 use Rattle.tb_correctness.proofs.Slots.OneWord.{spread_use, use_steps, used}
 use Rattle.tb_correctness.proofs.Relation.Ready.{Ready}

@@ -3,7 +3,7 @@ use Rattle.std.proofs.Common.{◌≡◌, ℕ, [], List, None, Some, ap, arith, s
 use Rattle.tb_syntax.specs.declared.expressions.Operator.TheVariants as op
 use Rattle.std.proofs.lemmas.Bool.{ne_eqb}
 use Rattle.std.specs.Prelude.{if◌then◌else◌}
-use Rattle.tb_correctness.proofs.Code.GroupCode.{GroupsLie, routine}
+use Rattle.tb_correctness.proofs.CodeBytes.GroupCode.{GroupsLie, routine}
 use Rattle.tb_correctness.proofs.Alone.Handed.{Given, Gives, Handed, gives}
 use Rattle.tb_correctness.proofs.Relation.GroupInvariants.{Kept, word_lands}
 use Rattle.tb_correctness.proofs.Relation.Matching.{Matches, Target}

@@ -14,7 +14,7 @@ use Rattle.tb_runtime16.proofs.Words.{one_carry}
 use Rattle.tb_simulation.proofs.Resolved.{Lies, pieces_size, size}
 use Rattle.tb_selection.specs.Groups.{Operand, Destination, Calculate}
 use Rattle.tb_selection.specs.Select.{select}
-use Rattle.tb_correctness.proofs.Code.GroupCode.{GroupsLie, calc_code, summed, taken}
+use Rattle.tb_correctness.proofs.CodeBytes.GroupCode.{GroupsLie, calc_code, summed, taken}
 use Rattle.tb_correctness.proofs.Relation.GroupInvariants.{kept}
 use Rattle.tb_correctness.proofs.Slots.SlotSide.{spread}
 use Rattle.tb_correctness.proofs.Relation.Operands.{operand_grounded, dest_in_data}

@@ -19,7 +19,7 @@ use Rattle.tb_selection.specs.Groups.{Operand, Constant, Variable, InSlot, Desti
 use Rattle.tb_selection.specs.Liveness.{live}
 use Rattle.tb_selection.specs.Select.{select}
 use Rattle.tb_templates.specs.Sources.{destination_at, source_of}
-use Rattle.tb_correctness.proofs.Code.GroupCode.{GroupsLie, lined_code, routine}
+use Rattle.tb_correctness.proofs.CodeBytes.GroupCode.{GroupsLie, lined_code, routine}
 use Rattle.tb_correctness.proofs.Alone.Handed.{asks, left_gives}
 use Rattle.tb_correctness.proofs.Relation.GroupInvariants.{going_on, kept_scratch, lies_by, lines_by, number_set, rest_by}
 use Rattle.tb_correctness.proofs.Relation.Matching.{Target}

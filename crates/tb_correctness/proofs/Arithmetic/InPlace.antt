@@ -30,8 +30,8 @@ use Rattle.tb_templates.specs.declared.in_place.Change.TheVariants.{Increment, D
 use Rattle.tb_correctness.proofs.Pieces.Branches.{Led, asked_in, branch_behind, branch_size, branches, is_taken}
 use Rattle.tb_correctness.proofs.Arithmetic.Changes.{IsByte, IsChange, changed, of_left, of_right, elsewhere}
 use Rattle.tb_correctness.proofs.Arithmetic.Constants.{constant_is}
-use Rattle.tb_correctness.proofs.Code.GroupCode.{Carry, Flag, Zero, GroupsLie, OverReaches, Way, ChangeReaches, ChangedReaches, calc_code, change_code, changed_or}
-use Rattle.tb_correctness.proofs.Code.GroupCode.{low_lowered, low_raised, over_at, over_code, raised_by_sign, sign_asked, turned_right, way_size}
+use Rattle.tb_correctness.proofs.CodeBytes.GroupCode.{Carry, Flag, Zero, GroupsLie, OverReaches, Way, ChangeReaches, ChangedReaches, calc_code, change_code, changed_or}
+use Rattle.tb_correctness.proofs.CodeBytes.GroupCode.{low_lowered, low_raised, over_at, over_code, raised_by_sign, sign_asked, turned_right, way_size}
 use Rattle.tb_correctness.proofs.Pieces.Halves.{double_high, double_low, halve, halve_small, halves_are, high_half, low_half, more, sign_is}
 use Rattle.tb_correctness.proofs.Relation.GroupInvariants.{kept}
 use Rattle.tb_correctness.proofs.Relation.Operands.{SourceHolds, dest_in_data}

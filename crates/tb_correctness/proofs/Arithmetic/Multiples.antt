@@ -23,7 +23,7 @@ use Rattle.tb_selection.specs.Select.{select}
 use Rattle.tb_templates.specs.declared.sources.Source.{Source}
 use Rattle.tb_templates.specs.declared.sources.Source.TheVariants.{FixedWord, AtAddress}
 use Rattle.tb_templates.specs.Sources.{destination_at}
-use Rattle.tb_correctness.proofs.Code.GroupCode.{GroupsLie, begun, by_bit, by_bits, doubled, high, increased, low, low_first, times}
+use Rattle.tb_correctness.proofs.CodeBytes.GroupCode.{GroupsLie, begun, by_bit, by_bits, doubled, high, increased, low, low_first, times}
 use Rattle.tb_correctness.proofs.Pieces.Halves.{by_even, by_odd, double_high, double_low, sum_high, sum_low}
 use Rattle.tb_correctness.proofs.Relation.GroupInvariants.{kept, kept_scratch}
 use Rattle.tb_correctness.proofs.Relation.Matching.{Matches}

@@ -13,7 +13,7 @@ use Rattle.tb_simulation.proofs.Returning.{back_here}
 use Rattle.tb_selection.specs.Groups.{Operand, Destination, Calculate}
 use Rattle.tb_selection.specs.Liveness.{live}
 use Rattle.tb_selection.specs.Select.{select}
-use Rattle.tb_correctness.proofs.Code.GroupCode.{GroupsLie, routine}
+use Rattle.tb_correctness.proofs.CodeBytes.GroupCode.{GroupsLie, routine}
 use Rattle.tb_correctness.proofs.Alone.Handed.{result_gives}
 use Rattle.tb_correctness.proofs.Relation.GroupInvariants.{kept, kept_scratch}
 use Rattle.tb_correctness.proofs.Relation.Ready.{Ready, here}

@@ -32,7 +32,7 @@ use Rattle.tb_templates.specs.GroupTemplates.{may_be_zero}
 use Rattle.tb_templates.specs.Sources.{destination_at, source_of}
 use Rattle.tb_templates.specs.Templates.{var_at}
 use Rattle.tb_correctness.proofs.Arithmetic.Calculations.{subtracted_word}
-use Rattle.tb_correctness.proofs.Code.GroupCode.{Negative, brought, over_at, remains_code, rest_asked, rest_at, rest_turned, sign_looked_at, signed_rest, way_size}
+use Rattle.tb_correctness.proofs.CodeBytes.GroupCode.{Negative, brought, over_at, remains_code, rest_asked, rest_at, rest_turned, sign_looked_at, signed_rest, way_size}
 use Rattle.tb_correctness.proofs.Arithmetic.Constants.{never_zero}
 use Rattle.tb_correctness.proofs.Alone.Handed.{asks_by, comes_back, result_gives}
 use Rattle.tb_correctness.proofs.Arithmetic.InPlace.{Forked, forked}

@@ -20,7 +20,7 @@ use Rattle.tb_selection.specs.Liveness.{live}
 use Rattle.tb_selection.specs.Select.{select}
 use Rattle.tb_templates.specs.declared.sources.Source.{Source}
 use Rattle.tb_templates.specs.Sources.{destination_at, source_of}
-use Rattle.tb_correctness.proofs.Code.GroupCode.{GroupsLie, carried, halved, halvings, high, high_first, low, rounded, shifted, signed}
+use Rattle.tb_correctness.proofs.CodeBytes.GroupCode.{GroupsLie, carried, halved, halvings, high, high_first, low, rounded, shifted, signed}
 use Rattle.tb_correctness.proofs.Pieces.Halves.{halve, halve_small, halve_times, halves_are, high_half, low_half, more, more_small, raised_high, raised_low, sign_is}
 use Rattle.tb_correctness.proofs.Relation.GroupInvariants.{kept, kept_scratch}
 use Rattle.tb_correctness.proofs.Relation.Matching.{Matches}

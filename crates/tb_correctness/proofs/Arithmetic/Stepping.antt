@@ -24,7 +24,7 @@ use Rattle.tb_selection.specs.Liveness.{live, written}
 use Rattle.tb_selection.specs.Select.{allowed, attach, divides_left, divides_right, equality_in, against_in, difference_in, factor_in, fused, held_in, instead}
 use Rattle.tb_selection.specs.Select.{loaded_in, merged, multiple_in, multiple_of, or_else, provided, quotient_in, remains, select, tried}
 use Rattle.tb_selection.proofs.Bracketed.{brackets}
-use Rattle.tb_correctness.proofs.Code.GroupCode.{GroupsLie, group_code}
+use Rattle.tb_correctness.proofs.CodeBytes.GroupCode.{GroupsLie, group_code}
 use Rattle.tb_correctness.proofs.Testing.LeftOver.{pieces_append}
 use Rattle.tb_correctness.proofs.Relation.Matching.{HoldsLive, Matches}
 use Rattle.tb_correctness.proofs.Relation.Operands.{OperandFits, range_fetch}

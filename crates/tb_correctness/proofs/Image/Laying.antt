@@ -29,7 +29,7 @@ use Rattle.tb_simulation.proofs.Emitted.{pieces_bytes, pieces_length, behind, li
 use Rattle.tb_simulation.proofs.LineStarts.{has_content}
 use Rattle.tb_simulation.proofs.Numbers.{joined, constant_bytes, faulted_bytes, address_bytes, start_of_line}
 use Rattle.tb_correctness.specs.Laid.{IsClear, LineLies, Laid}
-use Rattle.tb_correctness.proofs.Code.GroupCode.{broken_code}
+use Rattle.tb_correctness.proofs.CodeBytes.GroupCode.{broken_code}
 
 -- ---- one list of items after another
 module _ (code : Part) (labels : List (Name × ℕ)) where

@@ -35,13 +35,13 @@ use Rattle.tb_simulation.proofs.Numbers.{next_has, next_same, start_of_line}
 use Rattle.tb_simulation.proofs.Resolved.{call, pieces_size, highest_code}
 use Rattle.tb_simulation.proofs.Emitted.{behind, lies}
 use Rattle.tb_correctness.specs.Laid.{ArePolled, LineLies, Laid}
-use Rattle.tb_correctness.proofs.Code.GroupCode.{GroupsLie, GroupsLaid, LineStands, OnlyIf, Way, BranchReaches, group_code, poll_code, way_size, Zero}
+use Rattle.tb_correctness.proofs.CodeBytes.GroupCode.{GroupsLie, GroupsLaid, LineStands, OnlyIf, Way, BranchReaches, group_code, poll_code, way_size, Zero}
 use Rattle.tb_correctness.proofs.Pieces.Branches.{branch_size}
 use Rattle.tb_correctness.proofs.Slots.SlotsRead.{range_split}
-use Rattle.tb_correctness.proofs.Code.Emits.{bytes_behind, emitted_size}
-use Rattle.tb_correctness.proofs.Code.CallBytes.{each_emitted}
-use Rattle.tb_correctness.proofs.Code.ItemBytes.{Rest, rest_before, rest_behind}
-use Rattle.tb_correctness.proofs.Code.GroupBytes.{poll_emitted}
+use Rattle.tb_correctness.proofs.CodeBytes.Emits.{bytes_behind, emitted_size}
+use Rattle.tb_correctness.proofs.CodeBytes.CallBytes.{each_emitted}
+use Rattle.tb_correctness.proofs.CodeBytes.ItemBytes.{Rest, rest_before, rest_behind}
+use Rattle.tb_correctness.proofs.CodeBytes.GroupBytes.{poll_emitted}
 use Rattle.tb_correctness.proofs.Image.Laying.{inner_bytes, line_of, none_between, start_small, place_small, within_small, broken_lies, past_lies, find_lies}
 use Rattle.tb_correctness.proofs.Image.Laying.{top_small, table_small, content_has, content_none}
 use Rattle.tb_correctness.proofs.Slots.Singles.{AreAlone, all_alone}

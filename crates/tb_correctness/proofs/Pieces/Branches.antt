@@ -9,7 +9,7 @@ use Rattle.tb_reaching.proofs.Placed.{placed_last}
 use Rattle.tb_reaching.specs.View.{Bytes, Comes, Fits, Setup, View, view}
 use Rattle.tb_runtime16.specs.Routines.{Here}
 use Rattle.tb_simulation.proofs.Resolved.{Code, Lies, Piece, highest_code, jump, size}
-use Rattle.tb_correctness.proofs.Code.GroupCode.{BranchReaches, Flag, Negative, Overflow, Carry, Zero, Long, Short, Way, branch_code, branch_on, opposite, way_size}
+use Rattle.tb_correctness.proofs.CodeBytes.GroupCode.{BranchReaches, Flag, Negative, Overflow, Carry, Zero, Long, Short, Way, branch_code, branch_on, opposite, way_size}
 use Rattle.tb_correctness.proofs.Testing.SignedOrder.{turned}
 
 -- a flag's value

@@ -19,7 +19,7 @@ use Rattle.tb_simulation.proofs.Resolved.{highest_code, size}
 use Rattle.tb_templates.specs.declared.sources.Source.{Source}
 use Rattle.tb_templates.specs.Scaled.{all_but_lowest}
 use Rattle.tb_correctness.proofs.Pieces.Halves.{more}
-use Rattle.tb_correctness.proofs.Code.GroupCode.{low, high, rounded, signed, carried, halved, high_first, doubled, increased, begun, low_first}
+use Rattle.tb_correctness.proofs.CodeBytes.GroupCode.{low, high, rounded, signed, carried, halved, high_first, doubled, increased, begun, low_first}
 use Rattle.tb_correctness.proofs.Pieces.Sources.{Byte, Fixed, At, value, IsRead, lda, adc, cmp, len, Known, behind, loads_with, loads_byte, adds_byte, compares_byte, puts_byte, whatever_known}
 use Rattle.tb_correctness.proofs.Pieces.Sums.{Grounded, low_read, high_read, high_same}
 

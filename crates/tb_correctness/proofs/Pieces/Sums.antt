@@ -14,7 +14,7 @@ use Rattle.tb_correctness.proofs.Pieces.Sources.{Byte, Known, value, IsRead, lda
 use Rattle.tb_correctness.proofs.Pieces.Sources.{takes_byte, writes_byte, puts_byte, loads_place, puts_place}
 use Rattle.tb_templates.specs.declared.sources.Source.{Source}
 use Rattle.tb_templates.specs.declared.sources.Source.TheVariants.{FixedWord, AtAddress}
-use Rattle.tb_correctness.proofs.Code.GroupCode.{low, high, brought, summed, taken}
+use Rattle.tb_correctness.proofs.CodeBytes.GroupCode.{low, high, brought, summed, taken}
 
 -- a word's source is among the data, and its high byte is not where another word's low byte goes
 abbrev pub Grounded : Source → ℕ → Type 0

@@ -24,7 +24,7 @@ use Rattle.tb_selection.specs.Select.{select}
 use Rattle.tb_selection.specs.GroupSteps.{inside, steps}
 use Rattle.tb_correctness.proofs.Relation.Beginnings.{nothing_read}
 use Rattle.tb_templates.specs.Sources.{destination_at}
-use Rattle.tb_correctness.proofs.Code.GroupCode.{GroupsLie, lined_code}
+use Rattle.tb_correctness.proofs.CodeBytes.GroupCode.{GroupsLie, lined_code}
 use Rattle.tb_correctness.proofs.Relation.Matching.{HoldsLive, Matches}
 use Rattle.tb_correctness.proofs.Slots.SlotSide.{Lasting, landed, line, slots_landed}
 use Rattle.tb_correctness.proofs.Relation.Landing.{DestFits, Elsewhere, home_kept, read_landed, read_lined, scratch_put, state_landed, state_lined, state_scratch}

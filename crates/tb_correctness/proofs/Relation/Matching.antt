@@ -12,7 +12,7 @@ use Rattle.tb_simulation.proofs.Mirrors.{HoldsState, Typable, Leads}
 use Rattle.tb_selection.specs.declared.liveness.Live.{Live}
 use Rattle.tb_selection.specs.Liveness.{live, nothing_live}
 use Rattle.tb_selection.specs.Select.{select}
-use Rattle.tb_correctness.proofs.Code.GroupCode.{GroupsLie}
+use Rattle.tb_correctness.proofs.CodeBytes.GroupCode.{GroupsLie}
 use Rattle.tb_correctness.proofs.Relation.Surroundings.{Surroundings}
 
 -- the memory holds the slots that are read, and the held word if it is read

@@ -13,7 +13,7 @@ use Rattle.tb_correctness.proofs.Pieces.Sources.{value}
 use Rattle.tb_templates.specs.Templates.{slot_at, var_at}
 use Rattle.tb_templates.specs.declared.sources.Source.{Source}
 use Rattle.tb_templates.specs.Sources.{source_of, destination_at}
-use Rattle.tb_correctness.proofs.Code.GroupCode.{low, high}
+use Rattle.tb_correctness.proofs.CodeBytes.GroupCode.{low, high}
 use Rattle.tb_correctness.proofs.Relation.Matching.{HoldsLive}
 use Rattle.tb_correctness.proofs.Slots.SlotSide.{fetched, StandsIn}
 use Rattle.tb_correctness.proofs.Relation.Landing.{DestFits}

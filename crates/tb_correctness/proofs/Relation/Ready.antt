@@ -15,7 +15,7 @@ use Rattle.tb_selection.specs.GroupSteps.{steps, first_group, first}
 use Rattle.tb_selection.proofs.Bracketed.{brackets}
 use Rattle.tb_selection.specs.Laws.{AreChosen}
 use Rattle.tb_selection.proofs.Chosen.{chosen}
-use Rattle.tb_correctness.proofs.Code.GroupCode.{Way, group_code, Behind, GroupsLie, BranchesReach}
+use Rattle.tb_correctness.proofs.CodeBytes.GroupCode.{Way, group_code, Behind, GroupsLie, BranchesReach}
 use Rattle.tb_correctness.proofs.Slots.SlotsRead.{groups_few, range_few, range_split}
 use Rattle.tb_correctness.proofs.Relation.Matching.{HoldsLive, Matches, Target}
 use Rattle.tb_correctness.proofs.Slots.SlotSide.{line, landed}

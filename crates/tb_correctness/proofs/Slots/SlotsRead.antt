@@ -9,7 +9,7 @@ use Rattle.tb_simulation.specs.Layout.{Layout}
 use Rattle.tb_selection.specs.declared.liveness.Live.{Live}
 use Rattle.tb_selection.specs.Groups.{Group, expand_all}
 use Rattle.tb_selection.specs.Liveness.{live, live_before, written}
-use Rattle.tb_correctness.proofs.Code.GroupCode.{GroupsLie}
+use Rattle.tb_correctness.proofs.CodeBytes.GroupCode.{GroupsLie}
 
 written_few : (k : ℕ) (u : Live) → u.slots ≤ 16 → (written k u).slots ≤ 16
 written_few k u h = by (nat_eq u.slots (k + 1)) refl

@@ -28,7 +28,7 @@ use Rattle.tb_selection.specs.Select.{may_stand, omits_only_dead, select, test_w
 use Rattle.tb_selection.proofs.Chosen.{nothing_read}
 use Rattle.tb_templates.specs.declared.sources.Source.{Source}
 use Rattle.tb_templates.specs.Sources.{source_of}
-use Rattle.tb_correctness.proofs.Code.GroupCode.{DividedGoes, DividedReaches, DividesReach, GroupsLie, divided_code, divided_go, divides_code, leaves_on}
+use Rattle.tb_correctness.proofs.CodeBytes.GroupCode.{DividedGoes, DividedReaches, DividesReach, GroupsLie, divided_code, divided_go, divides_code, leaves_on}
 use Rattle.tb_correctness.proofs.Alone.Faults.{faults_at}
 use Rattle.tb_correctness.proofs.Relation.Frames.{state_placed}
 use Rattle.tb_correctness.proofs.Testing.LeftOver.{Led, divided_fails, divided_leads}

@@ -11,7 +11,7 @@ use Rattle.tb_simulation.proofs.Pieces.{moves_then, moves_looser}
 use Rattle.tb_simulation.proofs.Resolved.{Lies, highest_code, pieces_size, size}
 use Rattle.tb_templates.specs.declared.sources.Source.{Source}
 use Rattle.tb_correctness.proofs.Pieces.Sources.{Fixed, value, lda, cmp, sbc, len, behind, loads_with, takes_byte}
-use Rattle.tb_correctness.proofs.Code.GroupCode.{AgainstReaches, Carry, Way, against_code, high, lifted, low, way_size, weighed}
+use Rattle.tb_correctness.proofs.CodeBytes.GroupCode.{AgainstReaches, Carry, Way, against_code, high, lifted, low, way_size, weighed}
 use Rattle.tb_correctness.proofs.Pieces.Branches.{branch_behind, branch_size, branches, is_taken}
 use Rattle.tb_correctness.proofs.Relation.Operands.{SourceHolds}
 use Rattle.tb_correctness.proofs.Pieces.Sums.{Grounded, low_read, high_read}

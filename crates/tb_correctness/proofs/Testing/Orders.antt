@@ -21,8 +21,8 @@ use Rattle.tb_templates.specs.declared.orders.Side.TheVariants.{Below, NotBelow}
 use Rattle.tb_templates.specs.declared.orders.Order.{Order}
 use Rattle.tb_templates.specs.declared.orders.Order.TheVariants.{BySign, ByConstant, ByDifference}
 use Rattle.tb_templates.specs.Orders.{against, order_of, wanted_side}
-use Rattle.tb_correctness.proofs.Code.GroupCode.{Negative, OrderReaches, Overflow, ReachesBy, SignReaches, Way, WeighingReaches, branch_code, branch_on, difference}
-use Rattle.tb_correctness.proofs.Code.GroupCode.{high, leaves_below, low, order_by, order_code, sign_code, turned_at, way_size, weighed, weighing_code}
+use Rattle.tb_correctness.proofs.CodeBytes.GroupCode.{Negative, OrderReaches, Overflow, ReachesBy, SignReaches, Way, WeighingReaches, branch_code, branch_on, difference}
+use Rattle.tb_correctness.proofs.CodeBytes.GroupCode.{high, leaves_below, low, order_by, order_code, sign_code, turned_at, way_size, weighed, weighing_code}
 use Rattle.tb_correctness.proofs.Pieces.Branches.{branch_behind, branch_size, branches, last_leads}
 use Rattle.tb_correctness.proofs.Relation.Operands.{SourceHolds}
 use Rattle.tb_correctness.proofs.Pieces.Sums.{Grounded, low_read, high_read}

@@ -28,7 +28,7 @@ use Rattle.tb_selection.specs.Select.{select, test_words_dead}
 use Rattle.tb_templates.specs.declared.sources.Source.{Source}
 use Rattle.tb_templates.specs.declared.orders.Side.TheVariants.{Below, NotBelow}
 use Rattle.tb_templates.specs.Sources.{source_of, tested_source}
-use Rattle.tb_correctness.proofs.Code.GroupCode.{EqualityReaches, GoReaches, GroupsLie, TestReaches, Way, equality_code, go_code, group_code, test_code}
+use Rattle.tb_correctness.proofs.CodeBytes.GroupCode.{EqualityReaches, GoReaches, GroupsLie, TestReaches, Way, equality_code, go_code, group_code, test_code}
 use Rattle.tb_correctness.proofs.Alone.Faults.{faults_at}
 use Rattle.tb_correctness.proofs.Relation.Frames.{state_placed}
 use Rattle.tb_correctness.proofs.Relation.GroupInvariants.{arrived, one_step}

@@ -12,7 +12,7 @@ use Rattle.tb_simulation.proofs.Pieces.{moves_then, moves_looser}
 use Rattle.tb_simulation.proofs.Resolved.{Code, Lies, Piece, highest_code, pieces_size, size}
 use Rattle.tb_correctness.proofs.Pieces.Sources.{Byte, value, IsRead, lda, cmp, len, Compared, behind, loads_byte, compares_byte}
 use Rattle.tb_templates.specs.declared.sources.Source.{Source}
-use Rattle.tb_correctness.proofs.Code.GroupCode.{EqualityReaches, Way, Zero, branch_code, branch_on, equality_code, first_to, high, low, second_at, way_size, weighed}
+use Rattle.tb_correctness.proofs.CodeBytes.GroupCode.{EqualityReaches, Way, Zero, branch_code, branch_on, equality_code, first_to, high, low, second_at, way_size, weighed}
 use Rattle.tb_correctness.proofs.Pieces.Branches.{branch_behind, branch_size, branches, last_leads}
 use Rattle.tb_correctness.proofs.Relation.Operands.{SourceHolds}
 use Rattle.tb_correctness.proofs.Testing.SignedOrder.{turned}

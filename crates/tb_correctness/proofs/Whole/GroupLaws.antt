@@ -28,7 +28,7 @@ use Rattle.tb_templates.specs.Sources.{destination_at, source_of}
 use Rattle.tb_templates.proofs.Factors.{scaling_is, shifting_is}
 use Rattle.tb_correctness.proofs.Alone.SingleLaws.{act_law}
 use Rattle.tb_correctness.proofs.Arithmetic.Changes.{change_is}
-use Rattle.tb_correctness.proofs.Code.GroupCode.{GroupsLaid, GroupsLie, calc_code}
+use Rattle.tb_correctness.proofs.CodeBytes.GroupCode.{GroupsLaid, GroupsLie, calc_code}
 use Rattle.tb_correctness.proofs.Relation.Falling.{IsSome, Between, falls_on}
 use Rattle.tb_correctness.proofs.Relation.GroupInvariants.{one_step}
 use Rattle.tb_correctness.proofs.Slots.Singles.{FirstIsAlone, first_so}

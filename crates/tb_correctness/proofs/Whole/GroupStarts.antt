@@ -9,7 +9,7 @@ use Rattle.tb_simulation.specs.Layout.{Layout, inner, is_start}
 use Rattle.tb_simulation.proofs.LineStarts.{AreApart, has_content, not_inner}
 use Rattle.tb_simulation.proofs.Resolved.{Lies, highest_code}
 use Rattle.tb_correctness.proofs.Pieces.Branches.{added, branch_size, gets_there}
-use Rattle.tb_correctness.proofs.Code.GroupCode.{GroupsLaid, LineStands, Way, Short, Long, Zero, BranchReaches, branch_code, branch_on, broken_code, way_size}
+use Rattle.tb_correctness.proofs.CodeBytes.GroupCode.{GroupsLaid, LineStands, Way, Short, Long, Zero, BranchReaches, branch_code, branch_on, broken_code, way_size}
 
 -- a line's number is read where its poll leads for the STOP key
 module _ (code : Part) where

@@ -20,7 +20,7 @@ use Rattle.tb_simulation.proofs.Opening.{some_slots, opened}
 use Rattle.tb_selection.specs.GroupSteps.{group_step}
 use Rattle.tb_selection.specs.Laws.{AreClosed}
 use Rattle.tb_correctness.proofs.Relation.Beginnings.{from_opened}
-use Rattle.tb_correctness.proofs.Code.GroupCode.{GroupsLaid}
+use Rattle.tb_correctness.proofs.CodeBytes.GroupCode.{GroupsLaid}
 use Rattle.tb_correctness.proofs.Whole.GroupLaws.{step_law}
 use Rattle.tb_correctness.proofs.Relation.Falling.{Between}
 use Rattle.tb_correctness.proofs.Whole.GroupStrides.{group_stride}

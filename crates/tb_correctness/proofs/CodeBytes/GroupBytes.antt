@@ -42,16 +42,16 @@ use Rattle.tb_templates.proofs.Plain.{plain_straight}
 use Rattle.tb_simulation.specs.Layout.{Layout, layout_of, next_at}
 use Rattle.tb_simulation.proofs.Resolved as resolved
 use Rattle.tb_simulation.proofs.Resolved.{Piece, Code, highest_code}
-use Rattle.tb_correctness.proofs.Code.GroupCode as coded
-use Rattle.tb_correctness.proofs.Code.GroupCode.{Way, Short, Zero, BranchReaches, test_code, TestReaches, group_code, BranchesReach}
+use Rattle.tb_correctness.proofs.CodeBytes.GroupCode as coded
+use Rattle.tb_correctness.proofs.CodeBytes.GroupCode.{Way, Short, Zero, BranchReaches, test_code, TestReaches, group_code, BranchesReach}
 use Rattle.tb_correctness.proofs.Slots.Singles.{IsAlone}
-use Rattle.tb_correctness.proofs.Code.Emits.{formed, branch_by, Emits, emits_append, emitted_size, ends, block, branches}
+use Rattle.tb_correctness.proofs.CodeBytes.Emits.{formed, branch_by, Emits, emits_append, emitted_size, ends, block, branches}
 use Rattle.tb_simulation.proofs.Numbers.{address_bytes, constant_bytes, faulted_bytes, next_same}
-use Rattle.tb_correctness.proofs.Code.SingleBytes.{template_bytes}
-use Rattle.tb_correctness.proofs.Code.ItemBytes.{AllEncode, IsWord, Rest, all_straight, behind_straight, brought_bytes, brought_straight, cut, cut_branch}
-use Rattle.tb_correctness.proofs.Code.ItemBytes.{gets_there, handed_emits, handed_straight, joined_straight, left_over_emits, lined_emits, lined_straight, no_more}
-use Rattle.tb_correctness.proofs.Code.ItemBytes.{rest_before, rest_behind, source_word, taken_bytes, template_straight, tested_word, value_of}
-use Rattle.tb_correctness.proofs.Code.TestBytes.{equal_emitted, unequal_emitted, compared_emitted}
+use Rattle.tb_correctness.proofs.CodeBytes.SingleBytes.{template_bytes}
+use Rattle.tb_correctness.proofs.CodeBytes.ItemBytes.{AllEncode, IsWord, Rest, all_straight, behind_straight, brought_bytes, brought_straight, cut, cut_branch}
+use Rattle.tb_correctness.proofs.CodeBytes.ItemBytes.{gets_there, handed_emits, handed_straight, joined_straight, left_over_emits, lined_emits, lined_straight, no_more}
+use Rattle.tb_correctness.proofs.CodeBytes.ItemBytes.{rest_before, rest_behind, source_word, taken_bytes, template_straight, tested_word, value_of}
+use Rattle.tb_correctness.proofs.CodeBytes.TestBytes.{equal_emitted, unequal_emitted, compared_emitted}
 
 -- ---- groups
 -- forms that emit a test whose branches go to an address, by their ways, all of which reach

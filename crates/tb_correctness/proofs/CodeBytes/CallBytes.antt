@@ -29,13 +29,13 @@ use Rattle.tb_simulation.specs.Layout.{Layout, layout_of, next_at}
 use Rattle.tb_simulation.proofs.Numbers.{address_bytes, constant_bytes, faulted_bytes, high_of, jump_bytes, low_of, next_same, start_of_line}
 use Rattle.tb_simulation.proofs.Resolved as resolved
 use Rattle.tb_simulation.proofs.Resolved.{Code, highest_code}
-use Rattle.tb_correctness.proofs.Code.ChangeBytes.{computed_emitted, remains_emitted, stepped_emitted}
+use Rattle.tb_correctness.proofs.CodeBytes.ChangeBytes.{computed_emitted, remains_emitted, stepped_emitted}
 use Rattle.tb_correctness.proofs.Arithmetic.Changes.{change_is}
-use Rattle.tb_correctness.proofs.Code.GroupCode as coded
-use Rattle.tb_correctness.proofs.Code.GroupCode.{Way, Short, Zero, way_size}
-use Rattle.tb_correctness.proofs.Code.Emits.{Emits, block, branches, ends, formed, labelled}
-use Rattle.tb_correctness.proofs.Code.ItemBytes.{AllEncode, Encodes, Rest, behind_branch, behind_label, behind_straight, cut, cut_branch, gets_there, label_here, no_more, source_word, value_of}
-use Rattle.tb_correctness.proofs.Code.GroupBytes.{GroupEmitted, Starting, group_emitted}
+use Rattle.tb_correctness.proofs.CodeBytes.GroupCode as coded
+use Rattle.tb_correctness.proofs.CodeBytes.GroupCode.{Way, Short, Zero, way_size}
+use Rattle.tb_correctness.proofs.CodeBytes.Emits.{Emits, block, branches, ends, formed, labelled}
+use Rattle.tb_correctness.proofs.CodeBytes.ItemBytes.{AllEncode, Encodes, Rest, behind_branch, behind_label, behind_straight, cut, cut_branch, gets_there, label_here, no_more, source_word, value_of}
+use Rattle.tb_correctness.proofs.CodeBytes.GroupBytes.{GroupEmitted, Starting, group_emitted}
 use Rattle.tb_correctness.proofs.Slots.Singles.{IsAlone}
 
 module _ (labels : List (Name × ℕ)) (ns : List ℕ) (seed n : ℕ) (seed_small : seed < 65536) (n_small : n < 65536) where

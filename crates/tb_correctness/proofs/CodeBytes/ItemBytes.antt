@@ -40,11 +40,11 @@ use Rattle.tb_templates.proofs.Plain.{plain_straight, times_plain, shifted_plain
 use Rattle.tb_simulation.proofs.Resolved as resolved
 use Rattle.tb_simulation.proofs.Resolved.{Piece, Code, highest_code}
 use Rattle.tb_correctness.proofs.Pieces.Sources.{lda, adc, sbc, cmp}
-use Rattle.tb_correctness.proofs.Code.GroupCode as coded
-use Rattle.tb_correctness.proofs.Code.GroupCode.{low, high, weighed, difference, Way, way_size, BranchReaches}
+use Rattle.tb_correctness.proofs.CodeBytes.GroupCode as coded
+use Rattle.tb_correctness.proofs.CodeBytes.GroupCode.{low, high, weighed, difference, Way, way_size, BranchReaches}
 use Rattle.tb_correctness.proofs.Pieces.Halves.{power_size}
 use Rattle.tb_correctness.proofs.Arithmetic.Remainders.{mask_small}
-use Rattle.tb_correctness.proofs.Code.Emits.{formed, formed_size, branch_formed, Emits, emitted_size, ends, block, reaches}
+use Rattle.tb_correctness.proofs.CodeBytes.Emits.{formed, formed_size, branch_formed, Emits, emitted_size, ends, block, reaches}
 use Rattle.tb_simulation.proofs.Numbers.{constant_bytes, copied_bytes, store_bytes, low_byte, high_byte}
 
 -- ---- lists of forms, cut

@@ -28,13 +28,13 @@ use Rattle.tb_templates.proofs.Plain.{lifted_plain, plain_straight}
 use Rattle.tb_simulation.proofs.Resolved as resolved
 use Rattle.tb_simulation.proofs.Resolved.{Code, highest_code}
 use Rattle.tb_correctness.proofs.Pieces.Sources.{lda}
-use Rattle.tb_correctness.proofs.Code.GroupCode as coded
-use Rattle.tb_correctness.proofs.Code.GroupCode.{low, high, weighed, difference, Way, Short, way_size, Flag, Zero, Overflow, Negative, Carry, BranchReaches}
-use Rattle.tb_correctness.proofs.Code.GroupCode.{branch_code, branch_on, second_at, turned_at}
-use Rattle.tb_correctness.proofs.Code.Emits.{formed, branch_by, Emits, ends, block, labelled, branches}
-use Rattle.tb_correctness.proofs.Code.ItemBytes.{AllEncode, IsWord, Rest, behind_branch, behind_label, behind_straight, cut, cut_branch, difference_bytes}
-use Rattle.tb_correctness.proofs.Code.ItemBytes.{gets_there, high_made, high_straight, label_here, lifted_bytes, low_straight, no_more, value_of, weighed_high}
-use Rattle.tb_correctness.proofs.Code.ItemBytes.{weighed_low}
+use Rattle.tb_correctness.proofs.CodeBytes.GroupCode as coded
+use Rattle.tb_correctness.proofs.CodeBytes.GroupCode.{low, high, weighed, difference, Way, Short, way_size, Flag, Zero, Overflow, Negative, Carry, BranchReaches}
+use Rattle.tb_correctness.proofs.CodeBytes.GroupCode.{branch_code, branch_on, second_at, turned_at}
+use Rattle.tb_correctness.proofs.CodeBytes.Emits.{formed, branch_by, Emits, ends, block, labelled, branches}
+use Rattle.tb_correctness.proofs.CodeBytes.ItemBytes.{AllEncode, IsWord, Rest, behind_branch, behind_label, behind_straight, cut, cut_branch, difference_bytes}
+use Rattle.tb_correctness.proofs.CodeBytes.ItemBytes.{gets_there, high_made, high_straight, label_here, lifted_bytes, low_straight, no_more, value_of, weighed_high}
+use Rattle.tb_correctness.proofs.CodeBytes.ItemBytes.{weighed_low}
 
 module _ (labels : List (Name × ℕ)) where
   -- ---- tests

@@ -29,12 +29,12 @@ use Rattle.tb_templates.specs.declared.in_place.Change.TheVariants.{Increment, D
 use Rattle.tb_templates.specs.GroupTemplates as items
 use Rattle.tb_simulation.proofs.Resolved.{copied, size}
 use Rattle.tb_correctness.proofs.Arithmetic.Changes.{IsByte, IsChange, change_is, of_left, of_right, elsewhere}
-use Rattle.tb_correctness.proofs.Code.GroupCode as coded
-use Rattle.tb_correctness.proofs.Code.GroupCode.{Carry, Flag, Negative, Way, Short, Zero, way_size}
-use Rattle.tb_correctness.proofs.Code.Emits.{Emits, block, branch_by, branches, emits_append, emitted_size, formed, labelled}
-use Rattle.tb_correctness.proofs.Code.ItemBytes.{AllEncode, IsWord, Rest, all_made, asked_emits, behind_branch, behind_straight, calculated_emits}
-use Rattle.tb_correctness.proofs.Code.ItemBytes.{calculated_straight, copied_made, copied_straight, cut, cut_branch, gets_there, high_made, high_straight}
-use Rattle.tb_correctness.proofs.Code.ItemBytes.{label_here, rest_before, rest_behind, taken_bytes, value_of}
+use Rattle.tb_correctness.proofs.CodeBytes.GroupCode as coded
+use Rattle.tb_correctness.proofs.CodeBytes.GroupCode.{Carry, Flag, Negative, Way, Short, Zero, way_size}
+use Rattle.tb_correctness.proofs.CodeBytes.Emits.{Emits, block, branch_by, branches, emits_append, emitted_size, formed, labelled}
+use Rattle.tb_correctness.proofs.CodeBytes.ItemBytes.{AllEncode, IsWord, Rest, all_made, asked_emits, behind_branch, behind_straight, calculated_emits}
+use Rattle.tb_correctness.proofs.CodeBytes.ItemBytes.{calculated_straight, copied_made, copied_straight, cut, cut_branch, gets_there, high_made, high_straight}
+use Rattle.tb_correctness.proofs.CodeBytes.ItemBytes.{label_here, rest_before, rest_behind, taken_bytes, value_of}
 
 module _ (labels : List (Name × ℕ)) where
   -- ---- code with a branch over a part of it

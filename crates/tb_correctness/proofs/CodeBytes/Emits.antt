@@ -18,7 +18,7 @@ use Rattle.tb_reaching.proofs.Instr.{Instr, flat}
 use Rattle.tb_simulation.proofs.Resolved as resolved
 use Rattle.tb_simulation.proofs.Resolved.{Piece, Code, pieces_size, highest_code}
 use Rattle.tb_simulation.proofs.Emitted.{piece_bytes, pieces_bytes, pieces_length}
-use Rattle.tb_correctness.proofs.Code.GroupCode.{Flag, Negative, Overflow, Carry, Zero, Way, Short, Long, way_size, branch_on, branch_code, BranchReaches}
+use Rattle.tb_correctness.proofs.CodeBytes.GroupCode.{Flag, Negative, Overflow, Carry, Zero, Way, Short, Long, way_size, branch_on, branch_code, BranchReaches}
 
 -- ---- branches by their ways
 -- the form of a branch to a label by its way

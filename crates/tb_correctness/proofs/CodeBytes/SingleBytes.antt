@@ -22,7 +22,7 @@ use Rattle.tb_simulation.proofs.Numbers.{low_of, high_of, start_of_line, constan
 use Rattle.std.proofs.lemmas.List.{append-nil}
 use Rattle.tb_reaching.proofs.Instr.{flat}
 use Rattle.tb_simulation.proofs.Resolved.{Piece, copied, template, jump_to}
-use Rattle.tb_correctness.proofs.Code.GroupCode.{has_branches}
+use Rattle.tb_correctness.proofs.CodeBytes.GroupCode.{has_branches}
 use Rattle.tb_selection.specs.Groups.{Group, Calculate, Single}
 use Rattle.tb_selection.specs.Select.{alone}
 use Rattle.tb_simulation.proofs.Emitted.{pieces_bytes}
