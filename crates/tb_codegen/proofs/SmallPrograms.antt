@@ -43,7 +43,7 @@ small_short (line ∷ lines) h = (h.0.short, small_short lines h.1)
 
 rising_length : (low : ℕ) (ns : List ℕ) → low ≤ 32767 → Rises (low + 1) 32768 ns → length ns + low ≤ 32767
 rising_length low [] l h = omega (arith, l)
-rising_length low (n ∷ ns) l h = let a = rising_length n ns h.1 h.2 in omega (arith, a, h.0)
+rising_length low (n ∷ ns) l h = let a = rising_length n ns (omega (arith, h.1)) h.2 in omega (arith, a, h.0)
 
 -- a program has as many numbers as lines
 pub count_numbers : {A : Type 0} (p : List (Numbered A)) → length (numbers p) ≡ length p
