@@ -6,7 +6,6 @@ pub mod EventLists
 pub mod Keeping
 pub mod Leading
 pub mod Marking
-pub mod Refusing
 pub mod Responding
 pub mod Returns
 pub mod Running

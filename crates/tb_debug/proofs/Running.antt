@@ -10,7 +10,7 @@ use Rattle.tb_words.proofs.Prefixes.{prefix_same, prefix_trans}
 use Rattle.tb_reaching.proofs.Grows.{sends_on}
 use Rattle.std.specs.Prelude.{ℤ, ◌&&◌, true, false, if◌then◌else◌}
 use Rattle.tb_debug.specs.Roms.{after, event_at}
-use Rattle.tb_debug.specs.Readings.{variables_of}
+use Rattle.tb_inspection.specs.Readings.{values_in}
 use Rattle.tb_debug.specs.Runs.{Point, RunsUpTo, behind, is_begin, next_point, point_at}
 
 pub at_start : (marks : List Bool) (start : Point) → point_at marks start 0 ≡ start
@@ -24,12 +24,12 @@ at_next marks start n = refl
 -- what an event leaves, part by part
 pub behind_by : (marks : List Bool) (p q : Point) (e : Event) (begins : Bool) → q.state ≡ happens p.state e → q.rom ≡ after p.rom
     → begins ≡ is_begin marks p.state e → q.begun ≡ p.begun + (if begins then 1 else 0) → q.last ≡ (if begins then p.state.regs.pc else p.last)
-    → q.opened ≡ (if begins then variables_of p.state.mem else p.opened) → q ≡ behind marks p e
+    → q.opened ≡ (if begins then values_in p.state.mem else p.opened) → q ≡ behind marks p e
 behind_by marks p q e begins happened left is counted moved told =
     let count : q.begun ≡ p.begun + (if is_begin marks p.state e then 1 else 0) = counted ∙ ap (λ x. p.begun + (if x then 1 else 0)) is in
     let place : q.last ≡ (if is_begin marks p.state e then p.state.regs.pc else p.last) = moved ∙ ap (λ x. if x then p.state.regs.pc else p.last) is in
-    let values : q.opened ≡ (if is_begin marks p.state e then variables_of p.state.mem else p.opened) =
-    told ∙ ap (λ x. if x then variables_of p.state.mem else p.opened) is in
+    let values : q.opened ≡ (if is_begin marks p.state e then values_in p.state.mem else p.opened) =
+    told ∙ ap (λ x. if x then values_in p.state.mem else p.opened) is in
     λ i. record { state = happened i; rom = left i; begun = count i; last = place i; opened = values i }
 
 -- values that are read where a line may begin, and kept where one does

@@ -20,13 +20,11 @@ use Rattle.tb_debug.specs.Runs.{begins_at, first_point, is_marked}
 use Rattle.tb_debug.specs.Lines.{line_at}
 use Rattle.std.specs.Int.{cast_signed, w16}
 use Rattle.std.specs.Prelude.{length}
-use Rattle.std.proofs.Common.{arith}
 use Rattle.tb_runtime16.specs.Addresses.{LINES_AT}
-use Rattle.tb_templates.specs.Templates.{var_at}
 use Rattle.tb_codegen.specs.Compiled.{AddressesRise}
 use Rattle.tb_debug.specs.Readings.{lines_of_returns, returns_of}
 use Rattle.tb_debug.specs.Sources.{Debugs, IsMadeOf, ShowsLine}
-use Rattle.tb_debug.proofs.SourceState.{all_returns, returns_told, word_there}
+use Rattle.tb_debug.proofs.SourceState.{all_returns, returns_told}
 use Rattle.tb_debug.proofs.EventLists.{begun_to, events_to, lawful_to, run_to}
 
 module _ (labels : List (Name × ℕ)) where
@@ -87,9 +85,9 @@ shows_all source seed start d n made firsts same begins =
     let count = all_returns m (length begins.state.returns) begins.few begins.depth in
     record {
       begins = begins;
-      variables = λ x few. ap (cast_signed w16) (word_there m (var_at x) (omega arith) (omega (arith, few)) ∙ begins.vars x few);
+      variables = λ x few. ap (cast_signed w16) (begins.vars x few);
       returns = ap (λ ss. returns_of ss m) told ∙ ap (lines_of_returns (starts_in labels ns) m) count
-          ∙ returns_told labels (start_of c) ns LINES_AT rise firsts here m begins.state.returns begins.few begins.returns;
+          ∙ returns_told labels (start_of c) ns LINES_AT rise firsts here m begins.state.returns begins.returns;
     }
 
 -- where a debugger stands at a line's beginning, the source goes on at that line

@@ -1,6 +1,6 @@
 -- A debugger on the run of its program.
-use Rattle.std.specs.Prelude.{◌≡◌, ◌⊎◌, ℕ, ◌-◌, ◌<◌, ◌≤◌, Bool, true, List, [], ◌∷◌, ◌++◌, length, map}
-use Rattle.std.specs.Char.{to_ascii_uppercase}
+use Rattle.std.specs.Prelude.{◌≡◌, ◌⊎◌, ℕ, ◌-◌, ◌<◌, ◌≤◌, Bool, true, List, length}
+use Rattle.tb_play.specs.Lines.{keys_of_text}
 use Rattle.tb_codegen.specs.Compiled.{starts_of}
 use Rattle.tb_codegen.specs.declared.compiled.Compiled.{Compiled}
 use Rattle.tb_debug_commands.specs.declared.command.Command.{Command}
@@ -86,11 +86,7 @@ pub record LeadsBackBy (lines : ℕ) (d : Debugger) (reached : Reached) (m : Mom
   pub there : 0 < lines → 0 < begun_by d → IsAtTime (begun_by d - lines) d.starts reached m
   pub back : 0 < lines → (start : Point) → start.begun ≡ 0 → OnRun start d → LeadsBackTo (begun_by d - lines) d reached m
 
--- what a line hands over: its letters as capitals, and a return
-abbrev pub keys_of : List ℕ → List ℕ
-keys_of text = map to_ascii_uppercase text ++ 13 ∷ []
-
 -- a command keeps the run, but for the one that types
 abbrev pub Responds : Command → Debugger → Debugger → Type 0
-Responds (command.Type text) d e = KeepsRunTyped (keys_of text.now) d e
+Responds (command.Type text) d e = KeepsRunTyped (keys_of_text text.now) d e
 Responds _ d e = KeepsRun d e

@@ -7,7 +7,7 @@ use Rattle.tb_kernal.specs.Machine.{State, state_of, happens, status}
 use Rattle.tb_kernal.specs.Typing.{with_more}
 use Rattle.tb_kernal.specs.Runs.{is_own}
 use Rattle.tb_debug.specs.Roms.{after, event_at}
-use Rattle.tb_debug.specs.Readings.{variables_of}
+use Rattle.tb_inspection.specs.Readings.{values_in}
 use Rattle.tb_debug.specs.declared.rom.Rom.{Rom}
 use Rattle.tb_debug.specs.declared.history.Checkpoint.{Checkpoint}
 use Rattle.tb_debug.specs.declared.moment.Moment.{Moment}
@@ -40,7 +40,7 @@ pub record Point : Type 0 where
 
 -- where a run starts
 abbrev pub first_point : State → Rom → Point
-first_point s rom = record { state = s; rom = rom; begun = 0; last = 0; opened = variables_of s.mem }
+first_point s rom = record { state = s; rom = rom; begun = 0; last = 0; opened = values_in s.mem }
 
 -- the place behind an event
 abbrev pub behind : List Bool → Point → Event → Point
@@ -50,7 +50,7 @@ behind marks p e =
       rom = after p.rom;
       begun = p.begun + (if is_begin marks p.state e then 1 else 0);
       last = if is_begin marks p.state e then p.state.regs.pc else p.last;
-      opened = if is_begin marks p.state e then variables_of p.state.mem else p.opened;
+      opened = if is_begin marks p.state e then values_in p.state.mem else p.opened;
     }
 
 -- the place behind the event that the ROM gives there

@@ -5,7 +5,7 @@ use Rattle.tb_debug.specs.Breakpoints.{breakpoints_of, watches_of, breaks, diffe
 use Rattle.tb_debug.specs.declared.breakpoints.StopPoints.{StopPoints}
 use Rattle.tb_debug.specs.Begins.{comes_to}
 use Rattle.tb_debug.specs.Lines.{line_at}
-use Rattle.tb_debug.specs.Readings.{variables_of}
+use Rattle.tb_inspection.specs.Readings.{values_in}
 use Rattle.tb_debug.specs.Runs.{Point, point_at, shown}
 use Rattle.tb_debug.specs.declared.debugger.Debugger.{Debugger}
 use Rattle.tb_debug.specs.declared.moment.Reached.{Reached}
@@ -19,7 +19,7 @@ breaks_at lines stops p = breaks (breakpoints_of stops) (line_at lines p.state.r
 
 -- the line that was begun last gave a watched variable another value
 abbrev pub changes : StopPoints → Point → Bool
-changes stops p = differ (watches_of stops) p.opened (variables_of p.state.mem)
+changes stops p = differ (watches_of stops) p.opened (values_in p.state.mem)
 
 -- ---- going on
 

@@ -1,21 +1,16 @@
 -- What answers say of the run and of the machine.
-use Rattle.std.specs.Prelude.{◌≡◌, ℕ, Bool, true, false, ℤ, pos, not, List, drop, length, map, Option, Some, None, Result, Ok, Err, if◌then◌else◌, slice_index_or}
+use Rattle.std.specs.Prelude.{◌≡◌, ℕ, Bool, true, false, ℤ, pos, not, List, drop, length, map, Option, Some, None, Result, if◌then◌else◌, slice_index_or}
 use Rattle.tb_words.specs.Words.{word_of}
 use Rattle.tb_words.specs.declared.Letter.{Letter}
 use Rattle.tb_words.specs.Letters.{letter_index}
-use Rattle.tb_syntax.specs.Source.{Expression}
-use Rattle.tb_parser.specs.Answers.{InLineOne}
-use Rattle.tb_parser.specs.Files.{FileRefusal}
-use Rattle.tb_parser.specs.Readings.{ExpressionIs}
-use Rattle.tb_meaning.specs.Evaluation.{IsEvaluation}
 use Rattle.tb_meaning.specs.declared.evaluation.EvalError.{EvalError}
-use Rattle.tb_meaning.specs.declared.evaluation.EvalError.TheVariants as eval
 use Rattle.tb_kernal.specs.declared.status.Status.{Status}
 use Rattle.tb_kernal.specs.declared.status.Status.TheVariants.{Running}
 use Rattle.tb_kernal.specs.Machine.{state_of, status}
 use Rattle.tb_asm.specs.Layout.{Entry}
 use Rattle.tb_disasm.specs.Lines.{shown}
 use Rattle.tb_codegen.specs.Compiled.{line_in, start_in, starts_of, table_of}
+use Rattle.tb_inspection.specs.Values.{IsValueOfText}
 use Rattle.tb_debug.specs.Breakpoints.{breakpoints_of, watches_of, is_among, is_watched}
 use Rattle.tb_debug_commands.specs.declared.command.Command.{Command}
 use Rattle.tb_debug_commands.specs.declared.command.Command.TheVariants as command
@@ -30,13 +25,14 @@ use Rattle.tb_debug.specs.declared.moment.Reached.TheVariants.{Limit}
 use Rattle.tb_debug.specs.Begins.{StandsBy}
 use Rattle.tb_debug.specs.Leading.{Leads}
 use Rattle.tb_debug.specs.Lines.{line_at}
-use Rattle.tb_debug.specs.Readings.{bytes_of, code_of, most_code, returns_of, variables_of}
+use Rattle.tb_inspection.specs.Readings.{values_in}
+use Rattle.tb_debug.specs.Readings.{bytes_of, code_of, most_code, returns_of}
 
 -- ---- what stands in the machine
 
 -- the values of A to Z
 abbrev pub variables_here : Debugger → List ℤ
-variables_here d = variables_of (state_of d.present.machine).mem
+variables_here d = values_in (state_of d.present.machine).mem
 
 -- the lines to return to, the newest first
 abbrev pub returns_here : Debugger → List (Option ℕ)
@@ -134,20 +130,15 @@ output_told _ = None
 abbrev pub TellsValue : Letter → Debugger → Option Answer → Type 0
 TellsValue letter d told = told ≡ Some (answer.Variable (letter_index letter) (slice_index_or (variables_here d) (letter_index letter) (pos 0)))
 
--- the answer for what an expression came to
-abbrev pub value_answer : Result ℤ EvalError → Answer
-value_answer (Ok v) = answer.Number v
-value_answer (Err eval.DivideByZero) = answer.DivisionByZero
-value_answer (Err eval.HasRnd) = answer.HasRnd
+-- the answer to a text that came to this: its value, or `what?`
+abbrev pub value_answer : Option (Result ℤ EvalError) → Answer
+value_answer (Some value) = answer.Value value
+value_answer None = answer.What
 
--- the value of an expression over the variables, or `what?` of a text that is none
-abbrev pub TellsOf : Debugger → Result Expression FileRefusal → Option Answer → Type 0
-TellsOf d (Ok e) told = (v : Result ℤ EvalError) × IsEvaluation e (map word_of (variables_here d)) v × (told ≡ Some (value_answer v))
-TellsOf d (Err r) told = told ≡ Some answer.What
-
--- what is told of a text behind `e`
+-- what is told of the text after `e`: what that comes to over the variables
 abbrev pub TellsText : List ℕ → Debugger → Option Answer → Type 0
-TellsText text d told = (r : Result Expression FileRefusal) × InLineOne (ExpressionIs text) r × TellsOf d r told
+TellsText text d told =
+    (value : Option (Result ℤ EvalError)) × IsValueOfText (map word_of (variables_here d)) text value × (told ≡ Some (value_answer value))
 
 -- ---- the machine
 

@@ -1,7 +1,7 @@
 //! What commands are answered by.
-use crate::breakpoints::Variables;
 use tb_cpu::Regs;
 use tb_disasm::Line;
+use tb_inspection::{Value, Variables};
 use tb_kernal::Status;
 
 /// Where a run stands.
@@ -47,9 +47,8 @@ pub enum Answer {
         index: usize,
         value: i16,
     },
-    Number(i16),
-    DivisionByZero,
-    HasRnd,
+    /// The value of an expression, or why it has none.
+    Value(Value),
     /// The lines to return to, the newest first; none behind the last line.
     Returns(Vec<Option<u16>>),
     /// All that was sent.
@@ -70,6 +69,6 @@ pub enum Answer {
     Help,
     /// The program has no such line.
     NoSuchLine,
-    /// The line is no command.
+    /// The line is no command, or its text no expression.
     What,
 }

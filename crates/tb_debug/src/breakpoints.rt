@@ -4,10 +4,8 @@ ghost use Rattle.tb_words.specs.Letters.{letter_index};
 ghost use Rattle.tb_debug.specs.Breakpoints.{Turned, WatchTurned, breakpoints_of, watches_of, is_among, is_watched, breaks, differ};
 
 use std::alloc::{AllocError, Global};
+use tb_inspection::Variables;
 use tb_words::Letter;
-
-/// The values of A to Z.
-pub type Variables = [i16; 26];
 
 /// Breakpoints and watches.
 #[derive(Drop)]

@@ -4,7 +4,7 @@ ghost use Rattle.tb_kernal.specs.Machine.{State, state_of};
 ghost use Rattle.tb_syntax.specs.Source.{Program};
 ghost use Rattle.tb_codegen.specs.Compiled.{starts_of};
 ghost use Rattle.tb_debug.specs.Begins.{Advances, EndsAt, GoesBy, IsLimited, StandsBy, StepsBy, standing_of};
-ghost use Rattle.tb_debug.specs.Readings.{variables_of};
+ghost use Rattle.tb_inspection.specs.Readings.{values_in};
 ghost use Rattle.tb_debug.specs.Lines.{line_at};
 ghost use Rattle.tb_debug.specs.Runs.{Point, IsOfRun, first_point, is_marked};
 ghost use Rattle.tb_debug.specs.Searching.{IsUntil};
@@ -13,7 +13,7 @@ ghost use Rattle.tb_debug.specs.declared.moment.Reached.TheVariants.{Line};
 ghost use Rattle.tb_debug.specs.declared.rom.Rom.{Rom};
 ghost use Rattle.tb_debug.specs.Debuggers.{IsAtTime, IsOpening, KeepsRun, KeepsRunTyped, LeadsBackBy, LeadsToTime, OnRun, begun_by};
 
-use crate::breakpoints::{StopPoints, Variables};
+use crate::breakpoints::StopPoints;
 use crate::history::{Checkpoint, History};
 use crate::moment::{Moment, Reached};
 use crate::readings::{line_from, variables_in};
@@ -21,6 +21,7 @@ use crate::rom::Rom;
 use crate::starts::Starts;
 use std::alloc::{AllocError, Global};
 use tb_codegen::Compiled;
+use tb_inspection::Variables;
 use tb_kernal::Machine;
 
 /// The most events that come before the first line.
@@ -92,7 +93,7 @@ impl<'a> Debugger<'a> {
 
     /// The values of A to Z.
     pub fn variables(&self) -> Variables
-        ensures { result ≡ variables_of (state_of self.now.present.machine).mem }
+        ensures { result ≡ values_in (state_of self.now.present.machine).mem }
     {
         variables_in(&self.present.machine)
     }

@@ -17,9 +17,10 @@ mod searching;
 mod starts;
 
 pub use answer::{Answer, Location, Stand};
-pub use breakpoints::{StopPoints, Variables};
+pub use breakpoints::StopPoints;
 pub use debugger::{Debugger, MOST_OPENING};
 pub use history::{MOST_KEPT, SPACING};
 pub use moment::Reached;
 pub use rom::Rom;
 pub use tb_debug_commands::{Command, read_command};
+pub use tb_inspection::{Value, Variables};

@@ -3,15 +3,15 @@ ghost use Rattle.std.specs.Prelude.{◌≡◌, ◌<◌, ◌≤◌, ◌+◌, ◌=
 ghost use Rattle.tb_kernal.specs.Machine.{state_of, status};
 ghost use Rattle.tb_kernal.specs.declared.status.Status.TheVariants as status;
 ghost use Rattle.tb_debug.specs.Begins.{Advances, EndsAt, IsLimited, StandsBy, StepsBy, at_limit, own_at, standing_of};
-ghost use Rattle.tb_debug.specs.Readings.{variables_of};
+ghost use Rattle.tb_inspection.specs.Readings.{values_in};
 ghost use Rattle.tb_debug.specs.Runs.{Point, IsOfRun, IsTyped, StaysOnRun, first_point, is_marked};
 
-use crate::breakpoints::Variables;
 use crate::events::take_event;
 use crate::readings::variables_in;
 use crate::rom::Rom;
 use crate::starts::Starts;
 use std::alloc::{AllocError, Global};
+use tb_inspection::Variables;
 use tb_kernal::{Machine, Status};
 
 /// Where a walk ended.
@@ -118,7 +118,7 @@ impl Moment {
 
     // The variables here where a line begins, or else as they were where the last one did.
     fn opened_by(&self, marked: bool) -> Variables
-        ensures { result ≡ (if marked then variables_of (state_of self.now.machine).mem else self.now.opened) }
+        ensures { result ≡ (if marked then values_in (state_of self.now.machine).mem else self.now.opened) }
     {
         if marked {
             variables_in(&self.machine)

@@ -3,14 +3,13 @@ ghost use Rattle.std.specs.Prelude.{◌≡◌, ℕ, Some, drop, length, not, IfO
 ghost use Rattle.tb_words.specs.Letters.{letter_index};
 ghost use Rattle.tb_kernal.specs.Machine.{state_of};
 ghost use Rattle.tb_codegen.specs.Compiled.{start_in, starts_of};
+ghost use Rattle.tb_play.specs.Lines.{keys_of_text};
 ghost use Rattle.tb_debug.specs.Breakpoints.{breakpoints_of, is_among, is_watched, watches_of};
-ghost use Rattle.tb_debug.specs.Debuggers.{KeepsRun, KeepsRunTyped, Responds, keys_of};
+ghost use Rattle.tb_debug.specs.Debuggers.{KeepsRun, KeepsRunTyped, Responds};
 ghost use Rattle.tb_debug.specs.Leaving.{Leaves, LeavesPlace, TurnsBreakpoint, TurnsWatch};
 ghost use Rattle.tb_debug.specs.Kinds.{IsAct, IsShown, IsTold, IsWalk, Walks};
 ghost use Rattle.tb_debug.specs.Readings.{bytes_of, code_of, most_code};
-ghost use Rattle.tb_debug.specs.Telling.{Tells, TellsStop, TellsText, TellsValue, breakpoint_answer, breakpoints_told};
-ghost use Rattle.tb_debug.specs.Telling.{code_told, is_limit, line_here, list_answer, memory_told, output_told};
-ghost use Rattle.tb_debug.specs.Telling.{place_here, returns_here, returns_told, set_or_cleared, value_answer};
+ghost use Rattle.tb_debug.specs.Telling.{Tells, TellsStop, TellsText, TellsValue, breakpoint_answer, breakpoints_told, code_told, is_limit, line_here, list_answer, memory_told, output_told, place_here, returns_here, returns_told, set_or_cleared};
 
 use crate::answer::{Answer, Location, Stand};
 use crate::debugger::Debugger;
@@ -18,13 +17,10 @@ use crate::moment::Reached;
 use crate::readings::{bytes_from, code_from, line_from, returns};
 use std::alloc::{AllocError, Global};
 use tb_debug_commands::Command;
+use tb_inspection::value_of_text;
 use tb_kernal::Status;
-use tb_meaning::{EvalError, eval};
-use tb_parser::{SourceErrorKind, parse_expr};
+use tb_play::keys_of_text;
 use tb_words::Letter;
-
-/// What the return key gives.
-const RETURN: u8 = 13;
 
 /// How many lines of code are shown.
 const CODE_LINES: usize = 8;
@@ -249,12 +245,9 @@ impl<'a> Debugger<'a> {
     fn value(&self, alloc: Global, text: &[u8]) -> Result<Answer, AllocError>
         ensures { IfOk result (λ told. TellsText text.now self.now (Some told)) }
     {
-        match parse_expr(alloc, text) {
-            Ok(expression) => { Ok(value_answer(eval(&expression, &self.variables()))) }
-            Err(error) => match error.kind {
-                SourceErrorKind::NoMemory => Err(AllocError),
-                _ => Ok(Answer::What),
-            },
+        match value_of_text(alloc, text, &self.variables())? {
+            Some(value) => Ok(Answer::Value(value)),
+            None => Ok(Answer::What),
         }
     }
 
@@ -291,10 +284,10 @@ impl<'a> Debugger<'a> {
 
     // Types a line: its letters as capitals, and a return.
     fn type_line(&mut self, alloc: Global, text: &[u8]) -> Result<(), AllocError>
-        ensures run { OnOk result (KeepsRunTyped (keys_of text.now) self.old self.new) }
+        ensures run { OnOk result (KeepsRunTyped (keys_of_text text.now) self.old self.new) }
         ensures place { OnOk result (LeavesPlace self.old self.new) }
     {
-        let keys = keys(alloc, text)?;
+        let keys = keys_of_text(alloc, text)?;
         self.type_text(keys.as_slice())?;
         Ok(())
     }
@@ -317,30 +310,8 @@ fn is_limit(reached: Reached) -> bool
     matches!(reached, Reached::Limit)
 }
 
-// What a typed line hands over.
-fn keys(alloc: Global, text: &[u8]) -> Result<Vec<u8>, AllocError>
-    ensures { IfOk result (λ keys. keys.items ≡ keys_of text.now) }
-{
-    let mut keys = Vec::new(alloc);
-    for byte in text {
-        keys.push(byte.to_ascii_uppercase())?;
-    }
-    keys.push(RETURN)?;
-    Ok(keys)
-}
-
 fn turned(is_set: bool) -> Answer
     ensures { result ≡ set_or_cleared is_set }
 {
     if is_set { Answer::Set } else { Answer::Cleared }
-}
-
-fn value_answer(value: Result<i16, EvalError>) -> Answer
-    ensures { result ≡ value_answer value }
-{
-    match value {
-        Ok(value) => Answer::Number(value),
-        Err(EvalError::DivideByZero) => Answer::DivisionByZero,
-        Err(EvalError::HasRnd) => Answer::HasRnd,
-    }
 }
