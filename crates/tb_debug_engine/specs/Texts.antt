@@ -1,18 +1,17 @@
 -- The texts of the debugger's answers.
-use Rattle.std.specs.Prelude.{ℕ, zero, suc, ◌+◌, ◌/◌, ◌%◌, ◌==◌, Bool, true, false, ℤ, pos, List, [], ◌∷◌, ◌++◌, codes, flat_map}
-use Rattle.std.specs.Prelude.{map, min, Option, Some, None, if◌then◌else◌}
+use Rattle.std.specs.Prelude.{ℕ, zero, suc, ◌+◌, ◌%◌, ◌==◌, Bool, true, false, ℤ, pos, List, [], ◌∷◌, ◌++◌, codes, flat_map}
+use Rattle.std.specs.Prelude.{map, min, Option, Some, None, Ok, if◌then◌else◌}
 use Rattle.std.specs.Ordering.{int_eq}
 use Rattle.hex.specs.Hex.{encode_upper}
-use Rattle.tb_words.specs.Words.{word_of, digits_of}
 use Rattle.tb_kernal.specs.declared.status.Status.{Status}
-use Rattle.tb_kernal.specs.declared.status.Status.TheVariants.{Running, Waits, Returned, Wrong}
+use Rattle.tb_kernal.specs.declared.status.Status.TheVariants.{Wrong}
 use Rattle.tb_streams.specs.HostForm.{host_form_of}
 use Rattle.tb_engines.specs.Programs.{end_of}
 use Rattle.tb_engines.specs.Texts.{end_text}
 use Rattle.tb_disasm.specs.declared.listing.Line.{Line as CodeLine}
 use Rattle.tb_disasm.specs.Lines.{shown}
 use Rattle.tb_disasm.specs.ListingText.{text_of as listing_text}
-use Rattle.tb_commands.specs.Answers.{registers_text}
+use Rattle.tb_inspection.specs.Texts.{address_text, limit, no_such_line, registers_text, status_text, value_text, what}
 use Rattle.tb_debug.specs.declared.answer.Answer.{Answer}
 use Rattle.tb_debug.specs.declared.answer.Answer.TheVariants as answer
 use Rattle.tb_debug.specs.declared.answer.Location.{Location}
@@ -42,29 +41,27 @@ barred_from false (b ∷ bs) = b ∷ barred_from (b == 10) bs
 abbrev pub sent_text : List ℕ → List ℕ
 sent_text sent = barred_from true (host_form_of sent)
 
--- how a machine stands that doesn't run: where it went wrong, as a run's end
-abbrev pub status_text : Status → ℕ → List ℕ
-status_text Running pc = codes "running"
-status_text Waits pc = codes "waits"
-status_text Returned pc = codes "returned"
-status_text (Wrong w) pc = end_text (end_of (Wrong w) pc)
+-- how a machine stands that doesn't run: if it went wrong, as a run's end
+abbrev pub standing_text : Status → ℕ → List ℕ
+standing_text (Wrong w) pc = end_text (end_of (Wrong w) pc)
+standing_text t pc = status_text t
 
 -- the line at which a run stands, `start` before the first one, or how its machine stands
 abbrev pub place_text : List (ℕ × List ℕ) → Location → List ℕ
 place_text lines (place.Line number) = written lines number
 place_text lines place.Opening = line (codes "start")
-place_text lines (place.Ended status pc) = line (status_text status pc)
+place_text lines (place.Ended status pc) = line (standing_text status pc)
 
 -- what was sent since the last stop, `limit` where the limit of events ended a going on, and where the run stands
 abbrev pub stand_text : List (ℕ × List ℕ) → Stand → List ℕ
 stand_text lines stand =
-    sent_text stand.sent.items ++ ((if stand.is_limit then line (codes "limit") else []) ++ place_text lines stand.place)
+    sent_text stand.sent.items ++ ((if stand.is_limit then line limit else []) ++ place_text lines stand.place)
 
 -- ---- variables and lines
 
 -- a variable by its place in the alphabet, and its value
 unfoldable pub variable_text : ℕ → ℤ → List ℕ
-variable_text index value = (65 + min index 25) ∷ 61 ∷ line (digits_of (word_of value))
+variable_text index value = (65 + min index 25) ∷ 61 ∷ line (value_text (Ok value))
 
 -- the same of one that isn't 0
 abbrev pub unless_zero : ℕ → ℤ → List ℕ
@@ -82,11 +79,7 @@ return_text lines None = line (codes "past")
 
 -- ---- memory and code
 
--- an address in four hexadecimal digits
-abbrev pub address_text : ℕ → List ℕ
-address_text address = encode_upper (address / 256 ∷ address % 256 ∷ [])
-
--- a byte in two of them behind a space; `--` of a closed place
+-- a byte in two hexadecimal digits behind a space; `--` of a closed place
 abbrev pub byte_text : Option ℕ → List ℕ
 byte_text (Some byte) = 32 ∷ encode_upper (byte ∷ [])
 byte_text None = codes " --"
@@ -141,9 +134,7 @@ text_of lines numbers (answer.Breakpoints set) = or_none (flat_map (written line
 text_of lines numbers (answer.List round place) = list_text lines numbers round place
 text_of lines numbers (answer.Variables values) = or_none (variables_from 0 values)
 text_of lines numbers (answer.Variable index value) = variable_text index value
-text_of lines numbers (answer.Number value) = line (digits_of (word_of value))
-text_of lines numbers answer.DivisionByZero = line (codes "division by zero")
-text_of lines numbers answer.HasRnd = line (codes "has RND")
+text_of lines numbers (answer.Value value) = line (value_text value)
 text_of lines numbers (answer.Returns noted) = or_none (flat_map (return_text lines) noted.items)
 text_of lines numbers (answer.Output sent) = or_none (sent_text sent.items)
 text_of lines numbers answer.Typed = line (codes "typed")
@@ -151,5 +142,5 @@ text_of lines numbers (answer.Registers regs at status) = line (registers_text r
 text_of lines numbers (answer.Memory at bytes) = line (bytes_text 0 at bytes.items)
 text_of lines numbers (answer.Code code) = code_text code.items
 text_of lines numbers answer.Help = help_text
-text_of lines numbers answer.NoSuchLine = line (codes "no such line")
-text_of lines numbers answer.What = line (codes "what?")
+text_of lines numbers answer.NoSuchLine = line no_such_line
+text_of lines numbers answer.What = line what

@@ -1,21 +1,23 @@
 //! The texts of answers.
 ghost use Rattle.std.specs.Prelude.{◌≡◌, ◌+◌, ◌^◌, ◌++◌, ◌<◌, flat_map, length, map, min, true, IfOk, OnOk};
 ghost use Rattle.tb_source_text.specs.Lines.{pair_of};
+ghost use Rattle.tb_inspection.specs.Texts.{registers_text, value_text};
 ghost use Rattle.tb_debug_engine.specs.Lists.{written};
 ghost use Rattle.tb_debug_engine.specs.Sources.{shown_of};
 ghost use Rattle.tb_debug_engine.specs.Texts as texts;
-ghost use Rattle.tb_debug_engine.specs.Texts.{address_text, barred_from, byte_text, bytes_text, code_text, or_none};
-ghost use Rattle.tb_debug_engine.specs.Texts.{place_text, return_text, row_text, sent_text, stand_text, status_text};
-ghost use Rattle.tb_debug_engine.specs.Texts.{unless_zero, variable_text, variables_from};
+ghost use Rattle.tb_debug_engine.specs.Texts.{barred_from, byte_text, bytes_text, code_text, or_none, place_text, return_text, row_text, sent_text, stand_text, standing_text, unless_zero, variable_text, variables_from};
 
 use crate::lists::{push_list, push_written};
 use crate::sources::Written;
 use hex::encode_upper;
 use std::alloc::{AllocError, Global};
-use tb_commands::Answer as Word;
-use tb_debug::{Answer, Location, Stand};
+use tb_cpu::Regs;
+use tb_debug::{Answer, Location, Stand, Value};
 use tb_disasm::{Line, Listing};
 use tb_engines::end_of;
+use tb_inspection::{
+    LIMIT, NO_SUCH_LINE, WHAT, push_address, push_registers, push_value, status_text,
+};
 use tb_kernal::Status;
 use tb_source_text::Numbered;
 use tb_streams::host_form;
@@ -51,7 +53,40 @@ h          this help
 q          end
 ";
 
-// Appends a text, or `none` where it is empty.
+// Appends a text in a line of its own.
+fn push_line(text: &mut Vec<u8>, shown: &[u8]) -> Result<(), AllocError>
+    ensures { OnOk result (text.new.items ≡ text.old.items ++ texts.line shown.now) }
+{
+    text.extend_from_slice(shown)?;
+    text.push(b'\n')?;
+    Ok(())
+}
+
+// Appends the value of an expression, or why it has none, in a line of its own.
+fn push_value_line(text: &mut Vec<u8>, value: Value) -> Result<(), AllocError>
+    ensures { OnOk result (text.new.items ≡ text.old.items ++ texts.line (value_text value)) }
+{
+    push_value(text, value)?;
+    text.push(b'\n')?;
+    Ok(())
+}
+
+// Appends registers, a line and how the machine stands in a line of its own.
+fn push_registers_line(
+    alloc: Global,
+    text: &mut Vec<u8>,
+    regs: Regs,
+    line: Option<u16>,
+    status: Status,
+) -> Result<(), AllocError>
+    ensures { OnOk result (text.new.items ≡ text.old.items ++ texts.line (registers_text regs line status)) }
+{
+    push_registers(alloc, text, regs, line, status)?;
+    text.push(b'\n')?;
+    Ok(())
+}
+
+// Appends a text, or `none` if it is empty.
 fn push_or_none(text: &mut Vec<u8>, shown: &[u8]) -> Result<(), AllocError>
     ensures { OnOk result (text.new.items ≡ text.old.items ++ or_none shown.now) }
 {
@@ -86,14 +121,14 @@ fn push_barred(text: &mut Vec<u8>, form: &[u8]) -> Result<(), AllocError>
     Ok(())
 }
 
-// Appends how a machine stands: where it went wrong, as `run` says it.
+// Appends how a machine stands: if it went wrong, as `run` says it.
 fn push_status(alloc: Global, text: &mut Vec<u8>, status: Status, pc: u16) -> Result<(), AllocError>
-    ensures { OnOk result (text.new.items ≡ text.old.items ++ texts.line (status_text status pc)) }
+    ensures { OnOk result (text.new.items ≡ text.old.items ++ texts.line (standing_text status pc)) }
 {
     match status {
-        Status::Running => text.extend_from_slice(b"running\n"),
-        Status::Waits => text.extend_from_slice(b"waits\n"),
-        Status::Returned => text.extend_from_slice(b"returned\n"),
+        Status::Running | Status::Waits | Status::Returned => {
+            push_line(text, status_text(status).as_bytes())
+        }
         Status::Wrong(_) => {
             let end = end_of(status, pc);
             text.extend_from_slice(format!(in alloc; "{end}\n")?.as_bytes())
@@ -126,7 +161,7 @@ fn push_stand(
 {
     push_sent(alloc, text, stand.sent.as_slice())?;
     if stand.is_limit {
-        text.extend_from_slice(b"limit\n")?;
+        push_line(text, LIMIT)?;
     }
     push_place(alloc, text, lines, stand.place)
 }
@@ -152,50 +187,34 @@ fn name_at(index: usize) -> u8
     FIRST_NAME + index.min(LAST_NAMED) as u8
 }
 
-fn push_variable(
-    alloc: Global,
-    text: &mut Vec<u8>,
-    index: usize,
-    value: i16,
-) -> Result<(), AllocError>
+fn push_variable(text: &mut Vec<u8>, index: usize, value: i16) -> Result<(), AllocError>
     ensures { OnOk result (text.new.items ≡ text.old.items ++ variable_text index value) }
 {
     text.push(name_at(index))?;
     text.push(b'=')?;
-    Word::Number(value).push_line(alloc, text)?;
-    Ok(())
+    push_value_line(text, Ok(value))
 }
 
 // The same of one that isn't 0.
-fn push_unless_zero(
-    alloc: Global,
-    text: &mut Vec<u8>,
-    index: usize,
-    value: i16,
-) -> Result<(), AllocError>
+fn push_unless_zero(text: &mut Vec<u8>, index: usize, value: i16) -> Result<(), AllocError>
     ensures { OnOk result (text.new.items ≡ text.old.items ++ unless_zero index value) }
 {
     if value == 0 {
         return Ok(());
     }
-    push_variable(alloc, text, index, value)?;
+    push_variable(text, index, value)?;
     Ok(())
 }
 
-fn push_variables(
-    alloc: Global,
-    text: &mut Vec<u8>,
-    index: usize,
-    values: &[i16],
-) -> Result<(), AllocError>
+fn push_variables(text: &mut Vec<u8>, index: usize, values: &[i16]) -> Result<(), AllocError>
     requires { index + length values.now < 2 ^ 63 }
     ensures { OnOk result (text.new.items ≡ text.old.items ++ variables_from index values.now) }
 {
     match values {
         [] => Ok(()),
         [value, rest @ ..] => {
-            push_unless_zero(alloc, text, index, *value)?;
-            push_variables(alloc, text, index + 1, rest)?;
+            push_unless_zero(text, index, *value)?;
+            push_variables(text, index + 1, rest)?;
             Ok(())
         }
     }
@@ -205,7 +224,7 @@ fn variables_text(alloc: Global, values: &[i16]) -> Result<Vec<u8>, AllocError>
     ensures { IfOk result (λ text. text.items ≡ variables_from 0 values.now) }
 {
     let mut text = Vec::new(alloc);
-    push_variables(alloc, &mut text, 0, values)?;
+    push_variables(&mut text, 0, values)?;
     Ok(text)
 }
 
@@ -242,12 +261,6 @@ fn sent_text(alloc: Global, sent: &[u8]) -> Result<Vec<u8>, AllocError>
     let mut text = Vec::new(alloc);
     push_sent(alloc, &mut text, sent)?;
     Ok(text)
-}
-
-fn push_address(alloc: Global, text: &mut Vec<u8>, address: u16) -> Result<(), AllocError>
-    ensures { OnOk result (text.new.items ≡ text.old.items ++ address_text address) }
-{
-    text.extend_from_slice(encode_upper(alloc, address.to_be_bytes())?.as_bytes())
 }
 
 fn push_byte(alloc: Global, text: &mut Vec<u8>, byte: Option<u8>) -> Result<(), AllocError>
@@ -335,7 +348,7 @@ pub fn push_answer(
         }
         Answer::List { round, place } => push_list(text, lines, &source.numbers, round, place),
         Answer::Variables(values) => push_or_none(text, &variables_text(alloc, &values)?),
-        Answer::Variable { index, value } => push_variable(alloc, text, index, value),
+        Answer::Variable { index, value } => push_variable(text, index, value),
         Answer::Returns(noted) => push_or_none(text, &returns_text(alloc, lines, &noted)?),
         Answer::Output(sent) => push_or_none(text, &sent_text(alloc, &sent)?),
         Answer::Memory { at, bytes } => push_memory(alloc, text, at, &bytes),
@@ -345,12 +358,10 @@ pub fn push_answer(
         Answer::Cleared => text.extend_from_slice(b"cleared\n"),
         Answer::Typed => text.extend_from_slice(b"typed\n"),
         Answer::Registers { regs, line, status } => {
-            Word::Registers { regs, line, status }.push_line(alloc, text)
+            push_registers_line(alloc, text, regs, line, status)
         }
-        Answer::Number(value) => Word::Number(value).push_line(alloc, text),
-        Answer::DivisionByZero => Word::DivisionByZero.push_line(alloc, text),
-        Answer::HasRnd => Word::HasRnd.push_line(alloc, text),
-        Answer::NoSuchLine => Word::NoSuchLine.push_line(alloc, text),
-        Answer::What => Word::What.push_line(alloc, text),
+        Answer::Value(value) => push_value_line(text, value),
+        Answer::NoSuchLine => push_line(text, NO_SUCH_LINE),
+        Answer::What => push_line(text, WHAT),
     }
 }
