@@ -1,7 +1,7 @@
 -- Checkpoint moments are of the run.
 use Rattle.std.proofs.Common.{◌≡◌, ℕ, ◌≤◌, Bool, List, length, take, sym, ap, ◌∙◌, arith}
 use Rattle.std.proofs.lemmas.List.Elements.{All-weaker}
-use Rattle.tb_debug.specs.Runs.{Point, IsOfRun, IsKept, AreKept, point_at, shown}
+use Rattle.tb_debug.specs.Runs.{Point, IsOfRun, IsCheckpoint, AreCheckpoints, point_at, shown}
 use Rattle.tb_debug.specs.declared.history.Checkpoint.{Checkpoint}
 use Rattle.tb_debug.specs.declared.moment.Moment.{Moment}
 use Rattle.tb_debug.proofs.Running.{sent_before}
@@ -13,7 +13,7 @@ resent sent p = record p { state = record p.state { sent = sent } }
 -- a kept moment as it was, by what a later moment has sent
 pub again_of : (marks : List Bool) (start : Point) (k : Checkpoint) (m now : Moment) (sent : List ℕ)
     → m ≡ record k.moment { machine = record k.moment.machine { sent = sent; room = 0 } } → sent ≡ take k.sent now.machine.sent
-    → IsOfRun marks start now → IsKept marks start k → k.moment.events ≤ now.events → IsOfRun marks start m
+    → IsOfRun marks start now → IsCheckpoint marks start k → k.moment.events ≤ now.events → IsOfRun marks start m
 again_of marks start k m now sent copied begins h kept before =
     let same : k.moment.events ≡ m.events = sym (ap (λ x. x.events) copied) in
     let p = point_at marks start k.moment.events in
@@ -27,7 +27,7 @@ again_of marks start k m now sent copied begins h kept before =
     }
 
 -- what is kept of so many events is kept of more
-pub kept_later : (marks : List Bool) (start : Point) (n m : ℕ) (ks : List Checkpoint) → n ≤ m → AreKept marks start n ks → AreKept marks start m ks
+pub kept_later : (marks : List Bool) (start : Point) (n m : ℕ) (ks : List Checkpoint) → n ≤ m → AreCheckpoints marks start n ks → AreCheckpoints marks start m ks
 kept_later marks start n m ks few all =
-    All-weaker (λ k. IsKept marks start k × (k.moment.events ≤ n)) (λ k. IsKept marks start k × (k.moment.events ≤ m))
+    All-weaker (λ k. IsCheckpoint marks start k × (k.moment.events ≤ n)) (λ k. IsCheckpoint marks start k × (k.moment.events ≤ m))
     (λ k h. (h.0, omega (arith, few, h.1))) ks all

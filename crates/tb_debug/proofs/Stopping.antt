@@ -7,8 +7,8 @@ use Rattle.tb_kernal.specs.Machine.{status}
 use Rattle.tb_codegen.specs.Compiled.{starts_of}
 use Rattle.tb_debug.specs.Begins.{EndsAt, GoesTo, IsLimited, IsNowhere, NoneBegins}
 use Rattle.tb_debug.specs.Debuggers.{KeepsRun, OnRun}
-use Rattle.tb_debug.specs.Runs.{Point, IsOfRun, IsFirst, IsKept, point_at, shown}
-use Rattle.tb_debug.specs.Searching.{KnowsBehind, NewestBetween}
+use Rattle.tb_debug.specs.Runs.{Point, IsOfRun, IsFirst, IsCheckpoint, point_at, shown}
+use Rattle.tb_debug.specs.Searching.{KnowsAfter, NewestBetween}
 use Rattle.tb_debug.specs.Stopping.{IsNewest, LeadsTo, breaks_at, changes, comes_where, is_sought, leads_back, leads_from}
 use Rattle.tb_debug.specs.declared.searching.Destination.{Destination}
 use Rattle.tb_debug.specs.declared.debugger.Debugger.{Debugger}
@@ -154,8 +154,8 @@ all_passed d start from last time p q past h =
     }
 
 -- no line before a place leads to a time behind that place's
-pub enough : (d : Debugger) (start : Point) (k : Checkpoint) (time : ℕ) → IsKept d.starts start k → k.moment.begun ≤ time
-    → KnowsBehind d start k.moment.events time → IsNewest d start time
+pub enough : (d : Debugger) (start : Point) (k : Checkpoint) (time : ℕ) → IsCheckpoint d.starts start k → k.moment.begun ≤ time
+    → KnowsAfter d start k.moment.events time → IsNewest d start time
 enough d start k time kept few h =
     record {
       leads = h.leads;
@@ -171,7 +171,7 @@ enough d start k time kept few h =
     }
 
 -- before the first moment there is none
-pub from_first : (d : Debugger) (start : Point) (k : Checkpoint) (time : ℕ) → start.begun ≡ 0 → IsFirst d.starts start k → KnowsBehind d start k.moment.events time
+pub from_first : (d : Debugger) (start : Point) (k : Checkpoint) (time : ℕ) → start.begun ≡ 0 → IsFirst d.starts start k → KnowsAfter d start k.moment.events time
     → IsNewest d start time
 from_first d start k time none first h =
     let count = ap (λ x. x.begun) first.0.stands in

@@ -1,4 +1,4 @@
--- What stands in a machine's memory.
+-- What a machine's memory holds.
 use Rattle.std.specs.Prelude.{◌≡◌, ℕ, zero, suc, ◌+◌, ◌-◌, ◌%◌, min, List, [], ◌∷◌, ◌++◌, Option, Some, None, Result, Ok, Err}
 use Rattle.tb_memmap.specs.Bytes.{peek}
 use Rattle.tb_memmap.specs.declared.memory.Closed.{Closed}
@@ -21,27 +21,27 @@ abbrev pub lines_of_returns : List (ℕ × ℕ) → (ℕ → ℕ) → ℕ → Li
 lines_of_returns lines m zero = []
 lines_of_returns lines m (suc k) = line_at lines (return_in m k) ∷ lines_of_returns lines m k
 
--- the lines to return to, the newest first; none for a return behind the last line
+-- the lines to return to, the newest first; none for a return past the last line
 abbrev pub returns_of : List (ℕ × ℕ) → (ℕ → ℕ) → List (Option ℕ)
 returns_of lines m = lines_of_returns lines m (returns_in m)
 
 -- ---- bytes and code
 
--- what a read gives, and none where it is refused
+-- what a read gives; none if it is refused
 abbrev pub as_read : Result ℕ Closed → Option ℕ
 as_read (Ok byte) = Some byte
 as_read (Err closed) = None
 
--- so many bytes from an address on; none of a closed place
+-- n bytes from an address on; none for a closed address
 abbrev pub bytes_from : (ℕ → ℕ) → ℕ → ℕ → List (Option ℕ)
 bytes_from m a zero = []
 bytes_from m a (suc n) = bytes_from m a n ++ as_read (peek m (a + n)) ∷ []
 
--- the same, but none behind the last address
+-- the same, up to the last address
 abbrev pub bytes_of : (ℕ → ℕ) → ℕ → ℕ → List (Option ℕ)
 bytes_of m a count = bytes_from m a (min count (65536 - a))
 
--- the bytes of which an instruction may be read, up to a closed place
+-- the bytes of which an instruction may be read, up to a closed address
 abbrev pub up_to_closed : Result ℕ Closed → Result ℕ Closed → Result ℕ Closed → List ℕ
 up_to_closed (Ok first) (Ok second) (Ok third) = first ∷ second ∷ third ∷ []
 up_to_closed (Ok first) (Ok second) (Err closed) = first ∷ second ∷ []
@@ -52,7 +52,7 @@ up_to_closed (Err closed) second third = []
 abbrev pub code_bytes : (ℕ → ℕ) → ℕ → List ℕ
 code_bytes m a = up_to_closed (peek m a) (peek m ((a + 1) % 65536)) (peek m ((a + 2) % 65536))
 
--- how many lines of code are told
+-- how many lines of code are shown
 abbrev pub most_code : ℕ
 most_code = 8
 
@@ -60,12 +60,12 @@ most_code = 8
 abbrev pub code_size : ℕ → List ℕ → ℕ
 code_size a bytes = min (size_of (code_line a bytes).1) 3
 
--- the line of code of these bytes at an address before others; nothing where there are none
+-- the line of code of these bytes at an address, before other lines; of no bytes none
 abbrev pub code_behind : List ℕ → ℕ → List (ℕ × Entry) → List (ℕ × Entry)
 code_behind [] a lines = []
 code_behind (b ∷ bytes) a lines = code_line a (b ∷ bytes) ∷ lines
 
--- at most so many lines of code from an address on, up to a closed place
+-- at most n lines of code from an address on, up to a closed address
 unfoldable pub code_of : ℕ → (ℕ → ℕ) → ℕ → List (ℕ × Entry)
 code_of zero m a = []
 code_of (suc n) m a = code_behind (code_bytes m a) a (code_of n m ((a + code_size a (code_bytes m a)) % 65536))

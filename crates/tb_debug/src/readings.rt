@@ -1,4 +1,4 @@
-//! What stands in a machine's memory.
+//! What a machine's memory holds.
 ghost use Rattle.std.specs.Prelude.{◌≡◌, ◌++◌, ◌≤◌, map, min, IfOk, OnOk};
 ghost use Rattle.tb_memmap.specs.Bytes.{at, peek};
 ghost use Rattle.tb_disasm.specs.Lines.{shown};
@@ -17,8 +17,8 @@ use tb_kernal::Machine;
 use tb_meaning::DEEPEST;
 use tb_memmap::Memory;
 
-/// How many places memory has.
-const PLACES: u32 = 65_536;
+/// How many addresses there are.
+const ADDRESSES: u32 = 65_536;
 
 /// The most bytes of an instruction.
 const MOST_LENGTH: usize = 3;
@@ -30,7 +30,7 @@ pub fn variables_in(machine: &Machine) -> Variables
     variables(machine.memory())
 }
 
-/// The lines to return to, the newest first; none of them for a return behind the last line.
+/// The lines to return to, the newest first; none for a return past the last line.
 pub fn returns(
     alloc: Global,
     memory: &Memory,
@@ -64,6 +64,7 @@ pub fn line_from(program: &Compiled, address: u16) -> Option<u16>
     first_at(program.starts(), address)
 }
 
+// The number of the first of these lines that begins at an address.
 fn first_at(starts: &[LineStart], address: u16) -> Option<u16>
     ensures { result ≡ line_at (map pair_of starts.now) address }
 {
@@ -77,7 +78,7 @@ fn first_at(starts: &[LineStart], address: u16) -> Option<u16>
     }
 }
 
-// The byte at an address; none of a closed place.
+// The byte at an address; none for a closed address.
 fn open_byte(memory: &Memory, address: u16) -> Option<u8>
     ensures { result ≡ as_read (peek (at memory.now) address) }
 {
@@ -87,7 +88,7 @@ fn open_byte(memory: &Memory, address: u16) -> Option<u8>
     }
 }
 
-/// So many bytes from an address on; none for a closed place. Behind the last address there are none.
+/// `count` bytes from an address on, up to the last address; none for a closed address.
 pub fn bytes_from(
     alloc: Global,
     memory: &Memory,
@@ -96,7 +97,7 @@ pub fn bytes_from(
 ) -> Result<Vec<Option<u8>>, AllocError>
     ensures { IfOk result (λ bytes. bytes.items ≡ bytes_of (at memory.now) address count) }
 {
-    let most = PLACES - u32::from(address);
+    let most = ADDRESSES - u32::from(address);
     let count = u32::from(count).min(most);
     let mut bytes = Vec::new(alloc);
     for index in 0..count {
@@ -113,7 +114,7 @@ fn sized(line: (Line, usize)) -> (Line, u16)
     (line.0, line.1.min(MOST_LENGTH) as u16)
 }
 
-// The line of code at an address, and its size; none at a closed place.
+// The line of code at an address, and its size; none at a closed address.
 fn code_line(memory: &Memory, address: u16) -> Option<(Line, u16)>
     ensures { IsCodeLine result address (code_bytes (at memory.now) address) }
 {
@@ -130,7 +131,7 @@ fn code_line(memory: &Memory, address: u16) -> Option<(Line, u16)>
     }
 }
 
-/// At most so many lines of code from an address on, up to a closed place.
+/// At most `count` lines of code from an address on, up to a closed address.
 pub fn code_from(
     alloc: Global,
     memory: &Memory,
@@ -144,6 +145,7 @@ pub fn code_from(
     Ok(lines)
 }
 
+// Appends at most `count` lines of code from an address on, up to a closed address.
 fn push_code(
     lines: &mut Vec<Line>,
     memory: &Memory,

@@ -22,13 +22,13 @@ index_of numbers (Some n) = index_from 0 numbers n
 index_of numbers None = 0
 
 -- the run stands at a line
-abbrev pub is_place : Option ℕ → ℕ → Bool
-is_place (Some place) n = n == place
-is_place None n = false
+abbrev pub is_here : Option ℕ → ℕ → Bool
+is_here (Some line) n = n == line
+is_here None n = false
 
 -- a line behind `* ` where the run stands at it, else behind two spaces
 abbrev pub marked : List (ℕ × List ℕ) → Option ℕ → ℕ → List ℕ
-marked lines place n = (if is_place place n then codes "* " else codes "  ") ++ written lines n
+marked lines here n = (if is_here here n then codes "* " else codes "  ") ++ written lines n
 
 -- the lines from five before the one with this place among them to five behind it
 abbrev pub near : List ℕ → ℕ → List ℕ
@@ -36,4 +36,4 @@ near numbers index = take (index - (index - around) + (around + 1)) (drop (index
 
 -- the lines around a line
 abbrev pub list_text : List (ℕ × List ℕ) → List ℕ → Option ℕ → Option ℕ → List ℕ
-list_text lines numbers round place = flat_map (marked lines place) (near numbers (index_of numbers round))
+list_text lines numbers line here = flat_map (marked lines here) (near numbers (index_of numbers line))

@@ -15,7 +15,7 @@ use Rattle.tb_inspection.specs.Texts.{address_text, limit, no_such_line, registe
 use Rattle.tb_debug.specs.declared.answer.Answer.{Answer}
 use Rattle.tb_debug.specs.declared.answer.Answer.TheVariants as answer
 use Rattle.tb_debug.specs.declared.answer.Location.{Location}
-use Rattle.tb_debug.specs.declared.answer.Location.TheVariants as place
+use Rattle.tb_debug.specs.declared.answer.Location.TheVariants as location
 use Rattle.tb_debug.specs.declared.answer.Stand.{Stand}
 use Rattle.tb_debug_engine.specs.Lists.{list_text, written}
 
@@ -47,15 +47,15 @@ standing_text (Wrong w) pc = end_text (end_of (Wrong w) pc)
 standing_text t pc = status_text t
 
 -- the line at which a run stands, `start` before the first one, or how its machine stands
-abbrev pub place_text : List (ℕ × List ℕ) → Location → List ℕ
-place_text lines (place.Line number) = written lines number
-place_text lines place.Opening = line (codes "start")
-place_text lines (place.Ended status pc) = line (standing_text status pc)
+abbrev pub location_text : List (ℕ × List ℕ) → Location → List ℕ
+location_text lines (location.Line number) = written lines number
+location_text lines location.Opening = line (codes "start")
+location_text lines (location.Ended status pc) = line (standing_text status pc)
 
 -- what was sent since the last stop, `limit` where the limit of events ended a going on, and where the run stands
 abbrev pub stand_text : List (ℕ × List ℕ) → Stand → List ℕ
 stand_text lines stand =
-    sent_text stand.sent.items ++ ((if stand.is_limit then line limit else []) ++ place_text lines stand.place)
+    sent_text stand.sent.items ++ ((if stand.is_limit then line limit else []) ++ location_text lines stand.location)
 
 -- ---- variables and lines
 
@@ -131,7 +131,7 @@ text_of lines numbers (answer.Stop stand) = stand_text lines stand
 text_of lines numbers answer.Set = line (codes "set")
 text_of lines numbers answer.Cleared = line (codes "cleared")
 text_of lines numbers (answer.Breakpoints set) = or_none (flat_map (written lines) set.items)
-text_of lines numbers (answer.List round place) = list_text lines numbers round place
+text_of lines numbers (answer.List around here) = list_text lines numbers around here
 text_of lines numbers (answer.Variables values) = or_none (variables_from 0 values)
 text_of lines numbers (answer.Variable index value) = variable_text index value
 text_of lines numbers (answer.Value value) = line (value_text value)

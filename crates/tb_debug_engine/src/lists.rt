@@ -71,13 +71,13 @@ fn first(numbers: &[u16], count: usize) -> &[u16]
 fn push_marked(
     text: &mut Vec<u8>,
     lines: &[Numbered<'_>],
-    place: Option<u16>,
+    here: Option<u16>,
     number: u16,
 ) -> Result<(), AllocError>
-    ensures { OnOk result (text.new.items ≡ text.old.items ++ marked (map pair_of lines.now) place number) }
+    ensures { OnOk result (text.new.items ≡ text.old.items ++ marked (map pair_of lines.now) here number) }
 {
-    match place {
-        Some(place) if number == place => text.extend_from_slice(b"* ")?,
+    match here {
+        Some(line) if number == line => text.extend_from_slice(b"* ")?,
         _ => text.extend_from_slice(b"  ")?,
     }
     push_written(text, lines, number)
@@ -88,16 +88,16 @@ pub fn push_list(
     text: &mut Vec<u8>,
     lines: &[Numbered<'_>],
     numbers: &[u16],
-    round: Option<u16>,
-    place: Option<u16>,
+    around: Option<u16>,
+    here: Option<u16>,
 ) -> Result<(), AllocError>
-    ensures { OnOk result (text.new.items ≡ text.old.items ++ list_text (map pair_of lines.now) numbers.now round place) }
+    ensures { OnOk result (text.new.items ≡ text.old.items ++ list_text (map pair_of lines.now) numbers.now around here) }
 {
-    let index = index_of(numbers, round);
+    let index = index_of(numbers, around);
     let from = index.saturating_sub(AROUND);
     let near = first(behind(numbers, from), index - from + AROUND + 1);
     for number in near {
-        push_marked(text, lines, place, *number)?;
+        push_marked(text, lines, here, *number)?;
     }
     Ok(())
 }

@@ -5,7 +5,7 @@ ghost use Rattle.tb_inspection.specs.Texts.{registers_text, value_text};
 ghost use Rattle.tb_debug_engine.specs.Lists.{written};
 ghost use Rattle.tb_debug_engine.specs.Sources.{shown_of};
 ghost use Rattle.tb_debug_engine.specs.Texts as texts;
-ghost use Rattle.tb_debug_engine.specs.Texts.{barred_from, byte_text, bytes_text, code_text, or_none, place_text, return_text, row_text, sent_text, stand_text, standing_text, unless_zero, variable_text, variables_from};
+ghost use Rattle.tb_debug_engine.specs.Texts.{barred_from, byte_text, bytes_text, code_text, or_none, location_text, return_text, row_text, sent_text, stand_text, standing_text, unless_zero, variable_text, variables_from};
 
 use crate::lists::{push_list, push_written};
 use crate::sources::Written;
@@ -136,15 +136,15 @@ fn push_status(alloc: Global, text: &mut Vec<u8>, status: Status, pc: u16) -> Re
     }
 }
 
-fn push_place(
+fn push_location(
     alloc: Global,
     text: &mut Vec<u8>,
     lines: &[Numbered<'_>],
-    place: Location,
+    location: Location,
 ) -> Result<(), AllocError>
-    ensures { OnOk result (text.new.items ≡ text.old.items ++ place_text (map pair_of lines.now) place) }
+    ensures { OnOk result (text.new.items ≡ text.old.items ++ location_text (map pair_of lines.now) location) }
 {
-    match place {
+    match location {
         Location::Line(number) => push_written(text, lines, number),
         Location::Opening => text.extend_from_slice(b"start\n"),
         Location::Ended { status, pc } => push_status(alloc, text, status, pc),
@@ -163,7 +163,7 @@ fn push_stand(
     if stand.is_limit {
         push_line(text, LIMIT)?;
     }
-    push_place(alloc, text, lines, stand.place)
+    push_location(alloc, text, lines, stand.location)
 }
 
 fn breakpoints_text(
@@ -346,7 +346,7 @@ pub fn push_answer(
         Answer::Breakpoints(numbers) => {
             push_or_none(text, &breakpoints_text(alloc, lines, &numbers)?)
         }
-        Answer::List { round, place } => push_list(text, lines, &source.numbers, round, place),
+        Answer::List { around, here } => push_list(text, lines, &source.numbers, around, here),
         Answer::Variables(values) => push_or_none(text, &variables_text(alloc, &values)?),
         Answer::Variable { index, value } => push_variable(text, index, value),
         Answer::Returns(noted) => push_or_none(text, &returns_text(alloc, lines, &noted)?),
