@@ -29,12 +29,12 @@ loop-index-preserved c =
       (fill_by_more (value_in m) xs i (pos 0) within c.loop-index.invariant.2),
     )
 
-pub returns-words : goal.returns-words
-returns-words c =
+pub returns-clause-words : goal.returns-clause-words
+returns-clause-words c =
     let all : c.loop-index.index ≡ 26 = search rules in
     filled_all (variable_in (at c.args.memory.now)) c.loop-index.values 26 c.loop-index.invariant.0 (rw (← all) c.loop-index.invariant.1)
 
-pub returns-values : goal.returns-values
+pub returns-clause-values : goal.returns-clause-values
 unfolding values_in
-returns-values c =
+returns-clause-values c =
     fill_by_all (value_in (at c.args.memory.now)) c.loop-index.values 26 (pos 0) c.loop-index.invariant.0 (search rules)

@@ -8,5 +8,5 @@ use Rattle.tb_inspection.proofs.texts.push_value.Goals as goal
 pub returns-in-Ok : goal.returns-in-Ok
 returns-in-Ok c =
     let same : to_z mir.Syntax.w16 (of_z mir.Syntax.w16 c.in-Ok.value) ≡ c.in-Ok.value = search rules in
-    appended c.extend_from_slice-in-Ok.result c.extend_from_slice-in-Ok.new.self.items c.args.text.now.items c.as_slice-in-Ok.result.now (value_text c.args.value)
-    (c.extend_from_slice-in-Ok.ensures.items) (c.as_slice-in-Ok.ensures.value ∙ c.digits.ensures.on_words ∙ ap (λ v. digits_of (word_of v)) same ∙ ap value_text (sym c.in-Ok.is))
+    appended c.extend_from_slice.result c.extend_from_slice.new.self.items c.args.text.now.items c.as_slice.result.now (value_text c.args.value)
+    (c.extend_from_slice.ensures.items) (c.as_slice.ensures.value ∙ c.digits.ensures.on_words ∙ ap (λ v. digits_of (word_of v)) same ∙ ap value_text (sym c.in-Ok.is))
