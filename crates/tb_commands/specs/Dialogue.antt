@@ -44,7 +44,7 @@ abbrev pub SaysBack : {O : Type 0} → Holds O → Answer → Holds O → Type 0
 SaysBack h answer k =
     (TakenBack h k × (answer ≡ registers_of k)) ⊎ ((h.undos ≡ []) × (k ≡ h) × (answer ≡ NothingBack))
 
--- the answer where a walk to a line came to this
+-- the answer to a walk to a line that came to this
 abbrev pub walk_answer : ℕ → Result Reached StepError → Result Answer AllocError
 walk_answer line (Ok reached.There) = Ok (At line)
 walk_answer line (Ok (reached.Stopped t)) = Ok (Stands t)
@@ -93,7 +93,7 @@ Responds gives limit h asked.Depth result k = Reads (λ answer. answer ≡ Depth
 Responds gives limit h asked.Quit result k = (result ≡ Ok None) × (k ≡ h)
 Responds gives limit h asked.Unknown result k = Reads (λ answer. answer ≡ What) h result k
 
--- behind a command: its answer's line and what `rest` says of the lines behind it, or the end
+-- after a command: its answer's line and what `rest` says of the lines after it, or the end
 abbrev pub GoesOn : {O : Type 0} → (Holds O → List ℕ → Holds O → Type 0) → Option Answer → Holds O → List ℕ → Holds O → Type 0
 GoesOn rest None b text k = (text ≡ []) × (k ≡ b)
 GoesOn rest (Some answer) b text k = (more : List ℕ) × rest b more k × (text ≡ text_of answer ++ 10 ∷ more)

@@ -15,7 +15,7 @@ use tb_stepper::{Reached, StepError, Stepper};
 /// Does what a command asks for, and answers it; there is no answer to `Quit`. A walk to a line takes at most `limit`
 /// steps.
 ///
-/// After AllocError all stands as before, but for a walk: then the machine stands after the steps so far.
+/// After AllocError all is as before, but for a walk: then the machine is as after the steps so far.
 pub fn respond<O: Outside + Drop>(
     alloc: Global,
     stepper: &mut Stepper<'_, O>,
@@ -105,14 +105,14 @@ pub fn answers<O: Outside + Drop>(
 {
     let mut text = Vec::new(alloc);
     let mut rest = commands;
-    'answering: while let Some((line, behind)) = next_line(rest) {
+    'answering: while let Some((line, left)) = next_line(rest) {
         let Some(answer) = respond(alloc, stepper, read_command(line), limit)? else {
             return Ok(text);
         };
         if answer.push_line(alloc, &mut text).is_err() {
             return Err(AllocError);
         }
-        rest = behind;
+        rest = left;
     }
     Ok(text)
 }

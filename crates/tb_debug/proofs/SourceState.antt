@@ -54,7 +54,7 @@ module _ (labels : List (Name × ℕ)) where
           ap (λ b. if b then Some m else line_at (starts_in labels ns) (at_label n)) (ne_eqb (at_label n) (at_label m) (λ e. omega (arith, e, behind)))
           ∙ found has
 
-  -- where no line begins none is found
+  -- if no line begins at an address, none is found
   none_there : (lines : List (ℕ × ℕ)) (a : ℕ) → begins_at lines a ≡ false → line_at lines a ≡ None
   none_there [] a e = refl
   none_there (s ∷ lines) a e = go (nat_eq a s.1) (none_there lines a) e
@@ -70,7 +70,7 @@ module _ (labels : List (Name × ℕ)) where
     place_told (At n) a (has, is) = ap (line_at (starts_in labels ns)) (is ∙ firsts n has) ∙ found_there ns low n rise has
     place_told Past a none = none_there (starts_in labels ns) a (sym (same a) ∙ none)
 
-    -- the lines that the notes lead to are those of the places
+    -- the lines that the return list leads to are those of the places
     pub returns_told : (m : ℕ → ℕ) (ps : List Place) → HoldsReturns start ns m ps
         → lines_of_returns (starts_in labels ns) m (length ps) ≡ map line_of ps
     returns_told m [] held = refl

@@ -1,4 +1,4 @@
--- The run of a start with more behind the keyboard's text.
+-- The run of a start with more at the end of the keyboard's text.
 use Rattle.std.proofs.Common.{◌≡◌, ℕ, zero, suc, ◌<◌, ◌≤◌, Bool, List, length, slice_index_or, sym, ap, ◌∙◌, arith}
 use Rattle.std.specs.Prelude.{◌≢◌}
 use Rattle.tb_kernal.specs.declared.status.Status.TheVariants.{Running, Waits}
@@ -34,6 +34,7 @@ typed_ran marks start more n ran k below =
     ap (λ p. status p.state) (typed_at marks start more k (λ j before. ran j (omega (arith, before, below))))
     ∙ status_kept s more (never_both s (ran k below)) ∙ ran k below
 
+-- a moment of the run, typed to, is of the run of the start that is typed to
 pub typed_moment : (marks : List Bool) (start : Point) (more : List ℕ) (m n : Moment) → IsTyped more m n → IsOfRun marks start m
     → IsOfRun marks (typed more start) n
 typed_moment marks start more m n t h = record {
@@ -41,6 +42,7 @@ typed_moment marks start more m n t h = record {
   ran = λ k below. typed_ran marks start more m.events h.ran k (omega (arith, below, t.events));
 }
 
+-- the same of a checkpoint
 pub typed_checkpoint : (marks : List Bool) (start : Point) (more : List ℕ) (n : ℕ) (k l : Checkpoint) → RunsUpTo marks start n → IsTyped more k.moment l.moment
     → l.sent ≡ k.sent → IsCheckpoint marks start k × (k.moment.events ≤ n) → IsCheckpoint marks (typed more start) l × (l.moment.events ≤ n)
 typed_checkpoint marks start more n k l ran t sent (h, few) =
@@ -53,6 +55,7 @@ typed_checkpoint marks start more n k l ran t sent (h, few) =
       omega (arith, few, t.events),
     )
 
+-- the same of all checkpoints
 pub typed_all : (marks : List Bool) (start : Point) (more : List ℕ) (n : ℕ) (ks ls : List Checkpoint) → RunsUpTo marks start n → AreTyped more ks ls
     → AreCheckpoints marks start n ks → AreCheckpoints marks (typed more start) n ls
 typed_all marks start more n ks ls ran t all i d inside =

@@ -12,7 +12,7 @@ fails : (t : Bool) → ((t ≡ true) → ⊥) → t ≡ false
 fails true h = absurd (h refl)
 fails false h = refl
 
--- the bytes between two ends, each of which stands for a letter
+-- the bytes between two ends, each of which is a letter
 between : (low high b : ℕ) → (nat_le low b && nat_le b high) ≡ true → (low ≤ b) × (b ≤ high)
 between low high b e =
     let p = and_parts (nat_le low b) (nat_le b high) e in

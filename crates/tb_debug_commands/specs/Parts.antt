@@ -6,7 +6,7 @@ use Rattle.tb_words.specs.declared.Letter.{Letter}
 use Rattle.tb_grammar.specs.Grammar.{value_after}
 use Rattle.tb_grammar.specs.Reading.{is_digit, is_letter}
 
--- what digits stand for behind a number, up to the largest one of 64 bits
+-- the number of digits that follow those of a number, up to the largest one of 64 bits
 abbrev pub number_behind : ℕ → List ℕ → Option ℕ
 number_behind n ds = if list_all is_digit ds && nat_le (value_after n ds) 18446744073709551615 then Some (value_after n ds) else None
 

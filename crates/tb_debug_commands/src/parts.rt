@@ -24,7 +24,7 @@ pub fn number(digits: &[u8], most: usize) -> Option<u64>
     number_behind(0, digits)
 }
 
-// A number with more digits behind it.
+// A number with more digits after it.
 fn number_behind(number: u64, digits: &[u8]) -> Option<u64>
     ensures { result ≡ number_behind number digits.now }
 {

@@ -53,7 +53,7 @@ said_wrong w setting d e ReadFault taken told had left old now new read read' wr
 said_wrong w setting d e (Ended end) taken told had left old now new read read' wrote mid wrote' took answers same before same_count h = absurd h
 said_wrong w setting d e (Refused why) taken told had left old now new read read' wrote mid wrote' took answers same before same_count h = absurd h
 
--- two bytes and a text behind another one
+-- two bytes and a text after another one
 two_more : (before one two all rest : List ℕ) (x x' y : ℕ) → x ≡ x' → one ≡ before ++ x ∷ [] → two ≡ one ++ y ∷ [] → all ≡ two ++ rest
     → all ≡ before ++ x' ∷ y ∷ rest
 two_more before one two all rest x x' y same first second third =

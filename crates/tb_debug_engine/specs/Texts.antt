@@ -23,21 +23,21 @@ use Rattle.tb_debug_engine.specs.Lists.{list_text, written}
 abbrev pub line : List ℕ → List ℕ
 line text = text ++ 10 ∷ []
 
--- a text, or `none` where it is empty
+-- a text, or `none` if it is empty
 abbrev pub or_none : List ℕ → List ℕ
 or_none [] = line (codes "none")
 or_none (b ∷ bs) = b ∷ bs
 
--- ---- where a run stands
+-- ---- where a run is
 
--- a text with each of its lines behind `| `, the last one ended too; the first one begins here, or has begun
+-- a text with each of its lines after `| `, the last one ended too; the first one begins here, or has begun
 abbrev pub barred_from : (begins : Bool) → List ℕ → List ℕ
 barred_from true [] = []
 barred_from false [] = 10 ∷ []
 barred_from true (b ∷ bs) = codes "| " ++ b ∷ barred_from (b == 10) bs
 barred_from false (b ∷ bs) = b ∷ barred_from (b == 10) bs
 
--- what was sent in the host form, each line behind `| `
+-- what was sent in the host form, each line after `| `
 abbrev pub sent_text : List ℕ → List ℕ
 sent_text sent = barred_from true (host_form_of sent)
 
@@ -46,20 +46,20 @@ abbrev pub standing_text : Status → ℕ → List ℕ
 standing_text (Wrong w) pc = end_text (end_of (Wrong w) pc)
 standing_text t pc = status_text t
 
--- the line at which a run stands, `start` before the first one, or how its machine stands
+-- the line at which a run is, `start` before the first one, or how its machine stands
 abbrev pub location_text : List (ℕ × List ℕ) → Location → List ℕ
 location_text lines (location.Line number) = written lines number
 location_text lines location.Opening = line (codes "start")
 location_text lines (location.Ended status pc) = line (standing_text status pc)
 
--- what was sent since the last stop, `limit` where the limit of events ended a going on, and where the run stands
+-- what was sent since the last stop, `limit` if the limit of events ended the way here, and where the run is
 abbrev pub stand_text : List (ℕ × List ℕ) → Stand → List ℕ
 stand_text lines stand =
     sent_text stand.sent.items ++ ((if stand.is_limit then line limit else []) ++ location_text lines stand.location)
 
 -- ---- variables and lines
 
--- a variable by its place in the alphabet, and its value
+-- a variable by its index in the alphabet, and its value
 unfoldable pub variable_text : ℕ → ℤ → List ℕ
 variable_text index value = (65 + min index 25) ∷ 61 ∷ line (value_text (Ok value))
 
@@ -67,34 +67,34 @@ variable_text index value = (65 + min index 25) ∷ 61 ∷ line (value_text (Ok 
 abbrev pub unless_zero : ℕ → ℤ → List ℕ
 unless_zero index value = if int_eq value (pos 0) then [] else variable_text index value
 
--- the variables from a place of the alphabet on that are not 0
+-- the variables from an index of the alphabet on that are not 0
 abbrev pub variables_from : ℕ → List ℤ → List ℕ
 variables_from index [] = []
 variables_from index (value ∷ values) = unless_zero index value ++ variables_from (suc index) values
 
--- a line to return to, or `past` behind the last one
+-- a line to return to, or `past` for a return past the last one
 abbrev pub return_text : List (ℕ × List ℕ) → Option ℕ → List ℕ
 return_text lines (Some number) = written lines number
 return_text lines None = line (codes "past")
 
 -- ---- memory and code
 
--- a byte in two hexadecimal digits behind a space; `--` of a closed place
+-- a byte in two hexadecimal digits after a space; `--` for a closed address
 abbrev pub byte_text : Option ℕ → List ℕ
 byte_text (Some byte) = 32 ∷ encode_upper (byte ∷ [])
 byte_text None = codes " --"
 
--- what stands before a byte before which so many stand: the address of the first of 16 in a line, and the end of the line before
+-- what comes before a byte that n bytes precede: for the first of 16 in a line its address, and the end of the line before
 abbrev pub row_text : ℕ → ℕ → List ℕ
-row_text stand address = if stand % 16 == 0 then (if stand == 0 then [] else 10 ∷ []) ++ address_text address else []
+row_text n address = if n % 16 == 0 then (if n == 0 then [] else 10 ∷ []) ++ address_text address else []
 
--- bytes from an address on, before which so many stand: 16 in a line, behind the address of the first one
+-- bytes from an address on, which n bytes precede: 16 in a line, after the address of the first one
 abbrev pub bytes_text : ℕ → ℕ → List (Option ℕ) → List ℕ
-bytes_text stand address [] = []
-bytes_text stand address (byte ∷ bytes) =
-    row_text stand address ++ (byte_text byte ++ bytes_text (suc stand) ((address + 1) % 65536) bytes)
+bytes_text n address [] = []
+bytes_text n address (byte ∷ bytes) =
+    row_text n address ++ (byte_text byte ++ bytes_text (suc n) ((address + 1) % 65536) bytes)
 
--- lines of code as a listing; `--` where there is none
+-- lines of code as a listing; `--` if there is none
 abbrev pub code_text : List CodeLine → List ℕ
 code_text [] = line (codes "--")
 code_text (l ∷ ls) = listing_text (map shown (l ∷ ls))

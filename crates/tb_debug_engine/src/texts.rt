@@ -22,15 +22,16 @@ use tb_kernal::Status;
 use tb_source_text::Numbered;
 use tb_streams::host_form;
 
-/// How many bytes of memory stand on a line.
+/// How many bytes of memory are shown on a line.
 const ROW: usize = 16;
 
-/// The variables' first name.
+/// The name of the first variable.
 const FIRST_NAME: u8 = b'A';
 
-/// The place of the last one in the alphabet.
+/// The index of the last variable in the alphabet.
 const LAST_NAMED: usize = 25;
 
+/// The table of commands.
 const HELP: &[u8] = b"n [K]      on by K lines
 p [K]      back by K lines
 c          on to a breakpoint or behind a line that changes what is watched
@@ -71,7 +72,7 @@ fn push_value_line(text: &mut Vec<u8>, value: Value) -> Result<(), AllocError>
     Ok(())
 }
 
-// Appends registers, a line and how the machine stands in a line of its own.
+// Appends registers, the line in whose code the program counter lies and how the machine stands, in a line of its own.
 fn push_registers_line(
     alloc: Global,
     text: &mut Vec<u8>,
@@ -96,7 +97,7 @@ fn push_or_none(text: &mut Vec<u8>, shown: &[u8]) -> Result<(), AllocError>
     }
 }
 
-// Appends what was sent in the host form, each line behind `| `.
+// Appends what was sent in the host form, each line after `| `.
 fn push_sent(alloc: Global, text: &mut Vec<u8>, sent: &[u8]) -> Result<(), AllocError>
     ensures { OnOk result (text.new.items ≡ text.old.items ++ sent_text sent.now) }
 {
@@ -104,6 +105,7 @@ fn push_sent(alloc: Global, text: &mut Vec<u8>, sent: &[u8]) -> Result<(), Alloc
     push_barred(text, form.as_slice())
 }
 
+// Appends a text, each line after `| `, and the end of the last line if it has none.
 fn push_barred(text: &mut Vec<u8>, form: &[u8]) -> Result<(), AllocError>
     ensures { OnOk result (text.new.items ≡ text.old.items ++ barred_from true form.now) }
 {
@@ -136,6 +138,7 @@ fn push_status(alloc: Global, text: &mut Vec<u8>, status: Status, pc: u16) -> Re
     }
 }
 
+// Appends the line at which the run is, `start` before the first one, or how the machine stands.
 fn push_location(
     alloc: Global,
     text: &mut Vec<u8>,
@@ -151,6 +154,7 @@ fn push_location(
     }
 }
 
+// Appends what was sent since the last stop, whether the limit ended the way here, and where the run is.
 fn push_stand(
     alloc: Global,
     text: &mut Vec<u8>,
@@ -166,6 +170,7 @@ fn push_stand(
     push_location(alloc, text, lines, stand.location)
 }
 
+// The lines with a breakpoint, as they are written.
 fn breakpoints_text(
     alloc: Global,
     lines: &[Numbered<'_>],
@@ -180,13 +185,14 @@ fn breakpoints_text(
     Ok(text)
 }
 
-// The name of the variable at a place in the alphabet.
+// The name of the variable at an index in the alphabet.
 fn name_at(index: usize) -> u8
     ensures { result ≡ 65 + min index 25 }
 {
     FIRST_NAME + index.min(LAST_NAMED) as u8
 }
 
+// Appends a variable and its value in a line of its own.
 fn push_variable(text: &mut Vec<u8>, index: usize, value: i16) -> Result<(), AllocError>
     ensures { OnOk result (text.new.items ≡ text.old.items ++ variable_text index value) }
 {
@@ -195,7 +201,7 @@ fn push_variable(text: &mut Vec<u8>, index: usize, value: i16) -> Result<(), All
     push_value_line(text, Ok(value))
 }
 
-// The same of one that isn't 0.
+// Appends a variable and its value, unless that is 0.
 fn push_unless_zero(text: &mut Vec<u8>, index: usize, value: i16) -> Result<(), AllocError>
     ensures { OnOk result (text.new.items ≡ text.old.items ++ unless_zero index value) }
 {
@@ -206,6 +212,7 @@ fn push_unless_zero(text: &mut Vec<u8>, index: usize, value: i16) -> Result<(), 
     Ok(())
 }
 
+// Appends the variables from an index on that aren't 0.
 fn push_variables(text: &mut Vec<u8>, index: usize, values: &[i16]) -> Result<(), AllocError>
     requires { index + length values.now < 2 ^ 63 }
     ensures { OnOk result (text.new.items ≡ text.old.items ++ variables_from index values.now) }
@@ -220,6 +227,7 @@ fn push_variables(text: &mut Vec<u8>, index: usize, values: &[i16]) -> Result<()
     }
 }
 
+// The variables that aren't 0.
 fn variables_text(alloc: Global, values: &[i16]) -> Result<Vec<u8>, AllocError>
     ensures { IfOk result (λ text. text.items ≡ variables_from 0 values.now) }
 {
@@ -228,6 +236,7 @@ fn variables_text(alloc: Global, values: &[i16]) -> Result<Vec<u8>, AllocError>
     Ok(text)
 }
 
+// Appends a line to return to, or `past`.
 fn push_return(
     text: &mut Vec<u8>,
     lines: &[Numbered<'_>],
@@ -241,6 +250,7 @@ fn push_return(
     }
 }
 
+// The lines to return to, the newest first.
 fn returns_text(
     alloc: Global,
     lines: &[Numbered<'_>],
@@ -255,6 +265,7 @@ fn returns_text(
     Ok(text)
 }
 
+// What was sent, each line after `| `.
 fn sent_text(alloc: Global, sent: &[u8]) -> Result<Vec<u8>, AllocError>
     ensures { IfOk result (λ text. text.items ≡ sent_text sent.now) }
 {
@@ -263,6 +274,7 @@ fn sent_text(alloc: Global, sent: &[u8]) -> Result<Vec<u8>, AllocError>
     Ok(text)
 }
 
+// Appends a byte in two hexadecimal digits, or `--` for a closed address.
 fn push_byte(alloc: Global, text: &mut Vec<u8>, byte: Option<u8>) -> Result<(), AllocError>
     ensures { OnOk result (text.new.items ≡ text.old.items ++ byte_text byte) }
 {
@@ -275,40 +287,41 @@ fn push_byte(alloc: Global, text: &mut Vec<u8>, byte: Option<u8>) -> Result<(), 
     }
 }
 
-// Appends the end of a line of bytes and the next one's address, where so many bytes stand before it.
-fn push_row(alloc: Global, text: &mut Vec<u8>, stand: usize, address: u16) -> Result<(), AllocError>
-    ensures { OnOk result (text.new.items ≡ text.old.items ++ row_text stand address) }
+// Appends the end of a line of bytes and the address of the next one, if a line is full after `count` bytes.
+fn push_row(alloc: Global, text: &mut Vec<u8>, count: usize, address: u16) -> Result<(), AllocError>
+    ensures { OnOk result (text.new.items ≡ text.old.items ++ row_text count address) }
 {
-    if stand % ROW != 0 {
+    if count % ROW != 0 {
         return Ok(());
     }
-    if 0 < stand {
+    if 0 < count {
         text.push(b'\n')?;
     }
     push_address(alloc, text, address)
 }
 
-// Appends bytes of memory from an address on, of which so many stand there.
+// Appends bytes of memory from an address on, which `count` bytes precede.
 fn push_bytes(
     alloc: Global,
     text: &mut Vec<u8>,
-    stand: usize,
+    count: usize,
     address: u16,
     bytes: &[Option<u8>],
 ) -> Result<(), AllocError>
-    requires { stand + length bytes.now < 2 ^ 63 }
-    ensures { OnOk result (text.new.items ≡ text.old.items ++ bytes_text stand address bytes.now) }
+    requires { count + length bytes.now < 2 ^ 63 }
+    ensures { OnOk result (text.new.items ≡ text.old.items ++ bytes_text count address bytes.now) }
 {
     match bytes {
         [] => Ok(()),
         [byte, rest @ ..] => {
-            push_row(alloc, text, stand, address)?;
+            push_row(alloc, text, count, address)?;
             push_byte(alloc, text, *byte)?;
-            push_bytes(alloc, text, stand + 1, address.wrapping_add(1), rest)
+            push_bytes(alloc, text, count + 1, address.wrapping_add(1), rest)
         }
     }
 }
 
+// Appends bytes of memory from an address on, 16 in a line.
 fn push_memory(
     alloc: Global,
     text: &mut Vec<u8>,
@@ -322,6 +335,7 @@ fn push_memory(
     Ok(())
 }
 
+// Appends lines of code as a listing, or `--` if there are none.
 fn push_code(alloc: Global, text: &mut Vec<u8>, lines: Vec<Line>) -> Result<(), AllocError>
     ensures { OnOk result (text.new.items ≡ text.old.items ++ code_text lines.items) }
 {

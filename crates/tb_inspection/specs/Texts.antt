@@ -18,7 +18,7 @@ what = codes "what?"
 abbrev pub no_such_line : List ℕ
 no_such_line = codes "no such line"
 
--- what is told of a run that its limit ended
+-- what is said of a run that its limit ended
 abbrev pub limit : List ℕ
 limit = codes "limit"
 

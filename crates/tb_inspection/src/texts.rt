@@ -16,7 +16,7 @@ pub const WHAT: &[u8] = b"what?";
 /// The answer to the number of a line that the program doesn't have.
 pub const NO_SUCH_LINE: &[u8] = b"no such line";
 
-/// What is told where a run was ended by its limit.
+/// What is said of a run that its limit ended.
 pub const LIMIT: &[u8] = b"limit";
 
 /// Appends the value of an expression, or why it has none.
