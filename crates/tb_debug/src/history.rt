@@ -182,7 +182,8 @@ impl History {
         ensures later { (marks : List Bool) (start : Point) (n : ℕ) → AreCheckpoints marks start n self.old.later.items → AreCheckpoints marks start events self.new.later.items }
         ensures few { length self.new.later.items ≤ length self.old.later.items }
     {
-        self.later.retain(|checkpoint| checkpoint.moment.events <= events);
+        self.later
+            .retain(|checkpoint| checkpoint.moment.events <= events);
     }
 
     /// Adds bytes to the end of the keyboard's text in each checkpoint.

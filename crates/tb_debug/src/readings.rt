@@ -41,10 +41,7 @@ pub fn returns(
     let count = depth_in(memory);
     let mut lines = Vec::new(alloc);
     for told in 0..count {
-        lines.push(line_from(
-            program,
-            return_address(memory, count - 1 - told),
-        ))?;
+        lines.push(line_from(program, return_address(memory, count - 1 - told)))?;
     }
     Ok(lines)
 }

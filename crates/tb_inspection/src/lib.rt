@@ -7,7 +7,5 @@ mod texts;
 mod values;
 
 pub use readings::{Variables, depth, return_address, variable, variables};
-pub use texts::{
-    LIMIT, NO_SUCH_LINE, WHAT, push_address, push_registers, push_value, status_text,
-};
+pub use texts::{LIMIT, NO_SUCH_LINE, WHAT, push_address, push_registers, push_value, status_text};
 pub use values::{Value, value_of_text};

@@ -9,7 +9,7 @@ ghost use Rattle.tb_runtime16.specs.Addresses as addresses;
 ghost use Rattle.tb_inspection.specs.Readings.{return_in, value_in, values_in, variable_in, variables_in};
 
 use tb_memmap::Memory;
-use tb_runtime16::{RETURN_HIGH, RETURN_LOW, NOTES, VARS};
+use tb_runtime16::{NOTES, RETURN_HIGH, RETURN_LOW, VARS};
 use tb_words::Letter;
 
 /// The values of A to Z.

@@ -21,12 +21,11 @@ loop-index-preserved c =
     let within : i < length xs = omega (arith, c.loop-index.invariant.0) in
     let same : to_z mir.Syntax.w16 (of_z mir.Syntax.w16 c.value.result) ≡ c.value.result = to_z-of_z {w = w16} (search rules) in
     let z = to_z mir.Syntax.w16 (of_z mir.Syntax.w16 c.value.result) in
-    let word : word_of z ≡ variable_in m i = ap word_of same ∙ c.value.ensures.word in
-    (
+    let word : word_of z ≡ variable_in m i = ap word_of same ∙ c.value.ensures.word in (
       length-set xs i z ∙ c.loop-index.invariant.0,
       filled_more (variable_in m) xs i z within word c.loop-index.invariant.1,
       subst (λ y. (k : ℕ) → k < i + 1 → get_or (set xs i y) k (pos 0) ≡ value_in m k) (sym (same ∙ c.value.ensures.value))
-      (fill_by_more (value_in m) xs i (pos 0) within c.loop-index.invariant.2),
+          (fill_by_more (value_in m) xs i (pos 0) within c.loop-index.invariant.2),
     )
 
 pub returns-clause-words : goal.returns-clause-words

@@ -18,6 +18,6 @@ returns c =
     all_appended c.push_address.new.text.items c.push_field.new.text.items c.push_field-2.new.text.items c.push_field-3.new.text.items c.push_field-4.new.text.items c.push_field-5.new.text.items
     c.extend_from_slice.new.self.items c.extend_from_slice-2.new.self.items c.extend_from_slice-3.new.self.items c.extend_from_slice-4.new.self.items
     (address_text regs.pc) (field_text (codes " A=") regs.a) (field_text (codes " X=") regs.x)
-        (field_text (codes " Y=") regs.y) (field_text (codes " S=") regs.s) (field_text (codes " P=") (status_byte regs.flags))
+    (field_text (codes " Y=") regs.y) (field_text (codes " S=") regs.s) (field_text (codes " P=") (status_byte regs.flags))
     (codes " ") (line_text c.args.line) (status_text c.args.status)
     pc c.in_ok-push_field.ensures c.in_ok-push_field-2.ensures c.in_ok-push_field-3.ensures c.in_ok-push_field-4.ensures p gap place gap2 status
