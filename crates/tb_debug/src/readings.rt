@@ -48,7 +48,7 @@ pub fn returns(
 
 // How many returns are told: as many as the return list holds, and no more than it may hold.
 fn depth_in(memory: &Memory) -> u16
-    ensures { result ≡ depth_in (at memory.now) }
+    ensures depth { result ≡ depth_in (at memory.now) }
     ensures few { result ≤ deepest }
 {
     usize::from(depth(memory)).min(DEEPEST) as u16
