@@ -1,8 +1,10 @@
 //! The checkpoints of a run, from which it is run again.
-ghost use Rattle.std.specs.Prelude.{◌≡◌, ◌∷◌, ◌++◌, ◌+◌, ◌<◌, ◌≤◌, [], ℕ, List, Bool, IfOk, IfSome, IsSome, OnOk, IsTrue, ◌↔◌, length, slice_index_or, vec_len};
+ghost use Rattle.std.specs.Prelude.{◌≡◌, ◌∷◌, ◌++◌, ◌+◌, ◌<◌, ◌≤◌, [], ℕ, List, Bool, IfOk, IfSome, IsSome, OnOk};
+ghost use Rattle.std.specs.Prelude.{IsTrue, ◌↔◌, length, slice_index_or, vec_len};
 ghost use Rattle.tb_debug.specs.declared.history.Checkpoint.{Checkpoint};
 ghost use Rattle.tb_debug.specs.Searching.{IsUntil};
-ghost use Rattle.tb_debug.specs.Runs.{Point, IsOfRun, IsFirst, IsCheckpoint, IsTyped, AreCheckpoints, AreTyped, KeepsOneMore, WithoutOne, most_checkpoints, newest_events, spacing};
+ghost use Rattle.tb_debug.specs.Runs.{Point, IsOfRun, IsFirst, IsCheckpoint, IsTyped, AreCheckpoints, AreTyped};
+ghost use Rattle.tb_debug.specs.Runs.{KeepsOneMore, WithoutOne, most_checkpoints, newest_events, spacing};
 
 use crate::moment::Moment;
 use std::alloc::{AllocError, Global};
@@ -24,7 +26,8 @@ pub struct Checkpoint {
 impl Checkpoint {
     /// The checkpoint of a moment.
     pub fn of(alloc: Global, moment: &Moment) -> Result<Checkpoint, AllocError>
-        ensures of_run { IfOk result (λ k. (marks : List Bool) (start : Point) → IsOfRun marks start moment.now → IsCheckpoint marks start k) }
+        ensures of_run { IfOk result (λ k. (marks : List Bool) (start : Point) → IsOfRun marks start moment.now
+            → IsCheckpoint marks start k) }
         ensures events { IfOk result (λ k. k.moment.events ≡ moment.now.events) }
     {
         Ok(Checkpoint {
@@ -35,7 +38,8 @@ impl Checkpoint {
 
     /// The moment of which this is the checkpoint, in a run that has sent at least these bytes.
     pub fn again(&self, alloc: Global, sent: &[u8]) -> Result<Moment, AllocError>
-        ensures again { IfOk result (λ m. (marks : List Bool) (start : Point) (now : Moment) → IsOfRun marks start now → sent.now ≡ now.machine.sent
+        ensures again { IfOk result (λ m. (marks : List Bool) (start : Point) (now : Moment) → IsOfRun marks start now
+            → sent.now ≡ now.machine.sent
             → IsCheckpoint marks start self.now → self.now.moment.events ≤ now.events → IsOfRun marks start m) }
         ensures events { IfOk result (λ m. m.events ≡ self.now.moment.events) }
         ensures begun { IfOk result (λ m. m.begun ≡ self.now.moment.begun) }
@@ -74,7 +78,8 @@ impl History {
 
     /// The checkpoint at an index; 0 is that of the first moment.
     pub fn get(&self, index: usize) -> Option<&Checkpoint>
-        ensures of_run { (marks : List Bool) (start : Point) (n : ℕ) → IsFirst marks start self.now.first → AreCheckpoints marks start n self.now.later.items
+        ensures of_run { (marks : List Bool) (start : Point) (n : ℕ) → IsFirst marks start self.now.first
+            → AreCheckpoints marks start n self.now.later.items
             → IfSome result (λ k. IsCheckpoint marks start k.now × (k.now.moment.events ≤ n)) }
         ensures some { index < vec_len self.now.later + 1 → IsSome result }
         ensures first { index ≡ 0 → IfSome result (λ k. k.now ≡ self.now.first) }
@@ -90,7 +95,8 @@ impl History {
     pub fn keep(&mut self, alloc: Global, moment: &Moment) -> Result<(), AllocError>
         ensures first { self.new.first ≡ self.old.first }
         ensures later { OnOk result ((marks : List Bool) (start : Point) → IsOfRun marks start moment.now
-            → AreCheckpoints marks start moment.now.events self.old.later.items → AreCheckpoints marks start moment.now.events self.new.later.items) }
+            → AreCheckpoints marks start moment.now.events self.old.later.items
+            → AreCheckpoints marks start moment.now.events self.new.later.items) }
         ensures early { moment.now.events < newest_events self.old.first self.old.later.items + spacing → self.new ≡ self.old }
         ensures due { OnOk result (newest_events self.old.first self.old.later.items + spacing ≤ moment.now.events
             → newest_events self.new.first self.new.later.items ≡ moment.now.events) }
@@ -136,7 +142,8 @@ impl History {
     // Leaves out the checkpoint that can be spared, if there are as many as may be.
     fn make_room(&mut self, now: u64)
         ensures first { self.new.first ≡ self.old.first }
-        ensures later { (marks : List Bool) (start : Point) (n : ℕ) → AreCheckpoints marks start n self.old.later.items → AreCheckpoints marks start n self.new.later.items }
+        ensures later { (marks : List Bool) (start : Point) (n : ℕ) → AreCheckpoints marks start n self.old.later.items
+            → AreCheckpoints marks start n self.new.later.items }
         ensures room { length self.old.later.items < most_checkpoints → length self.new.later.items + 1 < most_checkpoints }
         ensures all { length self.old.later.items + 1 < most_checkpoints → self.new.later.items ≡ self.old.later.items }
         ensures one { most_checkpoints ≤ length self.old.later.items + 1 → WithoutOne self.old.later.items self.new.later.items }
@@ -179,7 +186,8 @@ impl History {
     /// Forgets all checkpoints after `events` events, but the first one.
     pub fn forget_after(&mut self, events: u64)
         ensures first { self.new.first ≡ self.old.first }
-        ensures later { (marks : List Bool) (start : Point) (n : ℕ) → AreCheckpoints marks start n self.old.later.items → AreCheckpoints marks start events self.new.later.items }
+        ensures later { (marks : List Bool) (start : Point) (n : ℕ) → AreCheckpoints marks start n self.old.later.items
+            → AreCheckpoints marks start events self.new.later.items }
         ensures few { length self.new.later.items ≤ length self.old.later.items }
     {
         self.later

@@ -9,7 +9,9 @@ ghost use Rattle.tb_debug.specs.Debuggers.{KeepsRun, KeepsRunTyped, Responds};
 ghost use Rattle.tb_debug.specs.Leaving.{Leaves, LeavesPoint, TurnsBreakpoint, TurnsWatch};
 ghost use Rattle.tb_debug.specs.Kinds.{IsAct, IsShown, IsTold, IsWalk, Walks};
 ghost use Rattle.tb_debug.specs.Readings.{bytes_of, code_of, most_code};
-ghost use Rattle.tb_debug.specs.Telling.{Tells, TellsStop, TellsText, TellsValue, breakpoint_answer, breakpoints_told, code_told, is_limit, line_here, list_answer, memory_told, output_told, location_here, returns_here, returns_told, set_or_cleared};
+ghost use Rattle.tb_debug.specs.Telling.{Tells, TellsStop, TellsText, TellsValue, breakpoint_answer, breakpoints_told};
+ghost use Rattle.tb_debug.specs.Telling.{code_told, is_limit, line_here, list_answer, memory_told, output_told};
+ghost use Rattle.tb_debug.specs.Telling.{location_here, returns_here, returns_told, set_or_cleared};
 
 use crate::answer::{Answer, Location, Stand};
 use crate::debugger::Debugger;

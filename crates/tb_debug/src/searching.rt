@@ -137,9 +137,11 @@ impl<'a> Debugger<'a> {
         last: u64,
         newest: u64,
     ) -> Result<u64, AllocError>
-        ensures { IfOk result (λ time. (start : Point) → start.begun ≡ 0 → OnRun start self.now → IsCheckpoint self.now.starts start checkpoint.now
+        ensures { IfOk result (λ time. (start : Point) → start.begun ≡ 0 → OnRun start self.now
+            → IsCheckpoint self.now.starts start checkpoint.now
             → checkpoint.now.moment.events ≤ self.now.present.events
-            → last ≤ self.now.present.events → KnowsAfter self.now start last newest → KnowsAfter self.now start checkpoint.now.moment.events time) }
+            → last ≤ self.now.present.events → KnowsAfter self.now start last newest
+            → KnowsAfter self.now start checkpoint.now.moment.events time) }
     {
         if last <= checkpoint.moment.events {
             return Ok(newest);

@@ -5,7 +5,9 @@ ghost use Rattle.tb_inspection.specs.Texts.{registers_text, value_text};
 ghost use Rattle.tb_debug_engine.specs.Lists.{written};
 ghost use Rattle.tb_debug_engine.specs.Sources.{shown_of};
 ghost use Rattle.tb_debug_engine.specs.Texts as texts;
-ghost use Rattle.tb_debug_engine.specs.Texts.{barred_from, byte_text, bytes_text, code_text, or_none, location_text, return_text, row_text, sent_text, stand_text, standing_text, unless_zero, variable_text, variables_from};
+ghost use Rattle.tb_debug_engine.specs.Texts.{barred_from, byte_text, bytes_text, code_text, or_none, location_text};
+ghost use Rattle.tb_debug_engine.specs.Texts.{return_text, row_text, sent_text, stand_text, standing_text, unless_zero};
+ghost use Rattle.tb_debug_engine.specs.Texts.{variable_text, variables_from};
 
 use crate::lists::{push_list, push_written};
 use crate::sources::Written;
