@@ -1,4 +1,2 @@
 pub mod LineLemmas
 pub mod Talking
-pub mod Refusing
-pub mod Appending

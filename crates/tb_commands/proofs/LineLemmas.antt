@@ -1,4 +1,4 @@
--- Where the first command of a text ends, and what is left behind it.
+-- Where the first command of a text ends, and what is left after it.
 use Rattle.std.proofs.Common.{◌≡◌, ◌≢◌, ℕ, zero, suc, ◌+◌, ◌-◌, ◌<◌, ◌≤◌, false, List, [], ◌∷◌, length, get_or, take, drop, refl, arith, ◌==◌, add-one}
 use Rattle.std.proofs.lemmas.List.{take_all, length-drop}
 use Rattle.std.proofs.lemmas.Bool.{ne_eqb}
@@ -32,6 +32,7 @@ last_line (b ∷ c ∷ text) ne inside =
     let rest = last_line (c ∷ text) (λ e. cc) (λ k below. inside (suc k) (omega arith)) in
     rw (ne_eqb b 10 h, rest) refl
 
+-- the same, with the text as the code has it
 pub only_line : (text : List ℕ) (i : ℕ) → (length text == 0) ≡ false → length text ≤ i → ((k : ℕ) → k < i → get_or text k 0 ≢ 10)
     → (lines_of text ≡ text ∷ lines_of []) × (0 < length text)
 unfolding lines_of

@@ -50,7 +50,7 @@ alone c = if c == 115 then Step else if c == 98 then Back else if c == 100 then 
 abbrev pub with_text : ℕ → List ℕ → Asked
 with_text c text = if c == 103 then going (line_in text) else if c == 118 then naming (variable_in text) else if c == 101 then Value text else Unknown
 
--- a line; one space stands between the letter and the text
+-- a line; there is one space between the letter and the text
 abbrev pub asked_in : List ℕ → Asked
 asked_in [] = Unknown
 asked_in (c ∷ []) = alone c

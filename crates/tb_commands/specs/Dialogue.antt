@@ -3,13 +3,7 @@ use Rattle.std.specs.Prelude.{ℕ, ℤ, ◌≡◌, ◌⊎◌, List, [], ◌∷�
 use Rattle.tb_memmap.specs.Bytes.{at}
 use Rattle.std.specs.declared.alloc.AllocError.{AllocError}
 use Rattle.tb_words.specs.Words.{word_of}
-use Rattle.tb_syntax.specs.Source.{Expression}
-use Rattle.tb_parser.specs.Answers.{InLineOne}
-use Rattle.tb_parser.specs.Files.{FileRefusal}
-use Rattle.tb_parser.specs.Readings.{ExpressionIs}
-use Rattle.tb_meaning.specs.Evaluation.{IsEvaluation}
 use Rattle.tb_meaning.specs.declared.evaluation.EvalError.{EvalError}
-use Rattle.tb_meaning.specs.declared.evaluation.EvalError.TheVariants as eval
 use Rattle.tb_kernal.specs.declared.events.Event.{Event}
 use Rattle.tb_kernal.specs.Machine.{Content, state_of, status, SameKeyboard}
 use Rattle.tb_cpu.specs.Operands.{word_in}
@@ -17,13 +11,14 @@ use Rattle.tb_runtime16.specs.Addresses.{NOTES}
 use Rattle.tb_codegen.specs.Compiled.{starts_of, table_of, line_in, start_in}
 use Rattle.tb_stepper.specs.Holding.{Holds, machines}
 use Rattle.tb_stepper.specs.History.{Stepped, ReachesLine}
-use Rattle.tb_stepper.specs.Readings.{variable_in, variables_in}
+use Rattle.tb_inspection.specs.Readings.{variable_in, variables_in}
+use Rattle.tb_inspection.specs.Values.{IsValueOfText}
 use Rattle.tb_stepper.specs.declared.reached.Reached.{Reached}
 use Rattle.tb_stepper.specs.declared.reached.Reached.TheVariants as reached
 use Rattle.tb_stepper.specs.declared.reached.StepError.{StepError}
 use Rattle.tb_stepper.specs.declared.reached.StepError.TheVariants as error
 use Rattle.tb_commands.specs.declared.answer.Answer.{Answer}
-use Rattle.tb_commands.specs.declared.answer.Answer.TheVariants.{Registers, NothingBack, At, NoSuchLine, Limit, Stands, Number, Depth, DivisionByZero, HasRnd, What}
+use Rattle.tb_commands.specs.declared.answer.Answer.TheVariants.{Registers, NothingBack, At, NoSuchLine, Limit, Stands, Value, Depth, What}
 use Rattle.tb_commands.specs.Commands as asked
 use Rattle.tb_commands.specs.Commands.{Asked, asked_in}
 use Rattle.tb_commands.specs.Answers.{text_of}
@@ -49,7 +44,7 @@ abbrev pub SaysBack : {O : Type 0} → Holds O → Answer → Holds O → Type 0
 SaysBack h answer k =
     (TakenBack h k × (answer ≡ registers_of k)) ⊎ ((h.undos ≡ []) × (k ≡ h) × (answer ≡ NothingBack))
 
--- the answer where a walk to a line came to this
+-- the answer to a walk to a line that came to this
 abbrev pub walk_answer : ℕ → Result Reached StepError → Result Answer AllocError
 walk_answer line (Ok reached.There) = Ok (At line)
 walk_answer line (Ok (reached.Stopped t)) = Ok (Stands t)
@@ -62,20 +57,15 @@ abbrev pub SaysGo : {O : Type 0} → (O → Content → Event → O → Type 0) 
 SaysGo gives limit line h result k =
     (r : Result Reached StepError) × ReachesLine gives (start_in (starts_of h.program) line) limit h r k × (result ≡ walk_answer line r)
 
--- the answer for what an expression came to: its value, or why it has none
-abbrev pub value_answer : Result ℤ EvalError → Answer
-value_answer (Ok v) = Number v
-value_answer (Err eval.DivideByZero) = DivisionByZero
-value_answer (Err eval.HasRnd) = HasRnd
+-- the answer to a text that came to this: its value, or `what?`
+abbrev pub value_answer : Option (Result ℤ EvalError) → Answer
+value_answer (Some value) = Value value
+value_answer None = What
 
--- the value of an expression over the variables, or `what?` of a text that is none
-abbrev pub SaysOf : {O : Type 0} → Holds O → Result Expression FileRefusal → Answer → Type 0
-SaysOf h (Ok e) answer = (v : Result ℤ EvalError) × IsEvaluation e (variables_in (at h.machine.memory)) v × (answer ≡ value_answer v)
-SaysOf h (Err r) answer = answer ≡ What
-
--- what is answered to `e` and the text behind it
+-- what is answered to `e` and the text after it: what that comes to over the variables
 abbrev pub SaysValue : {O : Type 0} → Holds O → List ℕ → Answer → Type 0
-SaysValue h text answer = (r : Result Expression FileRefusal) × InLineOne (ExpressionIs text) r × SaysOf h r answer
+SaysValue h text answer =
+    (value : Option (Result ℤ EvalError)) × IsValueOfText (variables_in (at h.machine.memory)) text value × (answer ≡ value_answer value)
 
 -- an answer for which only the history is read; want of memory is none
 abbrev pub Reads : {O : Type 0} → (Answer → Type 0) → Holds O → Result (Option Answer) AllocError → Holds O → Type 0
@@ -97,13 +87,13 @@ Responds gives limit h asked.Back (Ok None) k = ⊥
 Responds gives limit h asked.Back (Err e) k = ⊥
 Responds gives limit h (asked.Go line) result k = Answered (λ r. SaysGo gives limit line h r k) result
 Responds gives limit h (asked.Variable index) result k =
-    Reads (λ answer. (v : ℤ) × (word_of v ≡ variable_in (at h.machine.memory) index) × (answer ≡ Number v)) h result k
+    Reads (λ answer. (v : ℤ) × (word_of v ≡ variable_in (at h.machine.memory) index) × (answer ≡ Value (Ok v))) h result k
 Responds gives limit h (asked.Value text) result k = Reads (SaysValue h text) h result k
 Responds gives limit h asked.Depth result k = Reads (λ answer. answer ≡ Depth (word_in (at h.machine.memory) NOTES)) h result k
 Responds gives limit h asked.Quit result k = (result ≡ Ok None) × (k ≡ h)
 Responds gives limit h asked.Unknown result k = Reads (λ answer. answer ≡ What) h result k
 
--- behind a command: its answer's line and what `rest` says of the lines behind it, or the end
+-- after a command: its answer's line and what `rest` says of the lines after it, or the end
 abbrev pub GoesOn : {O : Type 0} → (Holds O → List ℕ → Holds O → Type 0) → Option Answer → Holds O → List ℕ → Holds O → Type 0
 GoesOn rest None b text k = (text ≡ []) × (k ≡ b)
 GoesOn rest (Some answer) b text k = (more : List ℕ) × rest b more k × (text ≡ text_of answer ++ 10 ∷ more)

@@ -29,7 +29,7 @@ pub enum Command<'a> {
     Unknown,
 }
 
-/// The command that a line is. One space stands behind the letter of a command with a word, and a number has one to
+/// The command that a line is. There is one space after the letter of a command with a word, and a number has one to
 /// five digits and a value up to 65,535.
 pub fn read_command(line: &[u8]) -> Command<'_>
     ensures { asked_of result ≡ asked_in line.now }

@@ -2,21 +2,20 @@
 ghost use Rattle.std.specs.Prelude.{◌≡◌, IfOk};
 ghost use Rattle.tb_commands.specs.Commands.{asked_of};
 ghost use Rattle.tb_commands.specs.Lines.{lines_of};
-ghost use Rattle.tb_commands.specs.Dialogue.{registers_of, SaysStep, SaysBack, SaysGo, SaysValue, value_answer, Responds, Dialogue};
+ghost use Rattle.tb_commands.specs.Dialogue.{registers_of, SaysStep, SaysBack, SaysGo, SaysValue, Responds, Dialogue};
 
 use crate::answer::Answer;
 use crate::command::{Command, read_command};
 use crate::lines::next_line;
 use std::alloc::{AllocError, Global};
+use tb_inspection::{value_of_text, variables};
 use tb_kernal::Outside;
-use tb_meaning::EvalError;
-use tb_parser::{SourceErrorKind, parse_expr};
 use tb_stepper::{Reached, StepError, Stepper};
 
 /// Does what a command asks for, and answers it; there is no answer to `Quit`. A walk to a line takes at most `limit`
 /// steps.
 ///
-/// After AllocError all stands as before, but for a walk: then the machine stands after the steps so far.
+/// After AllocError all is as before, but for a walk: then the machine is as after the steps so far.
 pub fn respond<O: Outside + Drop>(
     alloc: Global,
     stepper: &mut Stepper<'_, O>,
@@ -29,7 +28,7 @@ pub fn respond<O: Outside + Drop>(
         Command::Step => step(stepper)?,
         Command::Back => back(stepper),
         Command::Go(line) => go(stepper, line, limit)?,
-        Command::Variable(letter) => Answer::Number(stepper.variable(letter)),
+        Command::Variable(letter) => Answer::Value(Ok(stepper.variable(letter))),
         Command::Value(text) => value(alloc, stepper, text)?,
         Command::Depth => Answer::Depth(stepper.depth()),
         Command::Quit => return Ok(None),
@@ -88,22 +87,10 @@ fn value<O: Outside + Drop>(
 ) -> Result<Answer, AllocError>
     ensures { IfOk result (SaysValue stepper.now text.now) }
 {
-    match parse_expr(alloc, text) {
-        Ok(expression) => Ok(value_answer(stepper.value_of(&expression))),
-        Err(error) => match error.kind {
-            SourceErrorKind::NoMemory => Err(AllocError),
-            _ => Ok(Answer::What),
-        },
-    }
-}
-
-fn value_answer(value: Result<i16, EvalError>) -> Answer
-    ensures { result ≡ value_answer value }
-{
-    match value {
-        Ok(value) => Answer::Number(value),
-        Err(EvalError::DivideByZero) => Answer::DivisionByZero,
-        Err(EvalError::HasRnd) => Answer::HasRnd,
+    let variables = variables(stepper.machine().memory());
+    match value_of_text(alloc, text, &variables)? {
+        Some(value) => Ok(Answer::Value(value)),
+        None => Ok(Answer::What),
     }
 }
 
@@ -118,14 +105,14 @@ pub fn answers<O: Outside + Drop>(
 {
     let mut text = Vec::new(alloc);
     let mut rest = commands;
-    'answering: while let Some((line, behind)) = next_line(rest) {
+    'answering: while let Some((line, left)) = next_line(rest) {
         let Some(answer) = respond(alloc, stepper, read_command(line), limit)? else {
             return Ok(text);
         };
         if answer.push_line(alloc, &mut text).is_err() {
             return Err(AllocError);
         }
-        rest = behind;
+        rest = left;
     }
     Ok(text)
 }

@@ -21,7 +21,7 @@ comes_next marks start n m e =
     subst (λ k. comes_to marks start k ≡ (own_at marks start n && is_marked marks (point_at marks start k).state.regs.pc))
     (sym (e ∙ add-one n)) (at_suc marks start n)
 
--- whether a line begins behind one more event
+-- whether a line begins after one more event
 pub comes_by : (marks : List Bool) (start : Point) (p q : Moment) (own marked comes : Bool) → IsOfRun marks start q → q.events ≡ p.events + 1
     → own ≡ own_at marks start p.events → marked ≡ is_marked marks q.machine.regs.pc → comes ≡ (own && marked)
     → comes_to marks start q.events ≡ comes
@@ -30,7 +30,7 @@ comes_by marks start p q own marked comes h one is_own is_marked' both =
     ∙ ap (λ x. own_at marks start p.events && is_marked marks x.state.regs.pc) (sym h.stands)
     ∙ (λ i. sym is_own i && sym is_marked' i) ∙ sym both
 
--- none begins behind one more event either
+-- no line begins after one more event either
 pub none_more : (marks : List Bool) (start : Point) (m n next : ℕ) → next ≡ n + 1 → NoneBegins marks start m (suc n)
     → comes_to marks start next ≡ false → NoneBegins marks start m (suc next)
 none_more marks start m n next e none last k above below =
@@ -39,6 +39,7 @@ none_more marks start m n next e none last k above below =
       | inr other ↦ none k above (omega (arith, below, e, other))
     ]
 
+-- if no line begins after n events, none begins before the next event
 pub none_before : (marks : List Bool) (start : Point) (m n next : ℕ) → next ≡ n + 1 → NoneBegins marks start m (suc n) → NoneBegins marks start m next
 none_before marks start m n next e none k above below = none k above (omega (arith, below, e))
 
@@ -53,7 +54,7 @@ stays_there s t (Interrupt ws) own is other moved = ap (λ x. x.regs.pc) moved �
 
 -- ---- how many lines are begun on the way to the next one
 
--- at most the line that begins where the way began was begun; and none, where the way is still there
+-- at most the line that begins where the way began was begun; and none, if the way is still there
 pub record IsTally (marks : List Bool) (first now : Moment) : Type 0 where
   pub few : now.begun ≤ first.begun + (if is_marked marks first.machine.regs.pc then 1 else 0)
   pub here : is_marked marks now.machine.regs.pc ≡ true → (is_marked marks first.machine.regs.pc ≡ true) × (now.begun ≡ first.begun)
@@ -72,6 +73,7 @@ tally_few marks first p q own t counted = by own (is_marked marks p.machine.regs
     by true false is counted = omega (arith, counted, t.few)
     by false m is counted = omega (arith, counted, t.few)
 
+-- the tally after one event more at which no line begins
 pub tally_more : (marks : List Bool) (first p q : Moment) (own : Bool) → IsTally marks first p
     → q.begun ≡ p.begun + (if own && is_marked marks p.machine.regs.pc then 1 else 0)
     → (own ≡ false → q.machine.regs.pc ≡ p.machine.regs.pc) → (own && is_marked marks q.machine.regs.pc) ≡ false → IsTally marks first q

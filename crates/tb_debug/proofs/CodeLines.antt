@@ -3,14 +3,14 @@ use Rattle.std.proofs.Common.{◌≡◌, ◌≢◌, ℕ, zero, suc, ◌+◌, ◌
 use Rattle.tb_asm.specs.Layout.{Entry}
 use Rattle.tb_debug.specs.Readings.{code_behind, code_bytes, code_of, code_size}
 
--- at a closed place there is none
+-- at a closed address there is no line of code
 pub code_ends : (count : ℕ) (m : ℕ → ℕ) (a : ℕ) (before : List (ℕ × Entry)) → count ≢ 0
     → ((lines : List (ℕ × Entry)) → code_behind (code_bytes m a) a lines ≡ []) → before ≡ before ++ code_of count m a
 unfolding code_of
 code_ends zero m a before some none = absurd (some refl)
 code_ends (suc n) m a before some none = sym (ap (λ x. before ++ x) (none _) ∙ append-nil before)
 
--- of none asked for there is none
+-- if no line is asked for, there is none
 pub no_code : (count : ℕ) (m : ℕ → ℕ) (a : ℕ) (before : List (ℕ × Entry)) → count ≡ 0 → before ≡ before ++ code_of count m a
 unfolding code_of
 no_code zero m a before none = sym (append-nil before)

@@ -9,7 +9,7 @@ at_most_one : (b : Bool) → (if b then 1 else 0) ≤ 1
 at_most_one true = omega arith
 at_most_one false = omega arith
 
--- whether the event behind so many others begins a line
+-- whether the event after n others begins a line
 abbrev begin_at : List Bool → Point → ℕ → Bool
 begin_at marks start n = is_begin marks (point_at marks start n).state (event_at (point_at marks start n).rom (point_at marks start n).state.regs)
 

@@ -45,11 +45,12 @@ module _ (marks : List Bool) (start : Point) where
   event : ℕ → Event
   event n = event_at (point_at marks start n).rom (point_at marks start n).state.regs
 
-  -- the first so many events
+  -- the first n events
   pub events_to : ℕ → List Event
   events_to zero = []
   events_to (suc n) = events_to n ++ event n ∷ []
 
+  -- the first n events lead to the point after n events
   pub run_to : (n : ℕ) → run (events_to n) start.state ≡ (point_at marks start n).state
   unfolding event events_to
   run_to zero = ap (λ p. p.state) (sym (at_start marks start))
@@ -65,6 +66,7 @@ module _ (marks : List Bool) (start : Point) where
       both true b c h k = k h
       both false b c h k = h
 
+  -- the first n events are lawful: the theorem of `compile` speaks of lawful events
   pub lawful_to : (n : ℕ) → all_lawful (events_to n) start.state ≡ true
   unfolding event events_to
   lawful_to zero = refl
@@ -80,6 +82,7 @@ module _ (marks : List Bool) (start : Point) where
   begun_append first ns (Go k ∷ es) e s = let later = begun_append first ns es e (happens s (Go k)) in omega (arith, later)
   begun_append first ns (Interrupt ws ∷ es) e s = begun_append first ns es e (happens s (Interrupt ws))
 
+  -- as many of them begin a line as the point counts
   pub begun_to : (first : ℕ → ℕ) (ns : List ℕ) → ((a : ℕ) → is_start first ns a ≡ is_marked marks a) → start.begun ≡ 0
       → (n : ℕ) → begun first ns (events_to n) start.state ≡ (point_at marks start n).begun
   unfolding event events_to

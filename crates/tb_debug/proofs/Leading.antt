@@ -20,7 +20,7 @@ use Rattle.tb_debug.proofs.Counting.{begun_few, begun_later}
 
 -- ---- how a moment stands
 
--- what stands is told so
+-- how a moment stands is told so
 pub stands_so : (marks : List Bool) (m : Moment) → StandsBy marks (standing_of marks m) m
 stands_so marks m = by (status (state_of m.machine)) (is_marked marks m.machine.regs.pc) refl refl
   where
@@ -32,11 +32,13 @@ stands_so marks m = by (status (state_of m.machine)) (is_marked marks m.machine.
     by Returned marked is e = (is, λ k. absurd (cc))
     by (Wrong w) marked is e = (is, λ k. absurd (cc))
 
+-- a step tells how the moment stands
 pub stands_as : (marks : List Bool) (m : Moment) (reached : Reached) → reached ≡ standing_of marks m → StandsBy marks reached m
 stands_as marks m reached is = subst (λ r. StandsBy marks r m) (sym is) (stands_so marks m)
 
--- ---- to a place
+-- ---- to a point
 
+-- a way that ends at no line has nothing to say of a line
 pub not_there : (to : Destination) (reached : Reached) (d : Debugger) → ((reached ≡ Line) → ⊥) → IsThere to reached d
 not_there to Line d other = absurd (other refl)
 not_there to Within d other = tt
@@ -45,6 +47,7 @@ not_there to Limit d other = tt
 
 -- ---- to a time
 
+-- a way to a time that ends at no line, at most at its limit
 pub no_time : (time : ℕ) (marks : List Bool) (reached : Reached) (p q : Moment) → ((reached ≡ Line) → ⊥) → Advances reached p q
     → IsAtTime time marks reached q
 no_time time marks Line p q other on = absurd (other refl)
@@ -57,7 +60,7 @@ pub time_more : (time b c : ℕ) (marked : Bool) → (b == time && marked) ≡ f
 time_more time b c true off few more = grind (arith, nat_tests)
 time_more time b c false off few more = omega (arith, few, more)
 
--- fewer lines are begun before than behind
+-- a line that is begun makes the count larger
 earlier : (marks : List Bool) (start : Point) (p q : Moment) (time : ℕ) → IsOfRun marks start p → IsOfRun marks start q → time < p.begun → q.begun ≤ time
     → q.events < p.events
 earlier marks start p q time of_p of_q past few =
@@ -93,7 +96,7 @@ comes_back marks start p k q time limit Limit of_p of_q past few at stands used 
 
 -- ---- back to the newest stop
 
--- a place leads back to a time that has passed
+-- a point leads back to a time that has passed
 leads_under : (stops changed : Bool) (n now : ℕ) → n ≤ now → 0 < now → (if nat_lt n now && stops then n else if changed then n - 1 else 0) < now
 leads_under stops changed n now few some = by (nat_lt n now) refl stops changed
   where

@@ -53,6 +53,7 @@ by_kind limit command.Help d e told walk way same = absurd walk
 by_kind limit command.Quit d e told walk way same = absurd walk
 by_kind limit command.Unknown d e told walk way same = absurd walk
 
+-- a command that moves the run tells its stop, and leaves breakpoints and watches
 pub tells_walk : (limit : ℕ) (c : Command) (d m e : Debugger) (reached : Reached) (n : ℕ) (told : Answer) → IsWalk c d → Leads limit c d reached m.present
     → StandsBy d.starts reached m.present → m.shown ≡ d.shown → m.stops ≡ d.stops → e ≡ record m { shown = n }
     → TellsStop m.shown (is_limit reached) e told → Tells limit c d e (Some told) × Leaves c d e

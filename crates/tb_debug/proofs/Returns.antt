@@ -1,10 +1,12 @@
 -- The lines to return to, one by one.
 use Rattle.std.proofs.Common.{◌≡◌, append_assoc, ℕ, suc, ◌+◌, ◌-◌, ◌<◌, List, [], ◌∷◌, ◌++◌, Option, sym, ap, ◌∙◌, arith}
 use Rattle.tb_debug.specs.Lines.{line_at}
-use Rattle.tb_debug.specs.Readings.{lines_of_returns, return_read}
+use Rattle.tb_inspection.specs.Readings.{return_in}
+use Rattle.tb_debug.specs.Readings.{lines_of_returns}
 
 module _ (lines : List (ℕ × ℕ)) (m : ℕ → ℕ) (told : List (Option ℕ)) (count n : ℕ) where
-  pub one_told : (now : List (Option ℕ)) (line : Option ℕ) → n < count → now ≡ told ++ line ∷ [] → line ≡ line_at lines (return_read m (count - 1 - n))
+  -- one more of the returns is told: the loop of `returns`
+  pub one_told : (now : List (Option ℕ)) (line : Option ℕ) → n < count → now ≡ told ++ line ∷ [] → line ≡ line_at lines (return_in m (count - 1 - n))
       → told ++ lines_of_returns lines m (count - n) ≡ lines_of_returns lines m count → now ++ lines_of_returns lines m (count - (n + 1)) ≡ lines_of_returns lines m count
   one_told now line few pushed is h =
       let k = count - 1 - n in

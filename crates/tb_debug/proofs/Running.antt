@@ -1,4 +1,4 @@
--- Places of a run.
+-- Points of a run.
 use Rattle.std.proofs.Common.{◌≡◌, ℕ, zero, suc, ◌+◌, ◌-◌, ◌≤◌, Bool, List, length, take, refl, sym, ap, ◌∙◌, subst, add-one, arith}
 use Rattle.std.proofs.Math.Seq.{take-append_seam}
 use borrow.Author.Count.{below_more}
@@ -10,13 +10,15 @@ use Rattle.tb_words.proofs.Prefixes.{prefix_same, prefix_trans}
 use Rattle.tb_reaching.proofs.Grows.{sends_on}
 use Rattle.std.specs.Prelude.{ℤ, ◌&&◌, true, false, if◌then◌else◌}
 use Rattle.tb_debug.specs.Roms.{after, event_at}
-use Rattle.tb_debug.specs.Readings.{variables_of}
+use Rattle.tb_inspection.specs.Readings.{values_in}
 use Rattle.tb_debug.specs.Runs.{Point, RunsUpTo, behind, is_begin, next_point, point_at}
 
+-- the point after no event is the start
 pub at_start : (marks : List Bool) (start : Point) → point_at marks start 0 ≡ start
 unfolding point_at
 at_start marks start = refl
 
+-- the point after one event more
 pub at_next : (marks : List Bool) (start : Point) (n : ℕ) → point_at marks start (suc n) ≡ next_point marks (point_at marks start n)
 unfolding point_at
 at_next marks start n = refl
@@ -24,15 +26,15 @@ at_next marks start n = refl
 -- what an event leaves, part by part
 pub behind_by : (marks : List Bool) (p q : Point) (e : Event) (begins : Bool) → q.state ≡ happens p.state e → q.rom ≡ after p.rom
     → begins ≡ is_begin marks p.state e → q.begun ≡ p.begun + (if begins then 1 else 0) → q.last ≡ (if begins then p.state.regs.pc else p.last)
-    → q.opened ≡ (if begins then variables_of p.state.mem else p.opened) → q ≡ behind marks p e
+    → q.opened ≡ (if begins then values_in p.state.mem else p.opened) → q ≡ behind marks p e
 behind_by marks p q e begins happened left is counted moved told =
     let count : q.begun ≡ p.begun + (if is_begin marks p.state e then 1 else 0) = counted ∙ ap (λ x. p.begun + (if x then 1 else 0)) is in
     let place : q.last ≡ (if is_begin marks p.state e then p.state.regs.pc else p.last) = moved ∙ ap (λ x. if x then p.state.regs.pc else p.last) is in
-    let values : q.opened ≡ (if is_begin marks p.state e then variables_of p.state.mem else p.opened) =
-    told ∙ ap (λ x. if x then variables_of p.state.mem else p.opened) is in
+    let values : q.opened ≡ (if is_begin marks p.state e then values_in p.state.mem else p.opened) =
+    told ∙ ap (λ x. if x then values_in p.state.mem else p.opened) is in
     λ i. record { state = happened i; rom = left i; begun = count i; last = place i; opened = values i }
 
--- values that are read where a line may begin, and kept where one does
+-- values that are read where a line may begin, and kept if one does
 pub opened_where : (begins own marked : Bool) (here before : List ℤ) → begins ≡ (own && marked)
     → (if begins then (if marked then here else before) else before) ≡ (if begins then here else before)
 opened_where false own marked here before e = refl
@@ -69,7 +71,7 @@ sent_on marks start n (suc more) =
 cut : (xs ys : List ℕ) → IsPrefix xs ys → take (length xs) ys ≡ xs
 cut xs ys p = ap (take (length xs)) (sym p.1) ∙ take-append_seam xs p.0
 
--- what was sent up to a place is the beginning of what was sent up to a later one
+-- what was sent up to a point is the beginning of what was sent up to a later one
 pub sent_before : (marks : List Bool) (start : Point) (n m : ℕ) → n ≤ m
     → take (length (point_at marks start n).state.sent) (point_at marks start m).state.sent ≡ (point_at marks start n).state.sent
 sent_before marks start n m few =

@@ -3,40 +3,20 @@ use Rattle.std.proofs.Common.{◌≡◌, ℕ, ◌+◌, ◌%◌, ◌<◌, ◌≤�
 use Rattle.std.specs.Prelude.{if◌then◌else◌, nat_eq, nat_le, map, Some, None}
 use Rattle.std.proofs.lemmas.Bool.{eqb-true, ne_eqb}
 use Rattle.std.proofs.lemmas.Bool.Decides.{nat_tests}
-use Rattle.tb_memmap.specs.Regions.{is_open}
-use Rattle.tb_cpu.specs.Operands.{word_from, word_in}
+use Rattle.tb_cpu.specs.Operands.{word_in}
 use Rattle.tb_asm.specs.declared.names.Name.{Name}
-use Rattle.tb_meaning.specs.Control.{At, Past, Place, has_line}
-use Rattle.tb_runtime16.specs.Addresses.{NOTES, RETURN_HIGH, RETURN_LOW}
+use Rattle.tb_meaning.specs.Control.{At, Past, Place, deepest, has_line}
+use Rattle.tb_runtime16.specs.Addresses.{NOTES}
 use Rattle.tb_templates.specs.declared.labels.Target.TheVariants.{Line}
 use Rattle.tb_templates.specs.Labels.{label_of}
 use Rattle.tb_simulation.specs.Layout.{is_start}
-use Rattle.tb_simulation.specs.LineStarts as kept
 use Rattle.tb_simulation.specs.LineStarts.{HoldsReturns, StandsFor}
 use Rattle.tb_codegen.specs.Compiled.{AddressesRise, stands_at, starts_in}
 use Rattle.tb_debug.specs.Lines.{line_at}
-use Rattle.tb_debug.specs.Readings.{byte_at, lines_of_returns, return_read, returns_in, word_at}
+use Rattle.tb_inspection.specs.Readings.{return_in}
+use Rattle.tb_debug.specs.Readings.{lines_of_returns, depth_in}
 use Rattle.tb_debug.specs.Runs.{begins_at}
 use Rattle.tb_debug.specs.Sources.{line_of}
-
--- ---- open places
-
-byte_there : (m : ℕ → ℕ) (a : ℕ) → is_open a ≡ true → byte_at m a ≡ m a
-byte_there m a e = rw e refl
-
-open_data : (a : ℕ) → 0xC000 ≤ a → a < 0xD000 → is_open a ≡ true
-open_data a from to = grind (arith, nat_tests)
-
-pub word_there : (m : ℕ → ℕ) (a : ℕ) → 0xC000 ≤ a → a + 1 < 0xD000 → word_at m a ≡ word_in m a
-word_there m a from to =
-    let next : (a + 1) % 65536 ≡ a + 1 = omega (arith, to) in
-    (λ i. word_from (byte_there m a (open_data a from (omega (arith, to))) i) (byte_at m (next i)))
-    ∙ ap (word_from (m a)) (byte_there m (a + 1) (open_data (a + 1) (omega (arith, from)) to))
-
-return_found : (m : ℕ → ℕ) (k : ℕ) → k < 500 → return_read m k ≡ kept.return_at m k
-return_found m k few =
-    λ i. word_from (byte_there m (RETURN_LOW + k) (open_data (RETURN_LOW + k) (omega arith) (omega (arith, few))) i)
-    (byte_there m (RETURN_HIGH + k) (open_data (RETURN_HIGH + k) (omega arith) (omega (arith, few))) i)
 
 -- ---- the lines of places
 
@@ -74,7 +54,7 @@ module _ (labels : List (Name × ℕ)) where
           ap (λ b. if b then Some m else line_at (starts_in labels ns) (at_label n)) (ne_eqb (at_label n) (at_label m) (λ e. omega (arith, e, behind)))
           ∙ found has
 
-  -- where no line begins none is found
+  -- if no line begins at an address, none is found
   none_there : (lines : List (ℕ × ℕ)) (a : ℕ) → begins_at lines a ≡ false → line_at lines a ≡ None
   none_there [] a e = refl
   none_there (s ∷ lines) a e = go (nat_eq a s.1) (none_there lines a) e
@@ -90,19 +70,15 @@ module _ (labels : List (Name × ℕ)) where
     place_told (At n) a (has, is) = ap (line_at (starts_in labels ns)) (is ∙ firsts n has) ∙ found_there ns low n rise has
     place_told Past a none = none_there (starts_in labels ns) a (sym (same a) ∙ none)
 
-    -- the lines that the notes lead to are those of the places
-    pub returns_told : (m : ℕ → ℕ) (ps : List Place) → length ps ≤ 500 → HoldsReturns start ns m ps
+    -- the lines that the return list leads to are those of the places
+    pub returns_told : (m : ℕ → ℕ) (ps : List Place) → HoldsReturns start ns m ps
         → lines_of_returns (starts_in labels ns) m (length ps) ≡ map line_of ps
-    returns_told m [] few held = refl
-    returns_told m (p ∷ ps) few held =
-        let here : line_at (starts_in labels ns) (return_read m (length ps)) ≡ line_of p =
-        ap (line_at (starts_in labels ns)) (return_found m (length ps) (omega (arith, few))) ∙ place_told p (kept.return_at m (length ps)) held.0 in
-        let rest = returns_told m ps (omega (arith, few)) held.1 in
+    returns_told m [] held = refl
+    returns_told m (p ∷ ps) held =
+        let here : line_at (starts_in labels ns) (return_in m (length ps)) ≡ line_of p = place_told p (return_in m (length ps)) held.0 in
+        let rest = returns_told m ps held.1 in
         λ i. here i ∷ rest i
 
 -- as many notes are told as there are
-pub all_returns : (m : ℕ → ℕ) (count : ℕ) → count ≤ 500 → word_in m NOTES ≡ count → returns_in m ≡ count
-all_returns m count few is =
-    let there : word_at m NOTES ≡ count = word_there m NOTES (omega arith) (omega arith) ∙ is in
-    let small : nat_le count 500 ≡ true = grind (arith, nat_tests) in
-    ap (λ n. if nat_le n 500 then n else 500) there ∙ ap (λ b. if b then count else 500) small
+pub all_returns : (m : ℕ → ℕ) (count : ℕ) → count ≤ deepest → word_in m NOTES ≡ count → depth_in m ≡ count
+all_returns m count few is = omega (arith, few, is)

@@ -20,13 +20,11 @@ use Rattle.tb_debug.specs.Runs.{begins_at, first_point, is_marked}
 use Rattle.tb_debug.specs.Lines.{line_at}
 use Rattle.std.specs.Int.{cast_signed, w16}
 use Rattle.std.specs.Prelude.{length}
-use Rattle.std.proofs.Common.{arith}
 use Rattle.tb_runtime16.specs.Addresses.{LINES_AT}
-use Rattle.tb_templates.specs.Templates.{var_at}
 use Rattle.tb_codegen.specs.Compiled.{AddressesRise}
 use Rattle.tb_debug.specs.Readings.{lines_of_returns, returns_of}
 use Rattle.tb_debug.specs.Sources.{Debugs, IsMadeOf, ShowsLine}
-use Rattle.tb_debug.proofs.SourceState.{all_returns, returns_told, word_there}
+use Rattle.tb_debug.proofs.SourceState.{all_returns, returns_told}
 use Rattle.tb_debug.proofs.EventLists.{begun_to, events_to, lawful_to, run_to}
 
 module _ (labels : List (Name × ℕ)) where
@@ -71,7 +69,7 @@ module _ (labels : List (Name × ℕ)) where
           )
       go false q later found = let rest = later found in (or_right (nat_eq m n) (has_line ns n) rest.0, rest.1)
 
--- what is shown of memory where a line begins
+-- what is shown of memory if a line begins
 shows_all : (source : Program) (seed : ℕ) (start : State) (d : Debugger) (n : ℕ) (made : IsMadeOf source seed d.program.now)
     → ((k : ℕ) → has_line (numbers source) k ≡ true → start_of d.program.now k ≡ at_label (labels_from PROLOGUE_AT made.compiled.items) k)
     → ((a : ℕ) → is_start (start_of d.program.now) (numbers source) a ≡ begins_at (starts_of d.program.now) a)
@@ -87,12 +85,12 @@ shows_all source seed start d n made firsts same begins =
     let count = all_returns m (length begins.state.returns) begins.few begins.depth in
     record {
       begins = begins;
-      variables = λ x few. ap (cast_signed w16) (word_there m (var_at x) (omega arith) (omega (arith, few)) ∙ begins.vars x few);
+      variables = λ x few. ap (cast_signed w16) (begins.vars x few);
       returns = ap (λ ss. returns_of ss m) told ∙ ap (lines_of_returns (starts_in labels ns) m) count
-          ∙ returns_told labels (start_of c) ns LINES_AT rise firsts here m begins.state.returns begins.few begins.returns;
+          ∙ returns_told labels (start_of c) ns LINES_AT rise firsts here m begins.state.returns begins.returns;
     }
 
--- where a debugger stands at a line's beginning, the source goes on at that line
+-- if a debugger is at a line's beginning, the source goes on at that line
 pub shows_line : (source : Program) (seed : ℕ) (start : State) (rom : Rom) (d : Debugger) (n : ℕ) → Debugs source seed start rom d
     → line_at (starts_of d.program.now) d.present.machine.regs.pc ≡ Some n → ShowsLine source seed start d n
 shows_line source seed start rom d n h here =
@@ -116,6 +114,7 @@ shows_line source seed start rom d n h here =
     (subst (λ m. BeginsLine source seed (start_of c) start m n (state_of d.present.machine)) count
     (subst (λ t. BeginsLine source seed (start_of c) start (begun (start_of c) ns es start) n t) ran begins))
 
+-- the same of the line that `line_here` answers
 pub shows_some : (source : Program) (seed : ℕ) (start : State) (rom : Rom) (d : Debugger) (o : Option ℕ) → Debugs source seed start rom d
     → o ≡ line_at (starts_of d.program.now) d.present.machine.regs.pc → IfSome o (λ line. ShowsLine source seed start d line)
 shows_some source seed start rom d None h is = tt

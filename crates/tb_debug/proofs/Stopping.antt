@@ -7,8 +7,8 @@ use Rattle.tb_kernal.specs.Machine.{status}
 use Rattle.tb_codegen.specs.Compiled.{starts_of}
 use Rattle.tb_debug.specs.Begins.{EndsAt, GoesTo, IsLimited, IsNowhere, NoneBegins}
 use Rattle.tb_debug.specs.Debuggers.{KeepsRun, OnRun}
-use Rattle.tb_debug.specs.Runs.{Point, IsOfRun, IsFirst, IsKept, point_at, shown}
-use Rattle.tb_debug.specs.Searching.{KnowsBehind, NewestBetween}
+use Rattle.tb_debug.specs.Runs.{Point, IsOfRun, IsFirst, IsCheckpoint, point_at, shown}
+use Rattle.tb_debug.specs.Searching.{KnowsAfter, NewestBetween}
 use Rattle.tb_debug.specs.Stopping.{IsNewest, LeadsTo, breaks_at, changes, comes_where, is_sought, leads_back, leads_from}
 use Rattle.tb_debug.specs.declared.searching.Destination.{Destination}
 use Rattle.tb_debug.specs.declared.debugger.Debugger.{Debugger}
@@ -20,6 +20,7 @@ use Rattle.tb_debug.proofs.Counting.{begun_few, begun_later}
 
 -- ---- going on
 
+-- two steps that keep the run keep it together
 pub then_keeps : (d e f : Debugger) → KeepsRun d e → KeepsRun e f → KeepsRun d f
 then_keeps d e f one other = (other.0 ∙ one.0, other.1 ∙ one.1, λ start on. other.2 start (one.2 start on))
 
@@ -28,12 +29,13 @@ pub record Passed (to : Destination) (start : Point) (d e : Debugger) : Type 0 w
   pub later : d.present.events ≤ e.present.events
   pub nowhere : IsNowhere (comes_where (is_sought to d) d.starts start) d.present (suc e.present.events)
 
+-- a way that has not begun has passed nothing
 pub passed_here : (to : Destination) (start : Point) (d : Debugger) → Passed to start d d
 passed_here to start d = record { later = omega arith; nowhere = λ k above below. absurd (omega (arith, above, below)) }
 
 -- a way goes on from a debugger e to one f, on the same run
 module _ (to : Destination) (start : Point) (d e f : Debugger) (limit : ℕ) (keep : KeepsRun d e) (passed : Passed to start d e) where
-  -- where no line begins there is none that is looked for
+  -- if no line begins, there is none that is looked for
   none_at : (n : ℕ) → NoneBegins e.starts start e.present.events n → IsNowhere (comes_where (is_sought to d) d.starts start) d.present n
   none_at n none k above below =
       let here = subst (λ ms. NoneBegins ms start e.present.events n) keep.1 none in
@@ -58,7 +60,7 @@ last_is n limit last is =
       | inr few ↦ inl (omega (arith, is, few))
     ]
 
--- a limit that is used up behind a part of the way
+-- a limit that is used up after a part of the way
 pub limited_on : (whole last left : ℕ) (reached : Reached) (d e f : Moment) → IsLimited left reached e f → left ≡ last - e.events → e.events ≤ last
     → (last ≡ d.events + whole) ⊎ (last ≡ 18446744073709551615) → IsLimited whole reached d f
 limited_on whole last left Line d e f used is few which = tt
@@ -80,7 +82,7 @@ leads_few d start k =
     let p = point_at d.starts start k in
     bounded (nat_lt p.begun d.present.begun && breaks_at (starts_of d.program.now) d.stops p) (changes d.stops p) p.begun
 
--- where a moment stands, what it leads back to is what its place does
+-- a moment of the run leads back to what its point does
 pub leads_there : (d : Debugger) (start : Point) (m : Moment) → IsOfRun d.starts start m
     → leads_back (starts_of d.program.now) d.stops d.present.begun (shown m) ≡ leads_from d start m.events
 leads_there d start m h = ap (leads_back (starts_of d.program.now) d.stops d.present.begun) h.stands
@@ -116,7 +118,7 @@ one_between d start from p q limit a led time on of_run ends inside is one other
       ];
     }
 
--- a going on that ends without a line has passed all lines up to the last of so many events
+-- a way on that ends at no line has passed all lines up to the last of its events
 pub past_last : (d : Debugger) (start : Point) (p q : Moment) (last limit : ℕ) (reached : Reached) → start.begun ≡ 0 → OnRun start d
     → IsOfRun d.starts start q → ((reached ≡ Line) → ⊥) → EndsAt d.starts start limit p reached q → last ≤ d.present.events → last ≤ p.events + limit
     → last ≤ 18446744073709551615 → (last ≤ q.events) × NoneBegins d.starts start p.events (suc q.events)
@@ -142,6 +144,7 @@ past_last d start p q last limit Limit none on of_run other h few room small =
       h.0,
     )
 
+-- what is known up to a moment is known up to the last event, if no line begins between
 pub all_passed : (d : Debugger) (start : Point) (from last time : ℕ) (p q : Moment) → (last ≤ q.events) × NoneBegins d.starts start p.events (suc q.events)
     → NewestBetween d start from p.events time → NewestBetween d start from last time
 all_passed d start from last time p q past h =
@@ -153,9 +156,9 @@ all_passed d start from last time p q past h =
       ];
     }
 
--- no line before a place leads to a time behind that place's
-pub enough : (d : Debugger) (start : Point) (k : Checkpoint) (time : ℕ) → IsKept d.starts start k → k.moment.begun ≤ time
-    → KnowsBehind d start k.moment.events time → IsNewest d start time
+-- no line before a point leads to a time after that point's
+pub enough : (d : Debugger) (start : Point) (k : Checkpoint) (time : ℕ) → IsCheckpoint d.starts start k → k.moment.begun ≤ time
+    → KnowsAfter d start k.moment.events time → IsNewest d start time
 enough d start k time kept few h =
     record {
       leads = h.leads;
@@ -171,14 +174,14 @@ enough d start k time kept few h =
     }
 
 -- before the first moment there is none
-pub from_first : (d : Debugger) (start : Point) (k : Checkpoint) (time : ℕ) → start.begun ≡ 0 → IsFirst d.starts start k → KnowsBehind d start k.moment.events time
+pub from_first : (d : Debugger) (start : Point) (k : Checkpoint) (time : ℕ) → start.begun ≡ 0 → IsFirst d.starts start k → KnowsAfter d start k.moment.events time
     → IsNewest d start time
 from_first d start k time none first h =
     let count = ap (λ x. x.begun) first.0.stands in
     let few = begun_few d.starts start k.moment.events in
     enough d start k time first.0 (omega (arith, count, few, none, first.1)) h
 
--- where no line was begun, going back leads to the start
+-- if no line was begun, going back leads to the start
 pub none_begun : (d : Debugger) (start : Point) → OnRun start d → d.present.begun ≡ 0 → IsNewest d start 0
 none_begun d start on none =
     let count = ap (λ x. x.begun) on.of_run.stands in

@@ -30,7 +30,7 @@ cleared_where : (t b : Bool) → ((t ≡ true) → b ≡ true) → (not t && b) 
 cleared_where true b h = sym (ap not (h refl))
 cleared_where false b h = refl
 
--- an element that is kept, u whether it is the one that is asked for and t whether it is to be cleared
+-- an element that stays, u whether it is the one that is asked for and t whether it is to be cleared
 kept : (u t b : Bool) → ((u ≡ true) → t ≡ false) → (u || (not t && b)) ≡ (not t && (u || b))
 kept true t b h = sym (ap (λ x. not x && true) (h refl))
 kept false t b h = refl
@@ -46,6 +46,7 @@ among_append : (xs ys : List ℕ) (n : ℕ) → is_among (xs ++ ys) n ≡ (is_am
 among_append [] ys n = refl
 among_append (x ∷ xs) ys n = ap (λ b. nat_eq n x || b) (among_append xs ys n) ∙ grouped (nat_eq n x) (is_among xs n) (is_among ys n)
 
+-- a breakpoint that is inserted is set, and no other changes
 pub line_set : (xs : List ℕ) (line i : ℕ) → is_among xs line ≡ false → Turned line xs (insert xs i line)
 line_set xs line i none n =
     let there : (nat_eq n line ≡ true) → is_among xs n ≡ false = λ e. ap (is_among xs) (eqb-true n line e) ∙ none in
@@ -69,6 +70,7 @@ lines_kept (x ∷ xs) line n = go (nat_eq x line) refl (lines_kept xs line n)
     go true e h = h ∙ left_out (nat_eq n x) (nat_eq n line) (is_among xs n) (λ q. ap (λ k. nat_eq k line) (eqb-true n x q) ∙ e)
     go false e h = ap (λ b. nat_eq n x || b) h ∙ kept (nat_eq n x) (nat_eq n line) (is_among xs n) (λ q. ap (λ k. nat_eq k line) (eqb-true n x q) ∙ e)
 
+-- a breakpoint that is left out is cleared, and no other changes
 pub line_cleared : (xs : List ℕ) (line : ℕ) → is_among xs line ≡ true → Turned line xs (filter (λ x. not (nat_eq x line)) xs)
 line_cleared xs line there n =
     lines_kept xs line n ∙ cleared_where (nat_eq n line) (is_among xs n) (λ e. ap (is_among xs) (eqb-true n line e) ∙ there)
@@ -79,6 +81,7 @@ watched_append : (xs ys : List Letter) (n : ℕ) → is_watched (xs ++ ys) n ≡
 watched_append [] ys n = refl
 watched_append (x ∷ xs) ys n = ap (λ b. nat_eq n (letter_index x) || b) (watched_append xs ys n) ∙ grouped (nat_eq n (letter_index x)) (is_watched xs n) (is_watched ys n)
 
+-- the same of a watch that is added
 pub watch_set : (xs : List Letter) (w : Letter) → is_watched xs (letter_index w) ≡ false → WatchTurned (letter_index w) xs (xs ++ w ∷ [])
 watch_set xs w none n =
     watched_append xs (w ∷ []) n ∙ moved (is_watched xs n) (nat_eq n (letter_index w)) false ∙ ap (λ b. nat_eq n (letter_index w) || b) (or-false (is_watched xs n))
@@ -97,6 +100,7 @@ watches_kept (x ∷ xs) index n = go (nat_eq (letter_index x) index) refl (watch
     go false e h =
         ap (λ b. nat_eq n (letter_index x) || b) h ∙ kept (nat_eq n (letter_index x)) (nat_eq n index) (is_watched xs n) (λ q. ap (λ k. nat_eq k index) (eqb-true n (letter_index x) q) ∙ e)
 
+-- the same of a watch that is left out
 pub watch_cleared : (xs : List Letter) (index : ℕ) → is_watched xs index ≡ true → WatchTurned index xs (filter (λ x. not (nat_eq (letter_index x) index)) xs)
 watch_cleared xs index there n =
     watches_kept xs index n ∙ cleared_where (nat_eq n index) (is_watched xs n) (λ e. ap (is_watched xs) (eqb-true n index e) ∙ there)

@@ -1,11 +1,11 @@
--- The run of a start with more behind the keyboard's text.
+-- The run of a start with more at the end of the keyboard's text.
 use Rattle.std.proofs.Common.{◌≡◌, ℕ, zero, suc, ◌<◌, ◌≤◌, Bool, List, length, slice_index_or, sym, ap, ◌∙◌, arith}
 use Rattle.std.specs.Prelude.{◌≢◌}
 use Rattle.tb_kernal.specs.declared.status.Status.TheVariants.{Running, Waits}
 use Rattle.tb_kernal.specs.Machine.{State, status}
 use Rattle.tb_kernal.proofs.Typing.{happens_kept, status_kept}
 use Rattle.tb_debug.specs.Roms.{event_at}
-use Rattle.tb_debug.specs.Runs.{Point, RunsUpTo, IsOfRun, IsKept, AreKept, IsTyped, AreTyped, next_point, point_at, typed, unsent}
+use Rattle.tb_debug.specs.Runs.{Point, RunsUpTo, IsOfRun, IsCheckpoint, AreCheckpoints, IsTyped, AreTyped, next_point, point_at, typed, unsent}
 use Rattle.tb_debug.specs.declared.history.Checkpoint.{Checkpoint}
 use Rattle.tb_debug.specs.declared.moment.Moment.{Moment}
 use Rattle.tb_debug.proofs.Running.{at_next, at_start}
@@ -34,27 +34,30 @@ typed_ran marks start more n ran k below =
     ap (λ p. status p.state) (typed_at marks start more k (λ j before. ran j (omega (arith, before, below))))
     ∙ status_kept s more (never_both s (ran k below)) ∙ ran k below
 
+-- a moment of the run, typed to, is of the run of the start that is typed to
 pub typed_moment : (marks : List Bool) (start : Point) (more : List ℕ) (m n : Moment) → IsTyped more m n → IsOfRun marks start m
     → IsOfRun marks (typed more start) n
 typed_moment marks start more m n t h = record {
-  stands = t.place ∙ ap (typed more) h.stands ∙ sym (typed_at marks start more m.events h.ran) ∙ ap (point_at marks (typed more start)) (sym t.events);
+  stands = t.point ∙ ap (typed more) h.stands ∙ sym (typed_at marks start more m.events h.ran) ∙ ap (point_at marks (typed more start)) (sym t.events);
   ran = λ k below. typed_ran marks start more m.events h.ran k (omega (arith, below, t.events));
 }
 
-pub typed_kept : (marks : List Bool) (start : Point) (more : List ℕ) (n : ℕ) (k l : Checkpoint) → RunsUpTo marks start n → IsTyped more k.moment l.moment
-    → l.sent ≡ k.sent → IsKept marks start k × (k.moment.events ≤ n) → IsKept marks (typed more start) l × (l.moment.events ≤ n)
-typed_kept marks start more n k l ran t sent (h, few) =
+-- the same of a checkpoint
+pub typed_checkpoint : (marks : List Bool) (start : Point) (more : List ℕ) (n : ℕ) (k l : Checkpoint) → RunsUpTo marks start n → IsTyped more k.moment l.moment
+    → l.sent ≡ k.sent → IsCheckpoint marks start k × (k.moment.events ≤ n) → IsCheckpoint marks (typed more start) l × (l.moment.events ≤ n)
+typed_checkpoint marks start more n k l ran t sent (h, few) =
     let there = typed_at marks start more k.moment.events (λ j below. ran j (omega (arith, below, few))) in
     let at = point_at marks (typed more start) in (
       record {
-        stands = t.place ∙ ap (typed more) h.stands ∙ ap unsent (sym there) ∙ ap (λ i. unsent (at i)) (sym t.events);
+        stands = t.point ∙ ap (typed more) h.stands ∙ ap unsent (sym there) ∙ ap (λ i. unsent (at i)) (sym t.events);
         counts = sent ∙ h.counts ∙ ap (λ p. length p.state.sent) (sym there) ∙ ap (λ i. length (at i).state.sent) (sym t.events);
       },
       omega (arith, few, t.events),
     )
 
+-- the same of all checkpoints
 pub typed_all : (marks : List Bool) (start : Point) (more : List ℕ) (n : ℕ) (ks ls : List Checkpoint) → RunsUpTo marks start n → AreTyped more ks ls
-    → AreKept marks start n ks → AreKept marks (typed more start) n ls
+    → AreCheckpoints marks start n ks → AreCheckpoints marks (typed more start) n ls
 typed_all marks start more n ks ls ran t all i d inside =
     let there : i < length ks = omega (arith, inside, t.many) in
-    typed_kept marks start more n (slice_index_or ks i d) (slice_index_or ls i d) ran (t.each i d there) (t.sent i d there) (all i d there)
+    typed_checkpoint marks start more n (slice_index_or ks i d) (slice_index_or ls i d) ran (t.each i d there) (t.sent i d there) (all i d there)

@@ -10,24 +10,24 @@ use Rattle.tb_debug.specs.declared.moment.Moment.{Moment}
 use Rattle.tb_debug.specs.declared.moment.Reached.{Reached}
 use Rattle.tb_debug.specs.declared.moment.Reached.TheVariants.{Line, Within, Ended, Limit}
 
--- the event behind so many others is the program's own
+-- the event after n others is the program's own
 abbrev pub own_at : List Bool → Point → ℕ → Bool
 own_at marks start n = is_own (event_at (point_at marks start n).rom (point_at marks start n).state.regs)
 
--- a line begins at the place behind so many events, and the last of them, one of the program's own, led there
+-- a line begins at the point after n events, and the last of these, one of the program's own, led there
 unfoldable pub comes_to : List Bool → Point → ℕ → Bool
 comes_to marks start zero = is_marked marks start.state.regs.pc
 comes_to marks start (suc n) = own_at marks start n && is_marked marks (point_at marks start (suc n)).state.regs.pc
 
--- no line begins behind more than m events and fewer than n
+-- no line begins after more than m events and fewer than n
 abbrev pub NoneBegins : List Bool → Point → ℕ → ℕ → Type 0
 NoneBegins marks start m n = (k : ℕ) → m < k → k < n → comes_to marks start k ≡ false
 
--- the next line that begins behind m events does behind n
+-- the next line that begins after m events begins after n
 abbrev pub IsNext : List Bool → Point → ℕ → ℕ → Type 0
 IsNext marks start m n = (m < n) × (comes_to marks start n ≡ true) × NoneBegins marks start m n
 
--- so many lines begin behind m events, the last of them behind n
+-- k lines begin after m events, the last of them after n
 abbrev pub Passes : List Bool → Point → ℕ → ℕ → ℕ → Type 0
 Passes marks start m zero n = n ≡ m
 Passes marks start m (suc k) n = (i : ℕ) × Passes marks start m k i × IsNext marks start i n
@@ -36,12 +36,12 @@ Passes marks start m (suc k) n = (i : ℕ) × Passes marks start m k i × IsNext
 abbrev pub IsUsedUp : ℕ → Moment → Moment → Type 0
 IsUsedUp limit m n = (n.events ≡ m.events + limit) ⊎ (n.events ≡ 18446744073709551615) ⊎ (n.begun ≡ 18446744073709551615)
 
--- how going on by a limit of events ends where no line begins
+-- how going on by a limit of events ends if no line begins
 abbrev pub at_limit : Status → Reached
 at_limit Running = Limit
 at_limit why = Ended why
 
--- where going on from a moment by at most so many events ends: at the next line that begins; or else where the machine
+-- where going on from a moment by at most `limit` events ends: at the next line that begins; else where the machine
 -- doesn't run, or at the limit
 abbrev pub EndsAt : List Bool → Point → ℕ → Moment → Reached → Moment → Type 0
 EndsAt marks start limit m Line n = IsNext marks start m.events n.events
@@ -50,47 +50,47 @@ EndsAt marks start limit m (Ended why) n =
     NoneBegins marks start m.events (suc n.events) × (status (state_of n.machine) ≡ why) × (why ≢ Running)
 EndsAt marks start limit m Limit n = NoneBegins marks start m.events (suc n.events) × IsUsedUp limit m n
 
--- where the answer is that a line begins, events were taken; a way on doesn't end within a line
+-- if the answer is that a line begins, events were taken; a way on doesn't end within a line
 abbrev pub Advances : Reached → Moment → Moment → Type 0
 Advances Line m n = m.events < n.events
 Advances Within m n = ⊥
 Advances _ m n = Unit {0}
 
--- how a machine of this status is told, where a line begins or none does
+-- how a machine of this status stands, by whether a line begins
 abbrev pub standing_by : Status → Bool → Reached
 standing_by Running true = Line
 standing_by Running false = Within
 standing_by why begins = Ended why
 
--- how a moment stands, as it is told
+-- how a moment stands
 abbrev pub standing_of : List Bool → Moment → Reached
 standing_of marks m = standing_by (status (state_of m.machine)) (is_marked marks m.machine.regs.pc)
 
--- what is told of where a way ended is so: a line begins there; or the machine runs, and none does; or it doesn't run
+-- a way ended as is told: a line begins there; or the machine runs, and none does; or it doesn't run
 abbrev pub StandsBy : List Bool → Reached → Moment → Type 0
 StandsBy marks Line m = is_marked marks m.machine.regs.pc ≡ true
 StandsBy marks Within m = (status (state_of m.machine) ≡ Running) × (is_marked marks m.machine.regs.pc ≡ false)
 StandsBy marks (Ended why) m = (status (state_of m.machine) ≡ why) × (why ≢ Running)
 StandsBy marks Limit m = Unit {0}
 
--- as many events were taken as this, or fewer where the machine doesn't run then, or no more can be counted
+-- this many events were taken, or fewer if the machine doesn't run then, or no more can be counted
 pub record StepsBy (count : ℕ) (m n : Moment) : Type 0 where
   pub later : m.events ≤ n.events
   pub few : n.events ≤ m.events + count
   pub all : (status (state_of n.machine) ≢ Running) ⊎ IsUsedUp count m n
 
--- where the answer is the limit, it is used up
+-- if the answer is the limit, it is used up
 abbrev pub IsLimited : ℕ → Reached → Moment → Moment → Type 0
 IsLimited limit Limit m n = IsUsedUp limit m n
 IsLimited limit _ m n = Unit {0}
 
--- ---- ways to a place
+-- ---- ways to a point
 
--- this holds of no place between a moment and the one behind so many events
+-- this holds of no point between a moment and the one after n events
 abbrev pub IsNowhere : (ℕ → Bool) → Moment → ℕ → Type 0
 IsNowhere is_there m n = (k : ℕ) → m.events < k → k < n → is_there k ≡ false
 
--- a way on to the next place of which this holds, or else to where the machine doesn't run, or to the limit
+-- a way on to the next point of which this holds, else to where the machine doesn't run, or to the limit
 abbrev pub GoesTo : (ℕ → Bool) → ℕ → Reached → Moment → Moment → Type 0
 GoesTo is_there limit Line m n = (m.events < n.events) × (is_there n.events ≡ true) × IsNowhere is_there m n.events
 GoesTo is_there limit Within m n = ⊥
@@ -98,7 +98,7 @@ GoesTo is_there limit (Ended why) m n =
     IsNowhere is_there m (suc n.events) × (status (state_of n.machine) ≡ why) × (why ≢ Running)
 GoesTo is_there limit Limit m n = IsNowhere is_there m (suc n.events) × IsUsedUp limit m n
 
--- fewer lines begin than these, up to a place and with it
+-- fewer than these lines begin after m events, up to the point after n and with it
 pub record FallsShort (marks : List Bool) (start : Point) (m lines n : ℕ) : Type 0 where
   pub begun : ℕ
   pub last : ℕ
@@ -106,7 +106,7 @@ pub record FallsShort (marks : List Bool) (start : Point) (m lines n : ℕ) : Ty
   pub passes : Passes marks start m begun last
   pub none : NoneBegins marks start last (suc n)
 
--- a way on by so many lines, or to where the machine doesn't run, or to the limit before them
+-- a way on by this many lines, or to where the machine doesn't run, or to the limit before them
 abbrev pub GoesBy : ℕ → List Bool → Point → ℕ → Reached → Moment → Moment → Type 0
 GoesBy lines marks start limit Line m n = Passes marks start m.events lines n.events
 GoesBy lines marks start limit Within m n = Passes marks start m.events lines n.events

@@ -23,7 +23,7 @@ abbrev pub is_watched : List Letter → ℕ → Bool
 is_watched [] k = false
 is_watched (w ∷ ws) k = (k == letter_index w) || is_watched ws k
 
--- lines in which one is set where it was cleared, and cleared where it was set; the others are as they were
+-- lines in which one is set if it was cleared, and cleared if it was set; the others are as they were
 abbrev pub Turned : ℕ → List ℕ → List ℕ → Type 0
 Turned line before after =
     (n : ℕ) → is_among after n ≡ (if n == line then not (is_among before n) else is_among before n)

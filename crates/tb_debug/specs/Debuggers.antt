@@ -1,6 +1,6 @@
 -- A debugger on the run of its program.
-use Rattle.std.specs.Prelude.{◌≡◌, ◌⊎◌, ℕ, ◌-◌, ◌<◌, ◌≤◌, Bool, true, List, [], ◌∷◌, ◌++◌, length, map}
-use Rattle.std.specs.Char.{to_ascii_uppercase}
+use Rattle.std.specs.Prelude.{◌≡◌, ◌⊎◌, ℕ, ◌-◌, ◌<◌, ◌≤◌, Bool, true, List, length}
+use Rattle.tb_play.specs.Lines.{keys_of_text}
 use Rattle.tb_codegen.specs.Compiled.{starts_of}
 use Rattle.tb_codegen.specs.declared.compiled.Compiled.{Compiled}
 use Rattle.tb_debug_commands.specs.declared.command.Command.{Command}
@@ -12,26 +12,26 @@ use Rattle.tb_debug.specs.declared.moment.Reached.{Reached}
 use Rattle.tb_debug.specs.declared.moment.Reached.TheVariants.{Line, Within, Ended, Limit}
 use Rattle.tb_debug.specs.Breakpoints.{breakpoints_of, watches_of}
 use Rattle.tb_debug.specs.Begins.{EndsAt, IsLimited, standing_of}
-use Rattle.tb_debug.specs.Runs.{Point, IsOfRun, IsFirst, AreKept, begins_at, is_marked, most_kept, typed}
+use Rattle.tb_debug.specs.Runs.{Point, IsOfRun, IsFirst, AreCheckpoints, begins_at, is_marked, most_checkpoints, typed}
 
--- marks stand where the lines of a program begin, and the present moment and the kept ones, of which there are no more than
--- may be, are of the run from a start
+-- the marks are where the lines of a program begin, and the present moment and the checkpoints, of which there are no more
+-- than may be, are of the run from a start
 pub record StandsOn (program : Compiled) (start : Point) (marks : List Bool) (history : History) (present : Moment) : Type 0 where
   pub marked : (a : ℕ) → is_marked marks a ≡ begins_at (starts_of program) a
   pub of_run : IsOfRun marks start present
   pub of_first : IsFirst marks start history.first
-  pub of_past : AreKept marks start present.events history.later.items
-  pub few : length history.later.items < most_kept
+  pub of_past : AreCheckpoints marks start present.events history.later.items
+  pub few : length history.later.items < most_checkpoints
 
--- a debugger stands on its program's run from a start
+-- a debugger is on its program's run from a start
 abbrev pub OnRun : Point → Debugger → Type 0
 OnRun start d = StandsOn d.program.now start d.starts d.history d.present
 
--- a debugger of the same program that stands on each run on which another one stands
+-- a debugger of the same program that is on each run on which another one is
 abbrev pub KeepsRun : Debugger → Debugger → Type 0
 KeepsRun d e = (e.program ≡ d.program) × (e.starts ≡ d.starts) × ((start : Point) → OnRun start d → OnRun start e)
 
--- the same with more behind the keyboard's text, there and at the start
+-- the same with more at the end of the keyboard's text, there and at the start
 abbrev pub KeepsRunTyped : List ℕ → Debugger → Debugger → Type 0
 KeepsRunTyped more d e = (e.program ≡ d.program) × (e.starts ≡ d.starts) × ((start : Point) → OnRun start d → OnRun (typed more start) e)
 
@@ -39,14 +39,14 @@ KeepsRunTyped more d e = (e.program ≡ d.program) × (e.starts ≡ d.starts) ×
 abbrev pub begun_by : Debugger → ℕ
 begun_by d = d.present.begun
 
--- where the answer is that a line begins, it is the line at a time; a way to a time doesn't end within a line
+-- if the answer is that a line begins, it is the line at a time; a way to a time doesn't end within a line
 abbrev pub IsAtTime : ℕ → List Bool → Reached → Moment → Type 0
 IsAtTime time marks Line m = (m.begun ≡ time) × (is_marked marks m.machine.regs.pc ≡ true)
 IsAtTime time marks Within m = ⊥
 IsAtTime time marks (Ended why) m = Unit {0}
 IsAtTime time marks Limit m = Unit {0}
 
--- where the answer is that a line begins, it is the one at an address
+-- if the answer is that a line begins, it is the one at an address
 abbrev pub StandsAt : ℕ → Reached → Moment → Type 0
 StandsAt address Line m = m.machine.regs.pc ≡ address
 StandsAt address _ m = Unit {0}
@@ -65,32 +65,28 @@ pub record IsOpening (start : Point) (d : Debugger) : Type 0 where
   pub unset : breakpoints_of d.stops ≡ []
   pub unwatched : watches_of d.stops ≡ []
 
--- a debugger that stays where it is, and tells how it stands
+-- a debugger that stays where it is, and says how it stands
 abbrev pub Stays : Debugger → Reached → Moment → Type 0
 Stays d reached m = (m ≡ d.present) × (reached ≡ standing_of d.starts d.present)
 
--- a way to a time, on or back: on by at most so many events; back to the line at that time
-pub record LeadsToTime (time limit : ℕ) (d : Debugger) (reached : Reached) (m : Moment) : Type 0 where
+-- a way to a time, on or back: on by at most `limit` events; back to the line at that time
+pub record GoesToTime (time limit : ℕ) (d : Debugger) (reached : Reached) (m : Moment) : Type 0 where
   pub there : IsAtTime time d.starts reached m
   pub on : begun_by d ≤ time → (m.begun ≤ time) × IsLimited limit reached d.present m
   pub back : (start : Point) → start.begun ≡ 0 → OnRun start d → time < begun_by d → reached ≡ Line
 
--- a way back to the line at a time; where no line was begun, there is none to go back to
-abbrev pub LeadsBackTo : ℕ → Debugger → Reached → Moment → Type 0
-LeadsBackTo time d reached m =
+-- a way back to the line at a time; if no line was begun, there is none to go back to
+abbrev pub RewindsTo : ℕ → Debugger → Reached → Moment → Type 0
+RewindsTo time d reached m =
     ((reached ≡ Line) × IsAtTime time d.starts reached m) ⊎ ((begun_by d ≡ 0) × (time ≡ 0) × Stays d reached m)
 
--- a way back by so many lines
-pub record LeadsBackBy (lines : ℕ) (d : Debugger) (reached : Reached) (m : Moment) : Type 0 where
+-- a way back by this many lines
+pub record RewindsBy (lines : ℕ) (d : Debugger) (reached : Reached) (m : Moment) : Type 0 where
   pub none : lines ≡ 0 → Stays d reached m
   pub there : 0 < lines → 0 < begun_by d → IsAtTime (begun_by d - lines) d.starts reached m
-  pub back : 0 < lines → (start : Point) → start.begun ≡ 0 → OnRun start d → LeadsBackTo (begun_by d - lines) d reached m
+  pub back : 0 < lines → (start : Point) → start.begun ≡ 0 → OnRun start d → RewindsTo (begun_by d - lines) d reached m
 
--- what a line hands over: its letters as capitals, and a return
-abbrev pub keys_of : List ℕ → List ℕ
-keys_of text = map to_ascii_uppercase text ++ 13 ∷ []
-
--- a command keeps the run, but for the one that types
+-- each command keeps the run, but for the one that types
 abbrev pub Responds : Command → Debugger → Debugger → Type 0
-Responds (command.Type text) d e = KeepsRunTyped (keys_of text.now) d e
+Responds (command.Type text) d e = KeepsRunTyped (keys_of_text text.now) d e
 Responds _ d e = KeepsRun d e

@@ -22,7 +22,7 @@ IsMissing line d = start_in (starts_of d.program.now) line ≡ None
 abbrev pub IsFound : ℕ → Debugger → Type 0
 IsFound line d = (address : ℕ) × (start_in (starts_of d.program.now) line ≡ Some address)
 
--- such a command that moves the run
+-- a command that moves the run
 abbrev pub IsWalk : Command → Debugger → Type 0
 IsWalk (command.Next lines) d = Unit {0}
 IsWalk (command.Previous lines) d = Unit {0}
@@ -33,7 +33,7 @@ IsWalk (command.Step events) d = Unit {0}
 IsWalk (command.ToLine line) d = IsFound line d
 IsWalk _ d = ⊥
 
--- such a command that doesn't
+-- a command that types nothing, isn't the end and doesn't move the run
 abbrev pub IsTold : Command → Debugger → Type 0
 IsTold (command.Next lines) d = ⊥
 IsTold (command.Previous lines) d = ⊥
@@ -44,7 +44,7 @@ IsTold (command.Step events) d = ⊥
 IsTold (command.ToLine line) d = IsMissing line d
 IsTold c d = IsAct c
 
--- one of these for which no memory is needed
+-- such a command that needs no memory
 abbrev pub IsShown : Command → Debugger → Type 0
 IsShown command.Variables d = Unit {0}
 IsShown (command.Variable letter) d = Unit {0}

@@ -24,8 +24,8 @@ TurnsWatch letter d e =
     WatchTurned (letter_index letter) (watches_of d.stops) (watches_of e.stops) × (breakpoints_of e.stops ≡ breakpoints_of d.stops)
     × (e ≡ record d { stops = e.stops })
 
--- what is typed changes the keyboard's text alone: the run stands behind as many events as before
-pub record LeavesPlace (d e : Debugger) : Type 0 where
+-- what is typed changes the keyboard's text alone: the run stays after as many events as before
+pub record LeavesPoint (d e : Debugger) : Type 0 where
   pub events : e.present.events ≡ d.present.events
   pub stops : e.stops ≡ d.stops
   pub shown : e.shown ≡ d.shown
@@ -46,5 +46,5 @@ Leaves (command.Step events) d e = LeavesStops d e
 Leaves (command.ToLine line) d e = LeavesToLine (start_in (starts_of d.program.now) line) d e
 Leaves (command.Breakpoint line) d e = TurnsBreakpoint (start_in (starts_of d.program.now) line) line d e
 Leaves (command.Watch letter) d e = TurnsWatch letter d e
-Leaves (command.Type text) d e = LeavesPlace d e
+Leaves (command.Type text) d e = LeavesPoint d e
 Leaves _ d e = e ≡ d

@@ -1,73 +1,47 @@
--- What stands in a machine's memory.
-use Rattle.std.specs.Prelude.{◌≡◌, ℕ, zero, suc, ◌+◌, ◌-◌, ◌*◌, ◌%◌, min, nat_le, if◌then◌else◌, ℤ, List, [], ◌∷◌}
-use Rattle.std.specs.Prelude.{◌++◌, map, Option, Some, None, Result, Ok, Err}
-use Rattle.std.specs.List.{range_with_len}
-use Rattle.std.specs.Int.{cast_signed, w16}
+-- What a machine's memory holds.
+use Rattle.std.specs.Prelude.{◌≡◌, ℕ, zero, suc, ◌+◌, ◌-◌, ◌%◌, min, List, [], ◌∷◌, ◌++◌, Option, Some, None, Result, Ok, Err}
 use Rattle.tb_memmap.specs.Bytes.{peek}
 use Rattle.tb_memmap.specs.declared.memory.Closed.{Closed}
-use Rattle.tb_cpu.specs.Operands.{word_from}
+use Rattle.tb_cpu.specs.Operands.{word_in}
+use Rattle.tb_meaning.specs.Control.{deepest}
+use Rattle.tb_inspection.specs.Readings.{return_in}
 use Rattle.tb_asm.specs.Layout.{Entry, size_of}
 use Rattle.tb_disasm.specs.declared.listing.Line.{Line}
 use Rattle.tb_disasm.specs.Lines.{shown}
 use Rattle.tb_disasm.specs.Listing.{line_at as code_line}
 use Rattle.tb_debug.specs.Lines.{line_at}
-use Rattle.tb_runtime16.specs.Addresses.{NOTES, RETURN_HIGH, RETURN_LOW, VARS}
+use Rattle.tb_runtime16.specs.Addresses.{NOTES}
 
--- what a read gives, and 0 where it is refused
-abbrev pub or_zero : Result ℕ Closed → ℕ
-or_zero (Ok byte) = byte
-or_zero (Err closed) = 0
+-- how many returns are told: as many as the return list holds, and no more than it may hold
+abbrev pub depth_in : (ℕ → ℕ) → ℕ
+depth_in m = min (word_in m NOTES) deepest
 
--- the byte at an address; 0 of a closed place
-abbrev pub byte_at : (ℕ → ℕ) → ℕ → ℕ
-byte_at m a = or_zero (peek m a)
-
--- the word at an address, low byte first
-abbrev pub word_at : (ℕ → ℕ) → ℕ → ℕ
-word_at m a = word_from (byte_at m a) (byte_at m ((a + 1) % 65536))
-
--- the value of the variable at a place in the alphabet
-abbrev pub variable_of : (ℕ → ℕ) → ℕ → ℤ
-variable_of m k = cast_signed w16 (word_at m (VARS + 2 * k))
-
--- the values of A to Z
-unfoldable pub variables_of : (ℕ → ℕ) → List ℤ
-variables_of m = map (variable_of m) (range_with_len 0 26)
-
--- how many notes the return list has, 500 at most
-abbrev pub returns_in : (ℕ → ℕ) → ℕ
-returns_in m = if nat_le (word_at m NOTES) 500 then word_at m NOTES else 500
-
--- where the line begins to which a note returns
-abbrev pub return_read : (ℕ → ℕ) → ℕ → ℕ
-return_read m k = word_from (byte_at m (RETURN_LOW + k)) (byte_at m (RETURN_HIGH + k))
-
--- the lines of the first so many notes, the newest first
+-- the lines of the first n returns, the newest first
 abbrev pub lines_of_returns : List (ℕ × ℕ) → (ℕ → ℕ) → ℕ → List (Option ℕ)
 lines_of_returns lines m zero = []
-lines_of_returns lines m (suc k) = line_at lines (return_read m k) ∷ lines_of_returns lines m k
+lines_of_returns lines m (suc k) = line_at lines (return_in m k) ∷ lines_of_returns lines m k
 
--- the lines to return to, the newest first; none for a return behind the last line
+-- the lines to return to, the newest first; none for a return past the last line
 abbrev pub returns_of : List (ℕ × ℕ) → (ℕ → ℕ) → List (Option ℕ)
 returns_of lines m = lines_of_returns lines m (returns_in m)
 
 -- ---- bytes and code
 
--- what a read gives, and none where it is refused
+-- what a read gives; none if it is refused
 abbrev pub as_read : Result ℕ Closed → Option ℕ
 as_read (Ok byte) = Some byte
 as_read (Err closed) = None
 
--- so many bytes from an address on; none of a closed place
+-- n bytes from an address on; none for a closed address
 abbrev pub bytes_from : (ℕ → ℕ) → ℕ → ℕ → List (Option ℕ)
 bytes_from m a zero = []
 bytes_from m a (suc n) = bytes_from m a n ++ as_read (peek m (a + n)) ∷ []
 
--- the same, but none behind the last address
+-- the same, up to the last address
 abbrev pub bytes_of : (ℕ → ℕ) → ℕ → ℕ → List (Option ℕ)
 bytes_of m a count = bytes_from m a (min count (65536 - a))
 
--- the bytes of which an instruction may be read, up to a closed place
+-- the bytes of which an instruction may be read, up to a closed address
 abbrev pub up_to_closed : Result ℕ Closed → Result ℕ Closed → Result ℕ Closed → List ℕ
 up_to_closed (Ok first) (Ok second) (Ok third) = first ∷ second ∷ third ∷ []
 up_to_closed (Ok first) (Ok second) (Err closed) = first ∷ second ∷ []
@@ -78,7 +52,7 @@ up_to_closed (Err closed) second third = []
 abbrev pub code_bytes : (ℕ → ℕ) → ℕ → List ℕ
 code_bytes m a = up_to_closed (peek m a) (peek m ((a + 1) % 65536)) (peek m ((a + 2) % 65536))
 
--- how many lines of code are told
+-- how many lines of code are shown
 abbrev pub most_code : ℕ
 most_code = 8
 
@@ -86,12 +60,12 @@ most_code = 8
 abbrev pub code_size : ℕ → List ℕ → ℕ
 code_size a bytes = min (size_of (code_line a bytes).1) 3
 
--- the line of code of these bytes at an address before others; nothing where there are none
+-- the line of code of these bytes at an address, before other lines; of no bytes none
 abbrev pub code_behind : List ℕ → ℕ → List (ℕ × Entry) → List (ℕ × Entry)
 code_behind [] a lines = []
 code_behind (b ∷ bytes) a lines = code_line a (b ∷ bytes) ∷ lines
 
--- at most so many lines of code from an address on, up to a closed place
+-- at most n lines of code from an address on, up to a closed address
 unfoldable pub code_of : ℕ → (ℕ → ℕ) → ℕ → List (ℕ × Entry)
 code_of zero m a = []
 code_of (suc n) m a = code_behind (code_bytes m a) a (code_of n m ((a + code_size a (code_bytes m a)) % 65536))

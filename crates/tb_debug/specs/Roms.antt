@@ -16,11 +16,11 @@ abbrev pub event_of : Rom → Content → Event
 event_of Quiet m = Go (quiet m)
 event_of (Rude seed) m = rude_event (seed_after seed) m
 
--- the event that it gives where these are the registers: it looks at nothing else
+-- the event that it gives to these registers: it looks at nothing else
 abbrev pub event_at : Rom → Regs → Event
 event_at rom r = event_of rom (entered [] r [] [])
 
--- what it is behind an event
+-- the ROM after an event
 abbrev pub after : Rom → Rom
 after Quiet = Quiet
 after (Rude seed) = Rude (seed_after seed)

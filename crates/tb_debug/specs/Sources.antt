@@ -8,7 +8,8 @@ use Rattle.tb_simulation.specs.Kept.{Starts}
 use Rattle.tb_simulation.specs.LineStarts.{BeginsLine, MarksLines}
 use Rattle.tb_syntax.specs.Source.{Program}
 use Rattle.tb_codegen.specs.Compiled.{IsCompiled, loaded_of, start_of, starts_of}
-use Rattle.tb_debug.specs.Readings.{returns_of, variable_of}
+use Rattle.tb_inspection.specs.Readings.{value_in}
+use Rattle.tb_debug.specs.Readings.{returns_of}
 use Rattle.tb_codegen.specs.declared.compiled.Compiled.{Compiled}
 use Rattle.tb_debug.specs.declared.rom.Rom.{Rom}
 use Rattle.tb_debug.specs.declared.debugger.Debugger.{Debugger}
@@ -35,5 +36,5 @@ line_of Past = None
 -- debugger shows is the source's: the variables, and the lines to return to.
 pub record ShowsLine (source : Program) (seed : ℕ) (start : State) (d : Debugger) (line : ℕ) : Type 0 where
   pub begins : BeginsLine source seed (start_of d.program.now) start d.present.begun line (state_of d.present.machine)
-  pub variables : (x : ℕ) → x < 26 → variable_of (state_of d.present.machine).mem x ≡ cast_signed w16 (slice_index begins.state.vars x)
+  pub variables : (x : ℕ) → x < 26 → value_in (state_of d.present.machine).mem x ≡ cast_signed w16 (slice_index begins.state.vars x)
   pub returns : returns_of (starts_of d.program.now) (state_of d.present.machine).mem ≡ map line_of begins.state.returns

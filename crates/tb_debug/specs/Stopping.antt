@@ -5,7 +5,7 @@ use Rattle.tb_debug.specs.Breakpoints.{breakpoints_of, watches_of, breaks, diffe
 use Rattle.tb_debug.specs.declared.breakpoints.StopPoints.{StopPoints}
 use Rattle.tb_debug.specs.Begins.{comes_to}
 use Rattle.tb_debug.specs.Lines.{line_at}
-use Rattle.tb_debug.specs.Readings.{variables_of}
+use Rattle.tb_inspection.specs.Readings.{values_in}
 use Rattle.tb_debug.specs.Runs.{Point, point_at, shown}
 use Rattle.tb_debug.specs.declared.debugger.Debugger.{Debugger}
 use Rattle.tb_debug.specs.declared.moment.Reached.{Reached}
@@ -13,55 +13,55 @@ use Rattle.tb_debug.specs.declared.moment.Reached.TheVariants.{Line}
 use Rattle.tb_debug.specs.declared.searching.Destination.{Destination}
 use Rattle.tb_debug.specs.declared.searching.Destination.TheVariants.{Stop, Address}
 
--- a breakpoint stands at the line that begins at a place
+-- the line that begins at a point has a breakpoint
 abbrev pub breaks_at : List (ℕ × ℕ) → StopPoints → Point → Bool
 breaks_at lines stops p = breaks (breakpoints_of stops) (line_at lines p.state.regs.pc)
 
 -- the line that was begun last gave a watched variable another value
 abbrev pub changes : StopPoints → Point → Bool
-changes stops p = differ (watches_of stops) p.opened (variables_of p.state.mem)
+changes stops p = differ (watches_of stops) p.opened (values_in p.state.mem)
 
 -- ---- going on
 
--- `c` stops at a place where a line begins that has a breakpoint, or behind one that changed a watched variable
+-- `c` stops at a point where a line begins that has a breakpoint, or after one that changed a watched variable
 abbrev pub is_stop : Debugger → Point → Bool
 is_stop d p = breaks_at (starts_of d.program.now) d.stops p || changes d.stops p
 
--- a place has what is looked for
+-- a point is one that is looked for
 abbrev pub is_sought : Destination → Debugger → Point → Bool
 is_sought Stop d p = is_stop d p
 is_sought (Address address) d p = p.state.regs.pc == address
 
--- a line begins behind so many events, at a place that is looked for
+-- a line begins after k events, at a point that is looked for
 abbrev pub comes_where : (Point → Bool) → List Bool → Point → ℕ → Bool
 comes_where is_there marks start k = comes_to marks start k && is_there (point_at marks start k)
 
--- where the answer is that a line begins, its place is the one that is looked for
+-- if the answer is that a line begins, the debugger is at a point that is looked for
 abbrev pub IsThere : Destination → Reached → Debugger → Type 0
 IsThere to Line d = is_sought to d (shown d.present) ≡ true
 IsThere to _ d = Unit {0}
 
 -- ---- going back
 
--- the time to which a place leads back: its own where a line with a breakpoint begins there, before as many lines were
--- begun as now; else that of the line before it, where this changed a watched variable; else the start
+-- the time to which a point leads back: its own if a line with a breakpoint begins there, before as many lines were begun
+-- as now; else that of the line before it, if that line changed a watched variable; else the start
 abbrev pub leads_back : List (ℕ × ℕ) → StopPoints → ℕ → Point → ℕ
 leads_back lines stops now p =
     if nat_lt p.begun now && breaks_at lines stops p then p.begun
     else if changes stops p then p.begun - 1
     else 0
 
--- the same of the place behind so many events
+-- the same of the point after k events
 abbrev pub leads_from : Debugger → Point → ℕ → ℕ
 leads_from d start k = leads_back (starts_of d.program.now) d.stops d.present.begun (point_at d.starts start k)
 
--- a time to which one of the lines' beginnings up to the present place leads back, or the present place; or the start
+-- a time to which a line's beginning up to the present point leads back, or the present point; or the start
 abbrev pub LeadsTo : Debugger → Point → ℕ → Type 0
 LeadsTo d start time =
     (time ≡ 0) ⊎ (leads_from d start d.present.events ≡ time)
     ⊎ ((k : ℕ) × (k ≤ d.present.events) × (comes_to d.starts start k ≡ true) × (leads_from d start k ≡ time))
 
--- the newest of these times: none of these places leads to a later one
+-- the newest of these times: none of these points leads to a later one
 pub record IsNewest (d : Debugger) (start : Point) (time : ℕ) : Type 0 where
   pub leads : LeadsTo d start time
   pub here : leads_from d start d.present.events ≤ time

@@ -1,21 +1,16 @@
 -- What answers say of the run and of the machine.
-use Rattle.std.specs.Prelude.{◌≡◌, ℕ, Bool, true, false, ℤ, pos, not, List, drop, length, map, Option, Some, None, Result, Ok, Err, if◌then◌else◌, slice_index_or}
+use Rattle.std.specs.Prelude.{◌≡◌, ℕ, Bool, true, false, ℤ, pos, not, List, drop, length, map, Option, Some, None, Result, if◌then◌else◌, slice_index_or}
 use Rattle.tb_words.specs.Words.{word_of}
 use Rattle.tb_words.specs.declared.Letter.{Letter}
 use Rattle.tb_words.specs.Letters.{letter_index}
-use Rattle.tb_syntax.specs.Source.{Expression}
-use Rattle.tb_parser.specs.Answers.{InLineOne}
-use Rattle.tb_parser.specs.Files.{FileRefusal}
-use Rattle.tb_parser.specs.Readings.{ExpressionIs}
-use Rattle.tb_meaning.specs.Evaluation.{IsEvaluation}
 use Rattle.tb_meaning.specs.declared.evaluation.EvalError.{EvalError}
-use Rattle.tb_meaning.specs.declared.evaluation.EvalError.TheVariants as eval
 use Rattle.tb_kernal.specs.declared.status.Status.{Status}
 use Rattle.tb_kernal.specs.declared.status.Status.TheVariants.{Running}
 use Rattle.tb_kernal.specs.Machine.{state_of, status}
 use Rattle.tb_asm.specs.Layout.{Entry}
 use Rattle.tb_disasm.specs.Lines.{shown}
 use Rattle.tb_codegen.specs.Compiled.{line_in, start_in, starts_of, table_of}
+use Rattle.tb_inspection.specs.Values.{IsValueOfText}
 use Rattle.tb_debug.specs.Breakpoints.{breakpoints_of, watches_of, is_among, is_watched}
 use Rattle.tb_debug_commands.specs.declared.command.Command.{Command}
 use Rattle.tb_debug_commands.specs.declared.command.Command.TheVariants as command
@@ -30,13 +25,14 @@ use Rattle.tb_debug.specs.declared.moment.Reached.TheVariants.{Limit}
 use Rattle.tb_debug.specs.Begins.{StandsBy}
 use Rattle.tb_debug.specs.Leading.{Leads}
 use Rattle.tb_debug.specs.Lines.{line_at}
-use Rattle.tb_debug.specs.Readings.{bytes_of, code_of, most_code, returns_of, variables_of}
+use Rattle.tb_inspection.specs.Readings.{values_in}
+use Rattle.tb_debug.specs.Readings.{bytes_of, code_of, most_code, returns_of}
 
--- ---- what stands in the machine
+-- ---- what the machine holds
 
 -- the values of A to Z
 abbrev pub variables_here : Debugger → List ℤ
-variables_here d = variables_of (state_of d.present.machine).mem
+variables_here d = values_in (state_of d.present.machine).mem
 
 -- the lines to return to, the newest first
 abbrev pub returns_here : Debugger → List (Option ℕ)
@@ -52,19 +48,19 @@ abbrev pub line_here : Debugger → Option ℕ
 line_here d =
     or_line (line_at (starts_of d.program.now) d.present.machine.regs.pc) (line_at (starts_of d.program.now) d.present.last)
 
--- where a machine that runs stands: at a line, or before the first one
-abbrev pub place_of : Option ℕ → Location
-place_of (Some line) = stands.Line line
-place_of None = stands.Opening
+-- the location of a machine that runs: at a line, or before the first one
+abbrev pub location_of : Option ℕ → Location
+location_of (Some line) = stands.Line line
+location_of None = stands.Opening
 
--- the place of a machine that stands so, with its program counter
-abbrev pub place_by : Status → Option ℕ → ℕ → Location
-place_by Running line pc = place_of line
-place_by why line pc = stands.Ended why pc
+-- the location of a machine of this status, with its program counter
+abbrev pub location_by : Status → Option ℕ → ℕ → Location
+location_by Running line pc = location_of line
+location_by why line pc = stands.Ended why pc
 
 -- where the run stands
-abbrev pub place_here : Debugger → Location
-place_here d = place_by (status (state_of d.present.machine)) (line_here d) d.present.machine.regs.pc
+abbrev pub location_here : Debugger → Location
+location_here d = location_by (status (state_of d.present.machine)) (line_here d) d.present.machine.regs.pc
 
 -- ---- stops
 
@@ -73,20 +69,20 @@ abbrev pub is_limit : Reached → Bool
 is_limit Limit = true
 is_limit _ = false
 
--- a stop that tells what was sent behind so many bytes, all of which is shown then; whether a limit ended the way there; and
--- where the run stands
+-- a stop that tells what was sent after the first `shown` bytes, all of which is shown then; whether a limit ended the way
+-- there; and where the run stands
 pub record IsStop (shown : ℕ) (limited : Bool) (d : Debugger) (stand : Stand) : Type 0 where
   pub sent : stand.sent.items ≡ drop shown d.present.machine.sent
   pub all : d.shown ≡ length d.present.machine.sent
   pub limit : stand.is_limit ≡ limited
-  pub place : stand.place ≡ place_here d
+  pub location : stand.location ≡ location_here d
 
 -- an answer is such a stop
 abbrev pub TellsStop : ℕ → Bool → Debugger → Answer → Type 0
 TellsStop shown limit d (answer.Stop stand) = IsStop shown limit d stand
 TellsStop shown limit d _ = ⊥
 
--- a command led somewhere by at most so many events: what was sent since the last stop is told, and the stop
+-- a command led somewhere by at most `limit` events: what was sent since the last stop is told, and the stop
 abbrev pub TellsWay : ℕ → Command → Debugger → Debugger → Option Answer → Type 0
 TellsWay limit c d e (Some told) =
     (reached : Reached) × Leads limit c d reached e.present × StandsBy d.starts reached e.present × TellsStop d.shown (is_limit reached) e told
@@ -99,12 +95,12 @@ TellsLine limit None c d e told = told ≡ Some answer.NoSuchLine
 
 -- ---- breakpoints, watches and lists
 
--- the lines that an answer tells
+-- the breakpoints that an answer tells
 abbrev pub breakpoints_told : Option Answer → Option (List ℕ)
 breakpoints_told (Some (answer.Breakpoints lines)) = Some lines.items
 breakpoints_told _ = None
 
--- whether something is set then
+-- the answer that says whether something is set then
 abbrev pub set_or_cleared : Bool → Answer
 set_or_cleared is_set = if is_set then answer.Set else answer.Cleared
 
@@ -134,20 +130,15 @@ output_told _ = None
 abbrev pub TellsValue : Letter → Debugger → Option Answer → Type 0
 TellsValue letter d told = told ≡ Some (answer.Variable (letter_index letter) (slice_index_or (variables_here d) (letter_index letter) (pos 0)))
 
--- the answer for what an expression came to
-abbrev pub value_answer : Result ℤ EvalError → Answer
-value_answer (Ok v) = answer.Number v
-value_answer (Err eval.DivideByZero) = answer.DivisionByZero
-value_answer (Err eval.HasRnd) = answer.HasRnd
+-- the answer to a text that came to this: its value, or `what?`
+abbrev pub value_answer : Option (Result ℤ EvalError) → Answer
+value_answer (Some value) = answer.Value value
+value_answer None = answer.What
 
--- the value of an expression over the variables, or `what?` of a text that is none
-abbrev pub TellsOf : Debugger → Result Expression FileRefusal → Option Answer → Type 0
-TellsOf d (Ok e) told = (v : Result ℤ EvalError) × IsEvaluation e (map word_of (variables_here d)) v × (told ≡ Some (value_answer v))
-TellsOf d (Err r) told = told ≡ Some answer.What
-
--- what is told of a text behind `e`
+-- what is told of the text after `e`: what that comes to over the variables
 abbrev pub TellsText : List ℕ → Debugger → Option Answer → Type 0
-TellsText text d told = (r : Result Expression FileRefusal) × InLineOne (ExpressionIs text) r × TellsOf d r told
+TellsText text d told =
+    (value : Option (Result ℤ EvalError)) × IsValueOfText (map word_of (variables_here d)) text value × (told ≡ Some (value_answer value))
 
 -- ---- the machine
 
@@ -157,7 +148,7 @@ registers_here d =
     answer.Registers d.present.machine.regs (line_in (starts_of d.program.now) (table_of d.program.now) d.present.machine.regs.pc)
     (status (state_of d.present.machine))
 
--- the address and the bytes that an answer tells; none of a closed place
+-- the address and the bytes that an answer tells; none for a closed address
 abbrev pub memory_told : Option Answer → Option (ℕ × List (Option ℕ))
 memory_told (Some (answer.Memory at bytes)) = Some (at, bytes.items)
 memory_told _ = None
@@ -169,7 +160,7 @@ code_told _ = None
 
 -- ---- commands
 
--- what a command tells, where going on takes at most so many events; a debugger before it and behind it
+-- what a command tells, if going on takes at most `limit` events; with the debugger before and after it
 abbrev pub Tells : ℕ → Command → Debugger → Debugger → Option Answer → Type 0
 Tells limit (command.Next lines) d e told = TellsWay limit (command.Next lines) d e told
 Tells limit (command.Previous lines) d e told = TellsWay limit (command.Previous lines) d e told

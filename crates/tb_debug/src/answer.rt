@@ -1,13 +1,13 @@
 //! What commands are answered by.
-use crate::breakpoints::Variables;
 use tb_cpu::Regs;
 use tb_disasm::Line;
+use tb_inspection::{Value, Variables};
 use tb_kernal::Status;
 
-/// Where a run stands.
+/// Where a run is.
 #[derive(Clone, Copy, PartialEq, Eq, Debug, Drop)]
 pub enum Location {
-    /// At a line, or within it.
+    /// At the beginning of a line, or within it.
     Line(u16),
     /// Before the first line.
     Opening,
@@ -15,61 +15,65 @@ pub enum Location {
     Ended { status: Status, pc: u16 },
 }
 
-/// A stop.
+/// A stop of the run.
 #[derive(Debug, Drop)]
 pub struct Stand {
-    /// What was sent since the last one.
+    /// What was sent since the last stop.
     pub sent: Vec<u8>,
-    /// Whether the limit of events ended a going on.
+    /// Whether the limit of events ended the way here.
     pub is_limit: bool,
-    pub place: Location,
+    /// Where the run is now.
+    pub location: Location,
 }
 
 /// What a command is answered by.
 #[derive(Debug, Drop)]
 pub enum Answer {
+    /// Where the run stopped.
     Stop(Stand),
-    /// A breakpoint or a watch is set.
+    /// A breakpoint or a watch was set.
     Set,
-    /// It is cleared.
+    /// A breakpoint or a watch was cleared.
     Cleared,
-    /// Lines with a breakpoint.
+    /// The lines with a breakpoint, in rising order.
     Breakpoints(Vec<u16>),
-    /// The source round a line, with the place of the run.
+    /// The source around a line, with the line at which the run stands.
     List {
-        round: Option<u16>,
-        place: Option<u16>,
+        around: Option<u16>,
+        here: Option<u16>,
     },
     /// All variables.
     Variables(Variables),
-    /// A variable by its place in the alphabet, and its value.
+    /// A variable by its index in the alphabet, and its value.
     Variable {
         index: usize,
         value: i16,
     },
-    Number(i16),
-    DivisionByZero,
-    HasRnd,
-    /// The lines to return to, the newest first; none behind the last line.
+    /// The value of an expression, or why it has none.
+    Value(Value),
+    /// The lines to return to, the newest first; none for a return past the last line.
     Returns(Vec<Option<u16>>),
     /// All that was sent.
     Output(Vec<u8>),
+    /// A line was typed.
     Typed,
+    /// The registers, the line in whose code the program counter lies, and how the machine stands.
     Registers {
         regs: Regs,
         line: Option<u16>,
         status: Status,
     },
-    /// Bytes from an address on; none for a closed place.
+    /// Bytes from an address on; none for a closed address.
     Memory {
         at: u16,
         bytes: Vec<Option<u8>>,
     },
     /// Lines of code.
     Code(Vec<Line>),
+    /// The table of commands.
     Help,
     /// The program has no such line.
     NoSuchLine,
-    /// The line is no command.
+    /// The line is no command, or its text no expression.
     What,
 }

@@ -4,10 +4,8 @@ ghost use Rattle.tb_words.specs.Letters.{letter_index};
 ghost use Rattle.tb_debug.specs.Breakpoints.{Turned, WatchTurned, breakpoints_of, watches_of, is_among, is_watched, breaks, differ};
 
 use std::alloc::{AllocError, Global};
+use tb_inspection::Variables;
 use tb_words::Letter;
-
-/// The values of A to Z.
-pub type Variables = [i16; 26];
 
 /// Breakpoints and watches.
 #[derive(Drop)]
@@ -18,7 +16,7 @@ pub struct StopPoints {
 }
 
 impl StopPoints {
-    /// None.
+    /// No breakpoint and no watch.
     pub fn new(alloc: Global) -> StopPoints
         ensures breakpoints { breakpoints_of result ≡ [] }
         ensures watches { watches_of result ≡ [] }
@@ -36,7 +34,7 @@ impl StopPoints {
         self.breakpoints.as_slice()
     }
 
-    /// Whether a line has a breakpoint; none has none.
+    /// Whether a line has a breakpoint; false for no line.
     pub fn breaks(&self, line: Option<u16>) -> bool
         ensures { result ≡ breaks (breakpoints_of self.now) line }
     {
@@ -69,7 +67,7 @@ impl StopPoints {
         differ(self.watches.as_slice(), before, after)
     }
 
-    /// Sets a breakpoint, or clears it where it is set: whether it is set then.
+    /// Sets a breakpoint, or clears it if it is set: whether it is set then.
     pub fn turn_breakpoint(&mut self, line: u16) -> Result<bool, AllocError>
         ensures set { IfOk result (λ set. set ≡ not (is_among (breakpoints_of self.old) line)) }
         ensures turned { OnOk result (Turned line (breakpoints_of self.old) (breakpoints_of self.new)) }
@@ -85,7 +83,7 @@ impl StopPoints {
         Ok(true)
     }
 
-    /// Sets a watch, or clears it where it is set: whether it is set then.
+    /// Sets a watch, or clears it if it is set: whether it is set then.
     pub fn turn_watch(&mut self, letter: Letter) -> Result<bool, AllocError>
         ensures set { IfOk result (λ set. set ≡ not (is_watched (watches_of self.old) (letter_index letter))) }
         ensures turned { OnOk result (WatchTurned (letter_index letter) (watches_of self.old) (watches_of self.new)) }
@@ -144,7 +142,7 @@ fn is_watched(letters: &[Letter], index: usize) -> bool
     }
 }
 
-// How many lines stand before a line, where lines rise.
+// The index before which a line belongs among lines in rising order.
 fn position_of(lines: &[u16], line: u16) -> usize
     ensures { result ≤ length lines.now }
 {

@@ -4,16 +4,16 @@ ghost use Rattle.tb_kernal.specs.Machine.{State, state_of};
 ghost use Rattle.tb_syntax.specs.Source.{Program};
 ghost use Rattle.tb_codegen.specs.Compiled.{starts_of};
 ghost use Rattle.tb_debug.specs.Begins.{Advances, EndsAt, GoesBy, IsLimited, StandsBy, StepsBy, standing_of};
-ghost use Rattle.tb_debug.specs.Readings.{variables_of};
+ghost use Rattle.tb_inspection.specs.Readings.{values_in};
 ghost use Rattle.tb_debug.specs.Lines.{line_at};
 ghost use Rattle.tb_debug.specs.Runs.{Point, IsOfRun, first_point, is_marked};
 ghost use Rattle.tb_debug.specs.Searching.{IsUntil};
 ghost use Rattle.tb_debug.specs.Sources.{Debugs, ShowsLine};
 ghost use Rattle.tb_debug.specs.declared.moment.Reached.TheVariants.{Line};
 ghost use Rattle.tb_debug.specs.declared.rom.Rom.{Rom};
-ghost use Rattle.tb_debug.specs.Debuggers.{IsAtTime, IsOpening, KeepsRun, KeepsRunTyped, LeadsBackBy, LeadsToTime, OnRun, begun_by};
+ghost use Rattle.tb_debug.specs.Debuggers.{IsAtTime, IsOpening, KeepsRun, KeepsRunTyped, RewindsBy, GoesToTime, OnRun, begun_by};
 
-use crate::breakpoints::{StopPoints, Variables};
+use crate::breakpoints::StopPoints;
 use crate::history::{Checkpoint, History};
 use crate::moment::{Moment, Reached};
 use crate::readings::{line_from, variables_in};
@@ -21,6 +21,7 @@ use crate::rom::Rom;
 use crate::starts::Starts;
 use std::alloc::{AllocError, Global};
 use tb_codegen::Compiled;
+use tb_inspection::Variables;
 use tb_kernal::Machine;
 
 /// The most events that come before the first line.
@@ -47,7 +48,7 @@ impl<'a> Debugger<'a> {
         rom: Rom,
     ) -> Result<Debugger<'a>, AllocError>
         ensures run { IfOk result (λ d. (d.program.now ≡ program.now) × OnRun (first_point (state_of machine) rom) d) }
-        // It stands at its first line, if it comes to one in a number of events, with nothing shown, set or watched.
+        // It is at its first line, if it comes to one within `MOST_OPENING` events, with nothing shown, set or watched.
         ensures opens { IfOk result (λ d. IsOpening (first_point (state_of machine) rom) d) }
     {
         let starts = Starts::new(alloc, program)?;
@@ -75,8 +76,8 @@ impl<'a> Debugger<'a> {
     /// The line that begins here.
     pub fn line_here(&self) -> Option<u16>
         ensures line { result ≡ line_at (starts_of self.now.program.now) self.now.present.machine.regs.pc }
-        // Where the program is one that `compile` made, and the run one from its start, the source goes on at that line after
-        // as many lines as were begun, with what stands in the machine.
+        // If `compile` made the program, and the run is one from its start, the source goes on at that line after as many
+        // lines as were begun, with what the machine holds.
         ensures source { (source : Program) (seed : ℕ) (start : State) (rom : Rom) → Debugs source seed start rom self.now
             → IfSome result (λ line. ShowsLine source seed start self.now line) }
     {
@@ -92,7 +93,7 @@ impl<'a> Debugger<'a> {
 
     /// The values of A to Z.
     pub fn variables(&self) -> Variables
-        ensures { result ≡ variables_of (state_of self.now.present.machine).mem }
+        ensures { result ≡ values_in (state_of self.now.present.machine).mem }
     {
         variables_in(&self.present.machine)
     }
@@ -104,7 +105,7 @@ impl<'a> Debugger<'a> {
         self.present.standing(&self.starts)
     }
 
-    // Goes on to the next beginning of a line, by at most `limit` events.
+    // Runs to the next beginning of a line, by at most `limit` events.
     pub(crate) fn next_line(&mut self, alloc: Global, limit: u64) -> Result<Reached, AllocError>
         ensures run { OnOk result (KeepsRun self.old self.new) }
         ensures stops { OnOk result (self.new.stops ≡ self.old.stops) }
@@ -126,14 +127,14 @@ impl<'a> Debugger<'a> {
         Ok(reached)
     }
 
-    // How many events are left up to a count of events.
+    // How many events are left up to the count `last`.
     pub(crate) fn left(&self, last: u64) -> u64
         ensures { result ≡ last - self.now.present.events }
     {
         last.saturating_sub(self.present.events)
     }
 
-    /// On by so many lines.
+    /// Runs on by `lines` lines, and takes at most `limit` events.
     pub fn next(&mut self, alloc: Global, lines: u64, limit: u64) -> Result<Reached, AllocError>
         ensures run { OnOk result (KeepsRun self.old self.new) }
         ensures shown { OnOk result (self.new.shown ≡ self.old.shown) }
@@ -152,10 +153,10 @@ impl<'a> Debugger<'a> {
         Ok(self.standing())
     }
 
-    /// To a time, on or back.
+    /// Goes to a time, on by at most `limit` events, or back.
     pub fn to_time(&mut self, alloc: Global, time: u64, limit: u64) -> Result<Reached, AllocError>
         ensures run { OnOk result (KeepsRun self.old self.new) }
-        ensures time { IfOk result (λ reached. LeadsToTime time limit self.old reached self.new.present) }
+        ensures time { IfOk result (λ reached. GoesToTime time limit self.old reached self.new.present) }
         ensures stands { IfOk result (λ reached. StandsBy self.old.starts reached self.new.present) }
         ensures shown { OnOk result (self.new.shown ≡ self.old.shown) }
         ensures stops { OnOk result (self.new.stops ≡ self.old.stops) }
@@ -167,7 +168,7 @@ impl<'a> Debugger<'a> {
         }
     }
 
-    // On to a time that has not passed.
+    // Runs on to a time that has not passed, by at most `limit` events.
     fn run_to_time(&mut self, alloc: Global, time: u64, limit: u64) -> Result<Reached, AllocError>
         ensures run { OnOk result (KeepsRun self.old self.new) }
         ensures time { IfOk result (λ reached. IsAtTime time self.old.starts reached self.new.present) }
@@ -208,7 +209,7 @@ impl<'a> Debugger<'a> {
         Ok(reached)
     }
 
-    // Back to a kept moment, by its place among them; those behind it are forgotten.
+    // Goes back to a checkpoint, by its index; later ones are forgotten.
     fn rewind_to_checkpoint(&mut self, alloc: Global, index: usize) -> Result<(), AllocError>
         ensures run { OnOk result (KeepsRun self.old self.new) }
         ensures shown { OnOk result (self.new.shown ≡ self.old.shown) }
@@ -217,19 +218,19 @@ impl<'a> Debugger<'a> {
             (vec_len self.old.history.later) index → start.begun ≡ 0 → OnRun start self.old
             → begun_by self.new ≤ time) }
     {
-        let Some(kept) = self.history.get(index) else {
+        let Some(checkpoint) = self.history.get(index) else {
             return Ok(());
         };
-        let moment = kept.again(alloc, self.present.machine.sent())?;
-        self.history.forget_behind(moment.events);
+        let moment = checkpoint.again(alloc, self.present.machine.sent())?;
+        self.history.forget_after(moment.events);
         self.present = moment;
         Ok(())
     }
 
-    /// Back by so many lines. From within a line the first one back is its beginning.
+    /// Goes back by `lines` lines. From within a line the first one back is its beginning.
     pub fn previous(&mut self, alloc: Global, lines: u64) -> Result<Reached, AllocError>
         ensures run { OnOk result (KeepsRun self.old self.new) }
-        ensures lines { IfOk result (λ reached. LeadsBackBy lines self.old reached self.new.present) }
+        ensures lines { IfOk result (λ reached. RewindsBy lines self.old reached self.new.present) }
         ensures stands { IfOk result (λ reached. StandsBy self.old.starts reached self.new.present) }
         ensures shown { OnOk result (self.new.shown ≡ self.old.shown) }
         ensures stops { OnOk result (self.new.stops ≡ self.old.stops) }
@@ -240,7 +241,7 @@ impl<'a> Debugger<'a> {
         self.rewind_to(alloc, self.present.begun.saturating_sub(lines))
     }
 
-    /// On by so many events.
+    /// Runs on by `events` events.
     pub fn step(&mut self, events: u64) -> Result<Reached, AllocError>
         ensures run { OnOk result (KeepsRun self.old self.new) }
         ensures steps { OnOk result (StepsBy events self.old.present self.new.present) }
@@ -252,13 +253,13 @@ impl<'a> Debugger<'a> {
         Ok(self.standing())
     }
 
-    /// Puts bytes behind the keyboard's text, in each moment of the run.
+    /// Adds bytes to the end of the keyboard's text, in each moment of the run.
     pub fn type_text(&mut self, bytes: &[u8]) -> Result<(), AllocError>
         ensures run { OnOk result (KeepsRunTyped bytes.now self.old self.new) }
         ensures shown { self.new.shown ≡ self.old.shown }
         ensures stops { self.new.stops ≡ self.old.stops }
-        // It stands where it stood.
-        ensures place { OnOk result (self.new.present.events ≡ self.old.present.events) }
+        // The run stays where it is.
+        ensures point { OnOk result (self.new.present.events ≡ self.old.present.events) }
     {
         self.present.type_text(bytes)?;
         self.history.type_text(bytes)?;

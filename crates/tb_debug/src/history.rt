@@ -1,22 +1,22 @@
-//! The moments that are kept, from which a run is run again.
+//! The checkpoints of a run, from which it is run again.
 ghost use Rattle.std.specs.Prelude.{◌≡◌, ◌∷◌, ◌++◌, ◌+◌, ◌<◌, ◌≤◌, [], ℕ, List, Bool, IfOk, IfSome, IsSome, OnOk};
 ghost use Rattle.std.specs.Prelude.{IsTrue, ◌↔◌, length, slice_index_or, vec_len};
 ghost use Rattle.tb_debug.specs.declared.history.Checkpoint.{Checkpoint};
 ghost use Rattle.tb_debug.specs.Searching.{IsUntil};
-ghost use Rattle.tb_debug.specs.Runs.{Point, IsOfRun, IsFirst, IsKept, IsTyped, AreKept, AreTyped, KeepsOneMore};
-ghost use Rattle.tb_debug.specs.Runs.{WithoutOne, most_kept, newest_events, spacing};
+ghost use Rattle.tb_debug.specs.Runs.{Point, IsOfRun, IsFirst, IsCheckpoint, IsTyped, AreCheckpoints, AreTyped};
+ghost use Rattle.tb_debug.specs.Runs.{KeepsOneMore, WithoutOne, most_checkpoints, newest_events, spacing};
 
 use crate::moment::Moment;
 use std::alloc::{AllocError, Global};
 
-/// How many moments are kept at most. Each has a memory of 65,536 bytes and the keyboard's bytes; what was sent isn't
+/// How many checkpoints are kept at most. Each has a memory of 65,536 bytes and the keyboard's bytes; what was sent isn't
 /// kept with them.
-pub const MOST_KEPT: usize = 32;
+pub const MOST_CHECKPOINTS: usize = 32;
 
-/// How many events lie between a kept moment and the next one at least.
+/// How many events lie between a checkpoint and the next one at least.
 pub const SPACING: u64 = 131_072;
 
-/// A moment whose sent bytes are left out, and how many they were.
+/// A moment without the bytes that were sent, and how many they were.
 #[derive(Drop)]
 pub struct Checkpoint {
     pub moment: Moment,
@@ -24,9 +24,10 @@ pub struct Checkpoint {
 }
 
 impl Checkpoint {
-    /// The same moment.
+    /// The checkpoint of a moment.
     pub fn of(alloc: Global, moment: &Moment) -> Result<Checkpoint, AllocError>
-        ensures kept { IfOk result (λ k. (marks : List Bool) (start : Point) → IsOfRun marks start moment.now → IsKept marks start k) }
+        ensures of_run { IfOk result (λ k. (marks : List Bool) (start : Point) → IsOfRun marks start moment.now
+            → IsCheckpoint marks start k) }
         ensures events { IfOk result (λ k. k.moment.events ≡ moment.now.events) }
     {
         Ok(Checkpoint {
@@ -35,11 +36,11 @@ impl Checkpoint {
         })
     }
 
-    /// The moment that was kept, of a run that has sent at least these bytes.
+    /// The moment of which this is the checkpoint, in a run that has sent at least these bytes.
     pub fn again(&self, alloc: Global, sent: &[u8]) -> Result<Moment, AllocError>
         ensures again { IfOk result (λ m. (marks : List Bool) (start : Point) (now : Moment) → IsOfRun marks start now
             → sent.now ≡ now.machine.sent
-            → IsKept marks start self.now → self.now.moment.events ≤ now.events → IsOfRun marks start m) }
+            → IsCheckpoint marks start self.now → self.now.moment.events ≤ now.events → IsOfRun marks start m) }
         ensures events { IfOk result (λ m. m.events ≡ self.now.moment.events) }
         ensures begun { IfOk result (λ m. m.begun ≡ self.now.moment.begun) }
     {
@@ -49,7 +50,7 @@ impl Checkpoint {
     }
 }
 
-/// The kept moments: the run's first one, and later ones in the order of their times.
+/// The checkpoints: that of the run's first moment, and later ones in the order of their times.
 #[derive(Drop)]
 pub struct History {
     pub(crate) first: Checkpoint,
@@ -57,7 +58,7 @@ pub struct History {
 }
 
 impl History {
-    /// That of a run of which no more than this moment is known.
+    /// The history of a run of which no more than its first moment is known.
     pub fn new(alloc: Global, first: Checkpoint) -> History
         ensures first { result.first ≡ first }
         ensures later { result.later.items ≡ [] }
@@ -68,67 +69,67 @@ impl History {
         }
     }
 
-    /// How many moments are kept.
+    /// How many checkpoints there are.
     pub fn len(&self) -> usize
         ensures { result ≡ vec_len self.now.later + 1 }
     {
         self.later.len() + 1
     }
 
-    /// The kept moment at a place among them, from the first one on.
+    /// The checkpoint at an index; 0 is that of the first moment.
     pub fn get(&self, index: usize) -> Option<&Checkpoint>
-        ensures kept { (marks : List Bool) (start : Point) (n : ℕ) → IsFirst marks start self.now.first
-            → AreKept marks start n self.now.later.items
-            → IfSome result (λ k. IsKept marks start k.now × (k.now.moment.events ≤ n)) }
+        ensures of_run { (marks : List Bool) (start : Point) (n : ℕ) → IsFirst marks start self.now.first
+            → AreCheckpoints marks start n self.now.later.items
+            → IfSome result (λ k. IsCheckpoint marks start k.now × (k.now.moment.events ≤ n)) }
         ensures some { index < vec_len self.now.later + 1 → IsSome result }
         ensures first { index ≡ 0 → IfSome result (λ k. k.now ≡ self.now.first) }
-        ensures later { (place : ℕ) (d : Checkpoint) → index ≡ place + 1
-            → IfSome result (λ k. k.now ≡ slice_index_or self.now.later.items place d) }
+        ensures later { (n : ℕ) (d : Checkpoint) → index ≡ n + 1 → IfSome result (λ k. k.now ≡ slice_index_or self.now.later.items n d) }
     {
         match index.checked_sub(1) {
-            Some(place) => self.later.get(place),
+            Some(index) => self.later.get(index),
             None => Some(&self.first),
         }
     }
 
-    /// Keeps a moment, where enough events lie before it.
+    /// Keeps a checkpoint of a moment, if enough events lie between the newest one and it.
     pub fn keep(&mut self, alloc: Global, moment: &Moment) -> Result<(), AllocError>
         ensures first { self.new.first ≡ self.old.first }
         ensures later { OnOk result ((marks : List Bool) (start : Point) → IsOfRun marks start moment.now
-            → AreKept marks start moment.now.events self.old.later.items → AreKept marks start moment.now.events self.new.later.items) }
+            → AreCheckpoints marks start moment.now.events self.old.later.items
+            → AreCheckpoints marks start moment.now.events self.new.later.items) }
         ensures early { moment.now.events < newest_events self.old.first self.old.later.items + spacing → self.new ≡ self.old }
         ensures due { OnOk result (newest_events self.old.first self.old.later.items + spacing ≤ moment.now.events
             → newest_events self.new.first self.new.later.items ≡ moment.now.events) }
         ensures others { OnOk result (newest_events self.old.first self.old.later.items + spacing ≤ moment.now.events
             → KeepsOneMore self.old.later.items self.new.later.items) }
-        ensures few { length self.old.later.items < most_kept → length self.new.later.items < most_kept }
+        ensures few { length self.old.later.items < most_checkpoints → length self.new.later.items < most_checkpoints }
     {
         if !self.is_due(moment.events) {
             return Ok(());
         }
-        let kept = Checkpoint::of(alloc, moment)?;
+        let checkpoint = Checkpoint::of(alloc, moment)?;
         self.make_room(moment.events);
-        self.push(kept)?;
+        self.push(checkpoint)?;
         Ok(())
     }
 
-    fn push(&mut self, kept: Checkpoint) -> Result<(), AllocError>
+    fn push(&mut self, checkpoint: Checkpoint) -> Result<(), AllocError>
         ensures first { self.new.first ≡ self.old.first }
-        ensures later { OnOk result (self.new.later.items ≡ self.old.later.items ++ kept ∷ []) }
+        ensures later { OnOk result (self.new.later.items ≡ self.old.later.items ++ checkpoint ∷ []) }
         ensures one { length self.new.later.items ≤ length self.old.later.items + 1 }
     {
-        self.later.push(kept)?;
+        self.later.push(checkpoint)?;
         Ok(())
     }
 
-    // Whether a moment behind so many events is worth keeping.
+    // Whether a checkpoint is due after `events` events.
     fn is_due(&self, events: u64) -> bool
         ensures { IsTrue result ↔ (newest_events self.now.first self.now.later.items + spacing ≤ events) }
     {
         SPACING <= events.saturating_sub(self.newest_events())
     }
 
-    // How many events came before the newest kept moment.
+    // How many events came before the newest checkpoint.
     fn newest_events(&self) -> u64
         ensures { result ≡ newest_events self.now.first self.now.later.items }
     {
@@ -138,23 +139,23 @@ impl History {
         }
     }
 
-    // Leaves the moment out that can be spared, where as many are kept as may be.
+    // Leaves out the checkpoint that can be spared, if there are as many as may be.
     fn make_room(&mut self, now: u64)
         ensures first { self.new.first ≡ self.old.first }
-        ensures later { (marks : List Bool) (start : Point) (n : ℕ) → AreKept marks start n self.old.later.items
-            → AreKept marks start n self.new.later.items }
-        ensures room { length self.old.later.items < most_kept → length self.new.later.items + 1 < most_kept }
-        ensures all { length self.old.later.items + 1 < most_kept → self.new.later.items ≡ self.old.later.items }
-        ensures one { most_kept ≤ length self.old.later.items + 1 → WithoutOne self.old.later.items self.new.later.items }
+        ensures later { (marks : List Bool) (start : Point) (n : ℕ) → AreCheckpoints marks start n self.old.later.items
+            → AreCheckpoints marks start n self.new.later.items }
+        ensures room { length self.old.later.items < most_checkpoints → length self.new.later.items + 1 < most_checkpoints }
+        ensures all { length self.old.later.items + 1 < most_checkpoints → self.new.later.items ≡ self.old.later.items }
+        ensures one { most_checkpoints ≤ length self.old.later.items + 1 → WithoutOne self.old.later.items self.new.later.items }
     {
         let index = self.spare(now);
-        if MOST_KEPT <= self.len() && index < self.later.len() {
+        if MOST_CHECKPOINTS <= self.len() && index < self.later.len() {
             self.later.remove(index);
         }
     }
 
-    // The newest of the later moments whose neighbours are no farther apart than they are from here; the first of them
-    // where there is none. So what lies farther back is kept less densely.
+    // The index of the newest of the later checkpoints whose neighbours are no farther apart than they are from here; 0 if
+    // there is none. So what lies farther back is kept less densely.
     fn spare(&self, now: u64) -> usize
         ensures { 0 < length self.now.later.items → result < length self.now.later.items }
     {
@@ -169,7 +170,7 @@ impl History {
         found
     }
 
-    /// The place of the newest kept moment that comes before a time, or at it; the first where there is none.
+    /// The index of the newest checkpoint that comes before a time, or at it; 0 if there is none.
     pub fn newest_until(&self, time: u64) -> usize
         ensures { IsUntil time self.now.later.items (vec_len self.now.later) result }
     {
@@ -182,17 +183,18 @@ impl History {
         found
     }
 
-    /// Forgets all moments behind so many events, but the first one.
-    pub fn forget_behind(&mut self, events: u64)
+    /// Forgets all checkpoints after `events` events, but the first one.
+    pub fn forget_after(&mut self, events: u64)
         ensures first { self.new.first ≡ self.old.first }
-        ensures later { (marks : List Bool) (start : Point) (n : ℕ) → AreKept marks start n self.old.later.items
-            → AreKept marks start events self.new.later.items }
+        ensures later { (marks : List Bool) (start : Point) (n : ℕ) → AreCheckpoints marks start n self.old.later.items
+            → AreCheckpoints marks start events self.new.later.items }
         ensures few { length self.new.later.items ≤ length self.old.later.items }
     {
-        self.later.retain(|kept| kept.moment.events <= events);
+        self.later
+            .retain(|checkpoint| checkpoint.moment.events <= events);
     }
 
-    /// Puts bytes behind the keyboard's text in each moment.
+    /// Adds bytes to the end of the keyboard's text in each checkpoint.
     pub fn type_text(&mut self, bytes: &[u8]) -> Result<(), AllocError>
         ensures first { OnOk result (IsTyped bytes.now self.old.first.moment self.new.first.moment) }
         ensures sent { self.new.first.sent ≡ self.old.first.sent }
@@ -203,12 +205,12 @@ impl History {
     }
 }
 
-// Puts bytes behind the keyboard's text in each of these moments.
-fn type_to_all(moments: &mut Vec<Checkpoint>, bytes: &[u8]) -> Result<(), AllocError>
-    ensures { OnOk result (AreTyped bytes.now moments.old.items moments.new.items) }
+// Adds bytes to the end of the keyboard's text in each of these checkpoints.
+fn type_to_all(checkpoints: &mut Vec<Checkpoint>, bytes: &[u8]) -> Result<(), AllocError>
+    ensures { OnOk result (AreTyped bytes.now checkpoints.old.items checkpoints.new.items) }
 {
-    for index in 0..moments.len() {
-        moments[index].moment.type_text(bytes)?;
+    for index in 0..checkpoints.len() {
+        checkpoints[index].moment.type_text(bytes)?;
     }
     Ok(())
 }

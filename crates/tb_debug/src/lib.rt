@@ -1,7 +1,7 @@
 //! A debugger over the run of a compiled program, which goes both ways.
 //!
 //! Time M is the number of lines that are done. A run is a function of its events, so going back is running again, from
-//! the start or from one of the machines that are kept meanwhile.
+//! the start or from one of the checkpoints that are kept meanwhile.
 #![tactic(auto)]
 
 mod answer;
@@ -17,9 +17,10 @@ mod searching;
 mod starts;
 
 pub use answer::{Answer, Location, Stand};
-pub use breakpoints::{StopPoints, Variables};
+pub use breakpoints::StopPoints;
 pub use debugger::{Debugger, MOST_OPENING};
-pub use history::{MOST_KEPT, SPACING};
+pub use history::{MOST_CHECKPOINTS, SPACING};
 pub use moment::Reached;
 pub use rom::Rom;
 pub use tb_debug_commands::{Command, read_command};
+pub use tb_inspection::{Value, Variables};

@@ -3,23 +3,23 @@ ghost use Rattle.std.specs.Prelude.{◌≡◌, ◌<◌, ◌≤◌, ◌+◌, ◌=
 ghost use Rattle.tb_kernal.specs.Machine.{state_of, status};
 ghost use Rattle.tb_kernal.specs.declared.status.Status.TheVariants as status;
 ghost use Rattle.tb_debug.specs.Begins.{Advances, EndsAt, IsLimited, StandsBy, StepsBy, at_limit, own_at, standing_of};
-ghost use Rattle.tb_debug.specs.Readings.{variables_of};
+ghost use Rattle.tb_inspection.specs.Readings.{values_in};
 ghost use Rattle.tb_debug.specs.Runs.{Point, IsOfRun, IsTyped, StaysOnRun, first_point, is_marked};
 
-use crate::breakpoints::Variables;
 use crate::events::take_event;
 use crate::readings::variables_in;
 use crate::rom::Rom;
 use crate::starts::Starts;
 use std::alloc::{AllocError, Global};
+use tb_inspection::Variables;
 use tb_kernal::{Machine, Status};
 
-/// Where a walk ended.
+/// Where a way along the run ended.
 #[derive(Clone, Copy, PartialEq, Eq, Debug, Drop)]
 pub enum Reached {
     /// A line begins here.
     Line,
-    /// A line was begun, and isn't done.
+    /// A line was begun, and isn't done; or none was begun.
     Within,
     /// The machine isn't Running; this is how it stands.
     Ended(Status),
@@ -30,7 +30,7 @@ pub enum Reached {
 /// The most events that are counted.
 const MOST_EVENTS: u64 = u64::MAX;
 
-/// A machine of a run.
+/// A moment of a run: its machine, and how much of the run came before.
 #[derive(Drop)]
 pub struct Moment {
     pub machine: Machine,
@@ -40,7 +40,7 @@ pub struct Moment {
     pub events: u64,
     /// How many of them began a line.
     pub begun: u64,
-    /// Where the line that was begun last begins; 0 where none was.
+    /// Where the line that was begun last begins; 0 if none was.
     pub last: u16,
     /// The variables as that line began; as the run did where none was.
     pub opened: Variables,
@@ -63,7 +63,7 @@ impl Moment {
         }
     }
 
-    /// The same moment of the same run, of which these bytes were sent.
+    /// The same moment, with these bytes as what was sent.
     pub fn copied(&self, alloc: Global, sent: &[u8]) -> Result<Moment, AllocError>
         ensures { IfOk result (λ m. m ≡ record self.now { machine = record self.now.machine { sent = sent.now; room = 0 } }) }
     {
@@ -98,7 +98,7 @@ impl Moment {
         self.events
     }
 
-    /// Puts bytes behind the keyboard's text.
+    /// Adds bytes to the end of the keyboard's text.
     pub fn type_text(&mut self, bytes: &[u8]) -> Result<(), AllocError>
         ensures { OnOk result (IsTyped bytes.now self.old self.new) }
     {
@@ -116,9 +116,9 @@ impl Moment {
         }
     }
 
-    // The variables here where a line begins, or else as they were where the last one did.
+    // The variables here if a line begins here, else as the last one began.
     fn opened_by(&self, marked: bool) -> Variables
-        ensures { result ≡ (if marked then variables_of (state_of self.now.machine).mem else self.now.opened) }
+        ensures { result ≡ (if marked then values_in (state_of self.now.machine).mem else self.now.opened) }
     {
         if marked {
             variables_in(&self.machine)
@@ -151,7 +151,7 @@ impl Moment {
         Ok(is_own)
     }
 
-    /// Goes on until a line begins or the machine doesn't run, by at most `limit` events.
+    /// Runs on until a line begins or the machine doesn't run, by at most `limit` events.
     pub fn to_next_start(&mut self, starts: &Starts, limit: u64) -> Result<Reached, AllocError>
         ensures run { OnOk result (StaysOnRun starts.now self.old self.new) }
         ensures within { OnOk result (self.new.events ≤ self.old.events + limit) }
@@ -180,7 +180,7 @@ impl Moment {
         Ok(self.at_limit())
     }
 
-    // How it stands behind the last event that it might take.
+    // How it stands after the last event that it may take.
     fn at_limit(&self) -> Reached
         ensures { result ≡ at_limit (status (state_of self.now.machine)) }
     {
@@ -190,7 +190,7 @@ impl Moment {
         }
     }
 
-    /// Takes so many events, or fewer where the machine doesn't run then.
+    /// Takes `count` events, or fewer if the machine doesn't run then.
     pub fn step(&mut self, starts: &Starts, count: u64) -> Result<(), AllocError>
         ensures run { OnOk result (StaysOnRun starts.now self.old self.new) }
         ensures steps { OnOk result (StepsBy count self.old self.new) }
@@ -222,14 +222,14 @@ fn counted(count: u64, counts: bool) -> u64
     if counts { count + 1 } else { count }
 }
 
-// Where the line begins that was begun last: here, or where it did before.
+// Where the line that was begun last begins: here, or where it did before.
 fn begun_last(begins: bool, here: u16, before: u16) -> u16
     ensures { result ≡ (if begins then here else before) }
 {
     if begins { here } else { before }
 }
 
-// The variables as the line began that was begun last: here, or where it did before.
+// The variables as the line that was begun last began: here, or where it did before.
 fn opened_last(begins: bool, here: Variables, before: Variables) -> Variables
     ensures { result ≡ (if begins then here else before) }
 {

@@ -3,14 +3,15 @@ ghost use Rattle.std.specs.Prelude.{◌≡◌, ℕ, Some, drop, length, not, IfO
 ghost use Rattle.tb_words.specs.Letters.{letter_index};
 ghost use Rattle.tb_kernal.specs.Machine.{state_of};
 ghost use Rattle.tb_codegen.specs.Compiled.{start_in, starts_of};
+ghost use Rattle.tb_play.specs.Lines.{keys_of_text};
 ghost use Rattle.tb_debug.specs.Breakpoints.{breakpoints_of, is_among, is_watched, watches_of};
-ghost use Rattle.tb_debug.specs.Debuggers.{KeepsRun, KeepsRunTyped, Responds, keys_of};
-ghost use Rattle.tb_debug.specs.Leaving.{Leaves, LeavesPlace, TurnsBreakpoint, TurnsWatch};
+ghost use Rattle.tb_debug.specs.Debuggers.{KeepsRun, KeepsRunTyped, Responds};
+ghost use Rattle.tb_debug.specs.Leaving.{Leaves, LeavesPoint, TurnsBreakpoint, TurnsWatch};
 ghost use Rattle.tb_debug.specs.Kinds.{IsAct, IsShown, IsTold, IsWalk, Walks};
 ghost use Rattle.tb_debug.specs.Readings.{bytes_of, code_of, most_code};
 ghost use Rattle.tb_debug.specs.Telling.{Tells, TellsStop, TellsText, TellsValue, breakpoint_answer, breakpoints_told};
 ghost use Rattle.tb_debug.specs.Telling.{code_told, is_limit, line_here, list_answer, memory_told, output_told};
-ghost use Rattle.tb_debug.specs.Telling.{place_here, returns_here, returns_told, set_or_cleared, value_answer};
+ghost use Rattle.tb_debug.specs.Telling.{location_here, returns_here, returns_told, set_or_cleared};
 
 use crate::answer::{Answer, Location, Stand};
 use crate::debugger::Debugger;
@@ -18,13 +19,10 @@ use crate::moment::Reached;
 use crate::readings::{bytes_from, code_from, line_from, returns};
 use std::alloc::{AllocError, Global};
 use tb_debug_commands::Command;
+use tb_inspection::value_of_text;
 use tb_kernal::Status;
-use tb_meaning::{EvalError, eval};
-use tb_parser::{SourceErrorKind, parse_expr};
+use tb_play::keys_of_text;
 use tb_words::Letter;
-
-/// What the return key gives.
-const RETURN: u8 = 13;
 
 /// How many lines of code are shown.
 const CODE_LINES: usize = 8;
@@ -39,7 +37,7 @@ impl<'a> Debugger<'a> {
     ) -> Result<Option<Answer>, AllocError>
         ensures run { OnOk result (Responds command.entry self.old self.new) }
         ensures tells { IfOk result (Tells limit command.entry self.old self.new) }
-        // What a command shows that leads nowhere is no stop.
+        // A command that leads nowhere shows nothing of what was sent.
         ensures shown { OnOk result (¬ (IsWalk command.entry self.old) → self.new.shown ≡ self.old.shown) }
         ensures leaves { OnOk result (Leaves command.entry self.old self.new) }
     {
@@ -56,7 +54,7 @@ impl<'a> Debugger<'a> {
         }
     }
 
-    // The same, of a command that types nothing and isn't the end.
+    // Does the same for a command that types nothing and isn't the end.
     fn act(&mut self, alloc: Global, command: Command<'_>, limit: u64) -> Result<Answer, AllocError>
         requires { IsAct command }
         ensures run { OnOk result (KeepsRun self.old self.new) }
@@ -76,7 +74,7 @@ impl<'a> Debugger<'a> {
         }
     }
 
-    // Where a command leads that moves the run.
+    // Where a command leads that moves the run; none for any other.
     fn walk(
         &mut self,
         alloc: Global,
@@ -101,7 +99,7 @@ impl<'a> Debugger<'a> {
         }
     }
 
-    /// The stop at which the run stands, and what was sent since the last one.
+    /// The stop at which the run is, and what was sent since the last one.
     pub fn stop(&mut self, alloc: Global, reached: Reached) -> Result<Answer, AllocError>
         ensures run { OnOk result (KeepsRun self.old self.new) }
         ensures tells { IfOk result (TellsStop self.old.shown (is_limit reached) self.new) }
@@ -109,20 +107,20 @@ impl<'a> Debugger<'a> {
         ensures shown { OnOk result (self.new ≡ record self.old { shown = length self.old.present.machine.sent }) }
     {
         let sent = self.present.machine.sent();
-        let Ok(since) = Vec::from_slice(alloc, behind(sent, self.shown)) else {
+        let Ok(fresh) = Vec::from_slice(alloc, since(sent, self.shown)) else {
             return Err(AllocError);
         };
         self.shown = sent.len();
         Ok(Answer::Stop(Stand {
-            sent: since,
+            sent: fresh,
             is_limit: is_limit(reached),
-            place: self.place(),
+            location: self.location(),
         }))
     }
 
-    // Where the run stands.
-    fn place(&self) -> Location
-        ensures { result ≡ place_here self.now }
+    // Where the run is.
+    fn location(&self) -> Location
+        ensures { result ≡ location_here self.now }
     {
         match self.present.machine.status() {
             Status::Running => match self.line() {
@@ -136,7 +134,7 @@ impl<'a> Debugger<'a> {
         }
     }
 
-    // The line that begins here, or else the one that was begun last.
+    // The line that begins here, else the one that was begun last.
     fn line(&self) -> Option<u16>
         ensures { result ≡ line_here self.now }
     {
@@ -146,7 +144,7 @@ impl<'a> Debugger<'a> {
         }
     }
 
-    // What a command that doesn't move the run is answered by.
+    // The answer to a command that doesn't move the run.
     fn tell(&mut self, alloc: Global, command: Command<'_>) -> Result<Answer, AllocError>
         requires { IsTold command self.old }
         ensures run { OnOk result (KeepsRun self.old self.new) }
@@ -167,7 +165,7 @@ impl<'a> Debugger<'a> {
         }
     }
 
-    // What a command is answered by that only looks, and for which no memory is needed.
+    // The answer to a command that only looks, and needs no memory.
     fn show(&self, command: Command<'_>) -> Answer
         requires { IsShown command self.now }
         ensures { (limit : ℕ) → Tells limit command.entry self.now self.now (Some result) }
@@ -176,8 +174,8 @@ impl<'a> Debugger<'a> {
             Command::Variables => Answer::Variables(self.variables()),
             Command::Variable(letter) => self.variable(letter),
             Command::ListHere => Answer::List {
-                round: self.line(),
-                place: self.line(),
+                around: self.line(),
+                here: self.line(),
             },
             Command::List(line) => self.list(line),
             Command::Registers => Answer::Registers {
@@ -197,8 +195,8 @@ impl<'a> Debugger<'a> {
     {
         match self.program.start_of(line) {
             Some(_) => Answer::List {
-                round: Some(line),
-                place: self.line(),
+                around: Some(line),
+                here: self.line(),
             },
             None => Answer::NoSuchLine,
         }
@@ -249,12 +247,9 @@ impl<'a> Debugger<'a> {
     fn value(&self, alloc: Global, text: &[u8]) -> Result<Answer, AllocError>
         ensures { IfOk result (λ told. TellsText text.now self.now (Some told)) }
     {
-        match parse_expr(alloc, text) {
-            Ok(expression) => { Ok(value_answer(eval(&expression, &self.variables()))) }
-            Err(error) => match error.kind {
-                SourceErrorKind::NoMemory => Err(AllocError),
-                _ => Ok(Answer::What),
-            },
+        match value_of_text(alloc, text, &self.variables())? {
+            Some(value) => Ok(Answer::Value(value)),
+            None => Ok(Answer::What),
         }
     }
 
@@ -279,7 +274,7 @@ impl<'a> Debugger<'a> {
         Ok(Answer::Memory { at, bytes })
     }
 
-    // The code from PC on, up to a closed place.
+    // The code from PC on, up to a closed address.
     fn code(&self, alloc: Global) -> Result<Answer, AllocError>
         ensures { IfOk result (λ told. code_told (Some told)
             ≡ Some (code_of most_code (state_of self.now.present.machine).mem self.now.present.machine.regs.pc)) }
@@ -291,17 +286,17 @@ impl<'a> Debugger<'a> {
 
     // Types a line: its letters as capitals, and a return.
     fn type_line(&mut self, alloc: Global, text: &[u8]) -> Result<(), AllocError>
-        ensures run { OnOk result (KeepsRunTyped (keys_of text.now) self.old self.new) }
-        ensures place { OnOk result (LeavesPlace self.old self.new) }
+        ensures run { OnOk result (KeepsRunTyped (keys_of_text text.now) self.old self.new) }
+        ensures point { OnOk result (LeavesPoint self.old self.new) }
     {
-        let keys = keys(alloc, text)?;
+        let keys = keys_of_text(alloc, text)?;
         self.type_text(keys.as_slice())?;
         Ok(())
     }
 }
 
-// What was sent behind so many bytes.
-fn behind(sent: &[u8], shown: usize) -> &[u8]
+// What was sent after the first `shown` bytes.
+fn since(sent: &[u8], shown: usize) -> &[u8]
     ensures { result.now ≡ drop shown sent.now }
 {
     if shown < sent.len() {
@@ -317,30 +312,8 @@ fn is_limit(reached: Reached) -> bool
     matches!(reached, Reached::Limit)
 }
 
-// What a typed line hands over.
-fn keys(alloc: Global, text: &[u8]) -> Result<Vec<u8>, AllocError>
-    ensures { IfOk result (λ keys. keys.items ≡ keys_of text.now) }
-{
-    let mut keys = Vec::new(alloc);
-    for byte in text {
-        keys.push(byte.to_ascii_uppercase())?;
-    }
-    keys.push(RETURN)?;
-    Ok(keys)
-}
-
 fn turned(is_set: bool) -> Answer
     ensures { result ≡ set_or_cleared is_set }
 {
     if is_set { Answer::Set } else { Answer::Cleared }
-}
-
-fn value_answer(value: Result<i16, EvalError>) -> Answer
-    ensures { result ≡ value_answer value }
-{
-    match value {
-        Ok(value) => Answer::Number(value),
-        Err(EvalError::DivideByZero) => Answer::DivisionByZero,
-        Err(EvalError::HasRnd) => Answer::HasRnd,
-    }
 }

@@ -3,10 +3,10 @@ ghost use Rattle.std.specs.Prelude.{◌≡◌, ◌⊎◌, ◌≤◌, IfOk, OnOk}
 ghost use Rattle.tb_codegen.specs.Compiled.{starts_of};
 ghost use Rattle.tb_debug.specs.Debuggers.{KeepsRun, OnRun, StandsAt};
 ghost use Rattle.tb_debug.specs.Begins.{StandsBy};
-ghost use Rattle.tb_debug.specs.Leading.{LeadsBackToNewest, LeadsOnTo};
+ghost use Rattle.tb_debug.specs.Leading.{ReverseContinues, RunsUntil};
 ghost use Rattle.tb_debug.specs.declared.searching.Destination.TheVariants as destination;
-ghost use Rattle.tb_debug.specs.Runs.{Point, IsKept, IsOfRun, shown};
-ghost use Rattle.tb_debug.specs.Searching.{KnowsBehind, NewestBetween};
+ghost use Rattle.tb_debug.specs.Runs.{Point, IsCheckpoint, IsOfRun, shown};
+ghost use Rattle.tb_debug.specs.Searching.{KnowsAfter, NewestBetween};
 ghost use Rattle.tb_debug.specs.Stopping.{IsNewest, IsThere, breaks_at, changes, is_sought, leads_back};
 
 use crate::debugger::Debugger;
@@ -15,7 +15,7 @@ use crate::moment::{Moment, Reached};
 use crate::readings::{line_from, variables_in};
 use std::alloc::{AllocError, Global};
 
-/// What a way on looks for.
+/// What a run goes on to.
 #[derive(Clone, Copy, Debug, Drop)]
 pub enum Destination {
     /// A breakpoint or a watch.
@@ -25,10 +25,11 @@ pub enum Destination {
 }
 
 impl<'a> Debugger<'a> {
-    /// On to the next line with a breakpoint, or behind the next line that gives a watched variable another value.
+    /// Runs on to the next line with a breakpoint, or to the end of the next line that gives a watched variable another
+    /// value, by at most `limit` events.
     pub fn continue_(&mut self, alloc: Global, limit: u64) -> Result<Reached, AllocError>
         ensures run { OnOk result (KeepsRun self.old self.new) }
-        ensures stop { IfOk result (λ reached. LeadsOnTo destination.Stop limit self.old reached self.new.present) }
+        ensures stop { IfOk result (λ reached. RunsUntil destination.Stop limit self.old reached self.new.present) }
         ensures stands { IfOk result (λ reached. StandsBy self.old.starts reached self.new.present) }
         ensures shown { OnOk result (self.new.shown ≡ self.old.shown) }
         ensures stops { OnOk result (self.new.stops ≡ self.old.stops) }
@@ -36,7 +37,7 @@ impl<'a> Debugger<'a> {
         self.run_until(alloc, Destination::Stop, limit)
     }
 
-    /// On to the beginning of the line at an address.
+    /// Runs on to the beginning of the line at an address, by at most `limit` events.
     pub fn run_to_line(
         &mut self,
         alloc: Global,
@@ -45,7 +46,7 @@ impl<'a> Debugger<'a> {
     ) -> Result<Reached, AllocError>
         ensures run { OnOk result (KeepsRun self.old self.new) }
         ensures there { IfOk result (λ reached. StandsAt address reached self.new.present) }
-        ensures line { IfOk result (λ reached. LeadsOnTo (destination.Address address) limit self.old reached self.new.present) }
+        ensures line { IfOk result (λ reached. RunsUntil (destination.Address address) limit self.old reached self.new.present) }
         ensures stands { IfOk result (λ reached. StandsBy self.old.starts reached self.new.present) }
         ensures shown { OnOk result (self.new.shown ≡ self.old.shown) }
         ensures stops { OnOk result (self.new.stops ≡ self.old.stops) }
@@ -53,7 +54,7 @@ impl<'a> Debugger<'a> {
         self.run_until(alloc, Destination::Address(address), limit)
     }
 
-    // On to the next line that is looked for.
+    // Runs on to the next line that is looked for, by at most `limit` events.
     fn run_until(
         &mut self,
         alloc: Global,
@@ -62,7 +63,7 @@ impl<'a> Debugger<'a> {
     ) -> Result<Reached, AllocError>
         ensures run { OnOk result (KeepsRun self.old self.new) }
         ensures there { IfOk result (λ reached. IsThere to reached self.new) }
-        ensures leads { IfOk result (λ reached. LeadsOnTo to limit self.old reached self.new.present) }
+        ensures leads { IfOk result (λ reached. RunsUntil to limit self.old reached self.new.present) }
         ensures stands { IfOk result (λ reached. StandsBy self.old.starts reached self.new.present) }
         ensures shown { OnOk result (self.new.shown ≡ self.old.shown) }
         ensures stops { OnOk result (self.new.stops ≡ self.old.stops) }
@@ -80,7 +81,7 @@ impl<'a> Debugger<'a> {
         Ok(Reached::Limit)
     }
 
-    // Whether the present place is looked for.
+    // Whether the present point is looked for.
     fn is_sought(&self, to: Destination) -> bool
         ensures { result ≡ is_sought to self.now (shown self.now.present) }
     {
@@ -92,11 +93,11 @@ impl<'a> Debugger<'a> {
         }
     }
 
-    /// Back to the newest line before with a breakpoint, or that gave a watched variable another value; to the first line
-    /// where there is none.
+    /// Goes back to the newest line before with a breakpoint, or that gave a watched variable another value; to the first
+    /// line if there is none.
     pub fn reverse_continue(&mut self, alloc: Global) -> Result<Reached, AllocError>
         ensures run { OnOk result (KeepsRun self.old self.new) }
-        ensures stop { IfOk result (λ reached. LeadsBackToNewest self.old reached self.new.present) }
+        ensures stop { IfOk result (λ reached. ReverseContinues self.old reached self.new.present) }
         ensures stands { IfOk result (λ reached. StandsBy self.old.starts reached self.new.present) }
         ensures shown { OnOk result (self.new.shown ≡ self.old.shown) }
         ensures stops { OnOk result (self.new.stops ≡ self.old.stops) }
@@ -116,40 +117,41 @@ impl<'a> Debugger<'a> {
         let mut newest = self.leads_back(&self.present);
         let mut last = self.present.events;
         for index in (0..self.history.len()).rev() {
-            if let Some(kept) = self.history.get(index) {
-                newest = self.with_kept(alloc, kept, last, newest)?;
-                if kept.moment.begun <= newest {
+            if let Some(checkpoint) = self.history.get(index) {
+                newest = self.with_checkpoint(alloc, checkpoint, last, newest)?;
+                if checkpoint.moment.begun <= newest {
                     return Ok(newest);
                 }
-                last = kept.moment.events;
+                last = checkpoint.moment.events;
             }
         }
-        let found = self.with_kept(alloc, &self.history.first, last, newest)?;
+        let found = self.with_checkpoint(alloc, &self.history.first, last, newest)?;
         Ok(found)
     }
 
-    // The newest time to which going back leads from behind a kept moment, where from behind so many events it is known.
-    fn with_kept(
+    // The newest time to which going back leads from after a checkpoint, if it is known from after `last` events.
+    fn with_checkpoint(
         &self,
         alloc: Global,
-        kept: &Checkpoint,
+        checkpoint: &Checkpoint,
         last: u64,
         newest: u64,
     ) -> Result<u64, AllocError>
-        ensures { IfOk result (λ time. (start : Point) → start.begun ≡ 0 → OnRun start self.now → IsKept self.now.starts start kept.now
-            → kept.now.moment.events ≤ self.now.present.events
-            → last ≤ self.now.present.events → KnowsBehind self.now start last newest
-            → KnowsBehind self.now start kept.now.moment.events time) }
+        ensures { IfOk result (λ time. (start : Point) → start.begun ≡ 0 → OnRun start self.now
+            → IsCheckpoint self.now.starts start checkpoint.now
+            → checkpoint.now.moment.events ≤ self.now.present.events
+            → last ≤ self.now.present.events → KnowsAfter self.now start last newest
+            → KnowsAfter self.now start checkpoint.now.moment.events time) }
     {
-        if last <= kept.moment.events {
+        if last <= checkpoint.moment.events {
             return Ok(newest);
         }
-        let moment = kept.again(alloc, self.present.machine.sent())?;
+        let moment = checkpoint.again(alloc, self.present.machine.sent())?;
         let found = self.newest_between(moment, last)?;
         Ok(later(newest, found))
     }
 
-    // The newest time to which the lines lead back that begin behind a moment and up to so many events.
+    // The newest time to which the lines lead back that begin after a moment and up to `last` events.
     fn newest_between(&self, from: Moment, last: u64) -> Result<u64, AllocError>
         ensures { IfOk result (λ time. (start : Point) → start.begun ≡ 0 → OnRun start self.now → IsOfRun self.now.starts start from
             → last ≤ self.now.present.events → NewestBetween self.now start from.events last time) }
@@ -169,8 +171,8 @@ impl<'a> Debugger<'a> {
         Ok(newest)
     }
 
-    // The time to which a moment leads back: its own where a line with a breakpoint begins there, or else that of the line
-    // before it where this changed a watched variable; 0 for none.
+    // The time to which a moment leads back: its own if a line with a breakpoint begins there, else that of the line before
+    // it if that line changed a watched variable; 0 for none.
     fn leads_back(&self, moment: &Moment) -> u64
         ensures { result ≡ leads_back (starts_of self.now.program.now) self.now.stops self.now.present.begun (shown moment.now) }
     {
@@ -194,7 +196,7 @@ impl<'a> Debugger<'a> {
             .breaks(line_from(self.program, moment.machine.regs().pc))
     }
 
-    // Whether the line that a moment has begun last has given a watched variable another value.
+    // Whether the line that was begun last at a moment has given a watched variable another value.
     fn has_changed(&self, moment: &Moment) -> bool
         ensures { result ≡ changes self.now.stops (shown moment.now) }
     {

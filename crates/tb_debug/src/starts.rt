@@ -7,7 +7,7 @@ use std::alloc::{AllocError, Global};
 use std::marker::Model;
 use tb_codegen::{Compiled, LineStart};
 
-/// As many addresses as there are.
+/// How many addresses there are.
 const ADDRESSES: usize = 65_536;
 
 /// The addresses where the lines of a program begin.

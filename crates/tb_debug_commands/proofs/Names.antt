@@ -5,14 +5,14 @@ use Rattle.std.proofs.lemmas.Bool.{and_parts}
 use Rattle.std.proofs.lemmas.Bool.Decides.{nat_tests}
 use Rattle.tb_words.specs.Letters.{Spells, letter_index}
 use Rattle.tb_words.specs.declared.Letter.{Letter}
-use Rattle.tb_debug_commands.specs.Parts.{place_named, place_of, variable_in}
+use Rattle.tb_debug_commands.specs.Parts.{index_named, index_of, variable_in}
 
 -- a test that can't hold
 fails : (t : Bool) → ((t ≡ true) → ⊥) → t ≡ false
 fails true h = absurd (h refl)
 fails false h = refl
 
--- the bytes between two ends, each of which stands for a letter
+-- the bytes between two ends, each of which is a letter
 between : (low high b : ℕ) → (nat_le low b && nat_le b high) ≡ true → (low ≤ b) × (b ≤ high)
 between low high b e =
     let p = and_parts (nat_le low b) (nat_le b high) e in
@@ -35,15 +35,15 @@ no_name [] some short none = absurd (omega arith)
 no_name (b ∷ []) some short none = rw (no_capital b none, no_small b none) refl
 no_name (b ∷ c ∷ text) some short none = absurd (omega arith)
 
-capital_at : (b n : ℕ) → n < 26 → b ≡ 65 + n → place_named b ≡ Some n
+capital_at : (b n : ℕ) → n < 26 → b ≡ 65 + n → index_named b ≡ Some n
 capital_at b n few e = grind (arith, nat_tests)
 
-small_at : (b n : ℕ) → n < 26 → b ≡ 97 + n → place_named b ≡ Some n
+small_at : (b n : ℕ) → n < 26 → b ≡ 97 + n → index_named b ≡ Some n
 small_at b n few e = grind (arith, nat_tests)
 
 -- what a byte that is read names
 pub named_by : (text : List ℕ) (o : Option Letter) → 1 ≤ length text → length text < 2
-    → MatchOption o ((n : ℕ) → n < 26 → ¬ (Spells (get_or text 0 0) n)) (λ letter. Spells (get_or text 0 0) (letter_index letter)) → place_of o ≡ variable_in text
+    → MatchOption o ((n : ℕ) → n < 26 → ¬ (Spells (get_or text 0 0) n)) (λ letter. Spells (get_or text 0 0) (letter_index letter)) → index_of o ≡ variable_in text
 named_by [] o some short h = absurd (omega arith)
 named_by (b ∷ c ∷ text) o some short h = absurd (omega arith)
 named_by (b ∷ []) None some short h = no_name (b ∷ []) some short h

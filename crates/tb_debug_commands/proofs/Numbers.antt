@@ -17,7 +17,7 @@ no_small : (b : Bool) (n : ℕ) → 18446744073709551615 < n → (b && nat_le n 
 no_small true n above = grind (arith, nat_tests, above)
 no_small false n above = refl
 
--- where the number of the first digits is too large, none is spelled
+-- if the number of the first digits is too large, none is spelled
 pub too_large : (n : ℕ) (ds : List ℕ) → 1 ≤ length ds → 18446744073709551615 < 10 * n + (get_or ds 0 0 - 48) → number_behind n ds ≡ None
 too_large n [] some above = absurd (omega (arith, some))
 too_large n (d ∷ ds) some above =

@@ -67,7 +67,7 @@ asked_of command.Unknown = Unknown
 abbrev pub most_digits : ℕ
 most_digits = 18
 
--- what a hexadecimal digit stands for, in either case
+-- the value of a hexadecimal digit, in either case
 abbrev pub digit_of : ℕ → Option ℕ
 digit_of b =
     if nat_le 48 b && nat_le b 57 then Some (b - 48)
@@ -129,7 +129,7 @@ memory_at (Some at) (Some count) = if nat_le 1 count && nat_le count 256 then Me
 memory_at (Some at) None = Unknown
 memory_at None count = Unknown
 
--- m before an address, and a number where one stands behind a space; else 16
+-- m before an address, and after a space a number; 16 if there is none
 abbrev pub memory_in : List ℕ → Asked
 memory_in (a ∷ b ∷ c ∷ d ∷ []) = memory_at (address_of a b c d) (Some 16)
 memory_in (a ∷ b ∷ c ∷ d ∷ space ∷ count) = if space == 32 then memory_at (address_of a b c d) (number_of most_digits count) else Unknown

@@ -14,7 +14,7 @@ const MOST_DIGITS: usize = 18;
 /// The most bytes that are shown of memory.
 const MOST_BYTES: u64 = 256;
 
-/// How many bytes are shown where a line doesn't say.
+/// How many bytes are shown if a line doesn't say.
 const BYTES: u64 = 16;
 
 /// What a line asks for.
@@ -70,7 +70,7 @@ pub enum Command<'a> {
     Unknown,
 }
 
-/// The command that a line is. One space stands between words; a number has one to 18 digits.
+/// The command that a line is. There is one space between words; a number has one to 18 digits.
 pub fn read_command(line: &[u8]) -> Command<'_>
     ensures { asked_of result ≡ asked_in line.now }
 {
@@ -117,7 +117,7 @@ fn alone<'a>(letter: u8) -> Command<'a>
     }
 }
 
-// A command with a text behind it.
+// A command with a text after its letter.
 fn with_text(letter: u8, text: &[u8]) -> Command<'_>
     ensures { asked_of result ≡ with_text letter text.now }
 {
@@ -162,7 +162,7 @@ fn counting<'a>(letter: u8, number: u64) -> Command<'a>
     }
 }
 
-// A number that no line has stands for each larger one.
+// A number that no line has is taken for each larger one.
 fn line_number(number: u64) -> u16
     ensures { result ≡ word_of number }
 {

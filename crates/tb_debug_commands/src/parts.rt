@@ -1,12 +1,12 @@
 //! Numbers and variables, as lines spell them.
 ghost use Rattle.std.specs.Prelude.{◌≡◌};
-ghost use Rattle.tb_debug_commands.specs.Parts.{place_of, variable_in, number_behind, number_of};
+ghost use Rattle.tb_debug_commands.specs.Parts.{index_of, variable_in, number_behind, number_of};
 
 use tb_words::Letter;
 
 /// The variable that a text names.
 pub fn variable(text: &[u8]) -> Option<Letter>
-    ensures { place_of result ≡ variable_in text.now }
+    ensures { index_of result ≡ variable_in text.now }
 {
     match text {
         [name] => Letter::read(*name),
@@ -24,7 +24,7 @@ pub fn number(digits: &[u8], most: usize) -> Option<u64>
     number_behind(0, digits)
 }
 
-// A number with more digits behind it.
+// A number with more digits after it.
 fn number_behind(number: u64, digits: &[u8]) -> Option<u64>
     ensures { result ≡ number_behind number digits.now }
 {

@@ -1,6 +1,6 @@
 -- What a line comes to.
 use Rattle.std.proofs.Common.{◌≡◌, ◌≢◌, inl, inr, List, [], ◌∷◌, ◌++◌, ℕ, ◌+◌, Option, Some, length, take, sym, ap, subst, ◌∙◌, append_assoc}
-use Rattle.std.specs.Prelude.{Err, ℤ, min}
+use Rattle.std.specs.Prelude.{Err, Ok, ℤ, min}
 use Rattle.std.proofs.KnownBytes.{Appends-kept, Appends-trans}
 use Rattle.std.proofs.Math.Seq.{take-append-add}
 use Rattle.std.specs.Io.KnownBytes.{Appends}
@@ -17,7 +17,7 @@ use Rattle.tb_engines.specs.declared.outcome.Outcome.TheVariants.{Ended, Refused
 use Rattle.tb_debug.specs.declared.answer.Answer.{Answer}
 use Rattle.tb_debug.specs.declared.debugger.Debugger.{Debugger}
 use Rattle.tb_debug_engine.specs.Dialogue.{Answers, Exchanges, Says, prompt}
-use Rattle.tb_words.specs.Words.{digits_of, word_of}
+use Rattle.tb_inspection.specs.Texts.{value_text}
 use Rattle.tb_debug_engine.specs.Sources.{shown_of}
 use Rattle.tb_debug_engine.specs.declared.dialogue.Setting.{Setting}
 use Rattle.tb_debug_engine.specs.Texts.{line, variable_text}
@@ -53,7 +53,7 @@ said_wrong w setting d e ReadFault taken told had left old now new read read' wr
 said_wrong w setting d e (Ended end) taken told had left old now new read read' wrote mid wrote' took answers same before same_count h = absurd h
 said_wrong w setting d e (Refused why) taken told had left old now new read read' wrote mid wrote' took answers same before same_count h = absurd h
 
--- two bytes and a text behind another one
+-- two bytes and a text after another one
 two_more : (before one two all rest : List ℕ) (x x' y : ℕ) → x ≡ x' → one ≡ before ++ x ∷ [] → two ≡ one ++ y ∷ [] → all ≡ two ++ rest
     → all ≡ before ++ x' ∷ y ∷ rest
 two_more before one two all rest x x' y same first second third =
@@ -62,8 +62,8 @@ two_more before one two all rest x x' y same first second third =
 
 -- the text of a variable
 pub variable_more : (before one two all : List ℕ) (name index : ℕ) (given value : ℤ) → name ≡ 65 + min index 25 → one ≡ before ++ name ∷ []
-    → two ≡ one ++ 61 ∷ [] → all ≡ two ++ line (digits_of (word_of given)) → given ≡ value → all ≡ before ++ variable_text index value
+    → two ≡ one ++ 61 ∷ [] → all ≡ two ++ line (value_text (Ok given)) → given ≡ value → all ≡ before ++ variable_text index value
 unfolding variable_text
 variable_more before one two all name index given value same first second third is_value =
-    subst (λ v. all ≡ before ++ (65 + min index 25) ∷ 61 ∷ line (digits_of (word_of v))) is_value
-    (two_more before one two all (line (digits_of (word_of given))) name (65 + min index 25) 61 same first second third)
+    subst (λ v. all ≡ before ++ (65 + min index 25) ∷ 61 ∷ line (value_text (Ok v))) is_value
+    (two_more before one two all (line (value_text (Ok given))) name (65 + min index 25) 61 same first second third)

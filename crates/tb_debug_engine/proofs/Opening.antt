@@ -91,7 +91,7 @@ barred program file at bytes why same content unloadable =
           (subst (λ l. IsOpenRange BASIC_START (length l)) (sym rest) (in_ram (length (loaded_of program)) whole.1)));
     }
 
--- where the machine can't be started there is no debugger
+-- if the machine can't be started, there is no debugger
 pub not_begun : (program : Compiled) (file text answers : List ℕ) (rom : Rom) (at : ℕ) (bytes : List ℕ) (stop : NoText) (outcome : Outcome)
     → outcome ≡ outcome_of stop → file ≡ prg_of program → content_of file ≡ Ok (at, bytes) → IsUnloadable at bytes stop
     → Begins program text answers rom (Err outcome)
@@ -110,6 +110,7 @@ unlimited Waits begins = refl
 unlimited Returned begins = refl
 unlimited (Wrong w) begins = refl
 
+-- the first stop is told: nothing moves, and no limit ended it
 pub first_told : (d e : Debugger) (told : Answer) (reached : Reached) → reached ≡ standing_of d.starts d.present → KeepsRun d e
     → e ≡ record d { shown = length d.present.machine.sent } → TellsStop d.shown (is_limit reached) e told → IsFirst d told e
 first_told d e told reached stands run stays stop =

@@ -37,8 +37,8 @@ use Rattle.tb_debug_engine.specs.declared.sources.Written.{Written}
 
 -- ---- one line
 
--- a line is answered: what it spells is done, by at most so many events where it goes on, and this is told, or nothing where
--- it ends the dialogue; what is shown since a stop is told with the next one, and what it doesn't ask for stays
+-- a line is answered: what it spells is done, by at most `limit` events if it goes on, and this is told, or nothing if it
+-- ends the dialogue; what is sent since a stop is told with the next one, and what it doesn't ask for stays
 pub record Answers (limit : ℕ) (d : Debugger) (line : List ℕ) (told : Option Answer) (e : Debugger) : Type 0 where
   pub command : Command
   pub spelled : asked_of command ≡ asked_in (without_return line)
@@ -47,12 +47,12 @@ pub record Answers (limit : ℕ) (d : Debugger) (line : List ℕ) (told : Option
   pub shown : ¬ (IsWalk command d) → e.shown ≡ d.shown
   pub leaves : Leaves command d e
 
--- what stands before a line that is typed at a terminal
+-- what is shown before a line that is typed at a terminal
 abbrev pub prompt : Bool → List ℕ
 prompt true = codes "> "
 prompt false = []
 
--- what a line of commands comes to behind the prompt, before it is answered
+-- what a line of commands comes to after the prompt, before it is answered
 abbrev pub Asks : Bool → Result (Option (Vec ℕ Global)) Outcome → Option (List ℕ) → Option (List ℕ) → ℕ → ℕ → Option (List ℕ) → Option (List ℕ) → ℕ → ℕ → Type 0
 Asks prompts (Ok (Some line)) had left read read' old new wrote wrote' =
     TakesLine had line.items left × Appends old new (prompt prompts) × (read' ≡ read) × (wrote' ≡ wrote)
@@ -77,7 +77,7 @@ Closes setting d had left =
     TakesNothing had left ⊎ ((line : List ℕ) × (e : Debugger) × TakesLine had line left × Answers setting.limit d line None e)
 
 -- What the next line comes to: whether the dialogue goes on; the reader of commands and the writer before and after,
--- with their counts of failures. The answer is written behind the prompt.
+-- with their counts of failures. The answer is written after the prompt.
 abbrev pub Exchanges : Written → Setting → Debugger → Result Bool Outcome → Debugger → Option (List ℕ) → Option (List ℕ) → ℕ → ℕ → Option (List ℕ)
     → Option (List ℕ) → ℕ → ℕ → Type 0
 Exchanges w setting d (Ok true) e had left read read' old new wrote wrote' =
@@ -115,7 +115,7 @@ pub record IsBehind (w : Written) (setting : Setting) (d : Debugger) (lines : Li
 abbrev pub most_lines : ℕ
 most_lines = 18446744073709551615
 
--- how a dialogue ends behind so many lines
+-- how a dialogue ends after `count` lines
 abbrev pub Ends : Written → Setting → ℕ → Debugger → Outcome → Option (List ℕ) → Option (List ℕ) → ℕ → ℕ → Option (List ℕ) → Option (List ℕ) → ℕ
     → ℕ → Type 0
 Ends w setting count d (Ended end) had left read read' old new wrote wrote' =
@@ -175,7 +175,7 @@ Begins program text answers rom (Err ReadFault) = ⊥
 Begins program text answers rom (Err WriteFault) = ⊥
 Begins program text answers rom (Err (Ended end)) = ⊥
 
--- the stop at which a debugger stands
+-- the first stop, at which a debugger is
 pub record IsFirst (d : Debugger) (told : Answer) (e : Debugger) : Type 0 where
   pub run : KeepsRun d e
   pub stays : e.present ≡ d.present
@@ -199,7 +199,7 @@ pub record AreReady (s : Sources) (text answers : List ℕ) (rom : Rom) (w : Wri
   pub written : AreWritten s w
   pub begun : IsBegun s.program text answers rom d
 
--- nothing is done where there is no debugger
+-- nothing is done if there is no debugger
 abbrev pub DoesNothing : Compiled → Outcome → Option (List ℕ) → Option (List ℕ) → ℕ → ℕ → Option (List ℕ) → Option (List ℕ) → ℕ → ℕ → Type 0
 DoesNothing program outcome had left read read' old new wrote wrote' =
     ((outcome ≡ NoMemory) ⊎ ((why : Refusal) × (outcome ≡ Refused why) × IsBarred program why))

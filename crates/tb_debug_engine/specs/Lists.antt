@@ -7,11 +7,11 @@ use Rattle.tb_source_text.specs.ShownBytes.{shown}
 abbrev pub written : List (ℕ × List ℕ) → ℕ → List ℕ
 written lines n = map shown (last_of [] n lines) ++ 10 ∷ []
 
--- how many lines are shown before a line, and behind it
+-- how many lines are shown before a line, and after it
 abbrev pub around : ℕ
 around = 5
 
--- the place of a line among those of a program, counted from k; 0 where it isn't one
+-- the index of a line among those of a program, counted from k; 0 if it isn't one
 abbrev pub index_from : ℕ → List ℕ → ℕ → ℕ
 index_from k [] n = 0
 index_from k (m ∷ numbers) n = if m == n then k else index_from (suc k) numbers n
@@ -21,19 +21,19 @@ abbrev pub index_of : List ℕ → Option ℕ → ℕ
 index_of numbers (Some n) = index_from 0 numbers n
 index_of numbers None = 0
 
--- the run stands at a line
-abbrev pub is_place : Option ℕ → ℕ → Bool
-is_place (Some place) n = n == place
-is_place None n = false
+-- the run is at a line
+abbrev pub is_here : Option ℕ → ℕ → Bool
+is_here (Some line) n = n == line
+is_here None n = false
 
--- a line behind `* ` where the run stands at it, else behind two spaces
+-- a line after `* ` if the run is at it, else after two spaces
 abbrev pub marked : List (ℕ × List ℕ) → Option ℕ → ℕ → List ℕ
-marked lines place n = (if is_place place n then codes "* " else codes "  ") ++ written lines n
+marked lines here n = (if is_here here n then codes "* " else codes "  ") ++ written lines n
 
--- the lines from five before the one with this place among them to five behind it
+-- the lines from five before the one at an index to five after it
 abbrev pub near : List ℕ → ℕ → List ℕ
 near numbers index = take (index - (index - around) + (around + 1)) (drop (index - around) numbers)
 
 -- the lines around a line
 abbrev pub list_text : List (ℕ × List ℕ) → List ℕ → Option ℕ → Option ℕ → List ℕ
-list_text lines numbers round place = flat_map (marked lines place) (near numbers (index_of numbers round))
+list_text lines numbers line here = flat_map (marked lines here) (near numbers (index_of numbers line))

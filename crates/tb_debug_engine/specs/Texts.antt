@@ -1,22 +1,21 @@
 -- The texts of the debugger's answers.
-use Rattle.std.specs.Prelude.{ℕ, zero, suc, ◌+◌, ◌/◌, ◌%◌, ◌==◌, Bool, true, false, ℤ, pos, List, [], ◌∷◌, ◌++◌, codes, flat_map}
-use Rattle.std.specs.Prelude.{map, min, Option, Some, None, if◌then◌else◌}
+use Rattle.std.specs.Prelude.{ℕ, zero, suc, ◌+◌, ◌%◌, ◌==◌, Bool, true, false, ℤ, pos, List, [], ◌∷◌, ◌++◌, codes, flat_map}
+use Rattle.std.specs.Prelude.{map, min, Option, Some, None, Ok, if◌then◌else◌}
 use Rattle.std.specs.Ordering.{int_eq}
 use Rattle.hex.specs.Hex.{encode_upper}
-use Rattle.tb_words.specs.Words.{word_of, digits_of}
 use Rattle.tb_kernal.specs.declared.status.Status.{Status}
-use Rattle.tb_kernal.specs.declared.status.Status.TheVariants.{Running, Waits, Returned, Wrong}
+use Rattle.tb_kernal.specs.declared.status.Status.TheVariants.{Wrong}
 use Rattle.tb_streams.specs.HostForm.{host_form_of}
 use Rattle.tb_engines.specs.Programs.{end_of}
 use Rattle.tb_engines.specs.Texts.{end_text}
 use Rattle.tb_disasm.specs.declared.listing.Line.{Line as CodeLine}
 use Rattle.tb_disasm.specs.Lines.{shown}
 use Rattle.tb_disasm.specs.ListingText.{text_of as listing_text}
-use Rattle.tb_commands.specs.Answers.{registers_text}
+use Rattle.tb_inspection.specs.Texts.{address_text, limit, no_such_line, registers_text, status_text, value_text, what}
 use Rattle.tb_debug.specs.declared.answer.Answer.{Answer}
 use Rattle.tb_debug.specs.declared.answer.Answer.TheVariants as answer
 use Rattle.tb_debug.specs.declared.answer.Location.{Location}
-use Rattle.tb_debug.specs.declared.answer.Location.TheVariants as place
+use Rattle.tb_debug.specs.declared.answer.Location.TheVariants as location
 use Rattle.tb_debug.specs.declared.answer.Stand.{Stand}
 use Rattle.tb_debug_engine.specs.Lists.{list_text, written}
 
@@ -24,84 +23,78 @@ use Rattle.tb_debug_engine.specs.Lists.{list_text, written}
 abbrev pub line : List ℕ → List ℕ
 line text = text ++ 10 ∷ []
 
--- a text, or `none` where it is empty
+-- a text, or `none` if it is empty
 abbrev pub or_none : List ℕ → List ℕ
 or_none [] = line (codes "none")
 or_none (b ∷ bs) = b ∷ bs
 
--- ---- where a run stands
+-- ---- where a run is
 
--- a text with each of its lines behind `| `, the last one ended too; the first one begins here, or has begun
+-- a text with each of its lines after `| `, the last one ended too; the first one begins here, or has begun
 abbrev pub barred_from : (begins : Bool) → List ℕ → List ℕ
 barred_from true [] = []
 barred_from false [] = 10 ∷ []
 barred_from true (b ∷ bs) = codes "| " ++ b ∷ barred_from (b == 10) bs
 barred_from false (b ∷ bs) = b ∷ barred_from (b == 10) bs
 
--- what was sent in the host form, each line behind `| `
+-- what was sent in the host form, each line after `| `
 abbrev pub sent_text : List ℕ → List ℕ
 sent_text sent = barred_from true (host_form_of sent)
 
--- how a machine stands that doesn't run: where it went wrong, as a run's end
-abbrev pub status_text : Status → ℕ → List ℕ
-status_text Running pc = codes "running"
-status_text Waits pc = codes "waits"
-status_text Returned pc = codes "returned"
-status_text (Wrong w) pc = end_text (end_of (Wrong w) pc)
+-- how a machine stands that doesn't run: if it went wrong, as a run's end
+abbrev pub standing_text : Status → ℕ → List ℕ
+standing_text (Wrong w) pc = end_text (end_of (Wrong w) pc)
+standing_text t pc = status_text t
 
--- the line at which a run stands, `start` before the first one, or how its machine stands
-abbrev pub place_text : List (ℕ × List ℕ) → Location → List ℕ
-place_text lines (place.Line number) = written lines number
-place_text lines place.Opening = line (codes "start")
-place_text lines (place.Ended status pc) = line (status_text status pc)
+-- the line at which a run is, `start` before the first one, or how its machine stands
+abbrev pub location_text : List (ℕ × List ℕ) → Location → List ℕ
+location_text lines (location.Line number) = written lines number
+location_text lines location.Opening = line (codes "start")
+location_text lines (location.Ended status pc) = line (standing_text status pc)
 
--- what was sent since the last stop, `limit` where the limit of events ended a going on, and where the run stands
+-- what was sent since the last stop, `limit` if the limit of events ended the way here, and where the run is
 abbrev pub stand_text : List (ℕ × List ℕ) → Stand → List ℕ
 stand_text lines stand =
-    sent_text stand.sent.items ++ ((if stand.is_limit then line (codes "limit") else []) ++ place_text lines stand.place)
+    sent_text stand.sent.items ++ ((if stand.is_limit then line limit else []) ++ location_text lines stand.location)
 
 -- ---- variables and lines
 
--- a variable by its place in the alphabet, and its value
+-- a variable by its index in the alphabet, and its value
 unfoldable pub variable_text : ℕ → ℤ → List ℕ
-variable_text index value = (65 + min index 25) ∷ 61 ∷ line (digits_of (word_of value))
+variable_text index value = (65 + min index 25) ∷ 61 ∷ line (value_text (Ok value))
 
 -- the same of one that isn't 0
 abbrev pub unless_zero : ℕ → ℤ → List ℕ
 unless_zero index value = if int_eq value (pos 0) then [] else variable_text index value
 
--- the variables from a place of the alphabet on that are not 0
+-- the variables from an index of the alphabet on that are not 0
 abbrev pub variables_from : ℕ → List ℤ → List ℕ
 variables_from index [] = []
 variables_from index (value ∷ values) = unless_zero index value ++ variables_from (suc index) values
 
--- a line to return to, or `past` behind the last one
+-- a line to return to, or `past` for a return past the last one
 abbrev pub return_text : List (ℕ × List ℕ) → Option ℕ → List ℕ
 return_text lines (Some number) = written lines number
 return_text lines None = line (codes "past")
 
 -- ---- memory and code
 
--- an address in four hexadecimal digits
-abbrev pub address_text : ℕ → List ℕ
-address_text address = encode_upper (address / 256 ∷ address % 256 ∷ [])
-
--- a byte in two of them behind a space; `--` of a closed place
+-- a byte in two hexadecimal digits after a space; `--` for a closed address
 abbrev pub byte_text : Option ℕ → List ℕ
 byte_text (Some byte) = 32 ∷ encode_upper (byte ∷ [])
 byte_text None = codes " --"
 
--- what stands before a byte before which so many stand: the address of the first of 16 in a line, and the end of the line before
+-- what comes before a byte that n bytes precede: for the first of 16 in a line its address, and the end of the line before
 abbrev pub row_text : ℕ → ℕ → List ℕ
-row_text stand address = if stand % 16 == 0 then (if stand == 0 then [] else 10 ∷ []) ++ address_text address else []
+row_text n address = if n % 16 == 0 then (if n == 0 then [] else 10 ∷ []) ++ address_text address else []
 
--- bytes from an address on, before which so many stand: 16 in a line, behind the address of the first one
+-- bytes from an address on, which n bytes precede: 16 in a line, after the address of the first one
 abbrev pub bytes_text : ℕ → ℕ → List (Option ℕ) → List ℕ
-bytes_text stand address [] = []
-bytes_text stand address (byte ∷ bytes) =
-    row_text stand address ++ (byte_text byte ++ bytes_text (suc stand) ((address + 1) % 65536) bytes)
+bytes_text n address [] = []
+bytes_text n address (byte ∷ bytes) =
+    row_text n address ++ (byte_text byte ++ bytes_text (suc n) ((address + 1) % 65536) bytes)
 
--- lines of code as a listing; `--` where there is none
+-- lines of code as a listing; `--` if there is none
 abbrev pub code_text : List CodeLine → List ℕ
 code_text [] = line (codes "--")
 code_text (l ∷ ls) = listing_text (map shown (l ∷ ls))
@@ -138,12 +131,10 @@ text_of lines numbers (answer.Stop stand) = stand_text lines stand
 text_of lines numbers answer.Set = line (codes "set")
 text_of lines numbers answer.Cleared = line (codes "cleared")
 text_of lines numbers (answer.Breakpoints set) = or_none (flat_map (written lines) set.items)
-text_of lines numbers (answer.List round place) = list_text lines numbers round place
+text_of lines numbers (answer.List around here) = list_text lines numbers around here
 text_of lines numbers (answer.Variables values) = or_none (variables_from 0 values)
 text_of lines numbers (answer.Variable index value) = variable_text index value
-text_of lines numbers (answer.Number value) = line (digits_of (word_of value))
-text_of lines numbers answer.DivisionByZero = line (codes "division by zero")
-text_of lines numbers answer.HasRnd = line (codes "has RND")
+text_of lines numbers (answer.Value value) = line (value_text value)
 text_of lines numbers (answer.Returns noted) = or_none (flat_map (return_text lines) noted.items)
 text_of lines numbers (answer.Output sent) = or_none (sent_text sent.items)
 text_of lines numbers answer.Typed = line (codes "typed")
@@ -151,5 +142,5 @@ text_of lines numbers (answer.Registers regs at status) = line (registers_text r
 text_of lines numbers (answer.Memory at bytes) = line (bytes_text 0 at bytes.items)
 text_of lines numbers (answer.Code code) = code_text code.items
 text_of lines numbers answer.Help = help_text
-text_of lines numbers answer.NoSuchLine = line (codes "no such line")
-text_of lines numbers answer.What = line (codes "what?")
+text_of lines numbers answer.NoSuchLine = line no_such_line
+text_of lines numbers answer.What = line what

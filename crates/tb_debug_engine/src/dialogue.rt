@@ -16,14 +16,14 @@ use tb_engines::{End, NoText, Outcome, start_machine, without_input};
 use tb_kernal::Keyboard;
 use tb_streams::{MOST_INPUT, StreamFailure, Tracked, read_line, without_return, write_output};
 
-/// What stands before a command that is typed at a terminal.
+/// What is shown before a command that is typed at a terminal.
 const PROMPT: &[u8] = b"> ";
 
 /// How a program is debugged.
 #[derive(Clone, Copy, Debug, Drop)]
 pub struct Setting {
     pub rom: Rom,
-    /// How many events a going on may take.
+    /// How many events a command that goes on may take.
     pub limit: u64,
     /// Whether a prompt is shown.
     pub prompts: bool,
@@ -49,7 +49,7 @@ fn say<W: Write>(
     }
 }
 
-// Writes the prompt where one is shown.
+// Writes the prompt, if one is to be shown.
 fn prompt<W: Write>(writer: &mut Tracked<W>, prompts: bool) -> Result<(), StreamFailure>
     ensures whole { OnOk result (Appends (W.contents writer.old.stream) (W.contents writer.new.stream) (prompt prompts)) }
     ensures prefix { OnErr result (AppendsPrefix (W.contents writer.old.stream) (W.contents writer.new.stream) (prompt prompts)) }
@@ -62,7 +62,7 @@ fn prompt<W: Write>(writer: &mut Tracked<W>, prompts: bool) -> Result<(), Stream
     }
 }
 
-// Reads the next line behind the prompt.
+// Reads the next line after the prompt; none if the input has ended.
 fn ask<R: Read, W: Write>(
     alloc: Global,
     prompts: bool,
@@ -111,7 +111,7 @@ fn answer_line<R: Read, W: Write>(
     }
 }
 
-// An answer to each line, behind the first stop.
+// Answers each line after the first stop, until one ends the dialogue or none is left.
 fn answer_lines<R: Read, W: Write>(
     alloc: Global,
     debugger: &mut Debugger<'_>,

@@ -6,7 +6,7 @@ ghost use Rattle.tb_debug_engine.specs.Lists.{index_from, index_of, list_text, m
 use std::alloc::AllocError;
 use tb_source_text::{Numbered, push_shown, text_of};
 
-/// How many lines are shown before a line, and behind it.
+/// How many lines are shown before a line, and after it.
 const AROUND: usize = 5;
 
 /// Appends the line of a number as it is written, and a 10.
@@ -22,7 +22,7 @@ pub fn push_written(
     Ok(())
 }
 
-// The place of a line among others, of which so many come before.
+// The index of a line among others that `before` lines precede; 0 if it isn't one of them.
 fn index_from(before: usize, numbers: &[u16], number: u16) -> usize
     requires { before + length numbers.now < 2 ^ 63 }
     ensures { result ≡ index_from before numbers.now number }
@@ -37,6 +37,7 @@ fn index_from(before: usize, numbers: &[u16], number: u16) -> usize
     }
 }
 
+// The index of a line; 0 if it is none, or not one of these.
 fn index_of(numbers: &[u16], line: Option<u16>) -> usize
     ensures { result ≡ index_of numbers.now line }
 {
@@ -46,8 +47,8 @@ fn index_of(numbers: &[u16], line: Option<u16>) -> usize
     }
 }
 
-// The lines behind the first so many.
-fn behind(numbers: &[u16], count: usize) -> &[u16]
+// The lines after the first `count`.
+fn after(numbers: &[u16], count: usize) -> &[u16]
     ensures { result.now ≡ drop count numbers.now }
 {
     if count < numbers.len() {
@@ -57,7 +58,7 @@ fn behind(numbers: &[u16], count: usize) -> &[u16]
     }
 }
 
-// The first so many lines.
+// The first `count` lines.
 fn first(numbers: &[u16], count: usize) -> &[u16]
     ensures { result.now ≡ take count numbers.now }
 {
@@ -68,36 +69,37 @@ fn first(numbers: &[u16], count: usize) -> &[u16]
     }
 }
 
+// Appends a line after `* ` if the run is at it, else after two spaces.
 fn push_marked(
     text: &mut Vec<u8>,
     lines: &[Numbered<'_>],
-    place: Option<u16>,
+    here: Option<u16>,
     number: u16,
 ) -> Result<(), AllocError>
-    ensures { OnOk result (text.new.items ≡ text.old.items ++ marked (map pair_of lines.now) place number) }
+    ensures { OnOk result (text.new.items ≡ text.old.items ++ marked (map pair_of lines.now) here number) }
 {
-    match place {
-        Some(place) if number == place => text.extend_from_slice(b"* ")?,
+    match here {
+        Some(line) if number == line => text.extend_from_slice(b"* ")?,
         _ => text.extend_from_slice(b"  ")?,
     }
     push_written(text, lines, number)
 }
 
-/// Appends the lines around a line, the one at which the run stands behind `* ` and the others behind two spaces.
+/// Appends the lines around a line, the one at which the run is after `* ` and the others after two spaces.
 pub fn push_list(
     text: &mut Vec<u8>,
     lines: &[Numbered<'_>],
     numbers: &[u16],
-    round: Option<u16>,
-    place: Option<u16>,
+    around: Option<u16>,
+    here: Option<u16>,
 ) -> Result<(), AllocError>
-    ensures { OnOk result (text.new.items ≡ text.old.items ++ list_text (map pair_of lines.now) numbers.now round place) }
+    ensures { OnOk result (text.new.items ≡ text.old.items ++ list_text (map pair_of lines.now) numbers.now around here) }
 {
-    let index = index_of(numbers, round);
+    let index = index_of(numbers, around);
     let from = index.saturating_sub(AROUND);
-    let near = first(behind(numbers, from), index - from + AROUND + 1);
+    let near = first(after(numbers, from), index - from + AROUND + 1);
     for number in near {
-        push_marked(text, lines, place, *number)?;
+        push_marked(text, lines, here, *number)?;
     }
     Ok(())
 }

@@ -1,34 +1,39 @@
 //! The texts of answers.
 ghost use Rattle.std.specs.Prelude.{◌≡◌, ◌+◌, ◌^◌, ◌++◌, ◌<◌, flat_map, length, map, min, true, IfOk, OnOk};
 ghost use Rattle.tb_source_text.specs.Lines.{pair_of};
+ghost use Rattle.tb_inspection.specs.Texts.{registers_text, value_text};
 ghost use Rattle.tb_debug_engine.specs.Lists.{written};
 ghost use Rattle.tb_debug_engine.specs.Sources.{shown_of};
 ghost use Rattle.tb_debug_engine.specs.Texts as texts;
-ghost use Rattle.tb_debug_engine.specs.Texts.{address_text, barred_from, byte_text, bytes_text, code_text, or_none};
-ghost use Rattle.tb_debug_engine.specs.Texts.{place_text, return_text, row_text, sent_text, stand_text, status_text};
-ghost use Rattle.tb_debug_engine.specs.Texts.{unless_zero, variable_text, variables_from};
+ghost use Rattle.tb_debug_engine.specs.Texts.{barred_from, byte_text, bytes_text, code_text, or_none, location_text};
+ghost use Rattle.tb_debug_engine.specs.Texts.{return_text, row_text, sent_text, stand_text, standing_text, unless_zero};
+ghost use Rattle.tb_debug_engine.specs.Texts.{variable_text, variables_from};
 
 use crate::lists::{push_list, push_written};
 use crate::sources::Written;
 use hex::encode_upper;
 use std::alloc::{AllocError, Global};
-use tb_commands::Answer as Word;
-use tb_debug::{Answer, Location, Stand};
+use tb_cpu::Regs;
+use tb_debug::{Answer, Location, Stand, Value};
 use tb_disasm::{Line, Listing};
 use tb_engines::end_of;
+use tb_inspection::{
+    LIMIT, NO_SUCH_LINE, WHAT, push_address, push_registers, push_value, status_text,
+};
 use tb_kernal::Status;
 use tb_source_text::Numbered;
 use tb_streams::host_form;
 
-/// How many bytes of memory stand on a line.
+/// How many bytes of memory are shown on a line.
 const ROW: usize = 16;
 
-/// The variables' first name.
+/// The name of the first variable.
 const FIRST_NAME: u8 = b'A';
 
-/// The place of the last one in the alphabet.
+/// The index of the last variable in the alphabet.
 const LAST_NAMED: usize = 25;
 
+/// The table of commands.
 const HELP: &[u8] = b"n [K]      on by K lines
 p [K]      back by K lines
 c          on to a breakpoint or behind a line that changes what is watched
@@ -51,7 +56,40 @@ h          this help
 q          end
 ";
 
-// Appends a text, or `none` where it is empty.
+// Appends a text in a line of its own.
+fn push_line(text: &mut Vec<u8>, shown: &[u8]) -> Result<(), AllocError>
+    ensures { OnOk result (text.new.items ≡ text.old.items ++ texts.line shown.now) }
+{
+    text.extend_from_slice(shown)?;
+    text.push(b'\n')?;
+    Ok(())
+}
+
+// Appends the value of an expression, or why it has none, in a line of its own.
+fn push_value_line(text: &mut Vec<u8>, value: Value) -> Result<(), AllocError>
+    ensures { OnOk result (text.new.items ≡ text.old.items ++ texts.line (value_text value)) }
+{
+    push_value(text, value)?;
+    text.push(b'\n')?;
+    Ok(())
+}
+
+// Appends registers, the line in whose code the program counter lies and how the machine stands, in a line of its own.
+fn push_registers_line(
+    alloc: Global,
+    text: &mut Vec<u8>,
+    regs: Regs,
+    line: Option<u16>,
+    status: Status,
+) -> Result<(), AllocError>
+    ensures { OnOk result (text.new.items ≡ text.old.items ++ texts.line (registers_text regs line status)) }
+{
+    push_registers(alloc, text, regs, line, status)?;
+    text.push(b'\n')?;
+    Ok(())
+}
+
+// Appends a text, or `none` if it is empty.
 fn push_or_none(text: &mut Vec<u8>, shown: &[u8]) -> Result<(), AllocError>
     ensures { OnOk result (text.new.items ≡ text.old.items ++ or_none shown.now) }
 {
@@ -61,7 +99,7 @@ fn push_or_none(text: &mut Vec<u8>, shown: &[u8]) -> Result<(), AllocError>
     }
 }
 
-// Appends what was sent in the host form, each line behind `| `.
+// Appends what was sent in the host form, each line after `| `.
 fn push_sent(alloc: Global, text: &mut Vec<u8>, sent: &[u8]) -> Result<(), AllocError>
     ensures { OnOk result (text.new.items ≡ text.old.items ++ sent_text sent.now) }
 {
@@ -69,6 +107,7 @@ fn push_sent(alloc: Global, text: &mut Vec<u8>, sent: &[u8]) -> Result<(), Alloc
     push_barred(text, form.as_slice())
 }
 
+// Appends a text, each line after `| `, and the end of the last line if it has none.
 fn push_barred(text: &mut Vec<u8>, form: &[u8]) -> Result<(), AllocError>
     ensures { OnOk result (text.new.items ≡ text.old.items ++ barred_from true form.now) }
 {
@@ -86,14 +125,14 @@ fn push_barred(text: &mut Vec<u8>, form: &[u8]) -> Result<(), AllocError>
     Ok(())
 }
 
-// Appends how a machine stands: where it went wrong, as `run` says it.
+// Appends how a machine stands: if it went wrong, as `run` says it.
 fn push_status(alloc: Global, text: &mut Vec<u8>, status: Status, pc: u16) -> Result<(), AllocError>
-    ensures { OnOk result (text.new.items ≡ text.old.items ++ texts.line (status_text status pc)) }
+    ensures { OnOk result (text.new.items ≡ text.old.items ++ texts.line (standing_text status pc)) }
 {
     match status {
-        Status::Running => text.extend_from_slice(b"running\n"),
-        Status::Waits => text.extend_from_slice(b"waits\n"),
-        Status::Returned => text.extend_from_slice(b"returned\n"),
+        Status::Running | Status::Waits | Status::Returned => {
+            push_line(text, status_text(status).as_bytes())
+        }
         Status::Wrong(_) => {
             let end = end_of(status, pc);
             text.extend_from_slice(format!(in alloc; "{end}\n")?.as_bytes())
@@ -101,21 +140,23 @@ fn push_status(alloc: Global, text: &mut Vec<u8>, status: Status, pc: u16) -> Re
     }
 }
 
-fn push_place(
+// Appends the line at which the run is, `start` before the first one, or how the machine stands.
+fn push_location(
     alloc: Global,
     text: &mut Vec<u8>,
     lines: &[Numbered<'_>],
-    place: Location,
+    location: Location,
 ) -> Result<(), AllocError>
-    ensures { OnOk result (text.new.items ≡ text.old.items ++ place_text (map pair_of lines.now) place) }
+    ensures { OnOk result (text.new.items ≡ text.old.items ++ location_text (map pair_of lines.now) location) }
 {
-    match place {
+    match location {
         Location::Line(number) => push_written(text, lines, number),
         Location::Opening => text.extend_from_slice(b"start\n"),
         Location::Ended { status, pc } => push_status(alloc, text, status, pc),
     }
 }
 
+// Appends what was sent since the last stop, whether the limit ended the way here, and where the run is.
 fn push_stand(
     alloc: Global,
     text: &mut Vec<u8>,
@@ -126,11 +167,12 @@ fn push_stand(
 {
     push_sent(alloc, text, stand.sent.as_slice())?;
     if stand.is_limit {
-        text.extend_from_slice(b"limit\n")?;
+        push_line(text, LIMIT)?;
     }
-    push_place(alloc, text, lines, stand.place)
+    push_location(alloc, text, lines, stand.location)
 }
 
+// The lines with a breakpoint, as they are written.
 fn breakpoints_text(
     alloc: Global,
     lines: &[Numbered<'_>],
@@ -145,70 +187,58 @@ fn breakpoints_text(
     Ok(text)
 }
 
-// The name of the variable at a place in the alphabet.
+// The name of the variable at an index in the alphabet.
 fn name_at(index: usize) -> u8
     ensures { result ≡ 65 + min index 25 }
 {
     FIRST_NAME + index.min(LAST_NAMED) as u8
 }
 
-fn push_variable(
-    alloc: Global,
-    text: &mut Vec<u8>,
-    index: usize,
-    value: i16,
-) -> Result<(), AllocError>
+// Appends a variable and its value in a line of its own.
+fn push_variable(text: &mut Vec<u8>, index: usize, value: i16) -> Result<(), AllocError>
     ensures { OnOk result (text.new.items ≡ text.old.items ++ variable_text index value) }
 {
     text.push(name_at(index))?;
     text.push(b'=')?;
-    Word::Number(value).push_line(alloc, text)?;
-    Ok(())
+    push_value_line(text, Ok(value))
 }
 
-// The same of one that isn't 0.
-fn push_unless_zero(
-    alloc: Global,
-    text: &mut Vec<u8>,
-    index: usize,
-    value: i16,
-) -> Result<(), AllocError>
+// Appends a variable and its value, unless that is 0.
+fn push_unless_zero(text: &mut Vec<u8>, index: usize, value: i16) -> Result<(), AllocError>
     ensures { OnOk result (text.new.items ≡ text.old.items ++ unless_zero index value) }
 {
     if value == 0 {
         return Ok(());
     }
-    push_variable(alloc, text, index, value)?;
+    push_variable(text, index, value)?;
     Ok(())
 }
 
-fn push_variables(
-    alloc: Global,
-    text: &mut Vec<u8>,
-    index: usize,
-    values: &[i16],
-) -> Result<(), AllocError>
+// Appends the variables from an index on that aren't 0.
+fn push_variables(text: &mut Vec<u8>, index: usize, values: &[i16]) -> Result<(), AllocError>
     requires { index + length values.now < 2 ^ 63 }
     ensures { OnOk result (text.new.items ≡ text.old.items ++ variables_from index values.now) }
 {
     match values {
         [] => Ok(()),
         [value, rest @ ..] => {
-            push_unless_zero(alloc, text, index, *value)?;
-            push_variables(alloc, text, index + 1, rest)?;
+            push_unless_zero(text, index, *value)?;
+            push_variables(text, index + 1, rest)?;
             Ok(())
         }
     }
 }
 
+// The variables that aren't 0.
 fn variables_text(alloc: Global, values: &[i16]) -> Result<Vec<u8>, AllocError>
     ensures { IfOk result (λ text. text.items ≡ variables_from 0 values.now) }
 {
     let mut text = Vec::new(alloc);
-    push_variables(alloc, &mut text, 0, values)?;
+    push_variables(&mut text, 0, values)?;
     Ok(text)
 }
 
+// Appends a line to return to, or `past`.
 fn push_return(
     text: &mut Vec<u8>,
     lines: &[Numbered<'_>],
@@ -222,6 +252,7 @@ fn push_return(
     }
 }
 
+// The lines to return to, the newest first.
 fn returns_text(
     alloc: Global,
     lines: &[Numbered<'_>],
@@ -236,6 +267,7 @@ fn returns_text(
     Ok(text)
 }
 
+// What was sent, each line after `| `.
 fn sent_text(alloc: Global, sent: &[u8]) -> Result<Vec<u8>, AllocError>
     ensures { IfOk result (λ text. text.items ≡ sent_text sent.now) }
 {
@@ -244,12 +276,7 @@ fn sent_text(alloc: Global, sent: &[u8]) -> Result<Vec<u8>, AllocError>
     Ok(text)
 }
 
-fn push_address(alloc: Global, text: &mut Vec<u8>, address: u16) -> Result<(), AllocError>
-    ensures { OnOk result (text.new.items ≡ text.old.items ++ address_text address) }
-{
-    text.extend_from_slice(encode_upper(alloc, address.to_be_bytes())?.as_bytes())
-}
-
+// Appends a byte in two hexadecimal digits, or `--` for a closed address.
 fn push_byte(alloc: Global, text: &mut Vec<u8>, byte: Option<u8>) -> Result<(), AllocError>
     ensures { OnOk result (text.new.items ≡ text.old.items ++ byte_text byte) }
 {
@@ -262,40 +289,41 @@ fn push_byte(alloc: Global, text: &mut Vec<u8>, byte: Option<u8>) -> Result<(), 
     }
 }
 
-// Appends the end of a line of bytes and the next one's address, where so many bytes stand before it.
-fn push_row(alloc: Global, text: &mut Vec<u8>, stand: usize, address: u16) -> Result<(), AllocError>
-    ensures { OnOk result (text.new.items ≡ text.old.items ++ row_text stand address) }
+// Appends the end of a line of bytes and the address of the next one, if a line is full after `count` bytes.
+fn push_row(alloc: Global, text: &mut Vec<u8>, count: usize, address: u16) -> Result<(), AllocError>
+    ensures { OnOk result (text.new.items ≡ text.old.items ++ row_text count address) }
 {
-    if stand % ROW != 0 {
+    if count % ROW != 0 {
         return Ok(());
     }
-    if 0 < stand {
+    if 0 < count {
         text.push(b'\n')?;
     }
     push_address(alloc, text, address)
 }
 
-// Appends bytes of memory from an address on, of which so many stand there.
+// Appends bytes of memory from an address on, which `count` bytes precede.
 fn push_bytes(
     alloc: Global,
     text: &mut Vec<u8>,
-    stand: usize,
+    count: usize,
     address: u16,
     bytes: &[Option<u8>],
 ) -> Result<(), AllocError>
-    requires { stand + length bytes.now < 2 ^ 63 }
-    ensures { OnOk result (text.new.items ≡ text.old.items ++ bytes_text stand address bytes.now) }
+    requires { count + length bytes.now < 2 ^ 63 }
+    ensures { OnOk result (text.new.items ≡ text.old.items ++ bytes_text count address bytes.now) }
 {
     match bytes {
         [] => Ok(()),
         [byte, rest @ ..] => {
-            push_row(alloc, text, stand, address)?;
+            push_row(alloc, text, count, address)?;
             push_byte(alloc, text, *byte)?;
-            push_bytes(alloc, text, stand + 1, address.wrapping_add(1), rest)
+            push_bytes(alloc, text, count + 1, address.wrapping_add(1), rest)
         }
     }
 }
 
+// Appends bytes of memory from an address on, 16 in a line.
 fn push_memory(
     alloc: Global,
     text: &mut Vec<u8>,
@@ -309,6 +337,7 @@ fn push_memory(
     Ok(())
 }
 
+// Appends lines of code as a listing, or `--` if there are none.
 fn push_code(alloc: Global, text: &mut Vec<u8>, lines: Vec<Line>) -> Result<(), AllocError>
     ensures { OnOk result (text.new.items ≡ text.old.items ++ code_text lines.items) }
 {
@@ -333,9 +362,9 @@ pub fn push_answer(
         Answer::Breakpoints(numbers) => {
             push_or_none(text, &breakpoints_text(alloc, lines, &numbers)?)
         }
-        Answer::List { round, place } => push_list(text, lines, &source.numbers, round, place),
+        Answer::List { around, here } => push_list(text, lines, &source.numbers, around, here),
         Answer::Variables(values) => push_or_none(text, &variables_text(alloc, &values)?),
-        Answer::Variable { index, value } => push_variable(alloc, text, index, value),
+        Answer::Variable { index, value } => push_variable(text, index, value),
         Answer::Returns(noted) => push_or_none(text, &returns_text(alloc, lines, &noted)?),
         Answer::Output(sent) => push_or_none(text, &sent_text(alloc, &sent)?),
         Answer::Memory { at, bytes } => push_memory(alloc, text, at, &bytes),
@@ -345,12 +374,10 @@ pub fn push_answer(
         Answer::Cleared => text.extend_from_slice(b"cleared\n"),
         Answer::Typed => text.extend_from_slice(b"typed\n"),
         Answer::Registers { regs, line, status } => {
-            Word::Registers { regs, line, status }.push_line(alloc, text)
+            push_registers_line(alloc, text, regs, line, status)
         }
-        Answer::Number(value) => Word::Number(value).push_line(alloc, text),
-        Answer::DivisionByZero => Word::DivisionByZero.push_line(alloc, text),
-        Answer::HasRnd => Word::HasRnd.push_line(alloc, text),
-        Answer::NoSuchLine => Word::NoSuchLine.push_line(alloc, text),
-        Answer::What => Word::What.push_line(alloc, text),
+        Answer::Value(value) => push_value_line(text, value),
+        Answer::NoSuchLine => push_line(text, NO_SUCH_LINE),
+        Answer::What => push_line(text, WHAT),
     }
 }

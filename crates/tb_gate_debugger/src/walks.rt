@@ -2,10 +2,10 @@
 ghost use Rattle.std.specs.Prelude.{◌≡◌, ℕ, IfOk, IfSome, OnOk};
 ghost use Rattle.tb_kernal.specs.Machine.{State};
 ghost use Rattle.tb_syntax.specs.Source.{Program};
-ghost use Rattle.tb_debug.specs.Debuggers.{KeepsRun, KeepsRunTyped, LeadsBackBy, LeadsToTime, Responds};
+ghost use Rattle.tb_debug.specs.Debuggers.{KeepsRun, KeepsRunTyped, RewindsBy, GoesToTime, Responds};
 ghost use Rattle.tb_debug.specs.Begins.{StandsBy};
 ghost use Rattle.tb_debug.specs.Kinds.{IsWalk};
-ghost use Rattle.tb_debug.specs.Leading.{LeadsBackToNewest, LeadsOnTo};
+ghost use Rattle.tb_debug.specs.Leading.{ReverseContinues, RunsUntil};
 ghost use Rattle.tb_debug.specs.Leaving.{Leaves};
 ghost use Rattle.tb_debug.specs.declared.searching.Destination.TheVariants as destination;
 ghost use Rattle.tb_debug.specs.Sources.{Debugs, ShowsLine};
@@ -22,7 +22,7 @@ pub fn gone_on(
     limit: u64,
 ) -> Result<Reached, AllocError>
     ensures run { OnOk result (KeepsRun debugger.old debugger.new) }
-    ensures stop { IfOk result (λ reached. LeadsOnTo destination.Stop limit debugger.old reached debugger.new.present) }
+    ensures stop { IfOk result (λ reached. RunsUntil destination.Stop limit debugger.old reached debugger.new.present) }
     ensures stands { IfOk result (λ reached. StandsBy debugger.old.starts reached debugger.new.present) }
     ensures stops { OnOk result (debugger.new.stops ≡ debugger.old.stops) }
 {
@@ -32,7 +32,7 @@ pub fn gone_on(
 /// Calls `Debugger::reverse_continue`.
 pub fn gone_back(debugger: &mut Debugger<'_>, alloc: Global) -> Result<Reached, AllocError>
     ensures run { OnOk result (KeepsRun debugger.old debugger.new) }
-    ensures stop { IfOk result (λ reached. LeadsBackToNewest debugger.old reached debugger.new.present) }
+    ensures stop { IfOk result (λ reached. ReverseContinues debugger.old reached debugger.new.present) }
     ensures stands { IfOk result (λ reached. StandsBy debugger.old.starts reached debugger.new.present) }
     ensures stops { OnOk result (debugger.new.stops ≡ debugger.old.stops) }
 {
@@ -47,7 +47,7 @@ pub fn gone_to(
     limit: u64,
 ) -> Result<Reached, AllocError>
     ensures run { OnOk result (KeepsRun debugger.old debugger.new) }
-    ensures time { IfOk result (λ reached. LeadsToTime time limit debugger.old reached debugger.new.present) }
+    ensures time { IfOk result (λ reached. GoesToTime time limit debugger.old reached debugger.new.present) }
     ensures stands { IfOk result (λ reached. StandsBy debugger.old.starts reached debugger.new.present) }
     ensures stops { OnOk result (debugger.new.stops ≡ debugger.old.stops) }
 {
@@ -61,7 +61,7 @@ pub fn stepped_back(
     lines: u64,
 ) -> Result<Reached, AllocError>
     ensures run { OnOk result (KeepsRun debugger.old debugger.new) }
-    ensures lines { IfOk result (λ reached. LeadsBackBy lines debugger.old reached debugger.new.present) }
+    ensures lines { IfOk result (λ reached. RewindsBy lines debugger.old reached debugger.new.present) }
     ensures stands { IfOk result (λ reached. StandsBy debugger.old.starts reached debugger.new.present) }
     ensures stops { OnOk result (debugger.new.stops ≡ debugger.old.stops) }
 {
@@ -81,7 +81,7 @@ pub fn typed(debugger: &mut Debugger<'_>, bytes: &[u8]) -> Result<(), AllocError
     ensures run { OnOk result (KeepsRunTyped bytes.now debugger.old debugger.new) }
     ensures shown { debugger.new.shown ≡ debugger.old.shown }
     ensures stops { debugger.new.stops ≡ debugger.old.stops }
-    ensures place { OnOk result (debugger.new.present.events ≡ debugger.old.present.events) }
+    ensures point { OnOk result (debugger.new.present.events ≡ debugger.old.present.events) }
 {
     debugger.type_text(bytes)
 }

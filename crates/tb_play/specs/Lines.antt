@@ -14,9 +14,13 @@ use Rattle.tb_streams.specs.declared.stream.InputError.TheVariants.{Fault, NoMem
 abbrev pub most_typed : ℕ
 most_typed = most_input
 
--- what a line hands over: its letters as capitals, and a return
+-- what a typed text gives the keyboard: its letters as capitals, and a return
+abbrev pub keys_of_text : List ℕ → List ℕ
+keys_of_text text = map to_ascii_uppercase text ++ 13 ∷ []
+
+-- what a line of input hands over
 abbrev pub keys_of : List ℕ → List ℕ
-keys_of line = map to_ascii_uppercase (without_return line) ++ 13 ∷ []
+keys_of line = keys_of_text (without_return line)
 
 -- what lines hand over, the first line first
 abbrev pub typed_of : List (List ℕ) → List ℕ

@@ -7,5 +7,5 @@ mod lines;
 mod talk;
 
 pub use files::play_file;
-pub use lines::MOST_TYPED;
+pub use lines::{MOST_TYPED, keys_of_text};
 pub use talk::{Played, play};

@@ -1,7 +1,7 @@
 //! What lines of input hand to the keyboard.
 ghost use Rattle.std.specs.Prelude.{◌≡◌, ◌≤◌, IfOk, vec_len};
 ghost use Rattle.tb_streams.specs.Failures.{failures_of};
-ghost use Rattle.tb_play.specs.Lines.{keys_of, ReadsKeys, most_typed};
+ghost use Rattle.tb_play.specs.Lines.{ReadsKeys, keys_of_text, most_typed};
 
 use std::alloc::{AllocError, Global};
 use std::io::Read;
@@ -13,12 +13,12 @@ pub const MOST_TYPED: usize = MOST_INPUT;
 /// What the return key gives.
 const RETURN: u8 = 13;
 
-// What a line hands to the keyboard: its letters as capitals, and a return.
-fn keys_of(alloc: Global, line: &[u8]) -> Result<Vec<u8>, AllocError>
-    ensures { IfOk result (λ keys. keys.items ≡ keys_of line.now) }
+/// What a typed text gives the keyboard: its letters as capitals, and a return.
+pub fn keys_of_text(alloc: Global, text: &[u8]) -> Result<Vec<u8>, AllocError>
+    ensures { IfOk result (λ keys. keys.items ≡ keys_of_text text.now) }
 {
     let mut keys = Vec::new(alloc);
-    for byte in without_return(line) {
+    for byte in text {
         keys.push(byte.to_ascii_uppercase())?;
     }
     keys.push(RETURN)?;
@@ -39,7 +39,7 @@ pub fn read_keys<R: Read>(
     let Some(line) = read_line(alloc, reader, room)? else {
         return Ok(None);
     };
-    let Ok(keys) = keys_of(alloc, line.as_slice()) else {
+    let Ok(keys) = keys_of_text(alloc, without_return(line.as_slice())) else {
         return Err(InputError::NoMemory);
     };
     if keys.len() > room {

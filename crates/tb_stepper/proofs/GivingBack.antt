@@ -27,11 +27,13 @@ module _ (text answers : List ℕ) where
   earlier_more [] u s = refl
   earlier_more (v ∷ us) u s = λ i. given_back text answers v (first_more us u s i) ∷ earlier_more us u s i
 
+  -- without its oldest undos a history has lost its oldest states
   pub earlier_dropped : (n : ℕ) (us : List Former) (s : State) → earlier_of text answers (drop n us) s ≡ drop n (earlier_of text answers us s)
   earlier_dropped zero us s = refl
   earlier_dropped (suc n) [] s = refl
   earlier_dropped (suc n) (u ∷ us) s = earlier_dropped n us s
 
+  -- there are as many earlier states as undos
   pub length_earlier : (us : List Former) (s : State) → length (earlier_of text answers us s) ≡ length us
   length_earlier [] s = refl
   length_earlier (u ∷ us) s = ap suc (length_earlier us s)
@@ -40,15 +42,18 @@ module _ (text answers : List ℕ) where
   abbrev pub fits : Former → Bool
   fits u = nat_le u.text_taken (length text) && nat_le u.answers_taken (length answers)
 
+  -- undos that fit still fit if the oldest are dropped
   pub fits_dropped : (n : ℕ) (us : List Former) → all_fit text answers us ≡ true → all_fit text answers (drop n us) ≡ true
   fits_dropped zero us h = h
   fits_dropped (suc n) [] h = h
   fits_dropped (suc n) (u ∷ us) h = fits_dropped n us (and_parts (fits u) _ h).1
 
+  -- one more undo that fits is added
   pub fits_more : (us : List Former) (u : Former) → all_fit text answers us ≡ true → fits u ≡ true → all_fit text answers (us ++ u ∷ []) ≡ true
   fits_more [] u h f = and_from _ _ f refl
   fits_more (v ∷ us) u h f = let p = and_parts (fits v) _ h in and_from _ _ p.0 (fits_more us u p.1 f)
 
+  -- the newest undo is taken off, and it fits
   pub fits_less : (us : List Former) (u : Former) → all_fit text answers (us ++ u ∷ []) ≡ true → (all_fit text answers us ≡ true) × (fits u ≡ true)
   fits_less [] u h = (refl, (and_parts (fits u) _ h).0)
   fits_less (v ∷ us) u h =
@@ -89,6 +94,7 @@ former_is u m e t n noted h =
     let answers = noted.answers in
     cc
 
+-- the undo that is noted of a machine fits its keyboard
 pub former_fits : (u : Former) (m : Content) (e : Event) → IsFormer u m e → fits m.all_text m.all_answers u ≡ true
 former_fits u m e noted =
     let text : u.text_taken ≤ length m.all_text = rw noted.text noted.text_in in

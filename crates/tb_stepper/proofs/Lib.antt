@@ -1,4 +1,3 @@
 pub mod GivingBack
 pub mod Walking
-pub mod Filling
 pub mod Following

@@ -22,14 +22,14 @@ pub record Added {O : Type 0} (gives : O → Content → Event → O → Type 0)
   pub program : k.program ≡ h.program
   pub kept : machines k ≡ keep_last 1001 (machines h ++ state_of k.machine ∷ [])
 
--- a step of a machine that isn't stopped; AllocError comes only where there is no room, and changes nothing
+-- a step of a machine that isn't stopped; AllocError comes only if there is no room, and changes nothing
 abbrev pub Moved : {O : Type 0} → (O → Content → Event → O → Type 0) → Holds O → Result Status AllocError → Holds O → Type 0
 Moved gives h result k =
     MatchResult result
     (λ t. Added gives h k × (t ≡ status (state_of k.machine)))
     (λ _. (h.machine.room ≡ 0) × (k ≡ h))
 
--- the same, by whether the machine is stopped: where it is, it stays as it is, and nobody is asked
+-- the same, by whether the machine is stopped: a stopped one stays as it is, and nobody is asked
 abbrev pub SteppedBy : {O : Type 0} → Bool → (O → Content → Event → O → Type 0) → Holds O → Result Status AllocError → Holds O → Type 0
 SteppedBy true gives h result k = (result ≡ Ok (status (state_of h.machine))) × (k ≡ h)
 SteppedBy false gives h result k = Moved gives h result k
@@ -44,17 +44,17 @@ end_by true t = Some There
 end_by false Running = None
 end_by false t = Some (Stopped t)
 
--- why a walk to an address ends in a state, its limit aside, and None where it goes on; moved: a step was taken
+-- why a walk to an address ends in a state, its limit aside, and None if it goes on; moved: a step was taken
 abbrev pub end_at : ℕ → Bool → State → Option Reached
 end_at address moved s = end_by (moved && s.regs.pc == address) (status s)
 
--- a walk of that many steps, none of which was taken where a walk ends
+-- a walk of n steps, none of which was taken where a walk ends
 abbrev pub Walked : {O : Type 0} → (O → Content → Event → O → Type 0) → ℕ → ℕ → Holds O → Holds O → Type 0
 Walked gives address zero h k = k ≡ h
 Walked {O} gives address (suc n) h k =
     (b : Holds O) × Walked gives address n h b × (end_at address (nat_lt 0 n) (state_of b.machine) ≡ None) × Stepped gives b (Ok (status (state_of k.machine))) k
 
--- what is answered after that many steps: where the walk ends, else that the limit is reached
+-- what is answered after n steps: where the walk ends, else that the limit is reached
 abbrev pub Answers : Option Reached → ℕ → ℕ → Reached → Type 0
 Answers (Some e) n limit answer = answer ≡ e
 Answers None n limit answer = (answer ≡ Limit) × (n ≡ limit)

@@ -121,7 +121,7 @@ impl<'a, O: Outside + Drop> Stepper<'a, O> {
     }
 
     /// Takes the newest noted step of the machine back, and nothing of the outside. Refused exactly
-    /// where no step is noted.
+    /// if no step is noted.
     pub fn back(&mut self) -> Result<(), NothingBack>
         ensures restored { OnOk result (machines self.old
             ≡ machines self.new ++ state_of self.old.machine ∷ []) }
@@ -140,7 +140,7 @@ impl<'a, O: Outside + Drop> Stepper<'a, O> {
 
     // Takes steps until PC is at an address after at least one step, or the machine isn't Running,
     // or `limit` steps were taken; before each step this is looked at in this order. After
-    // AllocError the machine stands after the steps so far.
+    // AllocError the machine is as after the steps so far.
     fn to_address(&mut self, address: u16, limit: u64) -> Result<Reached, AllocError>
         ensures { Reaches O.gives address limit self.old result self.new }
     {
@@ -153,7 +153,7 @@ impl<'a, O: Outside + Drop> Stepper<'a, O> {
         Ok(self.end(address, limit > 0).unwrap_or(Reached::Limit))
     }
 
-    // Why a walk to an address ends here, where it isn't for its limit. `moved` says that a step
+    // Why a walk to an address ends here, if it isn't for its limit. `moved` says that a step
     // was taken.
     fn end(&self, address: u16, moved: bool) -> Option<Reached>
         ensures { result ≡ end_at address moved (state_of self.now.machine) }
@@ -178,8 +178,8 @@ impl<'a, O: Outside + Drop> Stepper<'a, O> {
     /// machine isn't Running, or `limit` steps were taken; before each step this is looked at in
     /// this order.
     ///
-    /// Refused as NoSuchLine where the program has no such line; then nothing changes. After
-    /// AllocError the machine stands after the steps so far.
+    /// Refused as NoSuchLine if the program has no such line; then nothing changes. After
+    /// AllocError the machine is as after the steps so far.
     pub fn to_line(&mut self, line: u16, limit: u64) -> Result<Reached, StepError>
         ensures { ReachesLine O.gives (start_in (starts_of self.old.program) line) limit self.old result self.new }
     {

@@ -6,4 +6,4 @@ use Rattle.tb_debug_engine.specs.Lists.{marked}
 use Rattle.tb_debug_engine.proofs.lists.push_list.Given as goal
 
 abbrev pub invariant-loop-number : goal.invariant-loop-number
-invariant-loop-number l = l.text.items ≡ l.fn.text.items ++ flat_map (marked (map pair_of l.lines) l.place) (take l.number-index l.near)
+invariant-loop-number l = l.text.items ≡ l.fn.text.items ++ flat_map (marked (map pair_of l.lines) l.here) (take l.number-index l.near)

@@ -2,7 +2,7 @@
 use Rattle.std.proofs.Common.{◌≤◌, ap, length, refl, sym, subst, arith}
 use Rattle.std.proofs.lemmas.List.Elements.{All-nil}
 use Rattle.tb_kernal.specs.Machine.{state_of}
-use Rattle.tb_debug.specs.Runs.{AreKept, IsFirst, IsKept, first_point}
+use Rattle.tb_debug.specs.Runs.{AreCheckpoints, IsFirst, IsCheckpoint, first_point}
 use Rattle.tb_debug.proofs.debugger.Debugger.new.Goals as goal
 
 pub returns-clause-run : goal.returns-clause-run
@@ -16,11 +16,11 @@ returns-clause-run c =
         marked = c.in_ok-starts.ensures;
         of_run = c.in_ok-to_next_start.ensures.run.on start first;
         of_first = subst (IsFirst marks start) (sym c.new-history.ensures.first) (
-          c.in_ok-first.ensures.kept marks start first,
+          c.in_ok-first.ensures.of_run marks start first,
           omega (arith, c.in_ok-first.ensures.events, c.first-present.ensures.events),
         );
-        of_past = subst (AreKept marks start now.events) (sym c.new-history.ensures.later)
-            (All-nil (λ k. IsKept marks start k × (k.moment.events ≤ now.events)));
+        of_past = subst (AreCheckpoints marks start now.events) (sym c.new-history.ensures.later)
+            (All-nil (λ k. IsCheckpoint marks start k × (k.moment.events ≤ now.events)));
         few = omega (arith, ap length c.new-history.ensures.later);
       },
     )

@@ -2,9 +2,9 @@
 use Rattle.std.proofs.Common.{◌≡◌, ◌≤◌}
 use Rattle.tb_debug.specs.Debuggers.{OnRun}
 use Rattle.tb_debug.specs.Runs.{Point}
-use Rattle.tb_debug.specs.Searching.{KnowsBehind}
+use Rattle.tb_debug.specs.Searching.{KnowsAfter}
 use Rattle.tb_debug.proofs.debugger.Debugger.newest_stop.Given as goal
 
 abbrev pub invariant-loop-index : goal.invariant-loop-index
 invariant-loop-index l =
-    (start : Point) → start.begun ≡ 0 → OnRun start l.self → (l.last ≤ l.self.present.events) × KnowsBehind l.self start l.last l.newest
+    (start : Point) → start.begun ≡ 0 → OnRun start l.self → (l.last ≤ l.self.present.events) × KnowsAfter l.self start l.last l.newest

@@ -12,20 +12,20 @@ returns-clause-run c = (
   λ start h.
       let marks = c.args.self.now.starts in
       let present = c.args.self.now.present in
-      let kept = c.in-Some.ensures.kept marks start present.events h.of_first h.of_past in
+      let kept = c.in-Some.ensures.of_run marks start present.events h.of_first h.of_past in
       record {
         marked = h.marked;
         of_run = c.in_ok-moment.ensures.again marks start present h.of_run c.sent.ensures kept.0 kept.1;
-        of_first = subst (IsFirst marks start) (sym c.forget_behind.ensures.first) h.of_first;
-        of_past = c.forget_behind.ensures.later marks start present.events h.of_past;
-        few = omega (arith, c.forget_behind.ensures.few, h.few);
+        of_first = subst (IsFirst marks start) (sym c.forget_after.ensures.first) h.of_first;
+        of_past = c.forget_after.ensures.later marks start present.events h.of_past;
+        few = omega (arith, c.forget_after.ensures.few, h.few);
       },
 )
 
 pub returns-clause-before : goal.returns-clause-before
 returns-clause-before c = λ time start until none on.
     let d = c.args.self.now in
-    let k = c.in-Some.kept.now in
+    let k = c.in-Some.checkpoint.now in
     let same = c.in_ok-moment.ensures.begun in
     elim (cases_lt 0 c.args.index) [
       | inl some ↦

@@ -1,9 +1,0 @@
--- What holds at each turn of the loop of `variables` in src/readings.rt.
-use Rattle.std.proofs.Common.{◌≡◌, ℕ, ◌<◌, length, get_or}
-use Rattle.std.specs.Prelude.{pos}
-use Rattle.tb_memmap.specs.Bytes.{at}
-use Rattle.tb_debug.specs.Readings.{variable_of}
-use Rattle.tb_debug.proofs.readings.variables.Given as goal
-
-abbrev pub invariant-loop-index : goal.invariant-loop-index
-invariant-loop-index l = (length l.values ≡ 26) × ((k : ℕ) → k < l.index → get_or l.values k (pos 0) ≡ variable_of (at l.memory) k)
