@@ -36,14 +36,17 @@ pub enum Form {
     EventsOr(&'static str),
 }
 
-/// The number `USUAL_SEED` as a text.
-pub const USUAL_SEED_TEXT: &str = "1";
+// The numbers of tb_jobs as texts. That they agree is proved in proofs/Numbers.
+const USUAL_SEED_TEXT: &str = "1";
 
-/// The number `USUAL_EVENTS` as a text.
-pub const USUAL_EVENTS_TEXT: &str = "10000000";
+const USUAL_EVENTS_TEXT: &str = "10000000";
 
-/// The number `MOST_EVENTS` as a text.
-pub const MOST_EVENTS_TEXT: &str = "1000000000";
+const MOST_EVENTS_TEXT: &str = "1000000000";
+
+const LIMIT_HELP: &str = "The most events, 1 to 1000000000";
+
+const PLAY_LIMIT_HELP: &str =
+    "The most events from one line that is typed to the next, 1 to 1000000000";
 
 // Names that other arguments name too.
 const SOURCE_NAME: &str = "SOURCE";
@@ -132,13 +135,13 @@ pub const ANSWERS: Argument = Argument {
 
 pub const LIMIT: Argument = Argument {
     name: "limit",
-    help: "The most events, 1 to 1000000000",
+    help: LIMIT_HELP,
     form: Form::EventsOr(USUAL_EVENTS_TEXT),
 };
 
 pub const PLAY_LIMIT: Argument = Argument {
     name: "limit",
-    help: "The most events from one line that is typed to the next, 1 to 1000000000",
+    help: PLAY_LIMIT_HELP,
     form: Form::EventsOr(MOST_EVENTS_TEXT),
 };
 

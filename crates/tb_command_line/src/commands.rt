@@ -1,4 +1,7 @@
 //! The commands, and their table: the one place that says what each is called, how it helps and what it takes.
+ghost use Rattle.std.specs.Prelude.{◌≡◌};
+ghost use Rattle.tb_command_line.specs.Table.{NamesEach, command_of};
+
 use crate::arguments::{
     ANSWERS, AT, Argument, DISK_OUT, KEY_FILE, KEYS, LABELS, LIMIT, LIST, MAP, OUT, PAGE,
     PLAY_LIMIT, PRG, PRG_FILE, PRG_FILES, RECORD, RUDE, SEED, SOURCE, SOURCE_OR_PRG, SOURCES, TEXT,
@@ -32,8 +35,14 @@ pub struct CommandRow {
     pub arguments: &'static [Argument],
 }
 
-/// The commands, in the order of the help text. Each has one row.
-pub static COMMANDS: [CommandRow; 10] = [
+/// The rows of the commands, in the order of the help text.
+pub fn rows() -> &'static [CommandRow]
+    ensures { NamesEach result.now }
+{
+    &COMMANDS
+}
+
+static COMMANDS: [CommandRow; 10] = [
     CommandRow {
         command: CommandName::Build,
         name: "build",
@@ -115,12 +124,11 @@ pub static COMMANDS: [CommandRow; 10] = [
     },
 ];
 
-impl CommandName {
-    /// The command of this name.
-    pub fn from_name(name: &str) -> Option<CommandName> {
-        COMMANDS
-            .iter()
-            .find(|row| row.name == name)
-            .map(|row| row.command)
-    }
+/// The command of this name, if one of these rows has it.
+pub fn command_named(rows: &[CommandRow], name: &str) -> Option<CommandName>
+    ensures { result ≡ command_of rows.now name.now }
+{
+    rows.iter()
+        .find(|row| row.name == name)
+        .map(|row| row.command)
 }

@@ -1,6 +1,6 @@
 //! The table of the commands as a parser of `clap`.
 use crate::arguments::{Argument, Form};
-use crate::commands::{COMMANDS, CommandRow};
+use crate::commands::{CommandRow, rows};
 use clap::{Arg, Command, value_parser};
 use std::alloc::{AllocError, Global};
 use tb_jobs::MOST_EVENTS;
@@ -16,7 +16,7 @@ pub fn parser<'a>(alloc: Global) -> Result<Command<'a>, AllocError> {
         .bin_name("tbc")?
         .disable_help_subcommand(true)
         .subcommand_required(true);
-    for row in &COMMANDS {
+    for row in rows() {
         parser = with_subcommand(parser, subcommand(alloc, row))?;
     }
     Ok(parser)

@@ -5,7 +5,7 @@ ghost use Rattle.tb_jobs.specs.Limits.{IsWithinLimit};
 use crate::arguments::{
     AT, DISK_OUT, OUT, PAGE, PLAY_LIMIT, PRG_FILE, PRG_FILES, RECORD, SOURCE, SOURCES, TEXT,
 };
-use crate::commands::CommandName;
+use crate::commands::{CommandName, command_named, rows};
 use crate::parser::parser;
 use crate::values::{
     extras_of, limit_of, optional_text, rude_of, runnable_of, seed_of, settings_of, text, texts,
@@ -13,10 +13,11 @@ use crate::values::{
 use clap::ArgMatches;
 use clap::error::ErrorKind;
 use std::alloc::{AllocError, Global};
+use std::convert::AsStr;
 use tb_jobs::{Job, JobError, Limit};
 
 /// Reads the words after the program's own name.
-pub fn job(alloc: Global, words: &[&str]) -> Result<Job, JobError>
+pub fn job<S: AsStr>(alloc: Global, words: &[S]) -> Result<Job, JobError>
     ensures { IfOk result IsWithinLimit }
 {
     match parser(alloc)?.try_get_matches_from(words) {
@@ -32,7 +33,7 @@ fn with_matches(alloc: Global, matches: &ArgMatches<'_>) -> Result<Job, JobError
     let Some((name, found)) = matches.subcommand() else {
         return Err(JobError::Words(String::new(alloc)));
     };
-    let Some(command) = CommandName::from_name(name) else {
+    let Some(command) = command_named(rows(), name) else {
         return Err(JobError::Words(String::new(alloc)));
     };
     Ok(job_of(alloc, command, found)?)
