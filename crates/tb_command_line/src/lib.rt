@@ -1,6 +1,10 @@
 //! The command line of `tbc`: its words become a job.
 #![tactic(auto)]
 
+mod arguments;
+mod commands;
+mod parser;
+mod values;
 mod words;
 
 pub use tb_jobs::{BuildExtras, Failure, Job, JobError, Limit, Runnable, Settings, Typed};

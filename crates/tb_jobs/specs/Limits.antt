@@ -1,14 +1,15 @@
 -- What every job that the command line gives keeps.
 use Rattle.std.specs.Prelude.{◌≤◌, ⊤}
+use Rattle.tb_jobs.specs.declared.jobs.TheConstants.{MOST_EVENTS}
 use Rattle.tb_jobs.specs.declared.jobs.Limit.{Limit}
 use Rattle.tb_jobs.specs.declared.jobs.Job.{Job}
 use Rattle.tb_jobs.specs.declared.jobs.Job.TheVariants.{Build, Run, Play, Asm, Dis, Step, Debug, Profile, Disk, Check, Show}
 
--- a limit of 1 to 1,000,000,000 events
+-- a limit of 1 to MOST_EVENTS events
 abbrev pub IsWithin : Limit → Type 0
-IsWithin limit = (1 ≤ limit.events) × (limit.events ≤ 1000000000)
+IsWithin limit = (1 ≤ limit.events) × (limit.events ≤ MOST_EVENTS)
 
--- a run takes 1 to 1,000,000,000 events
+-- a run takes 1 to MOST_EVENTS events
 abbrev pub IsWithinLimit : Job → Type 0
 IsWithinLimit (Build source out seed beside) = ⊤
 IsWithinLimit (Run what settings rude) = IsWithin settings.limit

@@ -1,5 +1,6 @@
 -- The exit statuses where no engine is called.
 use Rattle.std.specs.Prelude.{ℕ}
+use Rattle.tb_streams.specs.declared.status.TheConstants.{BAD_WORDS, FAULT, NO_MEMORY}
 use Rattle.tb_jobs.specs.declared.failure.Failure.{Failure}
 use Rattle.tb_jobs.specs.declared.failure.Failure.TheVariants.{Words, NotUtf8, BadKeys, BadAddress, SameFile, ReadFault, NoMemory}
 use Rattle.tb_jobs.specs.declared.jobs.JobError.{JobError}
@@ -12,10 +13,10 @@ failure_of NoJobMemory = NoMemory
 
 -- the exit status by why no engine is called
 abbrev pub status_of : Failure → ℕ
-status_of (Words text) = 2
-status_of NotUtf8 = 2
-status_of BadKeys = 2
-status_of BadAddress = 2
-status_of SameFile = 2
-status_of ReadFault = 3
-status_of NoMemory = 4
+status_of (Words text) = BAD_WORDS
+status_of NotUtf8 = BAD_WORDS
+status_of BadKeys = BAD_WORDS
+status_of BadAddress = BAD_WORDS
+status_of SameFile = BAD_WORDS
+status_of ReadFault = FAULT
+status_of NoMemory = NO_MEMORY

@@ -5,6 +5,7 @@ ghost use Rattle.tb_jobs.specs.Statuses.{status_of};
 use crate::jobs::JobError;
 use std::alloc::AllocError;
 use std::fmt;
+use tb_streams::status;
 
 /// What is wrong with the words, or that memory is wanting.
 #[derive(Debug, Drop)]
@@ -31,9 +32,13 @@ impl Failure {
         ensures { result ≡ status_of self.now }
     {
         match self {
-            Failure::ReadFault => 3,
-            Failure::NoMemory => 4,
-            _ => 2,
+            Failure::Words(_)
+            | Failure::NotUtf8
+            | Failure::BadKeys
+            | Failure::BadAddress
+            | Failure::SameFile => status::BAD_WORDS,
+            Failure::ReadFault => status::FAULT,
+            Failure::NoMemory => status::NO_MEMORY,
         }
     }
 }

@@ -1,30 +1,39 @@
 //! What the words of the command line ask for.
 ghost use Rattle.std.specs.Prelude.{◌≡◌, ◌≤◌, ◌↔◌, IsSome, IfSome};
+ghost use Rattle.tb_jobs.specs.declared.jobs.TheConstants.{MOST_EVENTS, USUAL_EVENTS};
 
 use std::alloc::AllocError;
 
 /// The most events that a run may be given.
 pub const MOST_EVENTS: u32 = 1_000_000_000;
 
+/// How many events a run may take if the words don't say.
+pub const USUAL_EVENTS: u32 = 10_000_000;
+
+/// The first state of RND if the words don't say.
+pub const USUAL_SEED: u16 = 1;
+
 /// How many events a run may take: 1 to `MOST_EVENTS`.
 #[derive(Clone, Copy, Debug, PartialEq, Eq)]
 pub struct Limit {
     pub events: u32,
     ghost at_least_one: { 1 ≤ events },
-    ghost at_most: { events ≤ 1000000000 },
+    ghost at_most: { events ≤ MOST_EVENTS },
 }
 
 impl Limit {
     /// What a run may take where the words don't say.
     pub fn default_limit() -> Limit
-        ensures { result.events ≡ 10000000 }
+        ensures { result.events ≡ USUAL_EVENTS }
     {
-        Limit { events: 10_000_000 }
+        Limit {
+            events: USUAL_EVENTS,
+        }
     }
 
     /// What a program that is played may take where the words don't say.
     pub fn most() -> Limit
-        ensures { result.events ≡ 1000000000 }
+        ensures { result.events ≡ MOST_EVENTS }
     {
         Limit {
             events: MOST_EVENTS,
@@ -33,7 +42,7 @@ impl Limit {
 
     /// A limit of so many events.
     pub fn new(events: u32) -> Option<Limit>
-        ensures found { IsSome result ↔ ((1 ≤ events) × (events ≤ 1000000000)) }
+        ensures found { IsSome result ↔ ((1 ≤ events) × (events ≤ MOST_EVENTS)) }
         ensures value { IfSome result (λ limit. limit.events ≡ events) }
     {
         if 1 <= events && events <= MOST_EVENTS {

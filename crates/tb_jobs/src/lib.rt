@@ -5,4 +5,7 @@ mod failure;
 mod jobs;
 
 pub use failure::Failure;
-pub use jobs::{BuildExtras, Job, JobError, Limit, MOST_EVENTS, Runnable, Settings, Typed};
+pub use jobs::{
+    BuildExtras, Job, JobError, Limit, MOST_EVENTS, Runnable, Settings, Typed, USUAL_EVENTS,
+    USUAL_SEED,
+};

@@ -1,11 +1,12 @@
-//! What meets the host: readers and writers whose failures are counted, whole inputs and outputs, lines, key lists, and
-//! the text in which sent bytes are shown.
+//! What meets the host: readers and writers whose failures are counted, whole inputs and outputs, lines, key lists, the
+//! text in which sent bytes are shown, and exit statuses.
 #![tactic(auto)]
 
 mod key_files;
 mod keys;
 mod lines;
 mod screen;
+pub mod status;
 mod stream;
 mod tracked;
 

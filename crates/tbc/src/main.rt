@@ -18,23 +18,17 @@ use std::rt::{Env, Files};
 use std::{env, io};
 use tb_command_line::{Failure, Job, job};
 
-// All words, the program's own name the first of them.
+// The words after the program's own name.
 fn words<R: Env + AllocGlobal>(rt: &R) -> Result<Vec<String>, Failure> {
     match env::args(rt) {
-        Ok(args) => Ok(args.collect(rt.alloc())?),
+        Ok(args) => Ok(args.skip(1).collect(rt.alloc())?),
         Err(error) if error.kind() == io::ErrorKind::OutOfMemory => Err(Failure::NoMemory),
         Err(_) => Err(Failure::NotUtf8),
     }
 }
 
 fn job_of_words<R: Env + AllocGlobal>(rt: &R) -> Result<Job, Failure> {
-    let words = words(rt)?;
-    let words: Vec<&str> = words
-        .iter()
-        .skip(1)
-        .map(|word| word.as_str())
-        .collect(rt.alloc())?;
-    Ok(job(rt.alloc(), words.as_slice())?)
+    Ok(job(rt.alloc(), words(rt)?.as_slice())?)
 }
 
 fn start<R: Files + Env + Print + Eprint + Input + AllocGlobal>(

@@ -1,0 +1,30 @@
+-- The texts that say numbers say those of tb_jobs, by computing.
+use Rattle.std.proofs.Common.{◌≡◌, ◌++◌, codes, refl}
+use Rattle.std.specs.Fmt.{decimal, digits}
+use Rattle.tb_jobs.specs.declared.jobs.TheConstants.{MOST_EVENTS, USUAL_EVENTS, USUAL_SEED}
+use Rattle.tb_command_line.specs.declared.arguments.TheConstants.{LIMIT_HELP, PLAY_LIMIT_HELP, MOST_EVENTS_TEXT, USUAL_EVENTS_TEXT, USUAL_SEED_TEXT}
+
+-- the usual seed
+pub seed_said : USUAL_SEED_TEXT.now ≡ decimal USUAL_SEED
+unfolding digits
+seed_said = refl
+
+-- the usual limit
+pub usual_said : USUAL_EVENTS_TEXT.now ≡ decimal USUAL_EVENTS
+unfolding digits
+usual_said = refl
+
+-- the greatest limit
+pub most_said : MOST_EVENTS_TEXT.now ≡ decimal MOST_EVENTS
+unfolding digits
+most_said = refl
+
+-- the help of a limit ends with the greatest
+pub limit_said : LIMIT_HELP.now ≡ (codes "The most events, 1 to " ++ decimal MOST_EVENTS)
+unfolding digits
+limit_said = refl
+
+-- so does that of a limit for each line
+pub play_limit_said : PLAY_LIMIT_HELP.now ≡ (codes "The most events from one line that is typed to the next, 1 to " ++ decimal MOST_EVENTS)
+unfolding digits
+play_limit_said = refl

@@ -1,0 +1,16 @@
+-- Each command is found by its name, by computing. A command that no row has, or a name that an earlier row has, is refused here.
+use Rattle.std.proofs.Common.{codes, refl}
+use Rattle.tb_command_line.specs.declared.commands.CommandName.TheVariants.{Build, Run, Play, Asm, Dis, Step, Debug, Profile, Disk, Check}
+use Rattle.tb_command_line.proofs.commands.rows.Goals as goal
+
+pub returns : goal.returns
+returns c Build = (codes "build", refl)
+returns c Run = (codes "run", refl)
+returns c Play = (codes "play", refl)
+returns c Asm = (codes "asm", refl)
+returns c Dis = (codes "dis", refl)
+returns c Step = (codes "step", refl)
+returns c Debug = (codes "debug", refl)
+returns c Profile = (codes "profile", refl)
+returns c Disk = (codes "disk", refl)
+returns c Check = (codes "check", refl)

@@ -1,0 +1,188 @@
+//! The arguments of the commands: what each is called, how it helps and what it takes.
+
+/// An argument of a command.
+#[derive(Clone, Copy)]
+pub struct Argument {
+    /// The word of a file in the usage line, as `SOURCE`, or an option without its dashes, as `seed`. A command has each
+    /// of them once.
+    pub name: &'static str,
+    /// The text that helps.
+    pub help: &'static str,
+    pub form: Form,
+}
+
+/// How an argument is written, and what it takes.
+#[derive(Clone, Copy)]
+pub enum Form {
+    /// A file that is named by its place, and must be.
+    File,
+    /// One file or more, named by their places.
+    Files,
+    /// A file that is named by its place, and must be unless the option of this name is there.
+    FileUnless(&'static str),
+    /// An option that names a file.
+    FileOption,
+    /// An option that names a file, and excludes the argument of this name.
+    FileInPlaceOf(&'static str),
+    /// An option of hexadecimal digits, none if it is missing.
+    Digits,
+    /// An option of hexadecimal digits that must be there.
+    Address,
+    /// An option of a number, 0 to 65535.
+    Number,
+    /// An option of a number, 0 to 65535, and this one if it is missing.
+    NumberOr(&'static str),
+    /// An option of a number of events, 1 to `MOST_EVENTS`, and this one if it is missing.
+    EventsOr(&'static str),
+}
+
+// The numbers of tb_jobs as texts. That they agree is proved in proofs/Numbers.
+const USUAL_SEED_TEXT: &str = "1";
+
+const USUAL_EVENTS_TEXT: &str = "10000000";
+
+const MOST_EVENTS_TEXT: &str = "1000000000";
+
+const LIMIT_HELP: &str = "The most events, 1 to 1000000000";
+
+const PLAY_LIMIT_HELP: &str =
+    "The most events from one line that is typed to the next, 1 to 1000000000";
+
+// Names that other arguments name too.
+const SOURCE_NAME: &str = "SOURCE";
+
+const PRG_NAME: &str = "prg";
+
+const KEYS_NAME: &str = "keys";
+
+pub const SOURCE: Argument = Argument {
+    name: SOURCE_NAME,
+    help: "The source file",
+    form: Form::File,
+};
+
+pub const SOURCE_OR_PRG: Argument = Argument {
+    name: SOURCE_NAME,
+    help: "The source file",
+    form: Form::FileUnless(PRG_NAME),
+};
+
+pub const SOURCES: Argument = Argument {
+    name: SOURCE_NAME,
+    help: "The source files",
+    form: Form::Files,
+};
+
+pub const TEXT: Argument = Argument {
+    name: "IN",
+    help: "The assembler text",
+    form: Form::File,
+};
+
+pub const PRG_FILE: Argument = Argument {
+    name: "FILE",
+    help: "The PRG file",
+    form: Form::File,
+};
+
+pub const PRG_FILES: Argument = Argument {
+    name: "FILE",
+    help: "The PRG files, in order",
+    form: Form::Files,
+};
+
+pub const OUT: Argument = Argument {
+    name: "OUT",
+    help: "The PRG file that is written",
+    form: Form::File,
+};
+
+pub const DISK_OUT: Argument = Argument {
+    name: "OUT",
+    help: "The disk image that is written, a D64 file",
+    form: Form::File,
+};
+
+pub const PRG: Argument = Argument {
+    name: PRG_NAME,
+    help: "Run this PRG file in place of a source",
+    form: Form::FileInPlaceOf(SOURCE_NAME),
+};
+
+pub const SEED: Argument = Argument {
+    name: "seed",
+    help: "The first state of RND, 0 to 65535",
+    form: Form::NumberOr(USUAL_SEED_TEXT),
+};
+
+pub const KEYS: Argument = Argument {
+    name: KEYS_NAME,
+    help: "What is typed, as pairs of hexadecimal digits: 350d is a 5 and return",
+    form: Form::Digits,
+};
+
+pub const KEY_FILE: Argument = Argument {
+    name: "keys-file",
+    help: "A file of what is typed, as pairs of hexadecimal digits",
+    form: Form::FileInPlaceOf(KEYS_NAME),
+};
+
+pub const ANSWERS: Argument = Argument {
+    name: "answers",
+    help: "What each poll of the keyboard gives, as pairs of digits: 00 is no key, 03 is STOP",
+    form: Form::Digits,
+};
+
+pub const LIMIT: Argument = Argument {
+    name: "limit",
+    help: LIMIT_HELP,
+    form: Form::EventsOr(USUAL_EVENTS_TEXT),
+};
+
+pub const PLAY_LIMIT: Argument = Argument {
+    name: "limit",
+    help: PLAY_LIMIT_HELP,
+    form: Form::EventsOr(MOST_EVENTS_TEXT),
+};
+
+pub const RUDE: Argument = Argument {
+    name: "rude",
+    help: "Let the ROM write and clobber all that it may, by this seed [0 to 65535]",
+    form: Form::Number,
+};
+
+pub const AT: Argument = Argument {
+    name: "at",
+    help: "The address of the first byte, four hexadecimal digits",
+    form: Form::Address,
+};
+
+pub const LABELS: Argument = Argument {
+    name: "labels",
+    help: "Write a label file for VICE's monitor",
+    form: Form::FileOption,
+};
+
+pub const LIST: Argument = Argument {
+    name: "list",
+    help: "Write a listing, which assembles to the same bytes",
+    form: Form::FileOption,
+};
+
+pub const MAP: Argument = Argument {
+    name: "map",
+    help: "Write a map: what each line takes and costs",
+    form: Form::FileOption,
+};
+
+pub const RECORD: Argument = Argument {
+    name: "record",
+    help: "Write all that was typed to this file at the end, for run --keys-file",
+    form: Form::FileOption,
+};
+
+pub const PAGE: Argument = Argument {
+    name: "html",
+    help: "Write a page with the same figures to this file too",
+    form: Form::FileOption,
+};

@@ -1,0 +1,134 @@
+//! The commands, and their table: the one place that says what each is called, how it helps and what it takes.
+ghost use Rattle.std.specs.Prelude.{◌≡◌};
+ghost use Rattle.tb_command_line.specs.Table.{NamesEach, command_of};
+
+use crate::arguments::{
+    ANSWERS, AT, Argument, DISK_OUT, KEY_FILE, KEYS, LABELS, LIMIT, LIST, MAP, OUT, PAGE,
+    PLAY_LIMIT, PRG, PRG_FILE, PRG_FILES, RECORD, RUDE, SEED, SOURCE, SOURCE_OR_PRG, SOURCES, TEXT,
+};
+
+/// A command of `tbc`.
+#[derive(Clone, Copy)]
+pub enum CommandName {
+    Build,
+    Run,
+    Play,
+    Asm,
+    Dis,
+    Step,
+    Debug,
+    Profile,
+    Disk,
+    Check,
+}
+
+/// What the command line says of a command.
+pub struct CommandRow {
+    pub command: CommandName,
+    /// What it is called. No two commands share a name.
+    pub name: &'static str,
+    /// The line that helps.
+    pub help: &'static str,
+    /// How it is called, if its arguments don't say it all.
+    pub usage: Option<&'static str>,
+    /// Its arguments, in the order of the help text.
+    pub arguments: &'static [Argument],
+}
+
+/// The rows of the commands, in the order of the help text.
+pub fn rows() -> &'static [CommandRow]
+    ensures { NamesEach result.now }
+{
+    &COMMANDS
+}
+
+static COMMANDS: [CommandRow; 10] = [
+    CommandRow {
+        command: CommandName::Build,
+        name: "build",
+        help: "Compile a Tiny BASIC source to a PRG file",
+        usage: None,
+        arguments: &[SOURCE, OUT, SEED, LABELS, LIST, MAP],
+    },
+    CommandRow {
+        command: CommandName::Run,
+        name: "run",
+        help: "Run a source or a PRG file, and show what it sends",
+        usage: Some("tbc run [OPTIONS] <SOURCE>\n       tbc run [OPTIONS] --prg <FILE>"),
+        arguments: &[
+            SOURCE_OR_PRG,
+            PRG,
+            SEED,
+            KEYS,
+            KEY_FILE,
+            ANSWERS,
+            LIMIT,
+            RUDE,
+        ],
+    },
+    CommandRow {
+        command: CommandName::Play,
+        name: "play",
+        help: "Play a source or a PRG file: what you type is its keyboard",
+        usage: Some("tbc play [OPTIONS] <SOURCE>\n       tbc play [OPTIONS] --prg <FILE>"),
+        arguments: &[SOURCE_OR_PRG, PRG, SEED, PLAY_LIMIT, RECORD],
+    },
+    CommandRow {
+        command: CommandName::Asm,
+        name: "asm",
+        help: "Assemble a text to a PRG file",
+        usage: None,
+        arguments: &[TEXT, OUT, AT],
+    },
+    CommandRow {
+        command: CommandName::Dis,
+        name: "dis",
+        help: "List a PRG file as assembler text",
+        usage: None,
+        arguments: &[PRG_FILE],
+    },
+    CommandRow {
+        command: CommandName::Step,
+        name: "step",
+        help: "Step through a source by commands from standard input",
+        usage: None,
+        arguments: &[SOURCE, SEED, KEYS, KEY_FILE, ANSWERS, LIMIT],
+    },
+    CommandRow {
+        command: CommandName::Debug,
+        name: "debug",
+        help: "Debug a source forth and back by commands from standard input; h lists them",
+        usage: None,
+        arguments: &[SOURCE, SEED, KEYS, KEY_FILE, ANSWERS, LIMIT, RUDE],
+    },
+    CommandRow {
+        command: CommandName::Profile,
+        name: "profile",
+        help: "Run a source, and show what each of its lines took",
+        usage: None,
+        arguments: &[SOURCE, SEED, KEYS, KEY_FILE, ANSWERS, LIMIT, RUDE, PAGE],
+    },
+    CommandRow {
+        command: CommandName::Disk,
+        name: "disk",
+        help: "Make a disk image of PRG files",
+        usage: None,
+        arguments: &[DISK_OUT, PRG_FILES],
+    },
+    CommandRow {
+        command: CommandName::Check,
+        name: "check",
+        help: "Show everything that is wrong with sources, and what helps",
+        usage: None,
+        arguments: &[SOURCES],
+    },
+];
+
+/// The command of this name, if one of these rows has it.
+pub fn command_named(rows: &[CommandRow], name: &str) -> Option<CommandName>
+    ensures { result ≡ command_of rows.now name.now }
+{
+    rows.iter()
+        .find(|row| row.name == name)
+        .map(|row| row.command)
+}

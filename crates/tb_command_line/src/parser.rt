@@ -1,0 +1,85 @@
+//! The table of the commands as a parser of `clap`.
+use crate::arguments::{Argument, Form};
+use crate::commands::{CommandRow, rows};
+use clap::{Arg, Command, value_parser};
+use std::alloc::{AllocError, Global};
+use tb_jobs::MOST_EVENTS;
+
+/// The parser of all words after the program's own name.
+pub fn parser<'a>(alloc: Global) -> Result<Command<'a>, AllocError> {
+    let mut parser = Command::new(alloc, "tbc")
+        .about(
+            "Compiles Tiny BASIC for the Commodore 64, assembles, lists, runs, plays, steps, debugs, profiles and checks",
+        )
+        .version("1.0.0")
+        .no_binary_name(true)
+        .bin_name("tbc")?
+        .disable_help_subcommand(true)
+        .subcommand_required(true);
+    for row in rows() {
+        parser = with_subcommand(parser, subcommand(alloc, row))?;
+    }
+    Ok(parser)
+}
+
+// (what is held and what can fail stand apart, which the prover is glad of: a command and an argument are large)
+fn with_subcommand<'a>(
+    parser: Command<'a>,
+    subcommand: Result<Command<'a>, AllocError>,
+) -> Result<Command<'a>, AllocError> {
+    parser.subcommand(subcommand?)
+}
+
+fn subcommand<'a>(alloc: Global, row: &CommandRow) -> Result<Command<'a>, AllocError> {
+    let command = Command::new(alloc, row.name).about(row.help);
+    let mut command = match row.usage {
+        Some(usage) => command.override_usage(usage),
+        None => command,
+    };
+    for argument in row.arguments {
+        command = with_argument(command, clap_argument(alloc, argument))?;
+    }
+    Ok(command)
+}
+
+fn with_argument<'a>(
+    command: Command<'a>,
+    argument: Result<Arg<'a>, AllocError>,
+) -> Result<Command<'a>, AllocError> {
+    command.arg(argument?)
+}
+
+fn clap_argument<'a>(alloc: Global, argument: &Argument) -> Result<Arg<'a>, AllocError> {
+    let plain = Arg::new(alloc, argument.name).help(argument.help);
+    match argument.form {
+        Form::File => Ok(plain.required(true)),
+        Form::Files => Ok(plain.required(true).num_args(1..)),
+        Form::FileUnless(option) => plain.required_unless_present(option),
+        Form::FileInPlaceOf(excluded) => option(plain, argument, "FILE").conflicts_with(excluded),
+        Form::FileOption => Ok(option(plain, argument, "FILE")),
+        Form::Digits => Ok(digits_option(plain, argument)),
+        Form::Address => Ok(option(plain, argument, "HEX").required(true)),
+        Form::Number => Ok(number_option(plain, argument)),
+        Form::NumberOr(usual) => Ok(number_option(plain, argument).default_value(usual)),
+        Form::EventsOr(usual) => Ok(events_option(plain, argument).default_value(usual)),
+    }
+}
+
+// An option with a value of this name.
+fn option<'a>(plain: Arg<'a>, argument: &Argument, value: &'a str) -> Arg<'a> {
+    plain.long(argument.name).value_name(value)
+}
+
+fn digits_option<'a>(plain: Arg<'a>, argument: &Argument) -> Arg<'a> {
+    option(plain, argument, "HEX")
+        .default_value("")
+        .hide_default_value(true)
+}
+
+fn number_option<'a>(plain: Arg<'a>, argument: &Argument) -> Arg<'a> {
+    option(plain, argument, "N").value_parser(value_parser!(u16))
+}
+
+fn events_option<'a>(plain: Arg<'a>, argument: &Argument) -> Arg<'a> {
+    option(plain, argument, "N").value_parser(value_parser!(u32).range(1..=i64::from(MOST_EVENTS)))
+}

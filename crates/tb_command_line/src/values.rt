@@ -1,0 +1,93 @@
+//! The values of arguments that the parser found.
+use crate::arguments::{
+    ANSWERS, Argument, KEY_FILE, KEYS, LABELS, LIMIT, LIST, MAP, PRG, RUDE, SEED, SOURCE_OR_PRG,
+};
+use clap::ArgMatches;
+use std::alloc::{AllocError, Global};
+use tb_jobs::{BuildExtras, Limit, Runnable, Settings, Typed, USUAL_SEED};
+
+/// A copy of the text of an argument, or an empty one if the parser let it be missing.
+pub fn text(
+    alloc: Global,
+    found: &ArgMatches<'_>,
+    argument: &Argument,
+) -> Result<String, AllocError> {
+    String::from_str(alloc, found.get_str(argument.name).unwrap_or(""))
+}
+
+/// A copy of the text of an argument, if it is there.
+pub fn optional_text(
+    alloc: Global,
+    found: &ArgMatches<'_>,
+    argument: &Argument,
+) -> Result<Option<String>, AllocError> {
+    Ok(match found.get_str(argument.name) {
+        Some(text) => Some(String::from_str(alloc, text)?),
+        None => None,
+    })
+}
+
+/// Copies of the texts of an argument that may have several.
+pub fn texts(
+    alloc: Global,
+    found: &ArgMatches<'_>,
+    argument: &Argument,
+) -> Result<Vec<String>, AllocError> {
+    let mut texts = Vec::new(alloc);
+    for text in found.get_strs(argument.name).unwrap_or(&[]) {
+        texts.push(String::from_str(alloc, text)?)?;
+    }
+    Ok(texts)
+}
+
+/// The first state of RND.
+pub fn seed_of(found: &ArgMatches<'_>) -> u16 {
+    found.get_one::<u16>(SEED.name).unwrap_or(USUAL_SEED)
+}
+
+/// The seed of rude events, if they are wanted.
+pub fn rude_of(found: &ArgMatches<'_>) -> Option<u16> {
+    found.get_one::<u16>(RUDE.name)
+}
+
+/// How many events a run may take.
+pub fn limit_of(found: &ArgMatches<'_>, argument: &Argument, usual: Limit) -> Limit {
+    found
+        .get_one::<u32>(argument.name)
+        .and_then(Limit::new)
+        .unwrap_or(usual)
+}
+
+/// How a program is run.
+pub fn settings_of(alloc: Global, found: &ArgMatches<'_>) -> Result<Settings, AllocError> {
+    Ok(Settings {
+        seed: seed_of(found),
+        keys: typed_of(alloc, found)?,
+        answers: text(alloc, found, &ANSWERS)?,
+        limit: limit_of(found, &LIMIT, Limit::default_limit()),
+    })
+}
+
+fn typed_of(alloc: Global, found: &ArgMatches<'_>) -> Result<Typed, AllocError> {
+    Ok(match optional_text(alloc, found, &KEY_FILE)? {
+        Some(file) => Typed::File(file),
+        None => Typed::Digits(text(alloc, found, &KEYS)?),
+    })
+}
+
+/// What is run.
+pub fn runnable_of(alloc: Global, found: &ArgMatches<'_>) -> Result<Runnable, AllocError> {
+    Ok(match optional_text(alloc, found, &PRG)? {
+        Some(prg) => Runnable::Prg(prg),
+        None => Runnable::Source(text(alloc, found, &SOURCE_OR_PRG)?),
+    })
+}
+
+/// The files that are written beside a PRG file.
+pub fn extras_of(alloc: Global, found: &ArgMatches<'_>) -> Result<BuildExtras, AllocError> {
+    Ok(BuildExtras {
+        labels: optional_text(alloc, found, &LABELS)?,
+        listing: optional_text(alloc, found, &LIST)?,
+        map: optional_text(alloc, found, &MAP)?,
+    })
+}
