@@ -1,5 +1,6 @@
 //! Answers, and the lines that show them.
-ghost use Rattle.std.specs.Prelude.{◌≡◌, ◌++◌, ◌∷◌, [], OnOk};
+ghost use Rattle.std.specs.Prelude.{◌++◌, ◌∷◌, []};
+ghost use Rattle.tb_words.specs.Texts.{AppendsBytes};
 ghost use Rattle.tb_commands.specs.Answers.{text_of};
 
 use std::alloc::{AllocError, Global};
@@ -37,7 +38,7 @@ pub enum Answer {
 impl Answer {
     /// Appends the answer's line, ended by 10.
     pub fn push_line(self, alloc: Global, text: &mut Vec<u8>) -> Result<(), AllocError>
-        ensures { OnOk result (text.new.items ≡ text.old.items ++ (text_of self ++ 10 ∷ [])) }
+        ensures { AppendsBytes result text.old text.new (text_of self ++ 10 ∷ []) }
     {
         self.push_text(alloc, text)?;
         text.push(b'\n')?;
@@ -46,7 +47,7 @@ impl Answer {
 
     // Appends the answer's text.
     fn push_text(self, alloc: Global, text: &mut Vec<u8>) -> Result<(), AllocError>
-        ensures { OnOk result (text.new.items ≡ text.old.items ++ text_of self) }
+        ensures { AppendsBytes result text.old text.new (text_of self) }
     {
         match self {
             Answer::Registers { regs, line, status } => {

@@ -1,5 +1,6 @@
 //! Lines of a source, as they are shown.
-ghost use Rattle.std.specs.Prelude.{◌≡◌, ◌+◌, ◌^◌, ◌++◌, ◌<◌, drop, length, map, take, OnOk};
+ghost use Rattle.std.specs.Prelude.{◌≡◌, ◌+◌, ◌^◌, ◌<◌, drop, length, map, take};
+ghost use Rattle.tb_words.specs.Texts.{AppendsBytes};
 ghost use Rattle.tb_source_text.specs.Lines.{pair_of};
 ghost use Rattle.tb_debug_engine.specs.Lists.{index_from, index_of, list_text, marked, written};
 
@@ -15,7 +16,7 @@ pub fn push_written(
     lines: &[Numbered<'_>],
     number: u16,
 ) -> Result<(), AllocError>
-    ensures { OnOk result (text.new.items ≡ text.old.items ++ written (map pair_of lines.now) number) }
+    ensures { AppendsBytes result text.old text.new (written (map pair_of lines.now) number) }
 {
     push_shown(text, text_of(lines, number))?;
     text.push(b'\n')?;
@@ -76,7 +77,7 @@ fn push_marked(
     here: Option<u16>,
     number: u16,
 ) -> Result<(), AllocError>
-    ensures { OnOk result (text.new.items ≡ text.old.items ++ marked (map pair_of lines.now) here number) }
+    ensures { AppendsBytes result text.old text.new (marked (map pair_of lines.now) here number) }
 {
     match here {
         Some(line) if number == line => text.extend_from_slice(b"* ")?,
@@ -93,7 +94,7 @@ pub fn push_list(
     around: Option<u16>,
     here: Option<u16>,
 ) -> Result<(), AllocError>
-    ensures { OnOk result (text.new.items ≡ text.old.items ++ list_text (map pair_of lines.now) numbers.now around here) }
+    ensures { AppendsBytes result text.old text.new (list_text (map pair_of lines.now) numbers.now around here) }
 {
     let index = index_of(numbers, around);
     let from = index.saturating_sub(AROUND);

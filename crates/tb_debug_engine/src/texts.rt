@@ -1,5 +1,6 @@
 //! The texts of answers.
-ghost use Rattle.std.specs.Prelude.{◌≡◌, ◌+◌, ◌^◌, ◌++◌, ◌<◌, flat_map, length, map, min, true, IfOk, OnOk};
+ghost use Rattle.std.specs.Prelude.{◌≡◌, ◌+◌, ◌^◌, ◌<◌, flat_map, length, map, min, true, IfOk};
+ghost use Rattle.tb_words.specs.Texts.{AppendsBytes};
 ghost use Rattle.tb_source_text.specs.Lines.{pair_of};
 ghost use Rattle.tb_inspection.specs.Texts.{registers_text, value_text};
 ghost use Rattle.tb_debug_engine.specs.Lists.{written};
@@ -58,7 +59,7 @@ q          end
 
 // Appends a text in a line of its own.
 fn push_line(text: &mut Vec<u8>, shown: &[u8]) -> Result<(), AllocError>
-    ensures { OnOk result (text.new.items ≡ text.old.items ++ texts.line shown.now) }
+    ensures { AppendsBytes result text.old text.new (texts.line shown.now) }
 {
     text.extend_from_slice(shown)?;
     text.push(b'\n')?;
@@ -67,7 +68,7 @@ fn push_line(text: &mut Vec<u8>, shown: &[u8]) -> Result<(), AllocError>
 
 // Appends the value of an expression, or why it has none, in a line of its own.
 fn push_value_line(text: &mut Vec<u8>, value: Value) -> Result<(), AllocError>
-    ensures { OnOk result (text.new.items ≡ text.old.items ++ texts.line (value_text value)) }
+    ensures { AppendsBytes result text.old text.new (texts.line (value_text value)) }
 {
     push_value(text, value)?;
     text.push(b'\n')?;
@@ -82,7 +83,7 @@ fn push_registers_line(
     line: Option<u16>,
     status: Status,
 ) -> Result<(), AllocError>
-    ensures { OnOk result (text.new.items ≡ text.old.items ++ texts.line (registers_text regs line status)) }
+    ensures { AppendsBytes result text.old text.new (texts.line (registers_text regs line status)) }
 {
     push_registers(alloc, text, regs, line, status)?;
     text.push(b'\n')?;
@@ -91,7 +92,7 @@ fn push_registers_line(
 
 // Appends a text, or `none` if it is empty.
 fn push_or_none(text: &mut Vec<u8>, shown: &[u8]) -> Result<(), AllocError>
-    ensures { OnOk result (text.new.items ≡ text.old.items ++ or_none shown.now) }
+    ensures { AppendsBytes result text.old text.new (or_none shown.now) }
 {
     match shown {
         [] => text.extend_from_slice(b"none\n"),
@@ -101,7 +102,7 @@ fn push_or_none(text: &mut Vec<u8>, shown: &[u8]) -> Result<(), AllocError>
 
 // Appends what was sent in the host form, each line after `| `.
 fn push_sent(alloc: Global, text: &mut Vec<u8>, sent: &[u8]) -> Result<(), AllocError>
-    ensures { OnOk result (text.new.items ≡ text.old.items ++ sent_text sent.now) }
+    ensures { AppendsBytes result text.old text.new (sent_text sent.now) }
 {
     let form = host_form(alloc, sent)?;
     push_barred(text, form.as_slice())
@@ -109,7 +110,7 @@ fn push_sent(alloc: Global, text: &mut Vec<u8>, sent: &[u8]) -> Result<(), Alloc
 
 // Appends a text, each line after `| `, and the end of the last line if it has none.
 fn push_barred(text: &mut Vec<u8>, form: &[u8]) -> Result<(), AllocError>
-    ensures { OnOk result (text.new.items ≡ text.old.items ++ barred_from true form.now) }
+    ensures { AppendsBytes result text.old text.new (barred_from true form.now) }
 {
     let mut begins = true;
     for byte in form {
@@ -127,7 +128,7 @@ fn push_barred(text: &mut Vec<u8>, form: &[u8]) -> Result<(), AllocError>
 
 // Appends how a machine stands: if it went wrong, as `run` says it.
 fn push_status(alloc: Global, text: &mut Vec<u8>, status: Status, pc: u16) -> Result<(), AllocError>
-    ensures { OnOk result (text.new.items ≡ text.old.items ++ texts.line (standing_text status pc)) }
+    ensures { AppendsBytes result text.old text.new (texts.line (standing_text status pc)) }
 {
     match status {
         Status::Running | Status::Waits | Status::Returned => {
@@ -147,7 +148,7 @@ fn push_location(
     lines: &[Numbered<'_>],
     location: Location,
 ) -> Result<(), AllocError>
-    ensures { OnOk result (text.new.items ≡ text.old.items ++ location_text (map pair_of lines.now) location) }
+    ensures { AppendsBytes result text.old text.new (location_text (map pair_of lines.now) location) }
 {
     match location {
         Location::Line(number) => push_written(text, lines, number),
@@ -163,7 +164,7 @@ fn push_stand(
     lines: &[Numbered<'_>],
     stand: &Stand,
 ) -> Result<(), AllocError>
-    ensures { OnOk result (text.new.items ≡ text.old.items ++ stand_text (map pair_of lines.now) stand.now) }
+    ensures { AppendsBytes result text.old text.new (stand_text (map pair_of lines.now) stand.now) }
 {
     push_sent(alloc, text, stand.sent.as_slice())?;
     if stand.is_limit {
@@ -196,7 +197,7 @@ fn name_at(index: usize) -> u8
 
 // Appends a variable and its value in a line of its own.
 fn push_variable(text: &mut Vec<u8>, index: usize, value: i16) -> Result<(), AllocError>
-    ensures { OnOk result (text.new.items ≡ text.old.items ++ variable_text index value) }
+    ensures { AppendsBytes result text.old text.new (variable_text index value) }
 {
     text.push(name_at(index))?;
     text.push(b'=')?;
@@ -205,7 +206,7 @@ fn push_variable(text: &mut Vec<u8>, index: usize, value: i16) -> Result<(), All
 
 // Appends a variable and its value, unless that is 0.
 fn push_unless_zero(text: &mut Vec<u8>, index: usize, value: i16) -> Result<(), AllocError>
-    ensures { OnOk result (text.new.items ≡ text.old.items ++ unless_zero index value) }
+    ensures { AppendsBytes result text.old text.new (unless_zero index value) }
 {
     if value == 0 {
         return Ok(());
@@ -217,7 +218,7 @@ fn push_unless_zero(text: &mut Vec<u8>, index: usize, value: i16) -> Result<(), 
 // Appends the variables from an index on that aren't 0.
 fn push_variables(text: &mut Vec<u8>, index: usize, values: &[i16]) -> Result<(), AllocError>
     requires { index + length values.now < 2 ^ 63 }
-    ensures { OnOk result (text.new.items ≡ text.old.items ++ variables_from index values.now) }
+    ensures { AppendsBytes result text.old text.new (variables_from index values.now) }
 {
     match values {
         [] => Ok(()),
@@ -244,7 +245,7 @@ fn push_return(
     lines: &[Numbered<'_>],
     line: Option<u16>,
 ) -> Result<(), AllocError>
-    ensures { OnOk result (text.new.items ≡ text.old.items ++ return_text (map pair_of lines.now) line) }
+    ensures { AppendsBytes result text.old text.new (return_text (map pair_of lines.now) line) }
 {
     match line {
         Some(number) => push_written(text, lines, number),
@@ -278,7 +279,7 @@ fn sent_text(alloc: Global, sent: &[u8]) -> Result<Vec<u8>, AllocError>
 
 // Appends a byte in two hexadecimal digits, or `--` for a closed address.
 fn push_byte(alloc: Global, text: &mut Vec<u8>, byte: Option<u8>) -> Result<(), AllocError>
-    ensures { OnOk result (text.new.items ≡ text.old.items ++ byte_text byte) }
+    ensures { AppendsBytes result text.old text.new (byte_text byte) }
 {
     match byte {
         Some(byte) => {
@@ -291,7 +292,7 @@ fn push_byte(alloc: Global, text: &mut Vec<u8>, byte: Option<u8>) -> Result<(), 
 
 // Appends the end of a line of bytes and the address of the next one, if a line is full after `count` bytes.
 fn push_row(alloc: Global, text: &mut Vec<u8>, count: usize, address: u16) -> Result<(), AllocError>
-    ensures { OnOk result (text.new.items ≡ text.old.items ++ row_text count address) }
+    ensures { AppendsBytes result text.old text.new (row_text count address) }
 {
     if count % ROW != 0 {
         return Ok(());
@@ -311,7 +312,7 @@ fn push_bytes(
     bytes: &[Option<u8>],
 ) -> Result<(), AllocError>
     requires { count + length bytes.now < 2 ^ 63 }
-    ensures { OnOk result (text.new.items ≡ text.old.items ++ bytes_text count address bytes.now) }
+    ensures { AppendsBytes result text.old text.new (bytes_text count address bytes.now) }
 {
     match bytes {
         [] => Ok(()),
@@ -330,7 +331,7 @@ fn push_memory(
     at: u16,
     bytes: &[Option<u8>],
 ) -> Result<(), AllocError>
-    ensures { OnOk result (text.new.items ≡ text.old.items ++ texts.line (bytes_text 0 at bytes.now)) }
+    ensures { AppendsBytes result text.old text.new (texts.line (bytes_text 0 at bytes.now)) }
 {
     push_bytes(alloc, text, 0, at, bytes)?;
     text.push(b'\n')?;
@@ -339,7 +340,7 @@ fn push_memory(
 
 // Appends lines of code as a listing, or `--` if there are none.
 fn push_code(alloc: Global, text: &mut Vec<u8>, lines: Vec<Line>) -> Result<(), AllocError>
-    ensures { OnOk result (text.new.items ≡ text.old.items ++ code_text lines.items) }
+    ensures { AppendsBytes result text.old text.new (code_text lines.items) }
 {
     if lines.is_empty() {
         return text.extend_from_slice(b"--\n");
@@ -354,7 +355,7 @@ pub fn push_answer(
     source: &Written<'_>,
     answer: Answer,
 ) -> Result<(), AllocError>
-    ensures { OnOk result (text.new.items ≡ text.old.items ++ shown_of source.now answer) }
+    ensures { AppendsBytes result text.old text.new (shown_of source.now answer) }
 {
     let lines = source.lines.as_slice();
     match answer {

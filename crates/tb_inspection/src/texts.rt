@@ -1,5 +1,6 @@
 //! The texts of answers. Each is appended without a line's end.
-ghost use Rattle.std.specs.Prelude.{◌≡◌, ◌++◌, IfOk, OnOk, string_bytes};
+ghost use Rattle.std.specs.Prelude.{◌≡◌, IfOk, string_bytes};
+ghost use Rattle.tb_words.specs.Texts.{AppendsBytes};
 ghost use Rattle.tb_inspection.specs.Texts.{address_text, field_text, line_text, registers_text, status_text, value_text};
 
 use crate::values::Value;
@@ -21,7 +22,7 @@ pub const LIMIT: &[u8] = b"limit";
 
 /// Appends the value of an expression, or why it has none.
 pub fn push_value(text: &mut Vec<u8>, value: Value) -> Result<(), AllocError>
-    ensures { OnOk result (text.new.items ≡ text.old.items ++ value_text value) }
+    ensures { AppendsBytes result text.old text.new (value_text value) }
 {
     match value {
         Ok(value) => text.extend_from_slice(digits(value).as_slice()),
@@ -44,14 +45,14 @@ pub fn status_text(status: Status) -> &'static str
 
 /// Appends an address in four hexadecimal digits.
 pub fn push_address(alloc: Global, text: &mut Vec<u8>, address: u16) -> Result<(), AllocError>
-    ensures { OnOk result (text.new.items ≡ text.old.items ++ address_text address) }
+    ensures { AppendsBytes result text.old text.new (address_text address) }
 {
     text.extend_from_slice(encode_upper(alloc, address.to_be_bytes())?.as_bytes())
 }
 
 // Appends a name and a byte in two digits.
 fn push_field(alloc: Global, text: &mut Vec<u8>, name: &[u8], byte: u8) -> Result<(), AllocError>
-    ensures { OnOk result (text.new.items ≡ text.old.items ++ field_text name.now byte) }
+    ensures { AppendsBytes result text.old text.new (field_text name.now byte) }
 {
     text.extend_from_slice(name)?;
     text.extend_from_slice(encode_upper(alloc, [byte])?.as_bytes())
@@ -99,7 +100,7 @@ pub fn push_registers(
     line: Option<u16>,
     status: Status,
 ) -> Result<(), AllocError>
-    ensures { OnOk result (text.new.items ≡ text.old.items ++ registers_text regs line status) }
+    ensures { AppendsBytes result text.old text.new (registers_text regs line status) }
 {
     let shown = registers_text(alloc, regs, line, status)?;
     text.extend_from_slice(shown.as_slice())
