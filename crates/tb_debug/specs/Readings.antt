@@ -23,7 +23,7 @@ lines_of_returns lines m (suc k) = line_at lines (return_in m k) ∷ lines_of_re
 
 -- the lines to return to, the newest first; none for a return past the last line
 abbrev pub returns_of : List (ℕ × ℕ) → (ℕ → ℕ) → List (Option ℕ)
-returns_of lines m = lines_of_returns lines m (returns_in m)
+returns_of lines m = lines_of_returns lines m (depth_in m)
 
 -- ---- bytes and code
 
