@@ -11,7 +11,7 @@ use Rattle.tb_commands.proofs.dialogue.answers.Goals as goal
 pub returns-in_default-2 : goal.returns-in_default-2
 returns-in_default-2 g c =
     told_quit g.O.Outside.gives c.args.limit c.args.stepper.now c.answering.stepper c.respond.new.stepper
-    (lines_of c.args.commands.now) (lines_of c.in-Some.behind.now) (lines_of c.answering.rest.now) c.answering.text.items c.in-Some.line.now
+    (lines_of c.args.commands.now) (lines_of c.in-Some.left.now) (lines_of c.answering.rest.now) c.answering.text.items c.in-Some.line.now
     c.answering.invariant c.in-Some.ensures.0
     (responds_as g.O.Outside.gives c.args.limit c.answering.stepper c.respond.new.stepper _ (asked_in c.in-Some.line.now) c.in_ok-answer.field-0 None
     c.read_command.ensures (none_of c.in_ok-answer.field-0 c.in_default-2.not-Some) c.in_ok-answer.ensures)
@@ -20,7 +20,7 @@ pub answering-preserved : goal.answering-preserved
 answering-preserved g c =
     let shown : c.push_line.new.text.items ≡ c.answering.text.items ++ (text_of c.in-Some-2.answer ++ 10 ∷ []) = search rules in
     let told = told_more g.O.Outside.gives c.args.limit c.args.stepper.now c.answering.stepper c.respond.new.stepper
-    (lines_of c.args.commands.now) (lines_of c.in-Some.behind.now) (lines_of c.answering.rest.now) c.answering.text.items c.in-Some.line.now c.in-Some-2.answer
+    (lines_of c.args.commands.now) (lines_of c.in-Some.left.now) (lines_of c.answering.rest.now) c.answering.text.items c.in-Some.line.now c.in-Some-2.answer
     c.answering.invariant c.in-Some.ensures.0
     (responds_as g.O.Outside.gives c.args.limit c.answering.stepper c.respond.new.stepper _ (asked_in c.in-Some.line.now) c.in_ok-answer.field-0 (Some c.in-Some-2.answer)
     c.read_command.ensures c.in-Some-2.is c.in_ok-answer.ensures) in
