@@ -53,14 +53,12 @@ row_taken text bs cs is h more =
     ∙ sym (append_assoc cs (map shown bs ∷ []) (comments more))
 
 -- a row of two parts is what is shown of both
-joined : (text front row : List ℕ) → text ++ map shown front ++ map shown row ++ 10 ∷ [] ≡ text ++ (map shown (front ++ row) ++ 10 ∷ [])
-joined text front row =
-    append_assoc (text ++ map shown front) (map shown row) (10 ∷ []) ∙ append_assoc text (map shown front) (map shown row ++ 10 ∷ [])
-    ∙ ap (λ t. text ++ t) (sym (append_assoc (map shown front) (map shown row) (10 ∷ [])) ∙ ap (λ t. t ++ 10 ∷ []) (sym (map-append shown front row)))
+joined : (text front row : List ℕ) → text ++ (map shown front ++ map shown row ++ 10 ∷ []) ≡ text ++ (map shown (front ++ row) ++ 10 ∷ [])
+joined text front row = ap (λ t. text ++ (t ++ 10 ∷ [])) (sym (map-append shown front row))
 
 -- a row that is not a comment
 pub row_keeps : {U E : Type 0} (r : Result U E) (old new front row : List ℕ) → is_comment (map shown (front ++ row)) ≡ false
-    → OnOk r (new ≡ old ++ map shown front ++ map shown row ++ 10 ∷ []) → OnOk r (KeepsComments old new)
+    → OnOk r (new ≡ old ++ (map shown front ++ map shown row ++ 10 ∷ [])) → OnOk r (KeepsComments old new)
 row_keeps (Ok u) old new front row plain e =
     λ cs h. subst (λ t. HasComments t cs) (sym (e ∙ joined old front row)) (row_kept old (front ++ row) cs plain h)
 row_keeps (Err u) old new front row plain e = tt

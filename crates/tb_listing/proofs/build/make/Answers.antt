@@ -9,14 +9,17 @@ use Rattle.tb_listing.proofs.Sums.{bytes_add_up, prices_add_up}
 use Rattle.tb_listing.proofs.build.make.Goals as goal
 
 pub all_of-requires-clause-ends : goal.all_of-requires-clause-ends
-all_of-requires-clause-ends c = (are_laid c.args.seed c.in-Ok.program c.in_ok-compiled.compiled c.in-Ok.ensures.stated c.in-Ok.ensures.rising
-    (c.in_ok-compiled.ensures.only (Ok (lines_of c.in-Ok.program)) c.in-Ok.ensures.found)).ends
+all_of-requires-clause-ends c =
+    let answer = c.in_ok-compiled.ensures.only (Ok (lines_of c.in-Ok.program)) c.in-Ok.ensures.found in
+    (are_laid c.args.seed c.in-Ok.program c.in_ok-compiled.compiled c.in-Ok.ensures.stated c.in-Ok.ensures.rising
+    answer.0 answer.1).ends
 
 pub returns-clause-made : goal.returns-clause-made
 returns-clause-made c =
     let compiled = c.in_ok-compiled.compiled in
-    let is : IsCompiled c.args.seed (lines_of c.in-Ok.program) compiled = c.in_ok-compiled.ensures.only (Ok (lines_of c.in-Ok.program)) c.in-Ok.ensures.found in
-    let laid = are_laid c.args.seed c.in-Ok.program compiled c.in-Ok.ensures.stated c.in-Ok.ensures.rising is in
+    let answer = c.in_ok-compiled.ensures.only (Ok (lines_of c.in-Ok.program)) c.in-Ok.ensures.found in
+    let is : IsCompiled c.args.seed (lines_of c.in-Ok.program) compiled = answer.1 in
+    let laid = are_laid c.args.seed c.in-Ok.program compiled c.in-Ok.ensures.stated c.in-Ok.ensures.rising answer.0 is in
     record {
       compiled = compiled;
       answered = c.in_ok-compiled.ensures.found;
