@@ -22,7 +22,7 @@ deep_at n [] = false
 deep_at n (line ∷ lines) = ((line.number == n) && nat_lt 16 (statement_need line.content)) || deep_at n lines
 
 one_listed : (n m k : ℕ) (ns : List ℕ) → is_one_of n (if nat_le k 16 then ns else m ∷ ns) ≡ (((m == n) && nat_lt 16 k) || is_one_of n ns)
-one_is_one_of n m k ns = go (nat_le k 16) (nat_lt 16 k) (grind (arith, nat_tests))
+one_listed n m k ns = go (nat_le k 16) (nat_lt 16 k) (grind (arith, nat_tests))
   where
     both : (b c : Bool) → ((b && true) || c) ≡ (b || c)
     both true c = refl
@@ -39,7 +39,7 @@ one_is_one_of n m k ns = go (nat_le k 16) (nat_lt 16 k) (grind (arith, nat_tests
 deep_listed : (n : ℕ) (p : Program) → is_one_of n (deep_lines p) ≡ deep_at n p
 deep_listed n [] = refl
 deep_listed n (line ∷ lines) =
-    one_is_one_of n line.number (statement_need line.content) (deep_lines lines)
+    one_listed n line.number (statement_need line.content) (deep_lines lines)
     ∙ ap (λ b. ((line.number == n) && nat_lt 16 (statement_need line.content)) || b) (deep_listed n lines)
 
 -- ── numbers that rise ──

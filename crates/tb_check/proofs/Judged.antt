@@ -17,6 +17,7 @@ use Rattle.tb_check.specs.declared.examination.Findings.{Findings}
 use Rattle.tb_check.specs.declared.examination.Findings.TheVariants as findings
 use Rattle.tb_check.specs.declared.judging.Verdict.{Verdict}
 use Rattle.tb_check.specs.declared.judging.Verdict.TheVariants.{BadLines, Empty, Refused, Accepted}
+use Rattle.tb_check.specs.declared.lines.NumberedLine.{NumberedLine}
 use Rattle.tb_check.specs.declared.lines.SourceLines.{SourceLines}
 use Rattle.tb_check.proofs.Checked.{first_is}
 use Rattle.tb_check.proofs.Depth.{deep_of_file}
@@ -71,6 +72,8 @@ module _ (source : List ℕ) (lines : SourceLines) (read : AreRead source lines)
   told (Accepted p) (findings.Accepted warnings) j t = t
 
   -- the clause `findings` of `examine`
-  pub found_on : (v : Verdict) (f : Findings) → JudgesLines lines.bad.items lines.program v
-      → Tells (λ numbers found. found ≡ remaining numbers lines.numbered.items) v f → AreFindings source f
-  found_on v f j t = (v, judged v j, told v f j t)
+  pub found_on : (v : Verdict) (f : Findings) (numbered : List NumberedLine) → numbered ≡ lines.numbered.items → JudgesLines lines.bad.items lines.program v
+      → Tells (λ numbers found. found ≡ remaining numbers numbered) v f → AreFindings source f
+  found_on v f numbered same j t =
+      let Family : List NumberedLine → Type 0 = λ ns. Tells (λ numbers found. found ≡ remaining numbers ns) v f in
+      (v, judged v j, told v f j (subst Family same t))

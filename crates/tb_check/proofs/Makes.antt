@@ -40,8 +40,8 @@ good_lines _ p _ _ (good_line _ line lines _ edit is more) (entered _ _ es e has
 
 -- the program of a file without bad lines is what its lines make
 pub made : (source : List ℕ) (lines : SourceLines) → AreRead source lines → lines.bad.items ≡ [] → LinesMake source (at_end (lines_of lines.program))
-made source lines h none =
-    rw (h.program) (good_lines 1 [] (lines_of_file source) h.entries (subst (BadLinesAre 1 (lines_of_file source)) none h.bad) h.entered)
+made source lines h all_good =
+    rw (h.program) (good_lines 1 [] (lines_of_file source) h.entries (subst (BadLinesAre 1 (lines_of_file source)) all_good h.bad) h.entered)
 
 -- what lines make costs less than 2^32
 pub made_small : (source : List ℕ) (p : Program) → LinesMake source (at_end p) → cost p < 4294967296
