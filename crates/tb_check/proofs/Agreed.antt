@@ -45,7 +45,7 @@ none_is_some : (n : ℕ) → None ≡ Some n → ⊥
 none_is_some n h = true≢false (sym (ap is_some h))
 
 refused : (seed : ℕ) (p : Program) (f : ProgramFaults) (answer : Result Compiled CompileError) → HasFaults p f → ¬ (IsGood p) → ProgramAnswer seed p answer → RefusesProgram f answer
-refused seed p f (Ok c) has bad h = bad (record { shallow = no_deep p h.shallow; small = within (cost p) h.small })
+refused seed p f (Ok c) has bad h = bad (record { shallow = no_deep p h.1.shallow; small = within (cost p) h.0 })
 refused seed p f (Err (Source e)) has bad h = h
 refused seed p f (Err (Lower deep.NoMemory)) has bad h = h
 refused seed p f (Err (Lower (deep.TooDeep n))) has bad h = ap first_of has.deep ∙ first_deep p ∙ h

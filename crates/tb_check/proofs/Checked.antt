@@ -1,12 +1,13 @@
--- What the loop over lines has found, and what the first bad line is.
-use Rattle.std.proofs.Common.{◌≡◌, ℕ, ◌+◌, List, [], ◌∷◌, ◌++◌, Some, Ok, Err, sym, subst, append_assoc, append-nil, inl, inr}
+-- The bad lines that were found so far, and what the first one is.
+use Rattle.std.proofs.Common.{◌≡◌, ℕ, ◌+◌, List, [], ◌∷◌, ◌++◌, Some, Ok, Err, subst, append_assoc, append-nil}
 use Rattle.tb_syntax.specs.Source.{Program}
+use Rattle.tb_parser.specs.declared.errors.LineFault.{LineFault}
 use Rattle.tb_parser.specs.declared.errors.SourceError.{SourceError}
 use Rattle.tb_parser.specs.Answers.{refusal_of}
 use Rattle.tb_parser.specs.Files.{LinesAre, edited, end as lines_end, bad as lines_bad, good as lines_good, at_end, refused_at}
 use Rattle.tb_parser.specs.Lines.{lines_from, lines_of_file}
 use Rattle.tb_parser.specs.Readings.{Edit, LineIs, Refusal}
-use Rattle.tb_check.specs.BadLines.{BadLinesAre, none, good, bad, FirstIs, LooksAt}
+use Rattle.tb_check.specs.BadLines.{BadLinesAre, none, good, bad, FirstIs}
 
 -- of a program that the lines before made
 FirstOf : ℕ → Program → List (List ℕ) → List SourceError → Type 0
@@ -25,33 +26,30 @@ first_of n p lines found (none m) = (p, lines_end m p)
 first_of n p lines found (good m line ls fs edit is more) = past_good m p line ls fs edit is (first_of (m + 1) (edited edit p) ls fs more)
 first_of n p lines found (bad line ls fs e r is says more) = (r, says, lines_bad e.line p line ls r is)
 
+-- the clause `first` of `bad_lines`: what the first bad line is to the file
 pub first_is : (source : List ℕ) (found : List SourceError) → BadLinesAre 1 (lines_of_file source) found → FirstIs source found
 unfolding FirstOf
 first_is source [] h = first_of 1 [] (lines_of_file source) [] h
 first_is source (e ∷ found) h = first_of 1 [] (lines_of_file source) (e ∷ found) h
 
--- what was found so far, where the lines from n on are left
+-- what was found so far, if the lines from n on are left
 abbrev pub FoundTo : List ℕ → List SourceError → ℕ → List ℕ → Type 0
 FoundTo source found n rest = (more : List SourceError) → BadLinesAre n (lines_of_file rest) more → BadLinesAre 1 (lines_of_file source) (found ++ more)
 
-pub past_good_line : (source : List ℕ) (found : List SourceError) (n : ℕ) (rest line behind : List ℕ) (edit : Edit)
-    → lines_of_file rest ≡ line ∷ lines_of_file behind → LineIs line (Ok edit) → FoundTo source found n rest → FoundTo source found (n + 1) behind
-past_good_line source found n rest line behind edit first is h more are = h more (rw first (good n line (lines_of_file behind) more edit is are))
+-- the reading loop at a good line: nothing more is found
+pub past_good_line : (source : List ℕ) (found : List SourceError) (n : ℕ) (rest line after : List ℕ) (edit : Edit)
+    → lines_of_file rest ≡ line ∷ lines_of_file after → LineIs line (Ok edit) → FoundTo source found n rest → FoundTo source found (n + 1) after
+past_good_line source found n rest line after edit first is h more are = h more (rw first (good n line (lines_of_file after) more edit is are))
 
-pub past_bad_line : (source : List ℕ) (found new : List SourceError) (n : ℕ) (rest line behind : List ℕ) (e : SourceError) (r : Refusal)
-    → lines_of_file rest ≡ line ∷ lines_of_file behind → LineIs line (Err r) → refusal_of e.kind e.column ≡ Some r → e.line ≡ n → new ≡ found ++ e ∷ []
-    → FoundTo source found n rest → FoundTo source new (n + 1) behind
-past_bad_line source found new n rest line behind e r first is says at grown h more are =
-    let one : BadLinesAre n (lines_of_file rest) (e ∷ more) =
-    subst (λ m. BadLinesAre m (lines_of_file rest) (e ∷ more)) at
-    (rw first (bad line (lines_of_file behind) more e r is says (subst (λ m. BadLinesAre (m + 1) (lines_of_file behind) more) (sym at) are))) in
-    rw grown (rw (append_assoc found (e ∷ []) more) (h (e ∷ more) one))
+-- the reading loop at a bad line: its fault is found
+pub past_bad_line : (source : List ℕ) (found : List SourceError) (n : ℕ) (rest line after : List ℕ) (fault : LineFault) (r : Refusal)
+    → lines_of_file rest ≡ line ∷ lines_of_file after → LineIs line (Err r) → refusal_of fault.kind fault.column ≡ Some r → FoundTo source found n rest
+    → FoundTo source (found ++ record { kind = fault.kind; line = n; column = fault.column } ∷ []) (n + 1) after
+past_bad_line source found n rest line after fault r first is says h more are =
+    let e : SourceError = record { kind = fault.kind; line = n; column = fault.column } in
+    rw (append_assoc found (e ∷ []) more) (h (e ∷ more) (rw first (bad line (lines_of_file after) more e r is says are)))
 
-pub past_line : (source : List ℕ) (found new : List SourceError) (n : ℕ) (rest line behind : List ℕ) → lines_of_file rest ≡ line ∷ lines_of_file behind
-    → LooksAt n line found new → FoundTo source found n rest → FoundTo source new (n + 1) behind
-past_line source found new n rest line behind first (inl g) h = rw g.2 (past_good_line source found n rest line behind g.0 first g.1 h)
-past_line source found new n rest line behind first (inr b) h = past_bad_line source found new n rest line behind b.0 b.1 first b.2 b.3 b.4 b.5 h
-
+-- the end of the reading loop: all bad lines are found
 pub no_line : (source : List ℕ) (found : List SourceError) (n : ℕ) (rest : List ℕ) → rest ≡ [] → FoundTo source found n rest → BadLinesAre 1 (lines_of_file source) found
 unfolding lines_from
 no_line source found n rest e h = subst (BadLinesAre 1 (lines_of_file source)) (append-nil found) (h [] (rw e (none n)))

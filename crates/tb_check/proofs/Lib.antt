@@ -1,4 +1,7 @@
 pub mod Agreed
 pub mod Checked
-pub mod Emptied
+pub mod Depth
 pub mod Entered
+pub mod Judged
+pub mod Makes
+pub mod Read

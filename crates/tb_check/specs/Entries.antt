@@ -1,24 +1,30 @@
 -- The lines of a file that have a number, and those of them that are too deep.
-use Rattle.std.specs.Prelude.{◌≡◌, ◌⊎◌, ℕ, ◌+◌, nat_lt, Bool, false, not, ◌&&◌, ◌||◌, ◌==◌, if◌then◌else◌, List, []}
-use Rattle.std.specs.Prelude.{◌∷◌, ◌++◌, Option, Some, None, option_map, Ok, Err}
+use Rattle.std.specs.Prelude.{◌≡◌, ◌⊎◌, ℕ, ◌+◌, nat_lt, Bool, false, not, ◌&&◌, ◌==◌, if◌then◌else◌, List, []}
+use Rattle.std.specs.Prelude.{◌∷◌, ◌++◌, map, Option, Some, None, is_none, Ok, Err}
+use Rattle.std.specs.List.{list_any}
 use Rattle.tb_syntax.specs.Source.{Statement}
-use Rattle.tb_syntax.specs.PlainData.{statement_of}
-use Rattle.tb_syntax.specs.declared.statements.Statement.{Statement as RustStatement}
 use Rattle.tb_lower.specs.Need.{statement_need}
 use Rattle.tb_parser.specs.Lines.{lines_of_file}
-use Rattle.tb_parser.specs.Readings.{LineIs, Refusal, Nothing, Sets, Deletes}
+use Rattle.tb_parser.specs.Readings.{Edit, LineIs, Refusal, Nothing, Sets, Deletes}
 use Rattle.tb_check.specs.declared.lines.NumberedLine.{NumberedLine}
 
--- a line with a number: which line of the file it is, its number, and its statement, None where the number is bare
+-- a line with a number: which line of the file it is, its number, and its statement, None if the number is bare
 pub record Entry : Type 0 where
   pub line : ℕ
   pub number : ℕ
   pub states : Option Statement
 
-abbrev pub entry_of : NumberedLine → Entry
-entry_of l = record { line = l.line; number = l.number; states = option_map statement_of l.statement }
+-- an entry without its statement
+abbrev pub numbered_of : Entry → NumberedLine
+numbered_of e = record { line = e.line; number = e.number; is_bare = is_none e.states }
 
--- a line's number and its statement; None where it has no number or is bad
+-- the entry of line n of a file, by what the line does
+abbrev pub entry_by : ℕ → Edit → Option Entry
+entry_by n Nothing = None
+entry_by n (Sets number c) = Some (record { line = n; number = number; states = Some c })
+entry_by n (Deletes number) = Some (record { line = n; number = number; states = None })
+
+-- a line's number and its statement; None if it has no number or is bad
 abbrev pub IsEntry : List ℕ → Option (ℕ × Option Statement) → Type 0
 IsEntry line None = LineIs line (Ok Nothing) ⊎ ((r : Refusal) × LineIs line (Err r))
 IsEntry line (Some (number, Some c)) = LineIs line (Ok (Sets number c))
@@ -37,14 +43,13 @@ abbrev pub is_deep : Option Statement → Bool
 is_deep None = false
 is_deep (Some c) = nat_lt 16 (statement_need c)
 
--- whether one of these lines has the number
-abbrev pub has_number : ℕ → List Entry → Bool
-has_number n [] = false
-has_number n (e ∷ es) = (e.number == n) || has_number n es
+-- whether a number is one of these
+abbrev pub is_one_of : ℕ → List ℕ → Bool
+is_one_of n ns = list_any (λ m. m == n) ns
 
--- a line, where it is too deep and no line behind it has its number
+-- a line, if it is too deep and no line after it has its number
 abbrev pub deep_here : Entry → List Entry → List ℕ
-deep_here e es = if is_deep e.states && not (has_number e.number es) then e.line ∷ [] else []
+deep_here e es = if is_deep e.states && not (is_one_of e.number (map (λ e. e.number) es)) then e.line ∷ [] else []
 
 -- all such lines, in the order of the file
 abbrev pub deep_of : List Entry → List ℕ
@@ -54,14 +59,3 @@ deep_of (e ∷ es) = deep_here e es ++ deep_of es
 -- the lines of a file that are too deep and that no later line replaces or takes out
 abbrev pub DeepLinesAre : List ℕ → List ℕ → Type 0
 DeepLinesAre source deep = (es : List Entry) × EntriesAre 1 (lines_of_file source) es × (deep ≡ deep_of es)
-
--- ── steps ──
--- what is found in a line, as plain data
-abbrev pub number_and_statement : Option (ℕ × Option RustStatement) → Option (ℕ × Option Statement)
-number_and_statement found = option_map (λ p. (p.0, option_map statement_of p.1)) found
-
--- line n was looked at: it has no entry, or its entry was appended
-abbrev pub Enters : ℕ → List ℕ → List Entry → List Entry → Type 0
-Enters n line old new =
-    (IsEntry line None × (new ≡ old))
-    ⊎ ((e : Entry) × IsEntry line (Some (e.number, e.states)) × (e.line ≡ n) × (new ≡ old ++ e ∷ []))

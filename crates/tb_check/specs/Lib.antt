@@ -1,5 +1,7 @@
 pub mod Entries
 pub mod BadLines
+pub mod Lines
+pub mod Remaining
 pub mod Verdicts
 pub mod Agreement
 pub mod Findings

@@ -2,8 +2,10 @@
 use Rattle.std.specs.Prelude.{◌≡◌, ◌≢◌, ℕ, nat_le, List, [], ◌∷◌, Option, Some, None, Ok, if◌then◌else◌}
 use Rattle.tb_syntax.specs.Source.{Program}
 use Rattle.tb_syntax.specs.PlainData.{lines_of}
+use Rattle.tb_syntax.specs.declared.statements.Statement.{Statement}
 use Rattle.tb_meaning.specs.Cost.{cost}
 use Rattle.tb_lower.specs.Need.{statement_need}
+use Rattle.tb_parser.specs.declared.errors.SourceError.{SourceError}
 use Rattle.tb_parser.specs.Files.{at_end}
 use Rattle.tb_parser.specs.Lines.{lines_of_file}
 use Rattle.tb_codegen.specs.Answers.{LinesMake}
@@ -38,6 +40,13 @@ JudgesProgram program (BadLines found) = ⊥
 JudgesProgram program Empty = ⊥
 JudgesProgram program (Refused f) = HasFaults program f × ¬ (IsGood program)
 JudgesProgram program (Accepted p) = (lines_of p ≡ program) × IsGood program
+
+-- what becomes of bad lines and of the program that the other lines make
+abbrev pub JudgesLines : List SourceError → List (ℕ × Statement) → Verdict → Type 0
+JudgesLines bad program (BadLines found) = (found.items ≡ bad) × (bad ≢ [])
+JudgesLines bad program Empty = (bad ≡ []) × (program ≡ [])
+JudgesLines bad program (Refused f) = (bad ≡ []) × (program ≢ []) × JudgesProgram (lines_of program) (Refused f)
+JudgesLines bad program (Accepted p) = (bad ≡ []) × (program ≢ []) × JudgesProgram (lines_of program) (Accepted p)
 
 -- what becomes of a source: its bad lines, or that no line is left, or what is wrong with its program, or the program
 abbrev pub Judges : List ℕ → Verdict → Type 0

@@ -1,17 +1,18 @@
 //! All that there is to say of a source.
 ghost use Rattle.std.specs.Prelude.{◌≡◌, ◌∷◌, ◌++◌, [], IfOk, OnOk, map};
+ghost use Rattle.tb_parser.specs.Lines.{lines_of_file};
 ghost use Rattle.tb_check.specs.Findings.{AreFindings, Tells};
+ghost use Rattle.tb_check.specs.Remaining.{remaining};
 
-use crate::deep::deep_lines;
-use crate::judging::{Verdict, judge};
-use crate::lines::{numbered_lines, texts_of_lines};
+use crate::judging::{Verdict, verdict_on};
+use crate::lines::{NumberedLine, read_lines};
 use crate::notes::{Note, note_of};
+use crate::remaining::remaining_lines;
 use crate::warnings::{LineWarning, warnings};
 use std::alloc::{AllocError, Global};
 use tb_parser::SourceError;
-use tb_syntax::Program;
 
-/// A bad line's first fault, with a note where there is one.
+/// A bad line's first fault, with a note if there is one.
 #[derive(Clone, Copy, Drop)]
 pub struct BadLine {
     pub error: SourceError,
@@ -27,59 +28,57 @@ pub enum Findings {
     Empty,
     /// What is wrong with its program.
     Refused {
-        /// The lines of the file, from 1, with an expression that is too deep, which no later line outdoes.
+        /// The lines of the file, from 1, with an expression that is too deep, which no later line replaces or takes out.
         deep: Vec<usize>,
-        /// What the program costs, where that is too much.
+        /// What the program costs, if that is too much.
         too_large: Option<u32>,
     },
     /// It is compiled. The warnings are in the order of the file.
     Accepted(Vec<LineWarning>),
 }
 
-/// Looks at a source.
-pub fn examine(alloc: Global, source: &[u8]) -> Result<Findings, AllocError>
-    ensures { IfOk result (AreFindings source.now) }
-{
-    let verdict = judge(alloc, source)?;
-    findings_by(alloc, source, &verdict)
+/// A source that was looked at.
+#[derive(Drop)]
+pub struct Examined<'a> {
+    /// Its lines, as they were written.
+    pub lines: Vec<&'a [u8]>,
+    pub findings: Findings,
 }
 
-// What there is to say of a source, by what becomes of it.
-fn findings_by(alloc: Global, source: &[u8], verdict: &Verdict) -> Result<Findings, AllocError>
-    ensures { IfOk result (Tells source.now verdict.now) }
+/// Looks at a source. Fails only if memory runs out.
+pub fn examine(alloc: Global, source: &[u8]) -> Result<Examined<'_>, AllocError>
+    ensures lines { IfOk result (λ seen. map (λ t. t.now) seen.lines.items ≡ lines_of_file source.now) }
+    ensures findings { IfOk result (λ seen. AreFindings source.now seen.findings) }
+{
+    let lines = read_lines(alloc, source)?;
+    let verdict = verdict_on(alloc, lines.bad, lines.program)?;
+    let findings = findings_by(alloc, &lines.texts, &lines.numbered, &verdict)?;
+    Ok(Examined {
+        lines: lines.texts,
+        findings,
+    })
+}
+
+// What there is to say of a source, by its lines and what becomes of it.
+fn findings_by(
+    alloc: Global,
+    texts: &[&[u8]],
+    numbered: &[NumberedLine],
+    verdict: &Verdict,
+) -> Result<Findings, AllocError>
+    ensures { IfOk result (Tells (λ numbers deep. deep ≡ remaining numbers numbered.now) verdict.now) }
 {
     match verdict {
-        Verdict::BadLines(errors) => Ok(Findings::BadLines(with_notes(alloc, source, errors)?)),
+        Verdict::BadLines(errors) => Ok(Findings::BadLines(noted(alloc, texts, errors)?)),
         Verdict::Empty => Ok(Findings::Empty),
         Verdict::Refused(faults) => Ok(Findings::Refused {
-            deep: deep_lines(alloc, source)?,
+            deep: remaining_lines(alloc, numbered, &faults.deep)?,
             too_large: faults.too_large,
         }),
         Verdict::Accepted(program) => {
-            Ok(Findings::Accepted(warnings_on(alloc, source, program)?))
+            Ok(Findings::Accepted(warnings(alloc, program, numbered)?))
         }
     }
-}
-
-fn warnings_on(
-    alloc: Global,
-    source: &[u8],
-    program: &Program,
-) -> Result<Vec<LineWarning>, AllocError> {
-    let lines = numbered_lines(alloc, source)?;
-    warnings(alloc, program, &lines)
-}
-
-// Bad lines with their notes.
-fn with_notes(
-    alloc: Global,
-    source: &[u8],
-    errors: &[SourceError],
-) -> Result<Vec<BadLine>, AllocError>
-    ensures { IfOk result (λ lines. map (λ l. l.error) lines.items ≡ errors.now) }
-{
-    let texts = texts_of_lines(alloc, source)?;
-    noted(alloc, &texts, errors)
 }
 
 // Bad lines with their notes, by the lines of their file.

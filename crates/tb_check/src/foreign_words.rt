@@ -1,9 +1,9 @@
-//! Words that stand where no statement has them: those of other BASICs, and slips of the pen.
+//! Words at a place where no statement has them: those of other BASICs, and misspelled ones.
 use std::alloc::{AllocError, Global};
 use strsim::generic_levenshtein;
 use tb_grammar::{KEYWORDS, Keyword, THEN};
 
-/// A word of other BASICs that Tiny BASIC has not.
+/// A word of other BASICs that Tiny BASIC does not have.
 #[derive(Clone, Copy, Drop)]
 pub enum ForeignWord {
     For,
@@ -83,7 +83,7 @@ impl ForeignWord {
         }
     }
 
-    // Whether a name follows it, which may stand right behind its letters.
+    // Whether a name follows it, which may come right after its letters.
     fn takes_name(self) -> bool {
         matches!(
             self,
@@ -95,7 +95,7 @@ impl ForeignWord {
         )
     }
 
-    // Whether letters are this word, with a `$` where it has one, or this word and the letter of a name.
+    // Whether letters are this word, with a `$` if it has one, or this word and the letter of a name.
     fn is_written(self, letters: &[u8], whole: &[u8]) -> bool {
         match letters {
             [front @ .., _] if self.takes_name() && front == self.name().as_bytes() => true,
@@ -104,17 +104,18 @@ impl ForeignWord {
     }
 }
 
-/// The word of other BASICs that letters in upper case are; `whole` has a `$` behind them, where one stands there.
+/// The word of other BASICs that letters in upper case spell; `whole` has the `$` that follows them too, if one does.
 pub fn foreign_word(letters: &[u8], whole: &[u8]) -> Option<ForeignWord> {
-    for missing in FOREIGN_WORDS {
-        if missing.is_written(letters, whole) {
-            return Some(missing);
+    for word in FOREIGN_WORDS {
+        if word.is_written(letters, whole) {
+            return Some(word);
         }
     }
     None
 }
 
-/// The word of a statement, but PR, from which a word in upper case is one letter away: changed, left out or added.
+/// The word of a statement, other than PR, from which a word in upper case is one letter away: changed, left out or
+/// added. Fails only if memory runs out.
 pub fn near_statement(alloc: Global, word: &[u8]) -> Result<Option<&'static str>, AllocError> {
     for keyword in KEYWORDS {
         if keyword != Keyword::Pr && is_near(alloc, word, keyword.spelling())? {

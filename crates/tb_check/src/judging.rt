@@ -1,31 +1,25 @@
 //! Whether a source is compiled, and if not, all the reasons.
 ghost use Rattle.std.specs.Prelude.{◌≡◌, ◌<◌, ℕ, [], Result, IfOk};
-ghost use Rattle.tb_syntax.specs.Source.{Program as SourceProgram, numbers, Rises};
 ghost use Rattle.tb_syntax.specs.PlainData.{lines_of};
 ghost use Rattle.tb_meaning.specs.Cost as costs;
-ghost use Rattle.tb_parser.specs.Files.{AreStated, at_end};
 ghost use Rattle.tb_compile_errors.specs.declared.refusals.CompileError.{CompileError};
-ghost use Rattle.tb_codegen.specs.Answers.{LinesMake};
 ghost use Rattle.tb_codegen.specs.declared.compiled.Compiled.{Compiled};
 ghost use Rattle.tb_check.specs.Agreement.{AgreesWith, Compiles};
-ghost use Rattle.tb_check.specs.Verdicts.{HasFaults, Judges, JudgesProgram, deep_lines, excess};
+ghost use Rattle.tb_check.specs.Verdicts.{HasFaults, Judges, JudgesLines, JudgesProgram, deep_lines, excess};
 
-use crate::checking::bad_lines;
+use crate::lines::read_lines;
 use std::alloc::{AllocError, Global};
-use tb_codegen::cost;
+use tb_codegen::{MOST_COST, cost};
 use tb_lower::{SLOT_COUNT, statement_need};
-use tb_parser::{SourceError, SourceErrorKind, parse};
+use tb_parser::SourceError;
 use tb_syntax::Program;
-
-/// The most that a program may cost.
-const MOST: u32 = 37_888;
 
 /// What is wrong with a program.
 #[derive(Drop)]
 pub struct ProgramFaults {
     /// The numbers of the lines with an expression that is too deep.
     pub deep: Vec<u16>,
-    /// What the program costs, where that is too much.
+    /// What the program costs, if that is too much.
     pub too_large: Option<u32>,
 }
 
@@ -42,38 +36,37 @@ pub enum Verdict {
     Accepted(Program),
 }
 
-/// Judges a source.
+/// Judges a source. Fails only if memory runs out.
 pub fn judge(alloc: Global, source: &[u8]) -> Result<Verdict, AllocError>
     ensures judged { IfOk result (Judges source.now) }
     // What the compiler answers agrees with it.
     ensures agrees { IfOk result (λ v. (seed : ℕ) (answer : Result Compiled CompileError)
         → Compiles seed source.now answer → AgreesWith v answer) }
 {
-    let bad = bad_lines(alloc, source)?;
-    if bad.is_empty() {
-        judge_lines(alloc, source)
-    } else {
-        Ok(Verdict::BadLines(bad))
-    }
+    let lines = read_lines(alloc, source)?;
+    verdict_on(alloc, lines.bad, lines.program)
 }
 
-// Judges a source without bad lines.
-fn judge_lines(alloc: Global, source: &[u8]) -> Result<Verdict, AllocError>
-    requires { (p : SourceProgram) × LinesMake source.now (at_end p) }
-    ensures { IfOk result (Judges source.now) }
+/// Judges the bad lines of a source and the program that its other lines make.
+pub fn verdict_on(
+    alloc: Global,
+    bad: Vec<SourceError>,
+    program: Program,
+) -> Result<Verdict, AllocError>
+    requires { bad.items ≡ [] → costs.cost (lines_of program) < 4294967296 }
+    ensures { IfOk result (JudgesLines bad.items program) }
 {
-    match parse(alloc, source) {
-        Ok(program) => judge_program(alloc, program),
-        Err(error) => match error.kind {
-            SourceErrorKind::NoMemory => Err(AllocError),
-            _ => Ok(Verdict::Empty),
-        },
+    if !bad.is_empty() {
+        Ok(Verdict::BadLines(bad))
+    } else if program.is_empty() {
+        Ok(Verdict::Empty)
+    } else {
+        judge_program(alloc, program)
     }
 }
 
 fn judge_program(alloc: Global, program: Program) -> Result<Verdict, AllocError>
-    requires stated { AreStated (lines_of program) }
-    requires rising { Rises 1 32768 (numbers (lines_of program)) }
+    requires { costs.cost (lines_of program) < 4294967296 }
     ensures { IfOk result (JudgesProgram (lines_of program)) }
 {
     let faults = faults_of(alloc, &program)?;
@@ -107,11 +100,11 @@ fn deep_lines(alloc: Global, program: &Program) -> Result<Vec<u16>, AllocError>
     Ok(deep)
 }
 
-// What a program costs, where that is too much.
+// What a program costs, if that is too much.
 fn excess(program: &Program) -> Option<u32>
     requires { costs.cost (lines_of program.now) < 4294967296 }
     ensures { result ≡ excess (costs.cost (lines_of program.now)) }
 {
     let cost = cost(program);
-    if cost > MOST { Some(cost) } else { None }
+    if cost > MOST_COST { Some(cost) } else { None }
 }

@@ -1,117 +1,128 @@
-//! The lines of a file, each with its number and its statement.
-ghost use Rattle.std.specs.Prelude.{◌≡◌, IfOk, OnOk, map};
+//! The lines of a source, each read once.
+ghost use Rattle.std.specs.Prelude.{◌≡◌, ◌≢◌, ◌∷◌, ◌++◌, [], IfOk, OnOk, option_map};
+ghost use Rattle.tb_parser.specs.Answers.{edit_of};
 ghost use Rattle.tb_parser.specs.Lines.{lines_of_file};
-ghost use Rattle.tb_check.specs.Entries.{EntriesAre, Enters, IsEntry, entry_of, number_and_statement};
+ghost use Rattle.tb_parser.specs.declared.errors.SourceErrorKind.TheVariants.{NoMemory};
+ghost use Rattle.tb_check.specs.BadLines.{BadLinesAre, FirstIs};
+ghost use Rattle.tb_check.specs.Entries.{entry_by, numbered_of};
+ghost use Rattle.tb_check.specs.Lines.{AreRead, DoesEdit, HasFault, Says, texts_of};
 
-use crate::checking::told;
 use std::alloc::{AllocError, Global};
-use std::collections::BTreeMap;
-use tb_parser::{LineEdit, next_line, read_line};
-use tb_syntax::Statement;
+use tb_parser::{LineEdit, LineFault, SourceError, SourceErrorKind, apply, next_line, read_line};
+use tb_syntax::Program;
 
 /// A line of a file that has a number.
-#[derive(Drop)]
+#[derive(Clone, Copy, Drop)]
 pub struct NumberedLine {
     /// Which line of the file it is, from 1.
     pub line: usize,
     pub number: u16,
-    /// None where the number is bare.
-    pub statement: Option<Statement>,
-}
-
-/// The lines of a file as they stand there.
-pub fn texts_of_lines(alloc: Global, source: &[u8]) -> Result<Vec<&[u8]>, AllocError>
-    ensures { IfOk result (λ texts. map (λ t. t.now) texts.items ≡ lines_of_file source.now) }
-{
-    let mut texts = Vec::new(alloc);
-    let mut rest = source;
-    while let Some((line, behind)) = next_line(rest) {
-        texts.push(line)?;
-        rest = behind;
-    }
-    Ok(texts)
-}
-
-/// The lines of a file that have a number, in order. Bad lines are left out.
-pub fn numbered_lines(alloc: Global, source: &[u8]) -> Result<Vec<NumberedLine>, AllocError>
-    ensures { IfOk result (λ found. EntriesAre 1 (lines_of_file source.now) (map entry_of found.items)) }
-{
-    let mut found = Vec::new(alloc);
-    let mut rest = source;
-    let mut line = 1;
-    while let Some((text, behind)) = next_line(rest) {
-        push_numbered(alloc, text, line, &mut found)?;
-        rest = behind;
-        line += 1;
-    }
-    Ok(found)
-}
-
-fn push_numbered(
-    alloc: Global,
-    text: &[u8],
-    line: usize,
-    found: &mut Vec<NumberedLine>,
-) -> Result<(), AllocError>
-    ensures { OnOk result (Enters line text.now (map entry_of found.old.items) (map entry_of found.new.items)) }
-{
-    if let Some((number, statement)) = numbered(alloc, text)? {
-        found.push(NumberedLine {
-            line,
-            number,
-            statement,
-        })?;
-    }
-    Ok(())
-}
-
-// A line's number and its statement, where it has them.
-fn numbered(alloc: Global, text: &[u8]) -> Result<Option<(u16, Option<Statement>)>, AllocError>
-    ensures { IfOk result (λ found. IsEntry text.now (number_and_statement found)) }
-{
-    match read_line(alloc, text) {
-        Ok(LineEdit::Nothing) => Ok(None),
-        Ok(LineEdit::Set(number, statement)) => Ok(Some((number, Some(statement)))),
-        Ok(LineEdit::Delete(number)) => Ok(Some((number, None))),
-        Err(fault) => {
-            told(fault)?;
-            Ok(None)
-        }
-    }
-}
-
-/// The last line of a file with a number.
-#[derive(Clone, Copy, Drop)]
-pub struct LastLine {
-    /// Which line of the file it is, from 1.
-    pub line: usize,
     /// Whether the number is bare.
     pub is_bare: bool,
 }
 
-/// The last line with each number.
-pub fn last_lines(
-    alloc: Global,
-    lines: &[NumberedLine],
-) -> Result<BTreeMap<u16, LastLine>, AllocError> {
-    let mut last = BTreeMap::new(alloc);
-    for line in lines {
-        let is_bare = line.statement.is_none();
-        last.insert(
-            line.number,
-            LastLine {
-                line: line.line,
-                is_bare,
-            },
-        )?;
-    }
-    Ok(last)
+/// The lines of a file, and what they say.
+#[derive(Drop)]
+pub struct SourceLines<'a> {
+    /// All lines, as they were written.
+    pub texts: Vec<&'a [u8]>,
+    /// The bad lines, each with its first fault.
+    pub bad: Vec<SourceError>,
+    /// The lines with a number, without the bad ones.
+    pub numbered: Vec<NumberedLine>,
+    /// The program that the lines make, without the bad ones.
+    pub program: Program,
 }
 
-/// The line that takes the place of another one, where there is one.
-pub fn outdone_by(last: &BTreeMap<u16, LastLine>, line: &NumberedLine) -> Option<LastLine> {
-    match last.get(&line.number) {
-        Some(by) if by.line != line.line => Some(*by),
-        _ => None,
+/// Reads the lines of a file. A bad line hides no later one, and a line that is replaced later is read too.
+pub fn read_lines(alloc: Global, source: &[u8]) -> Result<SourceLines<'_>, AllocError>
+    ensures { IfOk result (AreRead source.now) }
+{
+    let mut lines = SourceLines {
+        texts: Vec::new(alloc),
+        bad: Vec::new(alloc),
+        numbered: Vec::new(alloc),
+        program: Program::new(alloc),
+    };
+    let mut rest = source;
+    let mut number = 1;
+    while let Some((text, after)) = next_line(rest) {
+        lines.add(alloc, number, text)?;
+        rest = after;
+        number += 1;
     }
+    Ok(lines)
+}
+
+/// The bad lines of a source, in order, each with its first fault: line and column as `compile` counts them. A bad line
+/// hides no later one, and a line that is replaced later is looked at too.
+pub fn bad_lines(alloc: Global, source: &[u8]) -> Result<Vec<SourceError>, AllocError>
+    // Exactly the bad lines, in their order.
+    ensures lines { IfOk result (λ found. BadLinesAre 1 (lines_of_file source.now) found.items) }
+    // The first one is why the file is refused; if there is none, no line of the file is why it is.
+    ensures first { IfOk result (λ found. FirstIs source.now found.items) }
+{
+    let lines = read_lines(alloc, source)?;
+    Ok(lines.bad)
+}
+
+impl<'a> SourceLines<'a> {
+    // Reads the next line, which has this number in the file, from 1.
+    fn add(&mut self, alloc: Global, line: usize, text: &'a [u8]) -> Result<(), AllocError>
+        ensures written { OnOk result (texts_of self.new ≡ texts_of self.old ++ text.now ∷ []) }
+        ensures says { OnOk result (Says line text.now self.old self.new) }
+    {
+        self.texts.push(text)?;
+        match read_line(alloc, text) {
+            Ok(edit) => self.edit(line, edit),
+            Err(fault) => self.refuse(line, fault),
+        }
+    }
+
+    // Does what a line says.
+    fn edit(&mut self, line: usize, edit: LineEdit) -> Result<(), AllocError>
+        ensures done { OnOk result (DoesEdit line (edit_of edit) self.old self.new) }
+        ensures written { OnOk result (self.new.texts ≡ self.old.texts) }
+    {
+        if let Some(numbered) = numbered_line(line, &edit) {
+            self.numbered.push(numbered)?;
+        }
+        match apply(&mut self.program, edit) {
+            Ok(()) => Ok(()),
+            Err(_) => Err(AllocError),
+        }
+    }
+
+    // Notes the fault of a bad line, unless it is want of memory.
+    fn refuse(&mut self, line: usize, fault: LineFault) -> Result<(), AllocError>
+        ensures told { OnOk result (HasFault line fault self.old self.new) }
+        ensures is_fault { OnOk result (fault.kind ≢ NoMemory) }
+        ensures written { OnOk result (self.new.texts ≡ self.old.texts) }
+    {
+        match fault.kind {
+            SourceErrorKind::NoMemory => return Err(AllocError),
+            kind => self.bad.push(SourceError {
+                kind,
+                line,
+                column: fault.column,
+            })?,
+        }
+        Ok(())
+    }
+}
+
+// The number of a line, if it has one.
+fn numbered_line(line: usize, edit: &LineEdit) -> Option<NumberedLine>
+    ensures { result ≡ option_map numbered_of (entry_by line (edit_of edit.now)) }
+{
+    let (number, is_bare) = match edit {
+        LineEdit::Nothing => return None,
+        LineEdit::Set(number, _) => (*number, false),
+        LineEdit::Delete(number) => (*number, true),
+    };
+    Some(NumberedLine {
+        line,
+        number,
+        is_bare,
+    })
 }

@@ -1,4 +1,4 @@
-//! Notes: what may help with a bad line, by what stands where its fault is.
+//! Notes: what may help with a bad line, by what is at the place of its fault.
 ghost use Rattle.std.specs.Prelude.{◌<◌, ◌≤◌, length};
 
 use crate::foreign_words::{ForeignWord, foreign_word, near_statement};
@@ -21,7 +21,7 @@ pub enum Note {
     LongName,
     /// A name with `$`.
     TextName,
-    /// A line's number behind THEN.
+    /// A line's number after THEN.
     ThenNumber,
     /// A text without its second quote.
     OpenText,
@@ -32,7 +32,7 @@ pub enum Note {
     Near(&'static str),
 }
 
-/// The note on the first fault of a line, where there is one.
+/// The note on the first fault of a line, if there is one. Fails only if memory runs out.
 pub fn note_of(alloc: Global, line: &[u8], error: SourceError) -> Result<Option<Note>, AllocError> {
     match error.kind {
         SourceErrorKind::BadByte => Ok(note_on_byte(line, error)),
@@ -51,7 +51,7 @@ fn note_on_byte(line: &[u8], error: SourceError) -> Option<Note> {
     }
 }
 
-// The note on a place of a line, from 0, where no line of the language goes on like this.
+// The note on a place of a line, from 0, at which no line of the language goes on like this.
 fn note_on_syntax(alloc: Global, line: &[u8], place: usize) -> Result<Option<Note>, AllocError> {
     let line = in_upper_case(alloc, line)?;
     note_at(alloc, &line, place)
@@ -86,7 +86,7 @@ fn note_on_end(line: &[u8]) -> Option<Note> {
     if is_open { Some(Note::OpenText) } else { None }
 }
 
-// The note on a number, by what stands before it.
+// The note on a number, by what is before it.
 fn note_on_number(before: &[u8]) -> Option<Note> {
     if before.trim_ascii_end().ends_with(b"THEN") {
         Some(Note::ThenNumber)
@@ -99,15 +99,15 @@ fn note_on_number(before: &[u8]) -> Option<Note> {
 #[derive(Drop)]
 struct Word<'a> {
     letters: &'a [u8],
-    // The same with a `$` behind it, where one stands there.
+    // The same with the `$` that follows, if one does.
     whole: &'a [u8],
-    // How many of the letters stand before the place.
+    // How many of the letters are before the place.
     before: usize,
     // Whether an `=` follows.
     is_assigned: bool,
 }
 
-// The word in which a place stands, from where its letters begin.
+// The word around a place of a line, from its first letter on.
 fn word_at(line: &[u8], place: usize) -> Word<'_>
     requires { place < length line.now }
 {
@@ -148,10 +148,10 @@ fn letters_at_end(text: &[u8]) -> usize
     }
 }
 
-// The list of words comes before nearness.
+// The note on a word. Words of other BASICs are looked for before near ones.
 fn note_on_word(alloc: Global, word: &Word<'_>) -> Result<Option<Note>, AllocError> {
-    if let Some(missing) = foreign_word(word.letters, word.whole) {
-        return Ok(Some(Note::ForeignWord(missing)));
+    if let Some(foreign) = foreign_word(word.letters, word.whole) {
+        return Ok(Some(Note::ForeignWord(foreign)));
     }
     if word.letters.len() < word.whole.len() {
         return Ok(Some(Note::TextName));
@@ -159,7 +159,7 @@ fn note_on_word(alloc: Global, word: &Word<'_>) -> Result<Option<Note>, AllocErr
     if word.is_name() {
         return Ok(Some(Note::LongName));
     }
-    // (a word whose first letter was read as a name stands where no statement does)
+    // A word whose first letter was read as a name is not at the place of a statement.
     if word.before == 1 || word.letters.len() < 2 {
         return Ok(None);
     }
@@ -167,7 +167,7 @@ fn note_on_word(alloc: Global, word: &Word<'_>) -> Result<Option<Note>, AllocErr
 }
 
 impl Word<'_> {
-    // Whether it stands where a name does: before `=`, or its first letter was read as a name.
+    // Whether it is at the place of a name: before `=`, or its first letter was read as a name.
     fn is_name(&self) -> bool {
         match self.letters.len() {
             0 | 1 => false,
@@ -177,7 +177,7 @@ impl Word<'_> {
     }
 }
 
-// The note on a word that stands where a statement does.
+// The note on a word at the place of a statement.
 fn note_on_slip(alloc: Global, word: &[u8]) -> Result<Option<Note>, AllocError> {
     match near_statement(alloc, word)? {
         Some(statement) => Ok(Some(Note::Near(statement))),

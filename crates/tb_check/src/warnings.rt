@@ -1,11 +1,12 @@
 //! Warnings on a source that is compiled.
-use crate::lines::{LastLine, NumberedLine, last_lines, outdone_by};
+use crate::lines::NumberedLine;
+use crate::remaining::{last_lines, outdone_by};
 use std::alloc::{AllocError, Global};
 use std::collections::BTreeMap;
 use tb_meaning::{Warning as MissingJump, constant, warnings as missing_jumps};
 use tb_syntax::{Expr, PrintItem, Program, Statement};
 
-/// The largest bound of RND to which there is a better one.
+/// The largest bound of RND that is warned of: there is a better one for each up to it.
 const LARGEST_BOUND: u16 = 15_000;
 
 /// What there is to warn of.
@@ -15,7 +16,7 @@ pub enum Warning {
     NoLine(i16),
     /// A later line of the file has the same number, and a statement.
     Replaced { number: u16, by: usize },
-    /// A later line of the file is the number alone.
+    /// A later line of the file is the bare number.
     TakenOut { number: u16, by: usize },
     /// The highest line goes on.
     RunsPast,
@@ -30,10 +31,10 @@ pub struct LineWarning {
     pub warning: Warning,
 }
 
-// What the warnings on a line are made from.
+// What the warnings on lines are made from.
 #[derive(Drop)]
 struct Facts {
-    last: BTreeMap<u16, LastLine>,
+    last: BTreeMap<u16, NumberedLine>,
     jumps: Vec<MissingJump>,
     highest: u16,
 }
@@ -45,7 +46,11 @@ pub fn warnings(
     lines: &[NumberedLine],
 ) -> Result<Vec<LineWarning>, AllocError> {
     let facts = facts_of(alloc, program, lines)?;
-    warnings_by(alloc, &facts, lines)
+    let mut found = Vec::new(alloc);
+    warn_of_outdone(&facts, lines, &mut found)?;
+    warn_of_program(alloc, &facts, program, &mut found)?;
+    found.sort_by_key(|warning| warning.line)?;
+    Ok(found)
 }
 
 fn facts_of(alloc: Global, program: &Program, lines: &[NumberedLine]) -> Result<Facts, AllocError> {
@@ -57,18 +62,6 @@ fn facts_of(alloc: Global, program: &Program, lines: &[NumberedLine]) -> Result<
     })
 }
 
-fn warnings_by(
-    alloc: Global,
-    facts: &Facts,
-    lines: &[NumberedLine],
-) -> Result<Vec<LineWarning>, AllocError> {
-    let mut found = Vec::new(alloc);
-    for line in lines {
-        warn(alloc, facts, line, &mut found)?;
-    }
-    Ok(found)
-}
-
 fn highest_line(program: &Program) -> u16 {
     let mut highest = 0;
     for (number, _) in program.lines() {
@@ -77,28 +70,27 @@ fn highest_line(program: &Program) -> u16 {
     highest
 }
 
-// Appends the warnings on a line.
-fn warn(
-    alloc: Global,
-    facts: &Facts,
-    line: &NumberedLine,
-    found: &mut Vec<LineWarning>,
-) -> Result<(), AllocError> {
-    let Some(statement) = &line.statement else {
-        return Ok(());
-    };
-    match outdone_by(&facts.last, line) {
-        Some(last) => push(found, line.line, outdone(line.number, last)),
-        None => warn_of_statement(alloc, facts, line, statement, found),
-    }
-}
-
 fn push(found: &mut Vec<LineWarning>, line: usize, warning: Warning) -> Result<(), AllocError> {
     found.push(LineWarning { line, warning })?;
     Ok(())
 }
 
-fn outdone(number: u16, last: LastLine) -> Warning {
+// Appends a warning on each statement that a later line replaces or takes out.
+fn warn_of_outdone(
+    facts: &Facts,
+    lines: &[NumberedLine],
+    found: &mut Vec<LineWarning>,
+) -> Result<(), AllocError> {
+    for line in lines {
+        match outdone_by(&facts.last, line) {
+            Some(last) if !line.is_bare => push(found, line.line, outdone(line.number, last))?,
+            _ => {}
+        }
+    }
+    Ok(())
+}
+
+fn outdone(number: u16, last: NumberedLine) -> Warning {
     let by = last.line;
     if last.is_bare {
         Warning::TakenOut { number, by }
@@ -107,7 +99,22 @@ fn outdone(number: u16, last: LastLine) -> Warning {
     }
 }
 
-// Appends the warnings on a line that stands in the program.
+// Appends the warnings on the lines of the program.
+fn warn_of_program(
+    alloc: Global,
+    facts: &Facts,
+    program: &Program,
+    found: &mut Vec<LineWarning>,
+) -> Result<(), AllocError> {
+    for (number, statement) in program.lines() {
+        if let Some(line) = facts.last.get(number) {
+            warn_of_statement(alloc, facts, line, statement, found)?;
+        }
+    }
+    Ok(())
+}
+
+// Appends the warnings on a line of the program.
 fn warn_of_statement(
     alloc: Global,
     facts: &Facts,
@@ -201,7 +208,7 @@ fn add_bound(bound: u16, bounds: &mut Vec<u16>) -> Result<(), AllocError> {
     Ok(())
 }
 
-// Whether the values of RND with this bound are odd and even in turns, and a larger bound is at hand.
+// Whether the values of RND with this bound are odd and even in turns, and there is a better bound.
 fn is_even_bound(bound: u16) -> bool {
     bound % 2 == 0 && 2 <= bound && bound <= LARGEST_BOUND
 }

@@ -8,7 +8,6 @@ use Rattle.tb_check.specs.declared.examination.Findings.{Findings}
 use Rattle.tb_check.specs.declared.examination.Findings.TheVariants as findings
 use Rattle.tb_check_engine.specs.Reports.{report}
 use Rattle.tb_check_engine.specs.declared.engine.Checked.{Checked}
-use Rattle.tb_check_engine.specs.declared.engine.Said.{Said}
 use Rattle.tb_check_engine.specs.declared.outcome.CheckOutcome.{CheckOutcome}
 use Rattle.tb_check_engine.specs.declared.outcome.CheckOutcome.TheVariants.{Accepted, Refused, ReadFault, WriteFault, NoMemory}
 
@@ -19,24 +18,13 @@ is_refused findings.Empty = true
 is_refused (findings.Refused deep too_large) = true
 is_refused (findings.Accepted warnings) = false
 
--- what is said of a source under a name, and whether it is refused, by what is found in it
-pub record Finds (name source : List ℕ) (said : Said) : Type 0 where
+-- a source was looked at under a name: what is said of it follows what was said before, and a refusal is kept
+pub record LooksAt (old : Checked) (name source : List ℕ) (new : Checked) : Type 0 where
   pub found : Findings
   pub are : AreFindings source found
-  pub refused : said.is_refused ≡ is_refused found
-  pub text : said.text.items ≡ report name (lines_of_file source) found
-
--- what was told of a source stands behind what was told before, and a refusal is kept
-pub record Follows (old : Checked) (said : Said) (new : Checked) : Type 0 where
-  pub text : new.text.items ≡ old.text.items ++ said.text.items
-  pub kept : new.is_refused ≡ (said.is_refused || old.is_refused)
+  pub text : new.text.items ≡ old.text.items ++ report name (lines_of_file source) found
+  pub kept : new.is_refused ≡ (is_refused found || old.is_refused)
   pub unread : new.is_unread ≡ old.is_unread
-
--- a source was looked at under a name
-pub record LooksAt (old : Checked) (name source : List ℕ) (new : Checked) : Type 0 where
-  pub said : Said
-  pub finds : Finds name source said
-  pub follows : Follows old said new
 
 -- a source could not be read
 pub record PassesOver (old new : Checked) : Type 0 where
@@ -59,7 +47,7 @@ Writes c ReadFault old new = (c.is_unread ≡ true) × Appends old new c.text.it
 Writes c WriteFault old new = AppendsPrefix old new c.text.items
 Writes c NoMemory old new = ⊥
 
--- a write fault comes only where the writer failed in this call
+-- a write fault comes only if the writer failed in this call
 abbrev pub WriteFaults : CheckOutcome → ℕ → ℕ → Type 0
 WriteFaults WriteFault old new = new ≢ old
 WriteFaults Accepted old new = new ≡ old

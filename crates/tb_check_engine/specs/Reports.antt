@@ -58,7 +58,7 @@ note_row name e (Some note) = row_at name e (codes ": note: ") (note_text note)
 abbrev pub place_rows : List (List ℕ) → SourceError → List ℕ
 place_rows lines e = line_row (decimal e.line) (line_at lines e.line) ++ caret_row (decimal e.line) e.column
 
--- a bad line: its fault, the line with its place, and a note where there is one
+-- a bad line: its fault, the line with its place, and a note if there is one
 abbrev pub bad_line_rows : List ℕ → List (List ℕ) → BadLine → List ℕ
 bad_line_rows name lines bad = error_row name bad.error ++ place_rows lines bad.error ++ note_row name bad.error bad.note
 

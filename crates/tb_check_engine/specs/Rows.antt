@@ -6,11 +6,11 @@ use Rattle.tb_source_text.specs.ShownBytes.{shown}
 abbrev pub bar : List ℕ
 bar = 32 ∷ 124 ∷ 32 ∷ []
 
--- the first 120 bytes of a line, behind its number at the right of five columns
+-- the first 120 bytes of a line, after its number at the right of five columns
 abbrev pub line_row : List ℕ → List ℕ → List ℕ
 line_row number line = replicate (5 - length number) 32 ++ number ++ bar ++ map shown (take 120 line) ++ 10 ∷ []
 
--- a caret under a column of it, counted from 1, where it is one of the first 121
+-- a caret under a column of it, counted from 1, if it is one of the first 121
 abbrev pub caret_row : List ℕ → ℕ → List ℕ
 caret_row number column =
     if (column == 0) || nat_lt 121 column then []

@@ -3,34 +3,34 @@ use Rattle.std.specs.Prelude.{ℕ, ◌*◌, ◌/◌, ◌==◌, if◌then◌else�
 use Rattle.std.specs.Fmt.{decimal, signed_decimal}
 use Rattle.tb_check.specs.ForeignWords.{name_of}
 use Rattle.tb_check.specs.declared.foreign_words.ForeignWord.{ForeignWord}
-use Rattle.tb_check.specs.declared.foreign_words.ForeignWord.TheVariants as missing
+use Rattle.tb_check.specs.declared.foreign_words.ForeignWord.TheVariants as foreign
 use Rattle.tb_check.specs.declared.notes.Note.{Note}
 use Rattle.tb_check.specs.declared.notes.Note.TheVariants as note
 use Rattle.tb_check.specs.declared.warnings.Warning.{Warning}
 use Rattle.tb_check.specs.declared.warnings.Warning.TheVariants as warning
 
--- what helps where a word of other BASICs is missing
+-- what helps in place of a word of other BASICs
 abbrev pub advice : ForeignWord → List ℕ
-advice missing.For = codes "count with LET, IF and GOTO"
-advice missing.Next = codes "count with LET, IF and GOTO"
-advice missing.Step = codes "count with LET, IF and GOTO"
-advice missing.Poke = codes "a program has its variables and no other memory"
-advice missing.Peek = codes "a program has its variables and no other memory"
-advice missing.Dim = codes "there are the variables A to Z and no arrays"
-advice missing.Get = codes "INPUT takes numbers from the keyboard"
-advice missing.On = codes "GOTO and GOSUB take an expression, as GOTO 100*X"
-advice missing.Read = codes "set variables with LET"
-advice missing.Data = codes "set variables with LET"
-advice missing.Def = codes "write the expression where it is used, or GOSUB"
-advice missing.Else = codes "write a second IF, or GOTO"
-advice missing.And = codes "an IF may stand behind an IF: IF A=1 IF B=2 GOTO 100"
-advice missing.Or = codes "write an IF for each side, on lines of their own"
-advice missing.Not = codes "turn the relation round: <> for =, >= for <"
-advice missing.Stop = codes "END ends the run"
-advice missing.Cls = codes "PRINT writes new lines"
-advice missing.Abs = codes "IF X<0 LET X=-X does it"
-advice missing.Tab = codes "a comma in PRINT goes on to the next zone of 8 columns"
-advice missing.Chr = codes "PRINT takes texts between quotes"
+advice foreign.For = codes "count with LET, IF and GOTO"
+advice foreign.Next = codes "count with LET, IF and GOTO"
+advice foreign.Step = codes "count with LET, IF and GOTO"
+advice foreign.Poke = codes "a program has its variables and no other memory"
+advice foreign.Peek = codes "a program has its variables and no other memory"
+advice foreign.Dim = codes "there are the variables A to Z and no arrays"
+advice foreign.Get = codes "INPUT takes numbers from the keyboard"
+advice foreign.On = codes "GOTO and GOSUB take an expression, as GOTO 100*X"
+advice foreign.Read = codes "set variables with LET"
+advice foreign.Data = codes "set variables with LET"
+advice foreign.Def = codes "write the expression where it is used, or GOSUB"
+advice foreign.Else = codes "write a second IF, or GOTO"
+advice foreign.And = codes "an IF may stand behind an IF: IF A=1 IF B=2 GOTO 100"
+advice foreign.Or = codes "write an IF for each side, on lines of their own"
+advice foreign.Not = codes "turn the relation round: <> for =, >= for <"
+advice foreign.Stop = codes "END ends the run"
+advice foreign.Cls = codes "PRINT writes new lines"
+advice foreign.Abs = codes "IF X<0 LET X=-X does it"
+advice foreign.Tab = codes "a comma in PRINT goes on to the next zone of 8 columns"
+advice foreign.Chr = codes "PRINT takes texts between quotes"
 
 -- the text of a note
 abbrev pub note_text : Note → List ℕ

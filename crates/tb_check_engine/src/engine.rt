@@ -1,17 +1,15 @@
 //! Checking sources.
-ghost use Rattle.std.specs.Prelude.{◌≡◌, ◌+◌, [], false, IfOk, MatchResult};
+ghost use Rattle.std.specs.Prelude.{◌≡◌, ◌+◌, [], false, MatchResult};
 ghost use Rattle.tb_streams.specs.Streams.{most_input, ConsumesAtMost};
 ghost use Rattle.tb_streams.specs.Failures.{failures_of};
-ghost use Rattle.tb_parser.specs.Lines.{lines_of_file};
-ghost use Rattle.tb_check_engine.specs.Checks.{Adds, Finds, Follows, PassesOver, Writes, WriteFaults};
-ghost use Rattle.tb_check_engine.specs.Reports.{report};
+ghost use Rattle.tb_check_engine.specs.Checks.{Adds, LooksAt, PassesOver, Writes, WriteFaults, is_refused};
 ghost use Rattle.tb_check_engine.specs.declared.outcome.CheckOutcome.TheVariants.{NoMemory};
 
 use crate::outcome::CheckOutcome;
-use crate::reports::{Source, report};
-use std::alloc::{AllocError, Global};
+use crate::reports::{Source, push_report};
+use std::alloc::Global;
 use std::io::{Read, Write};
-use tb_check::{Findings, examine, texts_of_lines};
+use tb_check::{Findings, examine};
 use tb_streams::{InputError, Tracked, read_input, write_output};
 
 /// Sources that were looked at, and what there is to say of them.
@@ -24,42 +22,11 @@ pub struct Checked {
     is_unread: bool,
 }
 
-// What there is to say of a source, and whether it is compiled.
-#[derive(Drop)]
-struct Said {
-    text: Vec<u8>,
-    is_refused: bool,
-}
-
-// Looks at a source under a name.
-fn look_at(alloc: Global, name: &str, source: &[u8]) -> Result<Said, AllocError>
-    ensures { IfOk result (Finds name.now source.now) }
+// Whether a source is not compiled, by what there is to say of it.
+fn is_refused(findings: &Findings) -> bool
+    ensures { result ≡ is_refused findings.now }
 {
-    let found = examine(alloc, source)?;
-    let text = text_on(alloc, name, source, &found)?;
-    Ok(Said {
-        text,
-        is_refused: !matches!(&found, Findings::Accepted(_)),
-    })
-}
-
-fn text_on(
-    alloc: Global,
-    name: &str,
-    source: &[u8],
-    found: &Findings,
-) -> Result<Vec<u8>, AllocError>
-    ensures { IfOk result (λ text. text.items ≡ report name.now (lines_of_file source.now) found.now) }
-{
-    let lines = texts_of_lines(alloc, source)?;
-    report(
-        alloc,
-        &Source {
-            name,
-            lines: lines.as_slice(),
-        },
-        found,
-    )
+    !matches!(findings, Findings::Accepted(_))
 }
 
 impl Checked {
@@ -101,16 +68,25 @@ impl Checked {
             Err(InputError::Fault) => return Ok(self.unread()),
             Err(InputError::NoMemory) => return Err(CheckOutcome::NoMemory),
         };
-        let said = look_at(alloc, name, source.as_slice())?;
-        self.with_said(&said)
+        self.with_source(alloc, name, source.as_slice())
     }
 
-    // With what there is to say of one more source.
-    fn with_said(mut self, said: &Said) -> Result<Checked, CheckOutcome>
-        ensures { MatchResult result (Follows self said.now) (λ e. e ≡ NoMemory) }
+    // With a source under a name.
+    fn with_source(
+        mut self,
+        alloc: Global,
+        name: &str,
+        source: &[u8],
+    ) -> Result<Checked, CheckOutcome>
+        ensures { MatchResult result (LooksAt self name.now source.now) (λ e. e ≡ NoMemory) }
     {
-        self.text.extend_from_slice(said.text.as_slice())?;
-        if said.is_refused {
+        let seen = examine(alloc, source)?;
+        let shown = Source {
+            name,
+            lines: seen.lines.as_slice(),
+        };
+        push_report(alloc, &mut self.text, &shown, &seen.findings)?;
+        if is_refused(&seen.findings) {
             self.is_refused = true;
         }
         Ok(self)

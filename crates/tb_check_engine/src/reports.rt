@@ -1,5 +1,5 @@
 //! What there is to say of a file, as a text.
-ghost use Rattle.std.specs.Prelude.{◌≡◌, ◌++◌, IfOk, OnOk, flat_map, string_bytes};
+ghost use Rattle.std.specs.Prelude.{◌≡◌, ◌++◌, OnOk, flat_map};
 ghost use Rattle.std.specs.Fmt.{decimal};
 ghost use Rattle.tb_engines.specs.Texts.{too_deep_text};
 ghost use Rattle.tb_check_engine.specs.Reports.{bad_line_rows, deep_rows, error_row, file_row, line_at, lines_in};
@@ -16,7 +16,7 @@ use tb_engines::{TOO_DEEP, TooLarge, source_text};
 #[derive(Clone, Copy, Drop)]
 pub struct Source<'a> {
     pub name: &'a str,
-    /// Its lines as they stand there.
+    /// Its lines, as they were written.
     pub lines: &'a [&'a [u8]],
 }
 
@@ -32,20 +32,8 @@ impl Source<'_> {
     }
 }
 
-/// What there is to say of a file.
-pub fn report(
-    alloc: Global,
-    source: &Source<'_>,
-    findings: &Findings,
-) -> Result<Vec<u8>, AllocError>
-    ensures { IfOk result (λ text. text.items ≡ report source.now.name.now (lines_in source.now) findings.now) }
-{
-    let mut text = Vec::new(alloc);
-    push_findings(alloc, &mut text, source, findings)?;
-    Ok(text)
-}
-
-fn push_findings(
+/// Appends what there is to say of a file.
+pub fn push_report(
     alloc: Global,
     text: &mut Vec<u8>,
     source: &Source<'_>,

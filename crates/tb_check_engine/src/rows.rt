@@ -19,8 +19,8 @@ pub fn push_line(text: &mut Vec<u8>, number: &[u8], line: &[u8]) -> Result<(), A
     text.extend_from_slice(b"\n")
 }
 
-/// Appends a row with a caret under a column of the line with this number, where it stands under what is shown or right
-/// behind.
+/// Appends a row with a caret under a column, from 1, of the line with this number, if that is under what is shown or
+/// right after it.
 pub fn push_caret(text: &mut Vec<u8>, number: &[u8], column: usize) -> Result<(), AllocError>
     ensures { OnOk result (text.new.items ≡ text.old.items ++ caret_row number.now column) }
 {

@@ -16,11 +16,11 @@ pub struct NoteText(pub Note);
 #[derive(Drop)]
 pub struct WarningText(pub Warning);
 
-// What helps where a word of other BASICs is missing.
-fn advice(missing: ForeignWord) -> &'static str
-    ensures { result.now ≡ advice missing }
+// What helps in place of a word of other BASICs.
+fn advice(word: ForeignWord) -> &'static str
+    ensures { result.now ≡ advice word }
 {
-    match missing {
+    match word {
         ForeignWord::For | ForeignWord::Next | ForeignWord::Step => "count with LET, IF and GOTO",
         ForeignWord::Poke | ForeignWord::Peek => "a program has its variables and no other memory",
         ForeignWord::Dim => "there are the variables A to Z and no arrays",
@@ -45,13 +45,8 @@ impl fmt::Display for NoteText {
 
     fn fmt<W: fmt::Write>(&self, f: &mut fmt::Formatter<W>) -> fmt::Result {
         match self.0 {
-            Note::ForeignWord(missing) => {
-                write!(
-                    f,
-                    "Tiny BASIC has no {}; {}",
-                    missing.name(),
-                    advice(missing)
-                )
+            Note::ForeignWord(word) => {
+                write!(f, "Tiny BASIC has no {}; {}", word.name(), advice(word))
             }
             Note::QuestionMark => f.write_str("Tiny BASIC has no ? for PRINT; write PRINT or PR"),
             Note::Colon => {

@@ -1,5 +1,5 @@
 //! Checks of sources.
-ghost use Rattle.std.specs.Prelude.{◌≡◌, ◌+◌, ◌++◌, ℕ, Result, IfOk, OnOk};
+ghost use Rattle.std.specs.Prelude.{◌≡◌, ◌+◌, ◌++◌, ℕ, Result, IfOk, OnOk, map};
 ghost use Rattle.tb_parser.specs.Lines.{lines_of_file};
 ghost use Rattle.tb_compile_errors.specs.declared.refusals.CompileError.{CompileError};
 ghost use Rattle.tb_codegen.specs.declared.compiled.Compiled.{Compiled};
@@ -14,7 +14,7 @@ ghost use Rattle.tb_check_engine.specs.Rows.{caret_row};
 
 use std::alloc::{AllocError, Global};
 use std::io::Read;
-use tb_check::{Findings, SourceError, Verdict, bad_lines, examine, judge};
+use tb_check::{Examined, SourceError, Verdict, bad_lines, examine, judge};
 use tb_check_engine::{CheckOutcome, Checked, push_caret};
 use tb_streams::Tracked;
 
@@ -36,8 +36,9 @@ pub fn judged(alloc: Global, source: &[u8]) -> Result<Verdict, AllocError>
 }
 
 /// Calls `examine`.
-pub fn examined(alloc: Global, source: &[u8]) -> Result<Findings, AllocError>
-    ensures { IfOk result (AreFindings source.now) }
+pub fn examined(alloc: Global, source: &[u8]) -> Result<Examined<'_>, AllocError>
+    ensures lines { IfOk result (λ seen. map (λ t. t.now) seen.lines.items ≡ lines_of_file source.now) }
+    ensures findings { IfOk result (λ seen. AreFindings source.now seen.findings) }
 {
     examine(alloc, source)
 }

@@ -11,7 +11,7 @@ const SEED: u16 = 1;
 
 // Whether the check and the compiler agree on a source.
 fn agrees(alloc: Global, source: &[u8]) -> Result<bool, AllocError> {
-    let found = examine(alloc, source)?;
+    let found = examine(alloc, source)?.findings;
     Ok(match compile(alloc, source, Options { seed: SEED }) {
         Ok(_) => matches!(&found, Findings::Accepted(_)),
         Err(error) => is_refusal(&found, error),

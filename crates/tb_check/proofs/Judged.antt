@@ -1,0 +1,79 @@
+-- What becomes of a source and what is told of it, by what was read.
+use Rattle.std.proofs.Common.{◌≡◌, ℕ, ◌<◌, List, [], map, Result, Ok, Err, sym, ◌∙◌, subst}
+use Rattle.std.specs.Prelude.{IfOk}
+use Rattle.tb_syntax.specs.PlainData.{lines_of}
+use Rattle.tb_syntax.specs.declared.statements.Statement.{Statement}
+use Rattle.tb_meaning.specs.Cost.{cost}
+use Rattle.tb_parser.specs.Files.{at_end}
+use Rattle.tb_parser.specs.Lines.{lines_of_file}
+use Rattle.tb_codegen.specs.Answers.{LinesMake}
+use Rattle.tb_check.specs.BadLines.{BadLinesAre, FirstIs}
+use Rattle.tb_check.specs.Entries.{DeepLinesAre}
+use Rattle.tb_check.specs.Findings.{AreFindings, Tells}
+use Rattle.tb_check.specs.Lines.{AreRead}
+use Rattle.tb_check.specs.Remaining.{remaining}
+use Rattle.tb_check.specs.Verdicts.{Judges, JudgesLines, deep_lines}
+use Rattle.tb_check.specs.declared.examination.Findings.{Findings}
+use Rattle.tb_check.specs.declared.examination.Findings.TheVariants as findings
+use Rattle.tb_check.specs.declared.judging.Verdict.{Verdict}
+use Rattle.tb_check.specs.declared.judging.Verdict.TheVariants.{BadLines, Empty, Refused, Accepted}
+use Rattle.tb_check.specs.declared.lines.NumberedLine.{NumberedLine}
+use Rattle.tb_check.specs.declared.lines.SourceLines.{SourceLines}
+use Rattle.tb_check.proofs.Checked.{first_is}
+use Rattle.tb_check.proofs.Depth.{deep_of_file}
+use Rattle.tb_check.proofs.Makes.{made, made_small, some_left}
+
+module _ (source : List ℕ) (lines : SourceLines) (read : AreRead source lines) where
+  -- the cost of the program can be counted
+  pub small : lines.bad.items ≡ [] → cost (lines_of lines.program) < 4294967296
+  small none = made_small source (lines_of lines.program) (made source lines read none)
+
+  judged : (v : Verdict) → JudgesLines lines.bad.items lines.program v → Judges source v
+  judged (BadLines found) j = (
+    subst (BadLinesAre 1 (lines_of_file source)) (sym j.0) read.bad,
+    subst (FirstIs source) (sym j.0) (first_is source lines.bad.items read.bad),
+    λ none. j.1 (sym j.0 ∙ none),
+  )
+  judged Empty j = let Family : List (ℕ × Statement) → Type 0 = λ p. LinesMake source (at_end (lines_of p)) in subst Family j.1 (made source lines read j.0)
+  judged (Refused f) j = (lines_of lines.program, some_left source lines.program j.1 (made source lines read j.0), j.2)
+  judged (Accepted p) j = (lines_of lines.program, some_left source lines.program j.1 (made source lines read j.0), j.2)
+
+  -- the clause `judged` of `judge`
+  pub judged_on : {E : Type 0} (r : Result Verdict E) → IfOk r (JudgesLines lines.bad.items lines.program) → IfOk r (Judges source)
+  judged_on (Ok v) j = judged v j
+  judged_on (Err e) j = tt
+
+  -- the deep lines of the program, as lines of the file
+  deep : (numbers found : List ℕ) → numbers ≡ deep_lines (lines_of lines.program) → found ≡ remaining numbers lines.numbered.items → DeepLinesAre source found
+  deep numbers found are remain = (read.entries, read.entered, remain ∙ rw (are, read.program, read.numbered) (sym (deep_of_file read.entries)))
+
+  abbrev Remain : List ℕ → List ℕ → Type 0
+  Remain numbers found = found ≡ remaining numbers lines.numbered.items
+
+  abbrev AreDeep : List ℕ → List ℕ → Type 0
+  AreDeep numbers found = DeepLinesAre source found
+
+  told : (v : Verdict) (f : Findings) → JudgesLines lines.bad.items lines.program v → Tells Remain v f → Tells AreDeep v f
+  told (BadLines errors) (findings.BadLines bad) j t = t
+  told (BadLines errors) findings.Empty j t = t
+  told (BadLines errors) (findings.Refused found large) j t = t
+  told (BadLines errors) (findings.Accepted warnings) j t = t
+  told Empty (findings.BadLines bad) j t = t
+  told Empty findings.Empty j t = t
+  told Empty (findings.Refused found large) j t = t
+  told Empty (findings.Accepted warnings) j t = t
+  told (Refused faults) (findings.BadLines bad) j t = t
+  told (Refused faults) findings.Empty j t = t
+  told (Refused faults) (findings.Refused found large) j t = (t.0, deep faults.deep.items found.items j.2.0.deep t.1)
+  told (Refused faults) (findings.Accepted warnings) j t = t
+  told (Accepted p) (findings.BadLines bad) j t = t
+  told (Accepted p) findings.Empty j t = t
+  told (Accepted p) (findings.Refused found large) j t = t
+  told (Accepted p) (findings.Accepted warnings) j t = t
+
+  -- the clause `findings` of `examine`
+  pub found_on : (v : Verdict) (f : Findings) (numbered : List NumberedLine) → numbered ≡ lines.numbered.items → JudgesLines lines.bad.items lines.program v
+      → Tells (λ numbers found. found ≡ remaining numbers numbered) v f → AreFindings source f
+  found_on v f numbered same j t =
+      let Family : List NumberedLine → Type 0 = λ ns. Tells (λ numbers found. found ≡ remaining numbers ns) v f in
+      (v, judged v j, told v f j (subst Family same t))

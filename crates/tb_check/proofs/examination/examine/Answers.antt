@@ -1,0 +1,11 @@
+-- The goals of `examine` in src/examination.rt.
+use Rattle.tb_check.proofs.Judged.{found_on, small}
+use Rattle.tb_check.proofs.examination.examine.Goals as goal
+
+pub verdict_on-requires : goal.verdict_on-requires
+verdict_on-requires c = small c.args.source.now c.in_ok-lines.lines c.in_ok-lines.ensures
+
+pub returns-clause-findings : goal.returns-clause-findings
+returns-clause-findings c =
+    found_on c.args.source.now c.in_ok-lines.lines c.in_ok-lines.ensures c.in_ok-verdict.verdict c.in_ok-findings.findings c.deref-2.result.now
+    c.deref-2.ensures.value c.in_ok-verdict.ensures c.in_ok-findings.ensures
