@@ -1,5 +1,4 @@
 -- The goals of `build` in src/sources.rt.
-use Rattle.std.proofs.Common.{◌∙◌}
 use Rattle.tb_driver.specs.Sources.{IsFile}
 use Rattle.tb_driver.proofs.ReadSources.{nothing_made, program_made}
 use Rattle.tb_driver.proofs.sources.build.Goals as goal
@@ -10,5 +9,5 @@ returns-in-Err-clause-answers g c =
 
 pub returns-clause-answers : goal.returns-clause-answers
 returns-clause-answers g c =
-    program_made c.args.seed _ c.in-Ok.program _ _ c.in-Ok.ensures.answers _ _ _ IsFile c.in-Ok-from_slice.warnings.items
-    (c.in-Ok-from_slice.ensures.items ∙ c.warnings.ensures) c.write_program.ensures.answers
+    program_made c.args.seed _ c.in-Ok.source _ _ c.in-Ok.ensures.answers _ _ _ IsFile c.into_warnings.result.items c.into_warnings.ensures
+    c.write_program.ensures.answers
