@@ -42,6 +42,7 @@ compiled seed text source c same found only keeps (program, made, marks) =
       keeps = keeps_source seed source c found keeps;
       lines = program;
       makes = made;
+      compiled = (only (Ok program) made).1;
       marks = marks;
     })
 
@@ -92,31 +93,38 @@ not_made seed makes refusal WriteFault had bytes read read' none = absurd none
 
 -- so is what is reported
 pub nothing_made : (seed : ℕ) (outcome : Outcome) (report : Report) (had bytes : Option (List ℕ)) (read read' : ℕ) → ReadsSource seed (Err outcome) had read read'
-    → report.outcome ≡ outcome → report.warnings.items ≡ [] → (makes : Compiled → Product → Type 0)
-    → Answers (MadeFrom had (FromSource seed makes report.warnings.items)) report.outcome bytes bytes
+    → report.outcome ≡ outcome → report.warnings.items ≡ [] → (makes : List ℕ → Compiled → Product → Type 0)
+    → Answers (MadeFrom had (λ source. FromSource seed (makes source) report.warnings.items source)) report.outcome bytes bytes
 nothing_made seed outcome report had bytes read read' is ends none makes =
-    subst (λ w. Answers (MadeFrom had (FromSource seed makes w)) report.outcome bytes bytes) (sym none)
-    (subst (λ o. Answers (MadeFrom had (FromSource seed makes [])) o bytes bytes) (sym ends)
-    (not_made seed (FromSource seed makes []) (λ source e refused. (Err e, refused, (refl, refl))) outcome had bytes read read' is))
+    subst (λ w. Answers (MadeFrom had (λ source. FromSource seed (makes source) w source)) report.outcome bytes bytes) (sym none)
+    (subst (λ o. Answers (MadeFrom had (λ source. FromSource seed (makes source) [] source)) o bytes bytes) (sym ends)
+    (not_made seed (λ source. FromSource seed (makes source) [] source) (λ source e refused. (Err e, refused, (refl, refl))) outcome had bytes read read' is))
 
 -- ---- where there is one
 
 module _ (seed : ℕ) (had : Option (List ℕ)) (s : CompiledSource) (read read' : ℕ) (is : ReadsSource seed (Ok s) had read read') (outcome : Outcome) (old new : Option (List ℕ)) where
-  -- what is made of the program is made of the source
-  pub program_made : (makes : Compiled → Product → Type 0) (warnings : List Warning) → warnings ≡ warnings_of s.program → Answers (makes s.program) outcome old new
-      → Answers (MadeFrom had (FromSource seed makes warnings)) outcome old new
+  -- what is written of the program is written of the source
+  pub program_made : (makes : List ℕ → Compiled → Product → Type 0) (warnings : List Warning) → warnings ≡ warnings_of s.program
+      → Answers (makes s.text.items s.program) outcome old new
+      → Answers (MadeFrom had (λ source. FromSource seed (makes source) warnings source)) outcome old new
   program_made makes warnings warned written =
-      answers_as (makes s.program) (MadeFrom had (FromSource seed makes warnings))
+      answers_as (makes s.text.items s.program) (MadeFrom had (λ source. FromSource seed (makes source) warnings source))
       (λ x h. (s.text.items, is.0, (Ok s.program, is.1.answer, (warned, h)))) outcome old new written
 
-  -- so is what is made of its file
+  -- so is what was made of it, and delivered
+  pub product_made : (makes : List ℕ → Compiled → Product → Type 0) (warnings : List Warning) (made : Result Text NoText) → warnings ≡ warnings_of s.program
+      → Makes (makes s.text.items s.program) made → Answers (Shows made) outcome old new
+      → Answers (MadeFrom had (λ source. FromSource seed (makes source) warnings source)) outcome old new
+  product_made makes warnings made warned m written =
+      let here = makes s.text.items s.program in
+      program_made makes warnings warned (answers_as (Shows made) here (shown here made m) outcome old new written)
+
+  -- so is what was made of its file
   pub file_made : (makes : List ℕ → Product → Type 0) (warnings : List Warning) (file : List ℕ) (made : Result Text NoText) → file ≡ prg_of s.program
       → warnings ≡ warnings_of s.program → Makes (makes file) made → Answers (Shows made) outcome old new
       → Answers (MadeFrom had (FromSource seed (λ c. makes (prg_of c)) warnings)) outcome old new
   file_made makes warnings file made same warned m written =
-      let here = subst (λ f. Makes (makes f) made) same m in
-      program_made (λ c. makes (prg_of c)) warnings warned
-      (answers_as (Shows made) (makes (prg_of s.program)) (shown (makes (prg_of s.program)) made here) outcome old new written)
+      product_made (λ source c. makes (prg_of c)) warnings made warned (subst (λ f. Makes (makes f) made) same m) written
 
   -- running its file is running the source
   pub file_run : (text answers file : List ℕ) (made : Result Text NoText) → file ≡ prg_of s.program

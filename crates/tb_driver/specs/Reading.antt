@@ -11,7 +11,7 @@ use Rattle.tb_engines.specs.declared.outcome.Outcome.{Outcome}
 use Rattle.tb_engines.specs.declared.outcome.Outcome.TheVariants.{Ended, Refused, ReadFault, WriteFault, NoMemory}
 use Rattle.tb_engines.specs.declared.outcome.Refusal.TheVariants.{Source}
 use Rattle.tb_codegen.specs.Answers.{LinesMake}
-use Rattle.tb_codegen.specs.Compiled.{prg_of, loaded_of, start_of}
+use Rattle.tb_codegen.specs.Compiled.{IsCompiled, prg_of, loaded_of, start_of}
 use Rattle.tb_codegen.specs.declared.compiled.Compiled.{Compiled}
 use Rattle.tb_driver.specs.declared.reading.CompiledSource.{CompiledSource}
 use Rattle.tb_driver.specs.Sources.{IsAnswer, Compiles}
@@ -23,6 +23,7 @@ pub record IsCompilation (seed : ℕ) (source : List ℕ) (program : Compiled) :
   pub keeps : KeepsSource seed source (prg_of program)
   pub lines : Program
   pub makes : LinesMake source (Ok lines)
+  pub compiled : IsCompiled seed lines program
   pub marks : MarksLines BASIC_START (loaded_of program) lines seed (start_of program)
 
 -- what compiling a source answers: the source with its program, or the compiler's refusal

@@ -13,7 +13,9 @@ pub use reading::{CompiledSource, compile_source, read_source, stop_of};
 pub use sources::{build, run_text};
 pub use starting::start_program;
 pub use stepping::step_text;
-pub use tb_engines::{End, Outcome, Refusal, Report, asm_text, dis_text, run_prg, Warnings, without_input};
+pub use tb_engines::{
+    End, Outcome, Refusal, Report, Warnings, asm_text, dis_text, run_prg, without_input,
+};
 pub use tb_play::{MOST_TYPED, Played, play_file};
 pub use tb_streams::{
     InputError, KeyError, KeyFileError, MOST_INPUT, StreamFailure, Tracked, address, host_form,

@@ -15,7 +15,7 @@ pub returns-in-Err-clause-answers : goal.returns-in-Err-clause-answers
 returns-in-Err-clause-answers g c =
     let makes = RunsPrg g.O.Outside.gives c.args.outside.now c.args.keyboard.text.items c.args.keyboard.answers.items c.args.limit in
     nothing_made c.args.seed c.in-Err.outcome c.new.result _ _ _ _ c.in-Err.ensures.answers c.new.ensures.outcome c.new.ensures.warnings
-    (λ p. makes (prg_of p))
+    (λ source p. makes (prg_of p))
 
 pub returns-clause-answers : goal.returns-clause-answers
 returns-clause-answers g c =
