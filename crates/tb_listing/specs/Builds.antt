@@ -14,7 +14,7 @@ use Rattle.tb_listing.specs.Labels.{all_labels, labels_text}
 use Rattle.tb_listing.specs.Map.{parts, map_text}
 use Rattle.tb_listing.specs.Comments.{ShowsLines}
 
--- how many bytes the image of a compiled program has, which stand in its file behind the load address and the BASIC line
+-- how many bytes the image of a compiled program has, which follow the load address and the BASIC line in its file
 abbrev pub image_size : Compiled → ℕ
 image_size c = length (prg_of c) - 14
 

@@ -37,7 +37,7 @@ pub fn make(alloc: Global, source: &[u8], compiled: &Compiled) -> Result<Made, A
     all_of(alloc, source, compiled, &program)
 }
 
-// All that is made of a compiled source.
+// All texts about a compiled source.
 fn all_of(
     alloc: Global,
     source: &[u8],

@@ -1,5 +1,5 @@
 -- The goals of `make` in src/build.rt.
-use Rattle.std.proofs.Common.{Ok}
+use Rattle.std.proofs.Common.{◌≤◌, Ok, arith, length, length-append, subst, sym}
 use Rattle.tb_syntax.specs.PlainData.{lines_of}
 use Rattle.tb_codegen.specs.Compiled.{IsCompiled, starts_of, table_of}
 use Rattle.tb_listing.specs.Builds.{image_size}
@@ -12,8 +12,9 @@ pub all_of-requires-clause-small : goal.all_of-requires-clause-small
 all_of-requires-clause-small c = (c.requires.1 (Ok (lines_of c.in-Ok.program)) c.in-Ok.ensures.found).0
 
 pub all_of-requires-clause-headed : goal.all_of-requires-clause-headed
-all_of-requires-clause-headed c = (are_laid c.requires.0 c.in-Ok.program c.args.compiled.now c.in-Ok.ensures.stated c.in-Ok.ensures.rising
-    (c.requires.1 (Ok (lines_of c.in-Ok.program)) c.in-Ok.ensures.found).1).headed
+all_of-requires-clause-headed c =
+    let is : IsCompiled c.requires.0 (lines_of c.in-Ok.program) c.args.compiled.now = (c.requires.1 (Ok (lines_of c.in-Ok.program)) c.in-Ok.ensures.found).1 in
+    subst (λ file. 14 ≤ length file) (sym is.prg) (simp length-append (omega arith))
 
 pub all_of-requires-clause-ends : goal.all_of-requires-clause-ends
 all_of-requires-clause-ends c = (are_laid c.requires.0 c.in-Ok.program c.args.compiled.now c.in-Ok.ensures.stated c.in-Ok.ensures.rising

@@ -10,7 +10,7 @@ make_texts-requires g c = (c.args.seed, c.in-Ok.ensures.answers.1.answer.found)
 pub returns-in-Err-clause-answers : goal.returns-in-Err-clause-answers
 returns-in-Err-clause-answers g c =
     nothing_made c.args.seed c.in-Err.outcome c.new.result _ _ _ _ c.in-Err.ensures.answers c.new.ensures.outcome c.new.ensures.warnings
-    (λ source p. Profiles g.O.Outside.gives c.args.outside.now c.args.keyboard.text.items c.args.keyboard.answers.items c.args.limit source p ?)
+    (λ source p. Profiles g.O.Outside.gives c.args.outside.now c.args.keyboard.text.items c.args.keyboard.answers.items c.args.limit source p c.new-2.result.items)
 
 pub returns-clause-answers : goal.returns-clause-answers
 returns-clause-answers g c =
