@@ -60,7 +60,7 @@ module _ (program : Compiled) (text answers : List ℕ) (rom : Rom) where
   pub begun : (content : Result (ℕ × List ℕ) PrgError) (m : Content) (d : Debugger) → content_of (prg_of program) ≡ content
       → StartsContent text answers content (Ok m) → d.program.now ≡ program → OnRun (first_point (state_of m) rom) d
       → IsOpening (first_point (state_of m) rom) d → AreBytes (prg_of program) → AreBytes text → AreBytes answers → IsBegun program text answers rom d
-  begun (Err e) m d content none of on opens small keys polls = absurd cc
+  begun (Err e) m d content none of on opens small keys polls = absurd none
   begun (Ok (at, bytes)) m d content (in_ram, machine) of on opens small keys polls =
       let here = subst (λ x. OnRun (first_point (state_of x) rom) d) machine on in
       record {

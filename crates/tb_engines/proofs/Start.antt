@@ -16,6 +16,7 @@ use Rattle.tb_prg.specs.declared.PrgError.{PrgError}
 use Rattle.tb_engines.specs.declared.delivery.Text.{Text}
 use Rattle.tb_engines.specs.declared.delivery.NoText.{NoText}
 use Rattle.tb_engines.specs.declared.delivery.NoText.TheVariants.{Refused, NoMemory}
+use Rattle.tb_engines.specs.declared.outcome.Refusal.TheVariants.{Prg}
 use Rattle.tb_engines.specs.Delivery.{Makes}
 use Rattle.tb_engines.specs.Programs.{start_regs, start_memory, start, end_of, Runs, RunsOn, RunsContent, StartsContent}
 
@@ -77,7 +78,10 @@ module _ {O : Type 0} (gives : O → Content → Event → O → Type 0) (o : O)
       → Makes (RunsContent gives o content text answers limit) (Err stop)
   not_started (Ok p) (Refused e) unloadable = unloadable
   not_started (Ok p) NoMemory unloadable = tt
-  not_started (Err why) (Refused e) is = cc
+  not_started (Err why) (Refused e) is =
+      let same : Refused e ≡ Refused (Prg why) = is in
+      let inner : e ≡ Prg why = cc in
+      ap (λ x. Err x) inner
   not_started (Err why) NoMemory is = tt
 
   -- what comes of the start machine of a PRG file comes of the file
@@ -86,4 +90,4 @@ module _ {O : Type 0} (gives : O → Content → Event → O → Type 0) (o : O)
   runs_content (Ok p) m (Ok shown) (in_ram, same) ran = (in_ram, subst (λ x. Runs gives o x limit (shown.bytes.items, shown.end)) same ran)
   runs_content (Ok p) m (Err (Refused e)) started none = absurd none
   runs_content (Ok p) m (Err NoMemory) started ran = tt
-  runs_content (Err why) m made is ran = absurd cc
+  runs_content (Err why) m made none ran = absurd none

@@ -99,7 +99,7 @@ IsUnloadable at bytes NoMemory = Unit {0}
 abbrev pub StartsContent : List ℕ → List ℕ → Result (ℕ × List ℕ) PrgError → Result Content NoText → Type 0
 StartsContent text answers (Ok p) result =
     MatchResult result (λ m. IsOpenRange p.0 (length p.1) × (m ≡ start p.0 p.1 text answers)) (IsUnloadable p.0 p.1)
-StartsContent text answers (Err e) result = result ≡ Err (Refused (Prg e))
+StartsContent text answers (Err e) result = MatchResult result (λ m. ⊥) (λ stop. stop ≡ Refused (Prg e))
 
 -- what starting a PRG file answers, with a keyboard text and answers
 abbrev pub StartsPrg : List ℕ → List ℕ → List ℕ → Result Content NoText → Type 0

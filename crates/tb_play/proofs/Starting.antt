@@ -1,11 +1,12 @@
 -- What starting a PRG file with nothing typed answers.
-use Rattle.std.proofs.Common.{◌≡◌, ℕ, List, [], Result, Ok, Err, refl, subst}
+use Rattle.std.proofs.Common.{◌≡◌, ℕ, List, [], Result, Ok, Err, refl, ap, subst}
 use Rattle.tb_kernal.specs.Machine.{Content}
 use Rattle.tb_prg.specs.declared.PrgError.{PrgError}
 use Rattle.tb_prg.specs.Prg.{content_of}
 use Rattle.tb_engines.specs.Programs.{StartsContent, StartsPrg}
 use Rattle.tb_engines.specs.declared.delivery.NoText.{NoText}
 use Rattle.tb_engines.specs.declared.delivery.NoText.TheVariants.{Refused, NoMemory}
+use Rattle.tb_engines.specs.declared.outcome.Refusal.TheVariants.{Prg}
 use Rattle.tb_play.specs.Plays.{IsStart, IsStarted}
 
 with_nothing : (file : List ℕ) (content : Result (ℕ × List ℕ) PrgError) (result : Result Content NoText) → content_of file ≡ content
@@ -13,8 +14,11 @@ with_nothing : (file : List ℕ) (content : Result (ℕ × List ℕ) PrgError) (
 with_nothing file (Ok p) (Ok m) same (in_ram, is) = record { address = p.0; bytes = p.1; content = same; in_ram = in_ram; machine = is }
 with_nothing file (Ok p) (Err (Refused e)) same unloadable = rw same unloadable
 with_nothing file (Ok p) (Err NoMemory) same unloadable = tt
-with_nothing file (Err why) (Ok m) same is = absurd cc
-with_nothing file (Err why) (Err (Refused e)) same is = rw same cc
+with_nothing file (Err why) (Ok m) same none = absurd none
+with_nothing file (Err why) (Err (Refused e)) same is =
+    let whole : Refused e ≡ Refused (Prg why) = is in
+    let inner : e ≡ Prg why = cc in
+    rw same (ap (λ x. Err x) inner)
 with_nothing file (Err why) (Err NoMemory) same is = tt
 
 -- its machine is the start machine of a file that is played
