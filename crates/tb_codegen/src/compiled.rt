@@ -65,6 +65,13 @@ impl Compiled {
     {
         &self.warnings
     }
+
+    /// The warnings, where the program is no longer needed.
+    pub fn into_warnings(self) -> Vec<Warning>
+        ensures { result.items ≡ warnings_of self }
+    {
+        self.warnings
+    }
 }
 
 fn start_in(starts: &[LineStart], line: u16) -> Option<u16>

@@ -6,16 +6,16 @@ use Rattle.tb_kernal.specs.Machine.{Content, state_of, status}
 use Rattle.tb_kernal.specs.declared.status.Status.{Status}
 use Rattle.tb_kernal.specs.declared.status.Status.TheVariants.{Returned, Running, Waits, Wrong}
 use Rattle.tb_prg.specs.Prg.{content_of}
-use Rattle.tb_memmap.specs.Bytes.{IsOpenRange}
 use Rattle.tb_opcodes.specs.Bytes.{AreBytes}
 use Rattle.tb_syntax.specs.Source.{Program}
 use Rattle.tb_simulation.specs.Kept.{Starts}
-use Rattle.tb_engines.specs.Programs.{IsUnloadable, start}
+use Rattle.tb_prg.specs.declared.PrgError.{PrgError}
+use Rattle.tb_engines.specs.Programs.{StartsContent, StartsPrg, start}
+use Rattle.tb_engines.specs.Delivery.{outcome_without}
 use Rattle.tb_engines.specs.declared.delivery.NoText.{NoText}
 use Rattle.tb_engines.specs.declared.delivery.NoText.TheVariants.{NoMemory as NoMachine, Refused as CantLoad}
-use Rattle.tb_engines.specs.declared.outcome.Refusal.{Refusal}
-use Rattle.tb_driver.proofs.Loadable.{address_in, bytes_in, machine_at_start}
-use Rattle.tb_driver.proofs.Output.{bytes_behind, file_loads, in_ram, starts}
+use Rattle.tb_driver.proofs.Loadable.{machine_at_start, starts_loadable}
+use Rattle.tb_driver.proofs.Output.{bytes_behind, compiled_loads, in_ram, starts}
 use Rattle.tb_engines.specs.declared.outcome.Outcome.{Outcome}
 use Rattle.tb_engines.specs.declared.outcome.Outcome.TheVariants.{Ended, Refused, ReadFault, WriteFault, NoMemory}
 use Rattle.tb_codegen.specs.Compiled.{loaded_of, prg_of}
@@ -30,14 +30,14 @@ use Rattle.tb_debug.specs.declared.moment.Reached.{Reached}
 use Rattle.tb_debug.specs.declared.answer.Answer.{Answer}
 use Rattle.tb_debug.specs.declared.rom.Rom.{Rom}
 use Rattle.tb_debug.specs.declared.debugger.Debugger.{Debugger}
-use Rattle.tb_debug_engine.specs.Dialogue.{Begins, IsBarred, IsBegun, IsFirst, Opens, Says, outcome_of}
+use Rattle.tb_debug_engine.specs.Dialogue.{Begins, IsBegun, IsFirst, Opens, Says}
 use Rattle.tb_debug_engine.specs.Sources.{shown_of}
 use Rattle.tb_debug_engine.specs.declared.sources.Written.{Written}
 
 -- a program that `compile` made is loaded at $0801, below $A000
 loads : (source : Program) (seed : ℕ) (c : Compiled) → IsMadeOf source seed c
     → (content_of (prg_of c) ≡ Ok (BASIC_START, loaded_of c)) × (BASIC_START + length (loaded_of c) ≤ 0xa000)
-loads source seed c made = file_loads seed [] c (Ok source) made.compiled
+loads source seed c made = compiled_loads seed [] c source made.compiled
 
 -- the machine that `run` starts for it is one from which its line starts are known
 shows_so : (c : Compiled) (text answers : List ℕ) (rom : Rom) (at : ℕ) (bytes : List ℕ) (d : Debugger) → content_of (prg_of c) ≡ Ok (at, bytes)
@@ -55,52 +55,37 @@ shows_so c text answers rom at bytes d content of on file keys polls source seed
       on = on;
     }
 
--- a debugger on the run of a program's file
-pub begun : (program : Compiled) (file text answers : List ℕ) (rom : Rom) (at : ℕ) (bytes : List ℕ) (m : Content) (d : Debugger)
-    → file ≡ prg_of program → content_of file ≡ Ok (at, bytes) → m ≡ start at bytes text answers → d.program.now ≡ program
-    → OnRun (first_point (state_of m) rom) d → IsOpening (first_point (state_of m) rom) d → AreBytes file → AreBytes text → AreBytes answers
-    → IsBegun program text answers rom d
-begun program file text answers rom at bytes m d same content machine of on opens small keys polls =
-    let there = ap content_of (sym same) ∙ content in
-    let here = subst (λ x. OnRun (first_point (state_of x) rom) d) machine on in
-    record {
-      of = of;
-      at = at;
-      bytes = bytes;
-      content = there;
-      on = here;
-      opens = subst (λ x. IsOpening (first_point (state_of x) rom) d) machine opens;
-      shows = shows_so program text answers rom at bytes d there of here (subst AreBytes same small) keys polls;
-    }
+module _ (program : Compiled) (text answers : List ℕ) (rom : Rom) where
+  -- a debugger on the run of a program's file
+  pub begun : (content : Result (ℕ × List ℕ) PrgError) (m : Content) (d : Debugger) → content_of (prg_of program) ≡ content
+      → StartsContent text answers content (Ok m) → d.program.now ≡ program → OnRun (first_point (state_of m) rom) d
+      → IsOpening (first_point (state_of m) rom) d → AreBytes (prg_of program) → AreBytes text → AreBytes answers → IsBegun program text answers rom d
+  begun (Err e) m d content none of on opens small keys polls = absurd none
+  begun (Ok (at, bytes)) m d content (in_ram, machine) of on opens small keys polls =
+      let here = subst (λ x. OnRun (first_point (state_of x) rom) d) machine on in
+      record {
+        of = of;
+        at = at;
+        bytes = bytes;
+        content = content;
+        on = here;
+        opens = subst (λ x. IsOpening (first_point (state_of x) rom) d) machine opens;
+        shows = shows_so program text answers rom at bytes d content of here small keys polls;
+      }
 
 -- a program that can't be loaded is none that `compile` made
-pub barred : (program : Compiled) (file : List ℕ) (at : ℕ) (bytes : List ℕ) (why : Refusal) → file ≡ prg_of program → content_of file ≡ Ok (at, bytes)
-    → IsUnloadable at bytes (CantLoad why) → IsBarred program why
-barred program file at bytes why same content unloadable =
-    let there = ap content_of (sym same) ∙ content in
-    record {
-      at = at;
-      bytes = bytes;
-      content = there;
-      unloadable = unloadable;
-      unmade = λ source seed made.
-          let whole = loads source seed program made in
-          let first : at ≡ BASIC_START = ap address_in (sym there ∙ whole.0) in
-          let rest : bytes ≡ loaded_of program = ap bytes_in (sym there ∙ whole.0) in
-          unloadable.1 (subst (λ a. IsOpenRange a (length bytes)) (sym first)
-          (subst (λ l. IsOpenRange BASIC_START (length l)) (sym rest) (in_ram (length (loaded_of program)) whole.1)));
-    }
-
--- if the machine can't be started, there is no debugger
-pub not_begun : (program : Compiled) (file text answers : List ℕ) (rom : Rom) (at : ℕ) (bytes : List ℕ) (stop : NoText) (outcome : Outcome)
-    → outcome ≡ outcome_of stop → file ≡ prg_of program → content_of file ≡ Ok (at, bytes) → IsUnloadable at bytes stop
-    → Begins program text answers rom (Err outcome)
-not_begun program file text answers rom at bytes stop outcome is same content unloadable =
-    subst (λ o. Begins program text answers rom (Err o)) (sym is) (by stop unloadable)
-  where
-    by : (stop : NoText) → IsUnloadable at bytes stop → Begins program text answers rom (Err (outcome_of stop))
-    by (CantLoad why) unloadable = barred program file at bytes why same content unloadable
-    by NoMachine unloadable = tt
+  pub not_begun : (stop : NoText) (outcome : Outcome) → outcome ≡ outcome_without stop → StartsPrg text answers (prg_of program) (Err stop)
+      → Begins program text answers rom (Err outcome)
+  not_begun stop outcome is unloadable = subst (λ o. Begins program text answers rom (Err o)) (sym is) (by stop unloadable)
+    where
+      by : (stop : NoText) → StartsPrg text answers (prg_of program) (Err stop) → Begins program text answers rom (Err (outcome_without stop))
+      by (CantLoad why) unloadable = record {
+        unloadable = unloadable;
+        unmade = λ source seed made.
+            let whole = loads source seed program made in
+            starts_loadable text answers program (Err (CantLoad why)) unloadable (whole.0, in_ram (length (loaded_of program)) whole.1);
+      }
+      by NoMachine unloadable = tt
 
 -- a debugger that only looks how it stands stops at no limit
 unlimited : (why : Status) (begins : Bool) → is_limit (standing_by why begins) ≡ false

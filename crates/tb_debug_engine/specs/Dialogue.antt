@@ -7,9 +7,8 @@ use Rattle.tb_kernal.specs.Machine.{state_of}
 use Rattle.tb_streams.specs.Streams.{AppendsPrefix, most_input}
 use Rattle.tb_streams.specs.Lines.{TakesLine, TakesNothing, TakesPart, without_return}
 use Rattle.tb_prg.specs.Prg.{content_of}
-use Rattle.tb_engines.specs.Programs.{IsUnloadable, start}
-use Rattle.tb_engines.specs.declared.delivery.NoText.{NoText}
-use Rattle.tb_engines.specs.declared.delivery.NoText.TheVariants.{NoMemory as NoMachine, Refused as CantLoad}
+use Rattle.tb_engines.specs.Programs.{StartsPrg, start}
+use Rattle.tb_engines.specs.declared.delivery.NoText.TheVariants.{Refused as CantLoad}
 use Rattle.tb_engines.specs.declared.outcome.End.TheVariants.{Done}
 use Rattle.tb_engines.specs.declared.outcome.Outcome.{Outcome}
 use Rattle.tb_engines.specs.declared.outcome.Refusal.{Refusal}
@@ -32,7 +31,7 @@ use Rattle.tb_debug.specs.Kinds.{IsWalk}
 use Rattle.tb_debug.specs.Leaving.{Leaves}
 use Rattle.tb_debug_engine.specs.declared.dialogue.Setting.{Setting}
 use Rattle.tb_debug_engine.specs.Sources.{AreWritten, shown_of}
-use Rattle.tb_debug_engine.specs.declared.sources.Sources.{Sources}
+use Rattle.tb_driver.specs.declared.reading.CompiledSource.{CompiledSource}
 use Rattle.tb_debug_engine.specs.declared.sources.Written.{Written}
 
 -- ---- one line
@@ -153,23 +152,15 @@ pub record IsBegun (program : Compiled) (text answers : List ℕ) (rom : Rom) (d
   pub opens : IsOpening (first_point (state_of (start at bytes text answers)) rom) d
   pub shows : (source : Program) (seed : ℕ) → IsMadeOf source seed program → sources.Debugs source seed (state_of (start at bytes text answers)) rom d
 
--- how a dialogue ends whose machine can't be started
-abbrev pub outcome_of : NoText → Outcome
-outcome_of (CantLoad why) = Refused why
-outcome_of NoMachine = NoMemory
-
--- why a program is not debugged: it doesn't lie in RAM, as none does that `compile` makes
-pub record IsBarred (program : Compiled) (why : Refusal) : Type 0 where
-  pub at : ℕ
-  pub bytes : List ℕ
-  pub content : content_of (prg_of program) ≡ Ok (at, bytes)
-  pub unloadable : IsUnloadable at bytes (CantLoad why)
+-- why a program is not debugged: its machine can't be started, as that of any program that `compile` made can
+pub record IsBarred (program : Compiled) (text answers : List ℕ) (why : Refusal) : Type 0 where
+  pub unloadable : StartsPrg text answers (prg_of program) (Err (CantLoad why))
   pub unmade : (source : Program) (seed : ℕ) → ¬ (IsMadeOf source seed program)
 
 -- the debugger of a source at its beginning, or why there is none
 abbrev pub Begins : Compiled → List ℕ → List ℕ → Rom → Result Debugger Outcome → Type 0
 Begins program text answers rom (Ok d) = IsBegun program text answers rom d
-Begins program text answers rom (Err (Refused why)) = IsBarred program why
+Begins program text answers rom (Err (Refused why)) = IsBarred program text answers why
 Begins program text answers rom (Err NoMemory) = Unit {0}
 Begins program text answers rom (Err ReadFault) = ⊥
 Begins program text answers rom (Err WriteFault) = ⊥
@@ -195,14 +186,14 @@ Opens w d (Err (Refused why)) e old new wrote wrote' = ⊥
 -- ---- the whole
 
 -- the lines of a source, and its debugger at the beginning
-pub record AreReady (s : Sources) (text answers : List ℕ) (rom : Rom) (w : Written) (d : Debugger) : Type 0 where
+pub record AreReady (s : CompiledSource) (text answers : List ℕ) (rom : Rom) (w : Written) (d : Debugger) : Type 0 where
   pub written : AreWritten s w
   pub begun : IsBegun s.program text answers rom d
 
 -- nothing is done if there is no debugger
-abbrev pub DoesNothing : Compiled → Outcome → Option (List ℕ) → Option (List ℕ) → ℕ → ℕ → Option (List ℕ) → Option (List ℕ) → ℕ → ℕ → Type 0
-DoesNothing program outcome had left read read' old new wrote wrote' =
-    ((outcome ≡ NoMemory) ⊎ ((why : Refusal) × (outcome ≡ Refused why) × IsBarred program why))
+abbrev pub DoesNothing : Compiled → List ℕ → List ℕ → Outcome → Option (List ℕ) → Option (List ℕ) → ℕ → ℕ → Option (List ℕ) → Option (List ℕ) → ℕ → ℕ → Type 0
+DoesNothing program text answers outcome had left read read' old new wrote wrote' =
+    ((outcome ≡ NoMemory) ⊎ ((why : Refusal) × (outcome ≡ Refused why) × IsBarred program text answers why))
     × (left ≡ had) × (read' ≡ read) × (new ≡ old) × (wrote' ≡ wrote)
 
 -- the first stop can't be told
@@ -218,10 +209,10 @@ OpensAndTalks w setting d outcome had left read read' old new wrote wrote' =
     × Talks w setting e outcome had left read read' now new wrote wrote'
 
 -- what debugging a source comes to
-abbrev pub Debugs : Sources → List ℕ → List ℕ → Setting → Outcome → Option (List ℕ) → Option (List ℕ) → ℕ → ℕ → Option (List ℕ) → Option (List ℕ) → ℕ
+abbrev pub Debugs : CompiledSource → List ℕ → List ℕ → Setting → Outcome → Option (List ℕ) → Option (List ℕ) → ℕ → ℕ → Option (List ℕ) → Option (List ℕ) → ℕ
     → ℕ → Type 0
 Debugs s text answers setting outcome had left read read' old new wrote wrote' =
-    DoesNothing s.program outcome had left read read' old new wrote wrote'
+    DoesNothing s.program text answers outcome had left read read' old new wrote wrote'
     ⊎ ((w : Written) × (d : Debugger) × AreReady s text answers setting.rom w d
     × (FailsToOpen w d outcome had left read read' old new wrote wrote'
     ⊎ OpensAndTalks w setting d outcome had left read read' old new wrote wrote'))

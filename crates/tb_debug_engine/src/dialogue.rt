@@ -1,18 +1,20 @@
 //! The dialogue.
 ghost use Rattle.std.specs.Prelude.{◌≡◌, OnErr, OnOk, is_err};
 ghost use Rattle.std.specs.Io.KnownBytes.{Appends};
+ghost use Rattle.tb_opcodes.specs.Bytes.{AreBytes};
+ghost use Rattle.tb_codegen.specs.Compiled.{prg_of};
 ghost use Rattle.tb_streams.specs.Failures.{failures_of};
 ghost use Rattle.tb_streams.specs.Streams.{AppendsPrefix, counted};
-ghost use Rattle.tb_debug_engine.specs.Dialogue.{Asks, Begins, Debugs, Exchanges, Opens, Says, Talks, outcome_of, prompt};
+ghost use Rattle.tb_debug_engine.specs.Dialogue.{Asks, Begins, Debugs, Exchanges, Opens, Says, Talks, prompt};
 ghost use Rattle.tb_debug_engine.specs.Sources.{shown_of};
 
-use crate::sources::{Sources, Written};
+use crate::sources::Written;
 use crate::texts::push_answer;
 use std::alloc::Global;
 use std::io::{Read, Write};
 use tb_debug::{Answer, Debugger, Rom, read_command};
-use tb_driver::are_bytes;
-use tb_engines::{End, NoText, Outcome, start_machine, without_input};
+use tb_driver::{CompiledSource, start_program};
+use tb_engines::{End, Outcome, without_input, without_text};
 use tb_kernal::Keyboard;
 use tb_streams::{MOST_INPUT, StreamFailure, Tracked, read_line, without_return, write_output};
 
@@ -134,38 +136,23 @@ fn answer_lines<R: Read, W: Write>(
     Outcome::Ended(End::Done)
 }
 
-// How a dialogue ends whose machine can't be started.
-fn outcome_of(stop: NoText) -> Outcome
-    ensures { result ≡ outcome_of stop }
-{
-    match stop {
-        NoText::Refused(refusal) => Outcome::Refused(refusal),
-        NoText::NoMemory => Outcome::NoMemory,
-    }
-}
-
 // The debugger of a program at its first line.
 fn debugger_of<'a>(
     alloc: Global,
-    sources: &'a Sources,
+    source: &'a CompiledSource,
     keyboard: Keyboard,
     rom: Rom,
 ) -> Result<Debugger<'a>, Outcome>
-    ensures { Begins sources.now.program keyboard.text.items keyboard.answers.items rom result }
+    requires file { AreBytes (prg_of source.now.program) }
+    requires text { AreBytes keyboard.text.items }
+    requires answers { AreBytes keyboard.answers.items }
+    ensures { Begins source.now.program keyboard.text.items keyboard.answers.items rom result }
 {
-    let file = sources.program.prg();
-    are_bytes(file);
-    are_bytes(keyboard.text.as_slice());
-    are_bytes(keyboard.answers.as_slice());
-    let loaded = match tb_prg::read(file) {
-        Ok(loaded) => loaded,
-        Err(_) => return Err(Outcome::NoMemory),
-    };
-    let machine = match start_machine(alloc, loaded, keyboard) {
+    let machine = match start_program(alloc, &source.program, keyboard) {
         Ok(machine) => machine,
-        Err(stop) => return Err(outcome_of(stop)),
+        Err(stop) => return Err(without_text(stop)),
     };
-    match Debugger::new(alloc, &sources.program, machine, rom) {
+    match Debugger::new(alloc, &source.program, machine, rom) {
         Ok(debugger) => Ok(debugger),
         Err(_) => Err(Outcome::NoMemory),
     }
@@ -191,25 +178,25 @@ fn open<W: Write>(
 /// before the next one is read.
 pub fn debug<R: Read, W: Write>(
     alloc: Global,
-    sources: &Sources,
+    source: &CompiledSource,
     keyboard: Keyboard,
     setting: Setting,
     commands: &mut Tracked<R>,
     writer: &mut Tracked<W>,
 ) -> Outcome
-    ensures { Debugs sources.now keyboard.text.items keyboard.answers.items setting result
+    ensures { Debugs source.now keyboard.text.items keyboard.answers.items setting result
         (R.remaining commands.old.stream) (R.remaining commands.new.stream) (failures_of commands.old) (failures_of commands.new)
         (W.contents writer.old.stream) (W.contents writer.new.stream) (failures_of writer.old) (failures_of writer.new) }
 {
-    let Ok(source) = Written::new(alloc, sources) else {
+    let Ok(written) = Written::new(alloc, source) else {
         return Outcome::NoMemory;
     };
-    let mut debugger = match debugger_of(alloc, sources, keyboard, setting.rom) {
+    let mut debugger = match debugger_of(alloc, source, keyboard, setting.rom) {
         Ok(debugger) => debugger,
         Err(outcome) => return outcome,
     };
-    match open(alloc, &mut debugger, &source, writer) {
-        Ok(()) => answer_lines(alloc, &mut debugger, &source, setting, commands, writer),
+    match open(alloc, &mut debugger, &written, writer) {
+        Ok(()) => answer_lines(alloc, &mut debugger, &written, setting, commands, writer),
         Err(outcome) => outcome,
     }
 }

@@ -7,5 +7,4 @@ mod sources;
 mod texts;
 
 pub use dialogue::{Setting, debug};
-pub use sources::{Sources, read_sources, warnings};
 pub use tb_debug::Rom;

@@ -1,16 +1,13 @@
 -- What is delivered of a source.
-use Rattle.std.proofs.Common.{◌≡◌, ℕ, List, [], Option, Result, Ok, Err, refl, subst, sym}
+use Rattle.std.proofs.Common.{◌≡◌, ℕ, List, [], Option, Result, Ok, Err, refl, subst, sym, ap}
 use Rattle.tb_meaning.specs.declared.missing.Warning.{Warning}
-use Rattle.tb_parser.specs.Files.{Outcome as FileOutcome}
-use Rattle.tb_compile_errors.specs.declared.refusals.CompileError.{CompileError}
-use Rattle.tb_compile_errors.specs.declared.refusals.CompileError.TheVariants.{Source as BadSource, Lower, TooLarge, NoMemory as NoCompilerMemory}
-use Rattle.tb_codegen.specs.Answers.{HasOutcome, LinesMake, OutcomeAnswer}
 use Rattle.tb_codegen.specs.Compiled.{warnings_of}
 use Rattle.tb_codegen.specs.declared.compiled.Compiled.{Compiled}
 use Rattle.tb_streams.specs.Streams.{Reads}
 use Rattle.tb_engines.specs.Outcomes.{Product, Answers, MadeFrom}
 use Rattle.tb_engines.specs.Delivery.{Makes, Shows}
-use Rattle.tb_driver.specs.Sources.{Compiles, stop_of, FromSource}
+use Rattle.tb_driver.specs.Sources.{Compiles, FromSource}
+use Rattle.tb_driver.specs.Reading.{CompilesText}
 use Rattle.tb_engines.specs.declared.delivery.Text.{Text}
 use Rattle.tb_engines.specs.declared.delivery.NoText.{NoText}
 use Rattle.tb_engines.specs.declared.delivery.NoText.TheVariants.{Refused as NoTextRefused, NoMemory as NoTextNoMemory}
@@ -50,15 +47,14 @@ delivered makes had input source made outcome old new reads same m written =
     answers_as (Shows made) (MadeFrom had makes) (λ x s. (input, reads, shown (makes input) made here x s)) outcome old new written
 
 -- what was written if there is no program to warn of
-pub refusal_delivered : (makes : List Warning → List ℕ → Product → Type 0) (had : Option (List ℕ)) (input source : List ℕ) (e : CompileError)
-    (stop : NoText) (outcome : Outcome) (report : Report) (old new : Option (List ℕ)) → Reads had input → source ≡ input
-    → Makes (makes [] source) (Err (stop_of e)) → stop ≡ stop_of e → Answers (Shows (Err stop)) outcome old new
-    → report.outcome ≡ outcome → report.warnings.items ≡ [] → Answers (MadeFrom had (makes report.warnings.items)) report.outcome old new
-refusal_delivered makes had input source e stop outcome report old new reads same m stops written ends none =
-    let made = subst (λ t. Makes (makes [] source) (Err t)) (sym stops) m in
+pub refusal_delivered : (makes : List Warning → List ℕ → Product → Type 0) (had : Option (List ℕ)) (source : List ℕ) (stop : NoText)
+    (outcome : Outcome) (report : Report) (old new : Option (List ℕ)) → Reads had source → Makes (makes [] source) (Err stop)
+    → Answers (Shows (Err stop)) outcome old new → report.outcome ≡ outcome → report.warnings.items ≡ []
+    → Answers (MadeFrom had (makes report.warnings.items)) report.outcome old new
+refusal_delivered makes had source stop outcome report old new reads m written ends none =
     subst (λ w. Answers (MadeFrom had (makes w)) report.outcome old new) (sym none)
     (subst (λ o. Answers (MadeFrom had (makes [])) o old new) (sym ends)
-    (delivered (makes []) had input source (Err stop) outcome old new reads same made written))
+    (delivered (makes []) had source source (Err stop) outcome old new reads refl m written))
 
 -- ---- what is made of a source
 
@@ -70,9 +66,7 @@ from_compiled seed makes source c warnings made compiled warned m =
     makes_as (makes c) (FromSource seed makes warnings source) (λ x h. (Ok c, compiled, (warned, h))) made m
 
 -- a refusal is made of the source that is refused
-pub from_refusal : (seed : ℕ) (makes : Compiled → Product → Type 0) (source : List ℕ) (e : CompileError) → HasOutcome seed source (Err e)
-    → ((outcome : FileOutcome) → LinesMake source outcome → OutcomeAnswer seed outcome (Err e)) → Makes (FromSource seed makes [] source) (Err (stop_of e))
-from_refusal seed makes source (BadSource e) found only = (Err (BadSource e), record { found = found; only = only }, (refl, refl))
-from_refusal seed makes source (Lower e) found only = (Err (Lower e), record { found = found; only = only }, (refl, refl))
-from_refusal seed makes source (TooLarge n) found only = (Err (TooLarge n), record { found = found; only = only }, (refl, refl))
-from_refusal seed makes source NoCompilerMemory found only = tt
+pub from_refusal : (seed : ℕ) (makes : Compiled → Product → Type 0) (source : List ℕ) (stop : NoText) → CompilesText seed source (Err stop)
+    → Makes (FromSource seed makes [] source) (Err stop)
+from_refusal seed makes source (NoTextRefused why) (e, refused, is) = (Err e, refused, (refl, ap (λ x. Err x) is))
+from_refusal seed makes source NoTextNoMemory none = tt

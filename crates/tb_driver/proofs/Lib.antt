@@ -1,5 +1,5 @@
 pub mod Delivered
-mod ReadSources
+pub mod ReadSources
 pub mod Output
 pub mod Loadable
 mod Stepped

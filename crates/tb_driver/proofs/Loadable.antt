@@ -1,5 +1,5 @@
 -- A compiled program's file is loaded at $0801, all of it lies in RAM, and the machine that it starts is known.
-use Rattle.std.proofs.Common.{◌≡◌, ℕ, List, [], length, Result, Ok, Err, sym, ap, ◌∙◌}
+use Rattle.std.proofs.Common.{◌≡◌, ℕ, List, [], length, Result, Ok, Err, sym, ap, subst, ◌∙◌}
 use Rattle.tb_memmap.specs.Regions.{BASIC_START}
 use Rattle.tb_kernal.specs.Machine.{Content}
 use Rattle.tb_prg.specs.declared.PrgError.{PrgError}
@@ -7,8 +7,10 @@ use Rattle.tb_prg.specs.Prg.{content_of}
 use Rattle.tb_codegen.specs.Answers.{HasOutcome}
 use Rattle.tb_codegen.specs.Compiled.{prg_of, loaded_of}
 use Rattle.tb_codegen.specs.declared.compiled.Compiled.{Compiled}
-use Rattle.tb_engines.specs.Programs.{start}
-use Rattle.tb_driver.specs.Stepping.{IsLoadable}
+use Rattle.tb_engines.specs.Programs.{start, StartsContent, StartsPrg}
+use Rattle.tb_engines.specs.declared.delivery.NoText.{NoText}
+use Rattle.tb_engines.specs.declared.delivery.NoText.TheVariants.{Refused, NoMemory}
+use Rattle.tb_driver.specs.Starting.{IsLoadable, StartsLoadable}
 use Rattle.tb_driver.proofs.Output.{file_loads, in_ram}
 
 -- what the compiler answers is loadable
@@ -16,6 +18,16 @@ pub answer_loads : (seed : ℕ) (source : List ℕ) (c : Compiled) → HasOutcom
 answer_loads seed source c found =
     let loads = file_loads seed source c found.outcome found.answer in
     (loads.0, in_ram (length (loaded_of c)) loads.1)
+
+-- a program that is loadable is started, unless memory is wanting
+pub starts_loadable : (text answers : List ℕ) (c : Compiled) (result : Result Content NoText) → StartsPrg text answers (prg_of c) result → IsLoadable c
+    → StartsLoadable text answers c result
+starts_loadable text answers c result started loadable = by result (subst (λ x. StartsContent text answers x result) loadable.0 started)
+  where
+    by : (result : Result Content NoText) → StartsContent text answers (Ok (BASIC_START, loaded_of c)) result → StartsLoadable text answers c result
+    by (Ok m) (in_ram, is) = is
+    by (Err (Refused e)) (not_ram, closed) = absurd (closed loadable.1)
+    by (Err NoMemory) unloadable = tt
 
 -- the address of a file that was read, 0 if it is no PRG file
 abbrev pub address_in : Result (ℕ × List ℕ) PrgError → ℕ

@@ -24,7 +24,7 @@ use Rattle.tb_opcodes.specs.Bytes.{AreBytes}
 use Rattle.tb_simulation.specs.Kept.{Starts, HasEnded, IsSound, Keeps}
 use Rattle.tb_codegen.specs.declared.compiled.Compiled.{Compiled}
 use Rattle.tb_codegen.specs.Answers.{LinesMake, OutcomeAnswer, Answered}
-use Rattle.tb_codegen.specs.Compiled.{prg_of, loaded_of}
+use Rattle.tb_codegen.specs.Compiled.{prg_of, loaded_of, IsCompiled}
 use Rattle.tb_streams.specs.HostForm.{host_form_of}
 use Rattle.tb_engines.specs.Outcomes.{Product}
 use Rattle.tb_engines.specs.Delivery.{Makes}
@@ -183,10 +183,13 @@ image_loads image h =
 
 module _ (seed : ℕ) (source : List ℕ) (c : Compiled) where
   -- the file that the compiler answers is loaded at $0801
-  pub file_loads : (outcome : Outcome) → OutcomeAnswer seed outcome (Ok c) → IsLoaded (prg_of c)
-  file_loads (Ok program) is =
+  pub compiled_loads : (program : Program) → IsCompiled seed program c → IsLoaded (prg_of c)
+  compiled_loads program is =
       let l = all_size (labels_from PROLOGUE_AT is.items) PROLOGUE_AT is.items in
       subst IsLoaded (sym is.prg) (image_loads (image_of PROLOGUE_AT is.items) (omega (arith, l, is.ends)))
+
+  pub file_loads : (outcome : Outcome) → OutcomeAnswer seed outcome (Ok c) → IsLoaded (prg_of c)
+  file_loads (Ok program) is = compiled_loads program is.1
   file_loads (Err r) none = absurd none
 
   -- a compiled file keeps its source

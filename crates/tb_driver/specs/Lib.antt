@@ -1,4 +1,5 @@
 pub mod Sources
+pub mod Starting
 pub mod Output
 pub mod Stepping
 pub mod Reading

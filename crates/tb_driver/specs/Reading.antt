@@ -1,25 +1,43 @@
 -- Reading and compiling a source.
 use Rattle.std.specs.Prelude.{ℕ, ◌≡◌, ◌≢◌, ◌⊎◌, List, Option, Result, Ok, Err}
+use Rattle.tb_memmap.specs.Regions.{BASIC_START}
+use Rattle.tb_syntax.specs.Source.{Program}
+use Rattle.tb_simulation.specs.LineStarts.{MarksLines}
 use Rattle.tb_streams.specs.Streams.{Reads, MayPassMost}
+use Rattle.tb_compile_errors.specs.declared.refusals.CompileError.{CompileError}
+use Rattle.tb_engines.specs.declared.delivery.NoText.{NoText}
+use Rattle.tb_engines.specs.declared.delivery.NoText.TheVariants.{Refused as NoTextRefused, NoMemory as NoTextNoMemory}
 use Rattle.tb_engines.specs.declared.outcome.Outcome.{Outcome}
 use Rattle.tb_engines.specs.declared.outcome.Outcome.TheVariants.{Ended, Refused, ReadFault, WriteFault, NoMemory}
-use Rattle.tb_engines.specs.declared.outcome.Refusal.TheVariants.{TextLine, Item, Prg, NotRam, Source}
-use Rattle.tb_codegen.specs.Compiled.{prg_of}
+use Rattle.tb_engines.specs.declared.outcome.Refusal.TheVariants.{Source}
+use Rattle.tb_codegen.specs.Answers.{LinesMake}
+use Rattle.tb_codegen.specs.Compiled.{IsCompiled, prg_of, loaded_of, start_of}
 use Rattle.tb_codegen.specs.declared.compiled.Compiled.{Compiled}
-use Rattle.tb_driver.specs.Sources.{Compiles}
+use Rattle.tb_driver.specs.declared.reading.CompiledSource.{CompiledSource}
+use Rattle.tb_driver.specs.Sources.{IsAnswer, Compiles}
 use Rattle.tb_driver.specs.Output.{KeepsSource}
 
--- what reading and compiling a source answers, with the reader's count of failures: the program of all that the reader
--- had, which keeps it, or why there is none
-abbrev pub ReadsSource : ℕ → Result Compiled Outcome → Option (List ℕ) → ℕ → ℕ → Type 0
-ReadsSource seed (Ok program) had read read' =
-    (source : List ℕ) × Reads had source × Compiles seed source (Ok program) × KeepsSource seed source (prg_of program) × (read' ≡ read)
-ReadsSource seed (Err (Refused (Source e))) had read read' =
-    (source : List ℕ) × Reads had source × Compiles seed source (Err e) × (read' ≡ read)
-ReadsSource seed (Err (Refused (TextLine line))) had read read' = ⊥
-ReadsSource seed (Err (Refused (Item e))) had read read' = ⊥
-ReadsSource seed (Err (Refused (Prg e))) had read read' = ⊥
-ReadsSource seed (Err (Refused NotRam)) had read read' = ⊥
+-- the compiler's answer for a source is this program: it keeps the source, and begins the source's lines where it says
+pub record IsCompilation (seed : ℕ) (source : List ℕ) (program : Compiled) : Type 0 where
+  pub answer : IsAnswer seed source (Ok program)
+  pub keeps : KeepsSource seed source (prg_of program)
+  pub lines : Program
+  pub makes : LinesMake source (Ok lines)
+  pub compiled : IsCompiled seed lines program
+  pub marks : MarksLines BASIC_START (loaded_of program) lines seed (start_of program)
+
+-- what compiling a source answers: the source with its program, or the compiler's refusal
+abbrev pub CompilesText : ℕ → List ℕ → Result CompiledSource NoText → Type 0
+CompilesText seed text (Ok s) = (s.text.items ≡ text) × IsCompilation seed s.text.items s.program
+CompilesText seed text (Err (NoTextRefused why)) = (e : CompileError) × Compiles seed text (Err e) × (why ≡ Source e)
+CompilesText seed text (Err NoTextNoMemory) = Unit {0}
+
+-- what reading and compiling a source answers, with the reader's count of failures: all that the reader had, with its
+-- program, or why there is none
+abbrev pub ReadsSource : ℕ → Result CompiledSource Outcome → Option (List ℕ) → ℕ → ℕ → Type 0
+ReadsSource seed (Ok s) had read read' = Reads had s.text.items × IsCompilation seed s.text.items s.program × (read' ≡ read)
+ReadsSource seed (Err (Refused why)) had read read' =
+    (source : List ℕ) × (e : CompileError) × Reads had source × Compiles seed source (Err e) × (why ≡ Source e) × (read' ≡ read)
 ReadsSource seed (Err ReadFault) had read read' = (read' ≢ read) ⊎ MayPassMost had
 ReadsSource seed (Err NoMemory) had read read' = read' ≡ read
 ReadsSource seed (Err (Ended end)) had read read' = ⊥

@@ -1,12 +1,10 @@
 -- What comes of a source and of commands.
-use Rattle.std.specs.Prelude.{ℕ, ◌≡◌, ◌≢◌, ◌⊎◌, List, [], length, Option, Ok, Err}
+use Rattle.std.specs.Prelude.{ℕ, ◌≡◌, ◌≢◌, ◌⊎◌, List, [], Option, Ok, Err}
 use Rattle.std.specs.Io.KnownBytes.{Consumes}
 use Rattle.tb_memmap.specs.Regions.{BASIC_START}
-use Rattle.tb_memmap.specs.Bytes.{IsOpenRange}
-use Rattle.tb_prg.specs.Prg.{content_of}
 use Rattle.tb_meaning.specs.declared.missing.Warning.{Warning}
 use Rattle.tb_kernal.specs.declared.outside.Quiet.{Quiet}
-use Rattle.tb_codegen.specs.Compiled.{prg_of, loaded_of}
+use Rattle.tb_codegen.specs.Compiled.{loaded_of}
 use Rattle.tb_codegen.specs.declared.compiled.Compiled.{Compiled}
 use Rattle.tb_stepper.specs.Holding.{Holds}
 use Rattle.tb_commands.specs.Lines.{lines_of}
@@ -19,11 +17,6 @@ use Rattle.tb_driver.specs.Sources.{FromSource}
 use Rattle.tb_engines.specs.declared.outcome.End.TheVariants.{Done}
 use Rattle.tb_engines.specs.declared.outcome.Outcome.{Outcome}
 use Rattle.tb_engines.specs.declared.outcome.Outcome.TheVariants.{Ended, Refused, ReadFault, WriteFault, NoMemory}
-
--- a program's PRG file is loaded at $0801, and all of it lies in RAM
-abbrev pub IsLoadable : Compiled → Type 0
-IsLoadable program =
-    (content_of (prg_of program) ≡ Ok (BASIC_START, loaded_of program)) × IsOpenRange BASIC_START (length (loaded_of program))
 
 -- the history of a program's start machine alone
 abbrev pub start_of_history : List ℕ → List ℕ → Compiled → Holds Quiet

@@ -5,7 +5,6 @@ ghost use Rattle.tb_play.specs.Plays.{PlaysFile, PlayFaults, RunsTyped, Shows};
 ghost use Rattle.tb_driver.specs.Output.{KeepsSource, RunsSource};
 ghost use Rattle.tb_play.specs.Lines.{most_typed};
 
-use crate::sources::are_bytes;
 use std::alloc::Global;
 use std::io::{Read, Write};
 use tb_play::{Played, play_file};
@@ -34,6 +33,5 @@ pub fn play_compiled<R: Read, W: Write>(
     ensures faults { PlayFaults result.outcome (failures_of keys.old) (failures_of keys.new)
         (failures_of writer.old) (failures_of writer.new) }
 {
-    are_bytes(file);
     play_file(alloc, file, keys, writer, limit)
 }

@@ -3,13 +3,20 @@ ghost use Rattle.std.specs.Prelude.{◌≡◌, ◌+◌};
 ghost use Rattle.tb_streams.specs.Streams.{most_input, ConsumesAtMost};
 ghost use Rattle.tb_streams.specs.Failures.{failures_of};
 ghost use Rattle.tb_driver.specs.Sources.{stop_of};
-ghost use Rattle.tb_driver.specs.Reading.{ReadsSource};
+ghost use Rattle.tb_driver.specs.Reading.{CompilesText, ReadsSource};
 
 use std::alloc::Global;
 use std::io::Read;
 use tb_codegen::{CompileError, Compiled, Options, compile};
-use tb_engines::{NoText, Outcome, Refusal, without_input};
+use tb_engines::{NoText, Outcome, Refusal, without_input, without_text};
 use tb_streams::{Tracked, read_input};
+
+/// A source, and what it was compiled to. The program has its warnings.
+#[derive(Drop)]
+pub struct CompiledSource {
+    pub text: Vec<u8>,
+    pub program: Compiled,
+}
 
 /// How an engine stops where a source is not compiled. Want of memory is no refusal.
 pub fn stop_of(error: CompileError) -> NoText
@@ -21,24 +28,33 @@ pub fn stop_of(error: CompileError) -> NoText
     }
 }
 
+/// Compiles a source with a first state of RND.
+pub fn compile_source(alloc: Global, text: Vec<u8>, seed: u16) -> Result<CompiledSource, NoText>
+    ensures { CompilesText seed text.items result }
+{
+    match compile(alloc, text.as_slice(), Options { seed }) {
+        Ok(program) => Ok(CompiledSource { text, program }),
+        Err(error) => Err(stop_of(error)),
+    }
+}
+
 /// Reads a source and compiles it with a first state of RND.
 pub fn read_source<R: Read>(
     alloc: Global,
     reader: &mut Tracked<R>,
     seed: u16,
-) -> Result<Compiled, Outcome>
+) -> Result<CompiledSource, Outcome>
     ensures answers { ReadsSource seed result (R.remaining reader.old.stream)
         (failures_of reader.old) (failures_of reader.new) }
     ensures taken { ConsumesAtMost (R.remaining reader.old.stream) (R.remaining reader.new.stream)
         (most_input + 1) }
 {
-    let source = match read_input(alloc, reader) {
-        Ok(source) => source,
+    let text = match read_input(alloc, reader) {
+        Ok(text) => text,
         Err(error) => return Err(without_input(error)),
     };
-    match compile(alloc, source.as_slice(), Options { seed }) {
-        Ok(program) => Ok(program),
-        Err(CompileError::NoMemory) => Err(Outcome::NoMemory),
-        Err(error) => Err(Outcome::Refused(Refusal::Source(error))),
+    match compile_source(alloc, text, seed) {
+        Ok(source) => Ok(source),
+        Err(stop) => Err(without_text(stop)),
     }
 }

@@ -47,23 +47,15 @@ pub fn build<R: Read, W: Write>(
     ensures taken { ConsumesAtMost (R.remaining reader.old.stream) (R.remaining reader.new.stream)
         (most_input + 1) }
 {
-    let program = match read_source(alloc, reader, seed) {
-        Ok(program) => program,
+    let source = match read_source(alloc, reader, seed) {
+        Ok(source) => source,
         Err(outcome) => return Report::new(alloc, outcome),
     };
-    let Ok(warnings) = Vec::from_slice(alloc, program.warnings()) else {
-        return Report::new(alloc, Outcome::NoMemory);
-    };
     Report {
-        outcome: write_program(writer, &program),
-        warnings,
+        outcome: write_program(writer, &source.program),
+        warnings: source.program.into_warnings(),
     }
 }
-
-/// Bytes are numbers below 256: nothing is done, proofs take it from here.
-pub fn are_bytes(bytes: &[u8])
-    ensures { AreBytes bytes.now }
-{}
 
 // Runs the PRG file of a source.
 fn run_compiled<O: Outside>(
@@ -73,13 +65,13 @@ fn run_compiled<O: Outside>(
     limit: u64,
     outside: &mut O,
 ) -> Result<Text, NoText>
+    requires text { AreBytes keyboard.text.items }
+    requires answers { AreBytes keyboard.answers.items }
     ensures machine { Makes (RunsPrg O.gives outside.old keyboard.text.items keyboard.answers.items
         limit file.now) result }
     ensures output { (seed : ℕ) (source : List ℕ) → KeepsSource seed source file.now
         → Makes (RunsSource seed keyboard.text.items keyboard.answers.items source) result }
 {
-    are_bytes(keyboard.text.as_slice());
-    are_bytes(keyboard.answers.as_slice());
     run_file(alloc, file, keyboard, limit, outside)
 }
 
@@ -109,18 +101,15 @@ pub fn run_text<R: Read, W: Write, O: Outside>(
     ensures taken { ConsumesAtMost (R.remaining reader.old.stream) (R.remaining reader.new.stream)
         (most_input + 1) }
 {
-    let program = match read_source(alloc, reader, seed) {
-        Ok(program) => program,
+    let source = match read_source(alloc, reader, seed) {
+        Ok(source) => source,
         Err(outcome) => return Report::new(alloc, outcome),
-    };
-    let Ok(warnings) = Vec::from_slice(alloc, program.warnings()) else {
-        return Report::new(alloc, Outcome::NoMemory);
     };
     Report {
         outcome: deliver(
             writer,
-            run_compiled(alloc, program.prg(), keyboard, limit, outside),
+            run_compiled(alloc, source.program.prg(), keyboard, limit, outside),
         ),
-        warnings,
+        warnings: source.program.into_warnings(),
     }
 }

@@ -5,14 +5,16 @@ ghost use Rattle.tb_streams.specs.Failures.{failures_of};
 ghost use Rattle.tb_engines.specs.Outcomes.{Answers};
 ghost use Rattle.tb_engines.specs.Delivery.{Makes};
 ghost use Rattle.tb_driver.specs.Sources.{WarnsOfRead};
-ghost use Rattle.tb_driver.specs.Stepping.{IsLoadable, Steps, StepsThrough, MadeFromBoth, FaultsOfBoth};
+ghost use Rattle.tb_driver.specs.Starting.{IsLoadable};
+ghost use Rattle.tb_driver.specs.Stepping.{Steps, StepsThrough, MadeFromBoth, FaultsOfBoth};
 
-use crate::reading::stop_of;
+use crate::reading::compile_source;
+use crate::starting::start_program;
 use std::alloc::Global;
 use std::io::{Read, Write};
-use tb_codegen::{Compiled, Options, compile};
+use tb_codegen::Compiled;
 use tb_commands::answers;
-use tb_engines::{End, NoText, Outcome, Report, Text, deliver, start_machine, without_input};
+use tb_engines::{End, NoText, Report, Text, deliver, without_input};
 use tb_kernal::{Keyboard, Quiet};
 use tb_stepper::Stepper;
 use tb_streams::{Tracked, read_input};
@@ -28,10 +30,7 @@ fn step_program(
     requires { IsLoadable program.now }
     ensures { Makes (Steps keyboard.text.items keyboard.answers.items limit program.now commands.now) result }
 {
-    let Ok(loaded) = tb_prg::read(program.prg()) else {
-        unreachable!()
-    };
-    let machine = start_machine(alloc, loaded, keyboard)?;
+    let machine = start_program(alloc, program, keyboard)?;
     let Ok(mut stepper) = Stepper::new(alloc, machine, program, Quiet) else {
         return Err(NoText::NoMemory);
     };
@@ -70,26 +69,23 @@ pub fn step_text<R: Read, C: Read, W: Write>(
     ensures commands_taken { ConsumesAtMost (C.remaining commands.old.stream) (C.remaining commands.new.stream)
         (most_input + 1) }
 {
-    let source = match read_input(alloc, source) {
-        Ok(source) => source,
+    let text = match read_input(alloc, source) {
+        Ok(text) => text,
         Err(error) => return Report::new(alloc, without_input(error)),
     };
     let commands = match read_input(alloc, commands) {
         Ok(commands) => commands,
         Err(error) => return Report::new(alloc, without_input(error)),
     };
-    let program = match compile(alloc, source.as_slice(), Options { seed }) {
-        Ok(program) => program,
-        Err(error) => return Report::new(alloc, deliver(writer, Err(stop_of(error)))),
-    };
-    let Ok(warnings) = Vec::from_slice(alloc, program.warnings()) else {
-        return Report::new(alloc, Outcome::NoMemory);
+    let source = match compile_source(alloc, text, seed) {
+        Ok(source) => source,
+        Err(stop) => return Report::new(alloc, deliver(writer, Err(stop))),
     };
     Report {
         outcome: deliver(
             writer,
-            step_program(alloc, &program, keyboard, commands.as_slice(), limit),
+            step_program(alloc, &source.program, keyboard, commands.as_slice(), limit),
         ),
-        warnings,
+        warnings: source.program.into_warnings(),
     }
 }

@@ -1,5 +1,5 @@
 -- The start machine, and a run from it.
-use Rattle.std.proofs.Common.{◌≡◌, ℕ, ◌+◌, ◌-◌, ◌<◌, ◌≤◌, List, [], ◌∷◌, ◌++◌, length, take, drop, get_or, None, Ok, refl}
+use Rattle.std.proofs.Common.{◌≡◌, ℕ, ◌+◌, ◌-◌, ◌<◌, ◌≤◌, List, [], ◌∷◌, ◌++◌, length, take, drop, get_or, None, Result, Ok, Err, refl}
 use Rattle.std.proofs.Common.{ap, subst, ◌∙◌, arith, length-append}
 use Rattle.std.proofs.lemmas.List.{length-replicate, length-take-le, get_or_append_left, get_or-append_right}
 use Rattle.std.specs.Prelude.{replicate}
@@ -12,7 +12,13 @@ use Rattle.tb_kernal.specs.Machine.{Content, home_of, entry_refusal, entered}
 use Rattle.tb_kernal.specs.Runs.{RanOver}
 use Rattle.tb_engines.specs.declared.outcome.End.{End}
 use Rattle.tb_streams.specs.HostForm.{host_form_of}
-use Rattle.tb_engines.specs.Programs.{start_regs, start_memory, start, end_of, RunsAt}
+use Rattle.tb_prg.specs.declared.PrgError.{PrgError}
+use Rattle.tb_engines.specs.declared.delivery.Text.{Text}
+use Rattle.tb_engines.specs.declared.delivery.NoText.{NoText}
+use Rattle.tb_engines.specs.declared.delivery.NoText.TheVariants.{Refused, NoMemory}
+use Rattle.tb_engines.specs.declared.outcome.Refusal.TheVariants.{Prg}
+use Rattle.tb_engines.specs.Delivery.{Makes}
+use Rattle.tb_engines.specs.Programs.{start_regs, start_memory, start, end_of, Runs, RunsOn, RunsContent, StartsContent}
 
 -- what lies at the first two addresses of a load of two bytes
 loaded_two : (m : List ℕ) (a x y k : ℕ) → a + 2 ≤ length m → k < 2
@@ -59,10 +65,29 @@ entered_is_start a bytes m r text answers h same_memory same_regs =
     let home = home_of-start a bytes h in
     rw (same_memory, same_regs, home) refl
 
--- a run from the start machine
-pub runs_at : {O : Type 0} (gives : O → Content → Event → O → Type 0) (o p : O) (a : ℕ) (bytes text answers : List ℕ) (limit : ℕ)
-    (m n : Content) (t : Status) (shown : List ℕ) (end : End) → IsOpenRange a (length bytes) → m ≡ start a bytes text answers
-    → RanOver gives o m limit (Ok t) p n → shown ≡ host_form_of n.sent → end ≡ end_of t n.regs.pc
-    → RunsAt gives o a bytes text answers limit (Ok (shown, end))
-runs_at gives o p a bytes text answers limit m n t shown end in_ram same ran same_text same_end =
-    (in_ram, (t, p, n, subst (λ x. RanOver gives o x limit (Ok t) p n) same ran, λ i. (same_text i, same_end i)))
+-- a run of a machine
+pub runs_on : {O : Type 0} (gives : O → Content → Event → O → Type 0) (o p : O) (limit : ℕ) (m n : Content) (t : Status) (shown : List ℕ) (end : End)
+    → RanOver gives o m limit (Ok t) p n → shown ≡ host_form_of n.sent → end ≡ end_of t n.regs.pc → RunsOn gives o m limit (Ok (shown, end))
+runs_on gives o p limit m n t shown end ran same_text same_end = (t, p, n, ran, λ i. (same_text i, same_end i))
+
+-- ---- a PRG file
+
+module _ {O : Type 0} (gives : O → Content → Event → O → Type 0) (o : O) (text answers : List ℕ) (limit : ℕ) where
+  -- where a PRG file is not started, that is what comes of it
+  pub not_started : (content : Result (ℕ × List ℕ) PrgError) (stop : NoText) → StartsContent text answers content (Err stop)
+      → Makes (RunsContent gives o content text answers limit) (Err stop)
+  not_started (Ok p) (Refused e) unloadable = unloadable
+  not_started (Ok p) NoMemory unloadable = tt
+  not_started (Err why) (Refused e) is =
+      let same : Refused e ≡ Refused (Prg why) = is in
+      let inner : e ≡ Prg why = cc in
+      ap (λ x. Err x) inner
+  not_started (Err why) NoMemory is = tt
+
+  -- what comes of the start machine of a PRG file comes of the file
+  pub runs_content : (content : Result (ℕ × List ℕ) PrgError) (m : Content) (made : Result Text NoText) → StartsContent text answers content (Ok m)
+      → Makes (RunsOn gives o m limit) made → Makes (RunsContent gives o content text answers limit) made
+  runs_content (Ok p) m (Ok shown) (in_ram, same) ran = (in_ram, subst (λ x. Runs gives o x limit (shown.bytes.items, shown.end)) same ran)
+  runs_content (Ok p) m (Err (Refused e)) started none = absurd none
+  runs_content (Ok p) m (Err NoMemory) started ran = tt
+  runs_content (Err why) m made none ran = absurd none

@@ -14,6 +14,11 @@ abbrev pub outcome_of : InputError → Outcome
 outcome_of Fault = ReadFault
 outcome_of InputNoMemory = NoMemory
 
+-- the outcome if there is no text
+abbrev pub outcome_without : NoText → Outcome
+outcome_without (NoTextRefused e) = Refused e
+outcome_without NoTextNoMemory = NoMemory
+
 -- what was made is a product; there is none if memory ran out
 abbrev pub Makes : (Product → Type 0) → Result Text NoText → Type 0
 Makes makes (Ok text) = makes (Ok (text.bytes.items, text.end))

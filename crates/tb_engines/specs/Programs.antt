@@ -1,5 +1,5 @@
 -- The run of a PRG file.
-use Rattle.std.specs.Prelude.{ℕ, ◌≡◌, false, List, [], ◌∷◌, length, replicate, nat_eq, None, Result, Ok, Err, if◌then◌else◌}
+use Rattle.std.specs.Prelude.{ℕ, ◌≡◌, false, List, [], ◌∷◌, length, replicate, nat_eq, None, Result, Ok, Err, MatchResult, if◌then◌else◌}
 use Rattle.tb_memmap.specs.Regions.{BASIC_START, CODE_START}
 use Rattle.tb_cpu.specs.declared.registers.Regs.{Regs}
 use Rattle.tb_memmap.specs.Bytes.{loaded, IsOpenRange}
@@ -94,3 +94,18 @@ RunsPrg gives o text answers limit file product =
 abbrev pub IsUnloadable : ℕ → List ℕ → NoText → Type 0
 IsUnloadable at bytes (Refused e) = (e ≡ NotRam) × ¬ (IsOpenRange at (length bytes))
 IsUnloadable at bytes NoMemory = Unit {0}
+
+-- what starting the content of a PRG file answers: its start machine, where all of it lies in RAM, or why there is none
+abbrev pub StartsContent : List ℕ → List ℕ → Result (ℕ × List ℕ) PrgError → Result Content NoText → Type 0
+StartsContent text answers (Ok p) result =
+    MatchResult result (λ m. IsOpenRange p.0 (length p.1) × (m ≡ start p.0 p.1 text answers)) (IsUnloadable p.0 p.1)
+StartsContent text answers (Err e) result = MatchResult result (λ m. ⊥) (λ stop. stop ≡ Refused (Prg e))
+
+-- what starting a PRG file answers, with a keyboard text and answers
+abbrev pub StartsPrg : List ℕ → List ℕ → List ℕ → Result Content NoText → Type 0
+StartsPrg text answers file result = StartsContent text answers (content_of file) result
+
+-- what comes of a machine that was started: a run
+abbrev pub RunsOn : {O : Type 0} → (O → Content → Event → O → Type 0) → O → Content → ℕ → Product → Type 0
+RunsOn gives o m limit (Ok shown) = Runs gives o m limit shown
+RunsOn gives o m limit (Err e) = ⊥

@@ -3,7 +3,7 @@ ghost use Rattle.std.specs.Prelude.{◌≡◌};
 ghost use Rattle.tb_streams.specs.Streams.{Reads};
 ghost use Rattle.tb_streams.specs.Failures.{failures_of};
 ghost use Rattle.tb_engines.specs.Outcomes.{Answers, Faults};
-ghost use Rattle.tb_engines.specs.Delivery.{Shows, DeliveryFaults, outcome_of};
+ghost use Rattle.tb_engines.specs.Delivery.{Shows, DeliveryFaults, outcome_of, outcome_without};
 
 use crate::outcome::{End, Outcome, Refusal};
 use std::alloc::AllocError;
@@ -34,6 +34,16 @@ pub fn without_input(error: InputError) -> Outcome
     }
 }
 
+/// The outcome where there is no text.
+pub fn without_text(stop: NoText) -> Outcome
+    ensures { result ≡ outcome_without stop }
+{
+    match stop {
+        NoText::Refused(refusal) => Outcome::Refused(refusal),
+        NoText::NoMemory => Outcome::NoMemory,
+    }
+}
+
 /// Writes a text that was made.
 pub fn deliver<W: Write>(writer: &mut Tracked<W>, made: Result<Text, NoText>) -> Outcome
     ensures answers { Answers (Shows made) result
@@ -42,8 +52,7 @@ pub fn deliver<W: Write>(writer: &mut Tracked<W>, made: Result<Text, NoText>) ->
 {
     let text = match made {
         Ok(text) => text,
-        Err(NoText::Refused(refusal)) => return Outcome::Refused(refusal),
-        Err(NoText::NoMemory) => return Outcome::NoMemory,
+        Err(stop) => return without_text(stop),
     };
     match write_output(writer, text.bytes.as_slice()) {
         Ok(()) => Outcome::Ended(text.end),

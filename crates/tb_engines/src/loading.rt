@@ -1,7 +1,7 @@
 //! The machine with a program loaded, before its first event.
 ghost use Rattle.std.specs.Prelude.{◌≡◌, ◌+◌, ◌≤◌, length, MatchResult};
 ghost use Rattle.tb_memmap.specs.Bytes.{IsOpenRange};
-ghost use Rattle.tb_engines.specs.Programs.{start_regs, start_memory, start, IsUnloadable};
+ghost use Rattle.tb_engines.specs.Programs.{start_regs, start_memory, start, IsUnloadable, StartsPrg};
 
 use crate::delivery::NoText;
 use crate::outcome::Refusal;
@@ -73,5 +73,15 @@ pub fn start_machine(
     match Machine::enter(alloc, memory, start_regs(program.at), keyboard) {
         Ok(machine) => Ok(machine),
         Err(_) => unreachable!(),
+    }
+}
+
+/// The machine at the start of a PRG file, with the keyboard that it is given.
+pub fn start_file(alloc: Global, file: &[u8], keyboard: Keyboard) -> Result<Machine, NoText>
+    ensures { StartsPrg keyboard.text.items keyboard.answers.items file.now result }
+{
+    match tb_prg::read(file) {
+        Ok(program) => start_machine(alloc, program, keyboard),
+        Err(error) => Err(NoText::Refused(Refusal::Prg(error))),
     }
 }

@@ -1,18 +1,17 @@
 //! Running a PRG file.
-ghost use Rattle.std.specs.Prelude.{◌≡◌, ◌+◌, ◌≤◌, length};
+ghost use Rattle.std.specs.Prelude.{◌≡◌, ◌+◌};
 ghost use Rattle.tb_streams.specs.Streams.{most_input, ConsumesAtMost};
 ghost use Rattle.tb_streams.specs.Failures.{failures_of};
 ghost use Rattle.tb_engines.specs.Outcomes.{Answers, Faults, MadeFrom};
 ghost use Rattle.tb_engines.specs.Delivery.{Makes};
-ghost use Rattle.tb_engines.specs.Programs.{end_of, RunsAt, RunsPrg};
+ghost use Rattle.tb_engines.specs.Programs.{end_of, RunsOn, RunsPrg};
 
 use crate::delivery::{NoText, Text, deliver, without_input};
-use crate::loading::start_machine;
-use crate::outcome::{End, Outcome, Refusal};
+use crate::loading::start_file;
+use crate::outcome::{End, Outcome};
 use std::alloc::Global;
 use std::io::{Read, Write};
-use tb_kernal::{Keyboard, Outside, Status, run};
-use tb_prg::Loaded;
+use tb_kernal::{Keyboard, Machine, Outside, Status, run};
 use tb_streams::{Tracked, host_form, read_input};
 
 /// How a run ends, by the status of its machine and its PC.
@@ -27,20 +26,16 @@ pub fn end_of(status: Status, pc: u16) -> End
     }
 }
 
-// Runs a program, and shows what it sent.
-fn run_program<O: Outside>(
+// Runs a machine, and shows what it sent.
+fn run_machine<O: Outside>(
     alloc: Global,
-    program: Loaded<'_>,
-    keyboard: Keyboard,
+    machine: &mut Machine,
     limit: u64,
     outside: &mut O,
 ) -> Result<Text, NoText>
-    requires { program.at + length program.bytes.now ≤ 65536 }
-    ensures { Makes (RunsAt O.gives outside.old program.entry.at program.entry.bytes.now
-        keyboard.text.items keyboard.answers.items limit) result }
+    ensures { Makes (RunsOn O.gives outside.old machine.old limit) result }
 {
-    let mut machine = start_machine(alloc, program, keyboard)?;
-    let Ok(status) = run(&mut machine, outside, limit) else {
+    let Ok(status) = run(machine, outside, limit) else {
         return Err(NoText::NoMemory);
     };
     let end = end_of(status, machine.regs().pc);
@@ -61,10 +56,8 @@ pub fn run_file<O: Outside>(
     ensures { Makes (RunsPrg O.gives outside.old keyboard.text.items keyboard.answers.items limit
         file.now) result }
 {
-    match tb_prg::read(file) {
-        Ok(program) => run_program(alloc, program, keyboard, limit, outside),
-        Err(error) => Err(NoText::Refused(Refusal::Prg(error))),
-    }
+    let mut machine = start_file(alloc, file, keyboard)?;
+    run_machine(alloc, &mut machine, limit, outside)
 }
 
 /// Runs a PRG file for at most `limit` events of an outside, and writes the host form of what it sent. The

@@ -35,17 +35,28 @@ impl Report {
     }
 }
 
+/// What standard error says of warnings: a line of each.
+#[derive(Clone, Copy, Debug, Drop)]
+pub struct Warnings<'a>(pub &'a [Warning]);
+
+impl fmt::Display for Warnings<'_> {
+    fn fmt<W: fmt::Write>(&self, f: &mut fmt::Formatter<W>) -> fmt::Result {
+        for warning in self.0 {
+            writeln!(
+                f,
+                "tbc: warning: line {}: no line {}",
+                warning.line, warning.target
+            )?;
+        }
+        Ok(())
+    }
+}
+
 /// The whole text for standard error, with its line ends. Warnings are shown where a text was written.
 impl fmt::Display for Report {
     fn fmt<W: fmt::Write>(&self, f: &mut fmt::Formatter<W>) -> fmt::Result {
         if let Outcome::Ended(_) = self.outcome {
-            for warning in &self.warnings {
-                writeln!(
-                    f,
-                    "tbc: warning: line {}: no line {}",
-                    warning.line, warning.target
-                )?;
-            }
+            Warnings(self.warnings.as_slice()).fmt(f)?;
         }
         if self.status() == 0 {
             return Ok(());

@@ -1,16 +1,16 @@
 //! Running, assembling and listing.
-ghost use Rattle.std.specs.Prelude.{◌+◌};
+ghost use Rattle.std.specs.Prelude.{◌≡◌, ◌+◌};
 ghost use Rattle.tb_streams.specs.Streams.{most_input, ConsumesAtMost};
 ghost use Rattle.tb_streams.specs.Failures.{failures_of};
 ghost use Rattle.tb_engines.specs.Assembly.{ListsPrg};
-ghost use Rattle.tb_engines.specs.Delivery.{Makes, Shows, DeliveryFaults};
+ghost use Rattle.tb_engines.specs.Delivery.{Makes, Shows, DeliveryFaults, outcome_without};
 ghost use Rattle.tb_engines.specs.Outcomes.{Answers, Faults, MadeFrom};
-ghost use Rattle.tb_engines.specs.Programs.{RunsPrg};
+ghost use Rattle.tb_engines.specs.Programs.{RunsPrg, StartsPrg};
 
 use std::alloc::Global;
 use std::io::{Read, Write};
-use tb_engines::{NoText, Outcome, Text, deliver, dis_text, run_file};
-use tb_kernal::{Keyboard, Outside};
+use tb_engines::{NoText, Outcome, Text, deliver, dis_text, run_file, start_file, without_text};
+use tb_kernal::{Keyboard, Machine, Outside};
 use tb_streams::Tracked;
 
 /// Calls `deliver`.
@@ -20,6 +20,20 @@ pub fn delivered<W: Write>(writer: &mut Tracked<W>, made: Result<Text, NoText>) 
     ensures faults { DeliveryFaults result (failures_of writer.old) (failures_of writer.new) }
 {
     deliver(writer, made)
+}
+
+/// Calls `without_text`.
+pub fn ended_without_text(stop: NoText) -> Outcome
+    ensures { result ≡ outcome_without stop }
+{
+    without_text(stop)
+}
+
+/// Calls `start_file`.
+pub fn file_started(alloc: Global, file: &[u8], keyboard: Keyboard) -> Result<Machine, NoText>
+    ensures { StartsPrg keyboard.text.items keyboard.answers.items file.now result }
+{
+    start_file(alloc, file, keyboard)
 }
 
 /// Calls `run_file`.

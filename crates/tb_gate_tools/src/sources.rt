@@ -1,27 +1,59 @@
 //! Sources that are read, built and run.
-ghost use Rattle.std.specs.Prelude.{◌+◌};
+ghost use Rattle.std.specs.Prelude.{◌≡◌, ◌+◌};
 ghost use Rattle.tb_streams.specs.Streams.{most_input, ConsumesAtMost};
 ghost use Rattle.tb_streams.specs.Failures.{failures_of};
-ghost use Rattle.tb_codegen.specs.Compiled.{prg_of};
+ghost use Rattle.tb_codegen.specs.Compiled.{prg_of, warnings_of};
 ghost use Rattle.tb_engines.specs.Outcomes.{Answers, Faults, MadeFrom};
-ghost use Rattle.tb_engines.specs.Programs.{RunsPrg};
+ghost use Rattle.tb_engines.specs.Programs.{RunsPrg, StartsPrg};
 ghost use Rattle.tb_driver.specs.Sources.{IsFile, FromSource, WarnsOfRead};
 ghost use Rattle.tb_driver.specs.Output.{RunsSource};
-ghost use Rattle.tb_driver.specs.Reading.{ReadsSource};
+ghost use Rattle.tb_driver.specs.Reading.{CompilesText, ReadsSource};
+ghost use Rattle.tb_driver.specs.Starting.{IsLoadable, StartsLoadable};
 
 use std::alloc::Global;
 use std::io::{Read, Write};
 use tb_codegen::Compiled;
-use tb_driver::{Outcome, Report, build, read_source, run_text};
-use tb_kernal::{Keyboard, Outside};
+use tb_driver::{
+    CompiledSource, Outcome, Report, build, compile_source, read_source, run_text, start_program,
+};
+use tb_engines::NoText;
+use tb_kernal::{Keyboard, Machine, Outside};
+use tb_meaning::Warning;
 use tb_streams::Tracked;
+
+/// Calls `Compiled::into_warnings`.
+pub fn warnings_of_program(program: Compiled) -> Vec<Warning>
+    ensures { result.items ≡ warnings_of program }
+{
+    program.into_warnings()
+}
+
+/// Calls `compile_source`.
+pub fn source_compiled(alloc: Global, text: Vec<u8>, seed: u16) -> Result<CompiledSource, NoText>
+    ensures { CompilesText seed text.items result }
+{
+    compile_source(alloc, text, seed)
+}
+
+/// Calls `start_program`.
+pub fn program_started(
+    alloc: Global,
+    program: &Compiled,
+    keyboard: Keyboard,
+) -> Result<Machine, NoText>
+    ensures prg { StartsPrg keyboard.text.items keyboard.answers.items (prg_of program.now) result }
+    ensures loadable { IsLoadable program.now
+        → StartsLoadable keyboard.text.items keyboard.answers.items program.now result }
+{
+    start_program(alloc, program, keyboard)
+}
 
 /// Calls `read_source`.
 pub fn source_read<R: Read>(
     alloc: Global,
     reader: &mut Tracked<R>,
     seed: u16,
-) -> Result<Compiled, Outcome>
+) -> Result<CompiledSource, Outcome>
     ensures answers { ReadsSource seed result (R.remaining reader.old.stream)
         (failures_of reader.old) (failures_of reader.new) }
     ensures taken { ConsumesAtMost (R.remaining reader.old.stream) (R.remaining reader.new.stream)

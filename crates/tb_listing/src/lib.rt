@@ -14,4 +14,3 @@ pub use build::{Made, make};
 pub use label_file::labels;
 pub use listing::list;
 pub use map::chart;
-pub use tb_codegen::CompileError;

@@ -1,3 +1,4 @@
+mod Starting
 mod Sending
 pub mod Talking
 mod OneRun

@@ -7,7 +7,7 @@ ghost use Rattle.tb_play.specs.Lines.{most_typed};
 use crate::talk::{Played, play};
 use std::alloc::Global;
 use std::io::{Read, Write};
-use tb_engines::{NoText, Refusal, deliver, start_machine};
+use tb_engines::{NoText, deliver, start_file};
 use tb_kernal::{Keyboard, Machine};
 use tb_streams::Tracked;
 
@@ -19,10 +19,7 @@ fn start(alloc: Global, file: &[u8]) -> Result<Machine, NoText>
         text: Vec::new(alloc),
         answers: Vec::new(alloc),
     };
-    match tb_prg::read(file) {
-        Ok(program) => start_machine(alloc, program, keyboard),
-        Err(error) => Err(NoText::Refused(Refusal::Prg(error))),
-    }
+    start_file(alloc, file, keyboard)
 }
 
 /// Plays a PRG file: its machine starts as `run_prg` starts it, with a quiet ROM, and is played by `play`. Nothing is

@@ -4,20 +4,19 @@ use Rattle.std.specs.Prelude.{◌==◌}
 use Rattle.std.proofs.lemmas.Bool.Decides.{nat_tests}
 use Rattle.tb_kernal.specs.declared.events.Event.{Event}
 use Rattle.tb_kernal.specs.Machine.{Content}
-use Rattle.tb_prg.specs.Prg.{content_of}
+use Rattle.tb_memmap.specs.Regions.{BASIC_START}
 use Rattle.tb_syntax.specs.Source.{Program}
 use Rattle.tb_parser.specs.Files.{Outcome as FileOutcome}
-use Rattle.tb_meaning.specs.declared.missing.Warning.{Warning}
 use Rattle.tb_runtime16.specs.Addresses.{LINES_AT}
 use Rattle.tb_codegen.specs.Answers.{HasOutcome, OutcomeAnswer, LinesMake}
-use Rattle.tb_codegen.specs.Compiled.{prg_of, starts_of, IsCompiled, AddressesRise}
+use Rattle.tb_codegen.specs.Compiled.{loaded_of, starts_of, IsCompiled, AddressesRise}
 use Rattle.tb_codegen.specs.declared.compiled.Compiled.{Compiled}
 use Rattle.tb_engines.specs.Programs.{start}
 use Rattle.tb_engines.specs.Outcomes.{Product}
 use Rattle.tb_engines.specs.declared.delivery.NoText.{NoText}
 use Rattle.tb_engines.specs.declared.delivery.NoText.TheVariants.{Refused, NoMemory}
-use Rattle.tb_driver.specs.Stepping.{IsLoadable}
-use Rattle.tb_driver.proofs.Loadable.{machine_at_start}
+use Rattle.tb_engines.specs.Delivery.{Makes}
+use Rattle.tb_driver.specs.Starting.{StartsLoadable}
 use Rattle.tb_profile.specs.Steps.{Step, begins_line}
 use Rattle.tb_profile_table.specs.declared.rows.Row.{Row}
 use Rattle.tb_profile_table.specs.declared.texts.Texts.{Texts}
@@ -27,16 +26,21 @@ use Rattle.tb_profile_engine.specs.declared.running.Ran.{Ran}
 use Rattle.tb_profile_engine.specs.declared.engine.Made.{Made}
 use Rattle.tb_profile_engine.specs.declared.engine.Prepared.{Prepared}
 use Rattle.tb_profile_engine.specs.Running.{RunsFrom, IsProfile, ComesTo}
-use Rattle.tb_profile_engine.specs.Profiles.{IsProfileOf, Profiles, MakesTexts, IsPrepared, Prepares, PreparesText}
+use Rattle.tb_profile_engine.specs.Profiles.{IsProfileOf, Profiles, MakesTexts, IsPrepared}
 
 -- ---- the machine
 
 -- a run of the machine that was started is a profile
 pub started : {O : Type 0} (gives : O → Content → Event → O → Type 0) (o : O) (text answers : List ℕ) (limit : ℕ) (program : Compiled)
-    (at : ℕ) (bytes : List ℕ) (m : Content) (result : Result Ran NoText) → IsLoadable program → content_of (prg_of program) ≡ Ok (at, bytes)
-    → m ≡ start at bytes text answers → ComesTo (RunsFrom gives o limit program m) result → ComesTo (IsProfile gives o text answers limit program) result
-started gives o text answers limit program at bytes m result loadable content machine ran =
-    subst (λ s. ComesTo (RunsFrom gives o limit program s) result) (machine_at_start text answers program at bytes m loadable content machine) ran
+    (m : Content) (result : Result Ran NoText) → m ≡ start BASIC_START (loaded_of program) text answers
+    → ComesTo (RunsFrom gives o limit program m) result → ComesTo (IsProfile gives o text answers limit program) result
+started gives o text answers limit program m result machine ran = subst (λ s. ComesTo (RunsFrom gives o limit program s) result) machine ran
+
+-- where the machine of a loadable program is not started, memory is wanting
+pub not_started : {O : Type 0} (gives : O → Content → Event → O → Type 0) (o : O) (text answers : List ℕ) (limit : ℕ) (program : Compiled) (stop : NoText)
+    → StartsLoadable text answers program (Err stop) → ComesTo (IsProfile gives o text answers limit program) (Err stop)
+not_started gives o text answers limit program (Refused e) none = absurd none
+not_started gives o text answers limit program NoMemory none = tt
 
 -- ---- lines begin at addresses of their own
 
@@ -78,7 +82,7 @@ module _ {O : Type 0} (gives : O → Content → Event → O → Type 0) (o : O)
   of_outcome : (seed : ℕ) (outcome : FileOutcome) (ran : Ran) (texts : Texts) → LinesMake source outcome → OutcomeAnswer seed outcome (Ok c)
       → IsProfile gives o text answers limit c ran → Shows source ran.table texts
       → IsProfileOf gives o text answers limit source c texts.page.items texts.table.items ran
-  of_outcome seed (Ok program) ran texts made answer is shows = of_program seed program ran texts made answer is shows
+  of_outcome seed (Ok program) ran texts made answer is shows = of_program seed program ran texts made answer.1 is shows
   of_outcome seed (Err r) ran texts made answer is shows = absurd answer
 
   -- the texts of a profiled run are the profile of the source that makes the program
@@ -89,12 +93,9 @@ module _ {O : Type 0} (gives : O → Content → Event → O → Type 0) (o : O)
 
 -- ---- what is prepared
 
--- what is prepared of a program's texts is of their kind, with the program's warnings
-pub prepares : (makes : List ℕ → Product → Type 0) (warnings warned : List Warning) (made : Result Made NoText) (p : Prepared)
-    → warned ≡ warnings → MakesTexts makes made → IsPrepared made warned p → Prepares makes warnings p
-prepares makes warnings warned (Ok made) p same m is =
-    subst (λ t. PreparesText makes warnings p.warnings.items p.page.items t) (sym is.0)
-    (is.1 ∙ same, subst (λ page. makes page (Ok (made.texts.table.items, made.end))) (sym is.2) m)
-prepares makes warnings warned (Err (Refused e)) p same m is = absurd m
-prepares makes warnings warned (Err NoMemory) p same m is =
-    subst (λ t. PreparesText makes warnings p.warnings.items p.page.items t) (sym is.text) tt
+pub prepared : (makes : List ℕ → Product → Type 0) (made : Result Made NoText) (p : Prepared) → MakesTexts makes made → IsPrepared made p
+    → Makes (makes p.page.items) p.text
+prepared makes (Ok made) p m (text, page) =
+    subst (λ t. Makes (makes p.page.items) t) (sym text) (subst (λ page. makes page (Ok (made.texts.table.items, made.end))) (sym page) m)
+prepared makes (Err (Refused e)) p m is = absurd m
+prepared makes (Err NoMemory) p m is = subst (λ t. Makes (makes p.page.items) t) (sym is) tt

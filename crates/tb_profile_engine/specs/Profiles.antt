@@ -16,7 +16,6 @@ use Rattle.tb_profile_table.specs.Table.{table_of}
 use Rattle.tb_profile_table.specs.Page.{page_of}
 use Rattle.tb_profile_engine.specs.declared.engine.Made.{Made}
 use Rattle.tb_profile_engine.specs.declared.engine.Prepared.{Prepared}
-use Rattle.tb_engines.specs.declared.delivery.Text.{Text}
 use Rattle.tb_profile_engine.specs.declared.running.Ran.{Ran}
 use Rattle.tb_profile_engine.specs.Running.{IsProfile}
 
@@ -56,23 +55,8 @@ ProfilesSource gives o seed text answers limit warnings page source product =
 
 -- ---- steps of the engine
 
--- nothing is to be written, and these are the warnings
-pub record IsStopped (stop : NoText) (warned : List Warning) (p : Prepared) : Type 0 where
-  pub text : p.text ≡ Err stop
-  pub warnings : p.warnings.items ≡ warned
-
--- what was made is to be written, with its page
-abbrev pub IsPrepared : Result Made NoText → List Warning → Prepared → Type 0
-IsPrepared (Ok made) warnings p =
-    (p.text ≡ Ok (record { bytes = made.texts.table; end = made.end })) × (p.warnings.items ≡ warnings) × (p.page.items ≡ made.texts.page.items)
-IsPrepared (Err stop) warnings p = IsStopped stop warnings p
-
--- a text of its kind, with the warnings; nothing is said of them if memory ran out
-abbrev pub PreparesText : (List ℕ → Product → Type 0) → List Warning → List Warning → List ℕ → Result Text NoText → Type 0
-PreparesText makes warnings warned page (Ok text) = (warned ≡ warnings) × makes page (Ok (text.bytes.items, text.end))
-PreparesText makes warnings warned page (Err (Refused e)) = ⊥
-PreparesText makes warnings warned page (Err NoMemory) = Unit {0}
-
--- what is prepared for writing is of its kind, with the warnings
-abbrev pub Prepares : (List ℕ → Product → Type 0) → List Warning → Prepared → Type 0
-Prepares makes warnings p = PreparesText makes warnings p.warnings.items p.page.items p.text
+-- what was made is to be written, with the page beside it
+abbrev pub IsPrepared : Result Made NoText → Prepared → Type 0
+IsPrepared (Ok made) p =
+    (p.text ≡ Ok (record { bytes = made.texts.table; end = made.end })) × (p.page.items ≡ made.texts.page.items)
+IsPrepared (Err stop) p = p.text ≡ Err stop

@@ -1,23 +1,19 @@
 //! Profiling a source.
-ghost use Rattle.std.specs.Prelude.{◌≡◌, ◌+◌};
+ghost use Rattle.std.specs.Prelude.{◌+◌};
 ghost use Rattle.tb_streams.specs.Streams.{most_input, ConsumesAtMost};
 ghost use Rattle.tb_streams.specs.Failures.{failures_of};
 ghost use Rattle.tb_engines.specs.Outcomes.{Answers, Faults, MadeFrom};
-ghost use Rattle.tb_engines.specs.Delivery.{Makes};
-ghost use Rattle.tb_codegen.specs.Compiled.{warnings_of};
 ghost use Rattle.tb_driver.specs.Sources.{WarnsOfRead};
-ghost use Rattle.tb_profile_engine.specs.Profiles.{IsPrepared, IsProgramOf, IsStopped, MakesTexts, Prepares, Profiles, ProfilesSource};
+ghost use Rattle.tb_profile_engine.specs.Profiles.{IsPrepared, IsProgramOf, MakesTexts, Profiles, ProfilesSource};
 
 use crate::running::profile_program;
 use std::alloc::Global;
 use std::io::{Read, Write};
-use tb_codegen::{Compiled, Options, compile};
-use tb_driver::stop_of;
-use tb_engines::{End, NoText, Report, Text, deliver, without_input};
+use tb_driver::{CompiledSource, read_source};
+use tb_engines::{End, NoText, Report, Text, deliver};
 use tb_kernal::{Keyboard, Outside};
-use tb_meaning::Warning;
 use tb_profile_table::{Texts, texts_of};
-use tb_streams::{Tracked, read_input};
+use tb_streams::Tracked;
 
 /// How profiling ended, and the page, which is empty where there is no table.
 #[derive(Drop)]
@@ -33,29 +29,27 @@ struct Made {
     end: End,
 }
 
-// What is to be written of a source, the warnings, and the page.
+// What is to be written of a source, and the page.
 #[derive(Drop)]
 struct Prepared {
     text: Result<Text, NoText>,
-    warnings: Vec<Warning>,
     page: Vec<u8>,
 }
 
 // Runs the program of a source, and makes its texts.
 fn make_texts<O: Outside>(
     alloc: Global,
-    source: &[u8],
-    program: &Compiled,
+    source: &CompiledSource,
     keyboard: Keyboard,
     limit: u32,
     outside: &mut O,
 ) -> Result<Made, NoText>
-    requires { IsProgramOf source.now program.now }
-    ensures { MakesTexts (Profiles O.gives outside.old keyboard.text.items keyboard.answers.items limit source.now
-        program.now) result }
+    requires { IsProgramOf source.now.text.items source.now.program }
+    ensures { MakesTexts (Profiles O.gives outside.old keyboard.text.items keyboard.answers.items limit
+        source.now.text.items source.now.program) result }
 {
-    let ran = profile_program(alloc, program, keyboard, limit, outside)?;
-    match texts_of(alloc, &ran.table, source) {
+    let ran = profile_program(alloc, &source.program, keyboard, limit, outside)?;
+    match texts_of(alloc, &ran.table, source.text.as_slice()) {
         Ok(texts) => Ok(Made {
             texts,
             end: ran.end,
@@ -64,19 +58,9 @@ fn make_texts<O: Outside>(
     }
 }
 
-// Where there is no table.
-fn without_page(alloc: Global, stop: NoText, warnings: Vec<Warning>) -> Prepared
-    ensures { IsStopped stop warnings.items result }
-{
-    Prepared {
-        text: Err(stop),
-        warnings,
-        page: Vec::new(alloc),
-    }
-}
-
-fn prepare(alloc: Global, made: Result<Made, NoText>, warnings: Vec<Warning>) -> Prepared
-    ensures { IsPrepared made warnings.items result }
+// The page is empty where there is no table.
+fn prepare(alloc: Global, made: Result<Made, NoText>) -> Prepared
+    ensures { IsPrepared made result }
 {
     match made {
         Ok(Made { texts, end }) => Prepared {
@@ -84,51 +68,12 @@ fn prepare(alloc: Global, made: Result<Made, NoText>, warnings: Vec<Warning>) ->
                 bytes: texts.table,
                 end,
             }),
-            warnings,
             page: texts.page,
         },
-        Err(stop) => without_page(alloc, stop, warnings),
-    }
-}
-
-// Runs the program of a source, which has these warnings.
-fn profile_compiled<O: Outside>(
-    alloc: Global,
-    source: &[u8],
-    program: &Compiled,
-    keyboard: Keyboard,
-    limit: u32,
-    outside: &mut O,
-) -> Prepared
-    requires { IsProgramOf source.now program.now }
-    ensures { Prepares (Profiles O.gives outside.old keyboard.text.items keyboard.answers.items limit source.now
-        program.now) (warnings_of program.now) result }
-{
-    let Ok(warnings) = Vec::from_slice(alloc, program.warnings()) else {
-        return without_page(alloc, NoText::NoMemory, Vec::new(alloc));
-    };
-    prepare(
-        alloc,
-        make_texts(alloc, source, program, keyboard, limit, outside),
-        warnings,
-    )
-}
-
-// Compiles a source with a first state of RND, and runs it.
-fn profile_source<O: Outside>(
-    alloc: Global,
-    source: &[u8],
-    seed: u16,
-    keyboard: Keyboard,
-    limit: u32,
-    outside: &mut O,
-) -> Prepared
-    ensures { Makes (ProfilesSource O.gives outside.old seed keyboard.text.items keyboard.answers.items limit
-        result.warnings.items result.page.items source.now) result.text }
-{
-    match compile(alloc, source, Options { seed }) {
-        Ok(program) => profile_compiled(alloc, source, &program, keyboard, limit, outside),
-        Err(error) => without_page(alloc, stop_of(error), Vec::new(alloc)),
+        Err(stop) => Prepared {
+            text: Err(stop),
+            page: Vec::new(alloc),
+        },
     }
 }
 
@@ -153,24 +98,23 @@ pub fn profile_text<R: Read, W: Write, O: Outside>(
     ensures taken { ConsumesAtMost (R.remaining reader.old.stream) (R.remaining reader.new.stream)
         (most_input + 1) }
 {
-    let source = match read_input(alloc, reader) {
+    let source = match read_source(alloc, reader, seed) {
         Ok(source) => source,
-        Err(error) => {
+        Err(outcome) => {
             return Profiled {
-                report: Report::new(alloc, without_input(error)),
+                report: Report::new(alloc, outcome),
                 page: Vec::new(alloc),
             };
         }
     };
-    let Prepared {
-        text,
-        warnings,
-        page,
-    } = profile_source(alloc, source.as_slice(), seed, keyboard, limit, outside);
+    let Prepared { text, page } = prepare(
+        alloc,
+        make_texts(alloc, &source, keyboard, limit, outside),
+    );
     Profiled {
         report: Report {
             outcome: deliver(writer, text),
-            warnings,
+            warnings: source.program.into_warnings(),
         },
         page,
     }

@@ -1,13 +1,14 @@
 //! Runs of programs that are counted.
 ghost use Rattle.std.specs.Prelude.{◌≡◌, IfOk, map};
 ghost use Rattle.tb_codegen.specs.Compiled.{starts_of};
-ghost use Rattle.tb_driver.specs.Stepping.{IsLoadable};
+ghost use Rattle.tb_driver.specs.Starting.{IsLoadable};
 ghost use Rattle.tb_profile_table.specs.Rows.{start_pair};
 ghost use Rattle.tb_profile_engine.specs.Running.{ComesTo, IsProfile, RunsFrom};
 
 use std::alloc::{AllocError, Global};
 use tb_codegen::Compiled;
-use tb_engines::{End, NoText, end_of, start_machine};
+use tb_driver::start_program;
+use tb_engines::{End, NoText, end_of};
 use tb_kernal::{Keyboard, Machine, Outside};
 use tb_profile_table::{Start, Table, profile};
 
@@ -66,9 +67,6 @@ pub fn profile_program<O: Outside>(
     requires { IsLoadable program.now }
     ensures { ComesTo (IsProfile O.gives outside.old keyboard.text.items keyboard.answers.items limit program.now) result }
 {
-    let Ok(loaded) = tb_prg::read(program.prg()) else {
-        unreachable!()
-    };
-    let mut machine = start_machine(alloc, loaded, keyboard)?;
+    let mut machine = start_program(alloc, program, keyboard)?;
     profile_machine(alloc, &mut machine, program, limit, outside)
 }

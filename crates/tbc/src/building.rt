@@ -3,8 +3,8 @@ use crate::files::{open, save, write_file};
 use std::alloc::{AllocError, Global};
 use std::rt::Files;
 use tb_command_line::{BuildExtras, Failure};
-use tb_driver::{End, Outcome, Refusal, Report, Tracked, build, read_input, without_input};
-use tb_listing::{CompileError, Made, make};
+use tb_driver::{CompiledSource, End, Outcome, Report, Tracked, build, read_source};
+use tb_listing::{Made, make};
 
 /// Compiles a source, and writes its PRG file and what is wanted extras it. No name of a file may come twice then.
 pub fn build_files<R: Files + AllocGlobal>(
@@ -22,9 +22,9 @@ pub fn build_files<R: Files + AllocGlobal>(
         return Err(Failure::SameFile);
     }
     Ok(match made_of(rt, source, seed) {
-        Ok(made) => Report {
-            outcome: write_all(rt, out, extras, &made),
-            warnings: made.warnings,
+        Ok((source, made)) => Report {
+            outcome: write_all(rt, out, extras, source.program.prg(), &made),
+            warnings: source.program.into_warnings(),
         },
         Err(outcome) => Report::new(rt.alloc(), outcome),
     })
@@ -59,24 +59,29 @@ fn comes_twice(source: &str, out: &str, names: &[&str]) -> bool {
     false
 }
 
-fn made_of<R: Files + AllocGlobal>(rt: &R, source: &str, seed: u16) -> Result<Made, Outcome> {
-    let mut file = open(rt, source)?;
-    match read_input(rt.alloc(), &mut file) {
-        Ok(text) => make(rt.alloc(), text.as_slice(), seed).map_err(of_source),
-        Err(error) => Err(without_input(error)),
-    }
-}
-
-fn of_source(error: CompileError) -> Outcome {
-    match error {
-        CompileError::NoMemory => Outcome::NoMemory,
-        _ => Outcome::Refused(Refusal::Source(error)),
+// A compiled source, and the texts that tell of it.
+fn made_of<R: Files + AllocGlobal>(
+    rt: &R,
+    path: &str,
+    seed: u16,
+) -> Result<(CompiledSource, Made), Outcome> {
+    let mut file = open(rt, path)?;
+    let source = read_source(rt.alloc(), &mut file, seed)?;
+    match make(rt.alloc(), source.text.as_slice(), &source.program) {
+        Ok(made) => Ok((source, made)),
+        Err(_) => Err(Outcome::NoMemory),
     }
 }
 
 // Each file is written whole before the next one is opened.
-fn write_all<R: Files>(rt: &R, out: &str, extras: &BuildExtras, made: &Made) -> Outcome {
-    match write_each(rt, out, extras, made) {
+fn write_all<R: Files>(
+    rt: &R,
+    out: &str,
+    extras: &BuildExtras,
+    prg: &[u8],
+    made: &Made,
+) -> Outcome {
+    match write_each(rt, out, extras, prg, made) {
         Ok(()) => Outcome::Ended(End::Done),
         Err(outcome) => outcome,
     }
@@ -86,9 +91,10 @@ fn write_each<R: Files>(
     rt: &R,
     out: &str,
     extras: &BuildExtras,
+    prg: &[u8],
     made: &Made,
 ) -> Result<(), Outcome> {
-    write_file(rt, out, made.prg.as_slice())?;
+    write_file(rt, out, prg)?;
     write_wanted(rt, &extras.labels, made.labels.as_slice())?;
     write_wanted(rt, &extras.listing, made.listing.as_slice())?;
     write_wanted(rt, &extras.map, made.map.as_slice())

@@ -1,10 +1,10 @@
 //! Debugging: commands come from standard input, and each is answered on standard output before the next one is read.
-use crate::files::open;
+use crate::reading::read_warned;
 use std::io;
 use std::rt::Files;
 use tb_command_line::Settings;
-use tb_debug_engine::{Rom, Setting, Sources, debug, read_sources, warnings};
-use tb_driver::{End, Outcome, Report, Tracked};
+use tb_debug_engine::{Rom, Setting, debug};
+use tb_driver::{Outcome, Tracked};
 use tb_kernal::Keyboard;
 
 /// Debugs a source. Its warnings come before the first stop.
@@ -16,8 +16,8 @@ pub fn debug_file<R: Files + Print + Eprint + Input + AllocGlobal>(
     rude: Option<u16>,
     prompts: bool,
 ) -> Outcome {
-    match read_file(rt, source, settings.seed) {
-        Ok(sources) => {
+    match read_warned(rt, source, settings.seed) {
+        Ok(source) => {
             let setting = Setting {
                 rom: rom(rude),
                 limit: u64::from(settings.limit.events),
@@ -27,7 +27,7 @@ pub fn debug_file<R: Files + Print + Eprint + Input + AllocGlobal>(
             let mut screen = Tracked::new(io::writer(rt));
             debug(
                 rt.alloc(),
-                &sources,
+                &source,
                 keyboard,
                 setting,
                 &mut commands,
@@ -43,22 +43,4 @@ fn rom(rude: Option<u16>) -> Rom {
         Some(seed) => Rom::Rude(seed),
         None => Rom::Quiet,
     }
-}
-
-fn read_file<R: Files + Eprint + AllocGlobal>(
-    rt: &R,
-    source: &str,
-    seed: u16,
-) -> Result<Sources, Outcome> {
-    let sources = read_sources(rt.alloc(), &mut open(rt, source)?, seed)?;
-    let Ok(warnings) = warnings(rt.alloc(), &sources) else {
-        return Err(Outcome::NoMemory);
-    };
-    let report = Report {
-        outcome: Outcome::Ended(End::Done),
-        warnings,
-    };
-    // Nobody can be told that standard error fails.
-    let _ = eprint!(rt; "{report}");
-    Ok(sources)
 }

@@ -9,6 +9,7 @@ mod ending;
 mod files;
 mod playing;
 mod profiling;
+mod reading;
 mod tasks;
 
 use ending::Ending;

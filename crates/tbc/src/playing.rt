@@ -1,11 +1,11 @@
 //! Playing: standard input is the keyboard, and standard output the screen.
 use crate::files::{open, write_file};
+use crate::reading::read_warned;
 use std::io;
 use std::rt::Files;
 use tb_command_line::Runnable;
 use tb_driver::{
-    End, Outcome, Played, Report, Tracked, key_file, play_compiled, play_file, read_input,
-    read_source, without_input,
+    Outcome, Played, Tracked, key_file, play_compiled, play_file, read_input, without_input,
 };
 
 /// Plays a source or a PRG file. All that was typed is recorded in a key file, where that is wanted, no stream failed
@@ -37,19 +37,16 @@ fn play_source<R: Files + Print + Eprint + Input + AllocGlobal>(
     seed: u16,
     limit: u64,
 ) -> Result<Played, Outcome> {
-    let program = read_source(rt.alloc(), &mut open(rt, path)?, seed)?;
-    let Ok(warnings) = Vec::from_slice(rt.alloc(), program.warnings()) else {
-        return Err(Outcome::NoMemory);
-    };
-    let report = Report {
-        outcome: Outcome::Ended(End::Done),
-        warnings,
-    };
-    // Nobody can be told that standard error fails.
-    let _ = eprint!(rt; "{report}");
+    let source = read_warned(rt, path, seed)?;
     let mut keys = Tracked::new(rt.reader());
     let mut screen = Tracked::new(io::writer(rt));
-    Ok(play_compiled(rt.alloc(), program.prg(), &mut keys, &mut screen, limit))
+    Ok(play_compiled(
+        rt.alloc(),
+        source.program.prg(),
+        &mut keys,
+        &mut screen,
+        limit,
+    ))
 }
 
 fn play_prg<R: Files + Print + Input + AllocGlobal>(

@@ -124,17 +124,18 @@ fn show_compile_of(alloc: Global, source: &[u8], text: &mut String) -> Result<()
     show_compiled(&compiled, text)
 }
 
-fn show_made(made: &Made, text: &mut String) -> Result<(), Failure> {
-    show_bytes(text, &made.prg)?;
+fn show_made(program: &Compiled, made: &Made, text: &mut String) -> Result<(), Failure> {
+    show_bytes(text, program.prg())?;
     for beside in [&made.labels, &made.listing, &made.map] {
         show_letters(text, beside)?;
     }
-    show_each(text, &made.warnings)
+    show_each(text, program.warnings())
 }
 
 fn show_make_of(alloc: Global, source: &[u8], text: &mut String) -> Result<(), Failure> {
-    let made = make(alloc, source, 1)?;
-    show_made(&made, text)
+    let program = compile(alloc, source, Options { seed: 1 })?;
+    let made = make(alloc, source, &program)?;
+    show_made(&program, &made, text)
 }
 
 /// Shows what `bad_lines` finds.

@@ -1,7 +1,7 @@
 //! Dialogues, in which each answer is awaited before the next command.
 use crate::debug::awaiting::{AwaitingReader, WatchedWriter};
 use crate::debug::programs::{ASKS, DRAWS, FAULTS, FOREVER, LOOP, NESTS};
-use crate::debug::streams::{debugs, sources_of};
+use crate::debug::streams::{debugs, source_of};
 use std::alloc::{AllocError, Global};
 use std::cell::Cell;
 use std::test::Fail;
@@ -355,9 +355,9 @@ static DIALOGUES: [(&[u8], &str); 10] = [
 
 // What is written in answer to these commands; nothing if the dialogue ends in a fault.
 fn answers(alloc: Global, source: &[u8], commands: &[u8]) -> Result<Vec<u8>, Fail> {
-    let sources = sources_of(alloc, source)?;
+    let compiled = source_of(alloc, source)?;
     let mut writer = Tracked::new(Vec::new(alloc));
-    let outcome = debugs(alloc, &sources, &mut Tracked::new(commands), &mut writer);
+    let outcome = debugs(alloc, &compiled, &mut Tracked::new(commands), &mut writer);
     Ok(match outcome {
         Outcome::Ended(_) => writer.stream,
         _ => Vec::new(alloc),
@@ -378,7 +378,7 @@ fn wanted(alloc: Global, dialogue: &[u8]) -> Result<Vec<u8>, AllocError> {
 // The status of a dialogue in which a command is given only if the answers before it are handed on, and what is
 // written.
 fn awaited(alloc: Global, source: &[u8], dialogue: &[u8]) -> Result<(u8, Vec<u8>), Fail> {
-    let sources = sources_of(alloc, source)?;
+    let compiled = source_of(alloc, source)?;
     let handed_on = Cell::new(0);
     let mut reader = Tracked::new(AwaitingReader {
         command: &[],
@@ -390,7 +390,7 @@ fn awaited(alloc: Global, source: &[u8], dialogue: &[u8]) -> Result<(u8, Vec<u8>
         taken: Vec::new(alloc),
         handed_on: &handed_on,
     });
-    let status = debugs(alloc, &sources, &mut reader, &mut writer).status();
+    let status = debugs(alloc, &compiled, &mut reader, &mut writer).status();
     Ok((status, writer.stream.taken))
 }
 

@@ -3,7 +3,8 @@ use crate::debug::programs::LOOP;
 use std::alloc::Global;
 use std::io::{Read, Write};
 use std::test::Fail;
-use tb_debug_engine::{Rom, Setting, Sources, debug, read_sources};
+use tb_debug_engine::{Rom, Setting, debug};
+use tb_driver::{CompiledSource, read_source};
 use tb_engines::Outcome;
 use tb_streams::Tracked;
 use tb_test_support::{CountingWriter, FailingReader, FailingWriter, HoldingWriter, no_keys};
@@ -16,7 +17,7 @@ m C000 3\ni\nh\n\n\r\nz\nb 31\nm 0000 2\nq\nn\n";
 /// Debugs with no keys and with a quiet ROM.
 pub fn debugs<R: Read, W: Write>(
     alloc: Global,
-    sources: &Sources,
+    source: &CompiledSource,
     reader: &mut Tracked<R>,
     writer: &mut Tracked<W>,
 ) -> Outcome {
@@ -25,22 +26,21 @@ pub fn debugs<R: Read, W: Write>(
         limit: 100_000,
         prompts: false,
     };
-    debug(alloc, sources, no_keys(alloc), setting, reader, writer)
+    debug(alloc, source, no_keys(alloc), setting, reader, writer)
 }
 
-/// A source that is read to be debugged.
-pub fn sources_of(alloc: Global, source: &[u8]) -> Result<Sources, Fail> {
+pub fn source_of(alloc: Global, source: &[u8]) -> Result<CompiledSource, Fail> {
     Ok(
-        read_sources(alloc, &mut Tracked::new(source), 0)
+        read_source(alloc, &mut Tracked::new(source), 0)
             .ok()
-            .ok_or("no sources")?,
+            .ok_or("no source")?,
     )
 }
 
 // All that is written in answer to these commands.
-fn written(alloc: Global, sources: &Sources, commands: &[u8]) -> Vec<u8> {
+fn written(alloc: Global, source: &CompiledSource, commands: &[u8]) -> Vec<u8> {
     let mut writer = Tracked::new(Vec::new(alloc));
-    debugs(alloc, sources, &mut Tracked::new(commands), &mut writer);
+    debugs(alloc, source, &mut Tracked::new(commands), &mut writer);
     writer.stream
 }
 
@@ -53,29 +53,34 @@ fn whole_lines(commands: &[u8]) -> &[u8] {
 }
 
 // Whether the whole lines are answered as in all that is written, and a last line without its end as if it had one.
-fn is_cut(alloc: Global, sources: &Sources, all: &[u8], commands: &[u8]) -> Result<bool, Fail> {
+fn is_cut(
+    alloc: Global,
+    source: &CompiledSource,
+    all: &[u8],
+    commands: &[u8],
+) -> Result<bool, Fail> {
     let lines = whole_lines(commands);
-    let before = written(alloc, sources, lines);
+    let before = written(alloc, source, lines);
     if lines.len() == commands.len() {
         return Ok(all.starts_with(&before));
     }
     let mut ended = Vec::from_slice(alloc, commands)?;
     ended.push(b'\n')?;
-    let text = written(alloc, sources, commands);
+    let text = written(alloc, source, commands);
     Ok(
         all.starts_with(&before)
             && text.starts_with(&before)
-            && text == written(alloc, sources, &ended),
+            && text == written(alloc, source, &ended),
     )
 }
 
 #[test]
 fn each_cut_of_the_commands(rt: HostRuntime) -> Result<(), Fail> {
-    let sources = sources_of(rt.alloc(), LOOP)?;
-    let all = written(rt.alloc(), &sources, COMMANDS);
+    let source = source_of(rt.alloc(), LOOP)?;
+    let all = written(rt.alloc(), &source, COMMANDS);
     for cut in 0..COMMANDS.len() {
         assert!(rt;
-            is_cut(rt.alloc(), &sources, &all, &COMMANDS[..cut])?,
+            is_cut(rt.alloc(), &source, &all, &COMMANDS[..cut])?,
             "{cut}"
         );
     }
@@ -83,30 +88,30 @@ fn each_cut_of_the_commands(rt: HostRuntime) -> Result<(), Fail> {
 }
 
 // Whether a reader that fails ends in a fault, and a prefix of all is written.
-fn reader_fails(alloc: Global, sources: &Sources, all: &[u8], until_fault: usize) -> bool {
+fn reader_fails(alloc: Global, source: &CompiledSource, all: &[u8], until_fault: usize) -> bool {
     let mut reader = Tracked::new(FailingReader::new(COMMANDS, until_fault, 3));
     let mut writer = Tracked::new(Vec::new(alloc));
-    let status = debugs(alloc, sources, &mut reader, &mut writer).status();
+    let status = debugs(alloc, source, &mut reader, &mut writer).status();
     status == 3 && all.starts_with(&writer.stream)
 }
 
 #[test]
 fn a_source_that_fails(rt: HostRuntime) -> Result<(), Fail> {
     for until_fault in 0..=LOOP.len() {
-        let mut source = Tracked::new(FailingReader::new(LOOP, until_fault, 3));
-        let sources = read_sources(rt.alloc(), &mut source, 0);
-        assert!(rt; matches!(sources, Err(Outcome::ReadFault)), "{until_fault}");
+        let mut reader = Tracked::new(FailingReader::new(LOOP, until_fault, 3));
+        let source = read_source(rt.alloc(), &mut reader, 0);
+        assert!(rt; matches!(source, Err(Outcome::ReadFault)), "{until_fault}");
     }
     Ok(())
 }
 
 #[test]
 fn a_reader_that_fails(rt: HostRuntime) -> Result<(), Fail> {
-    let sources = sources_of(rt.alloc(), LOOP)?;
-    let all = written(rt.alloc(), &sources, COMMANDS);
+    let source = source_of(rt.alloc(), LOOP)?;
+    let all = written(rt.alloc(), &source, COMMANDS);
     for until_fault in 0..COMMANDS.len() - 3 {
         assert!(rt;
-            reader_fails(rt.alloc(), &sources, &all, until_fault),
+            reader_fails(rt.alloc(), &source, &all, until_fault),
             "{until_fault}"
         );
     }
@@ -114,19 +119,19 @@ fn a_reader_that_fails(rt: HostRuntime) -> Result<(), Fail> {
 }
 
 // Whether a writer that fails after `until_fault` bytes ends in a fault, and has taken these.
-fn writer_fails(alloc: Global, sources: &Sources, all: &[u8], until_fault: usize) -> bool {
+fn writer_fails(alloc: Global, source: &CompiledSource, all: &[u8], until_fault: usize) -> bool {
     let mut writer = Tracked::new(FailingWriter::new(alloc, until_fault, 5));
-    let status = debugs(alloc, sources, &mut Tracked::new(COMMANDS), &mut writer).status();
+    let status = debugs(alloc, source, &mut Tracked::new(COMMANDS), &mut writer).status();
     status == 3 && Some(writer.stream.taken.as_slice()) == all.get(..until_fault)
 }
 
 #[test]
 fn a_writer_that_fails(rt: HostRuntime) -> Result<(), Fail> {
-    let sources = sources_of(rt.alloc(), LOOP)?;
-    let all = written(rt.alloc(), &sources, COMMANDS);
+    let source = source_of(rt.alloc(), LOOP)?;
+    let all = written(rt.alloc(), &source, COMMANDS);
     for until_fault in 0..all.len() {
         assert!(rt;
-            writer_fails(rt.alloc(), &sources, &all, until_fault),
+            writer_fails(rt.alloc(), &source, &all, until_fault),
             "{until_fault}"
         );
     }
@@ -135,10 +140,10 @@ fn a_writer_that_fails(rt: HostRuntime) -> Result<(), Fail> {
 
 #[test]
 fn a_flush_that_fails(rt: HostRuntime) -> Result<(), Fail> {
-    let sources = sources_of(rt.alloc(), LOOP)?;
+    let source = source_of(rt.alloc(), LOOP)?;
     let mut writer = Tracked::new(HoldingWriter::new(rt.alloc(), true));
     let mut reader = Tracked::new(COMMANDS);
-    let status = debugs(rt.alloc(), &sources, &mut reader, &mut writer).status();
+    let status = debugs(rt.alloc(), &source, &mut reader, &mut writer).status();
     let taken = writer.stream.taken.as_slice();
     assert_eq!(rt; (status, taken), (3, b"10 LET A=3\n".as_slice()));
     Ok(())
@@ -146,10 +151,10 @@ fn a_flush_that_fails(rt: HostRuntime) -> Result<(), Fail> {
 
 #[test]
 fn each_answer_is_flushed_once(rt: HostRuntime) -> Result<(), Fail> {
-    let sources = sources_of(rt.alloc(), LOOP)?;
+    let source = source_of(rt.alloc(), LOOP)?;
     let mut writer = Tracked::new(CountingWriter::new(rt.alloc()));
     let mut reader = Tracked::new(b"n\nv\nn\nq\n".as_slice());
-    debugs(rt.alloc(), &sources, &mut reader, &mut writer);
+    debugs(rt.alloc(), &source, &mut reader, &mut writer);
     assert_eq!(rt;
         writer.stream.flushed_at.as_slice(),
         [11, 22, 26, 43].as_slice()

@@ -66,8 +66,8 @@ fn limit_of(run: &SourceRun, lines: &[u8]) -> u64 {
 // Whether a program that is played sends what its source sends, and takes no more lines than were typed.
 fn plays_as_its_source(alloc: Global, case: &Case) -> Result<bool, Fail> {
     let run = run_of(alloc, case)?;
-    let mut source = Tracked::new(case.source.as_slice());
-    let Ok(program) = read_source(alloc, &mut source, case.seed) else {
+    let mut reader = Tracked::new(case.source.as_slice());
+    let Ok(source) = read_source(alloc, &mut reader, case.seed) else {
         return Ok(false);
     };
     let lines = lines_of(alloc, &case.keys)?;
@@ -76,7 +76,7 @@ fn plays_as_its_source(alloc: Global, case: &Case) -> Result<bool, Fail> {
     let limit = limit_of(&run, &lines);
     let Played { outcome, typed } = play_compiled(
         alloc,
-        program.prg(),
+        source.program.prg(),
         &mut keyboard,
         &mut screen,
         limit,

@@ -2,6 +2,7 @@
 use std::alloc::{AllocError, Global};
 use std::test::Fail;
 use tb_asm::{assemble, read_text};
+use tb_codegen::{Options, compile};
 use tb_listing::{Made, make};
 use tb_words::next_seed;
 
@@ -52,10 +53,10 @@ fn push_line(
 }
 
 // Whether a listing gives the code back.
-fn gives_back(alloc: Global, made: &Made) -> Result<bool, Fail> {
+fn gives_back(alloc: Global, prg: &[u8], made: &Made) -> Result<bool, Fail> {
     let items = read_text(alloc, &made.listing)?;
     let image = assemble(alloc, CODE_AT, &items)?;
-    let code = made.prg.split_at(HEADER.min(made.prg.len())).1;
+    let code = prg.split_at(HEADER.min(prg.len())).1;
     Ok(image.bytes.as_slice() == code && made.listing.len() <= MOST_READ)
 }
 
@@ -73,8 +74,9 @@ fn has_lines(alloc: Global, made: &Made, step: u16, count: u16) -> Result<bool, 
 }
 
 fn is_listed(alloc: Global, source: &[u8], step: u16, count: u16) -> Result<bool, Fail> {
-    let made = make(alloc, source, 1)?;
-    Ok(gives_back(alloc, &made)? && has_lines(alloc, &made, step, count)?)
+    let program = compile(alloc, source, Options { seed: 1 })?;
+    let made = make(alloc, source, &program)?;
+    Ok(gives_back(alloc, program.prg(), &made)? && has_lines(alloc, &made, step, count)?)
 }
 
 fn generated(alloc: Global, seed: &mut u16) -> Result<Vec<u8>, AllocError> {

@@ -7,12 +7,12 @@ use Rattle.tb_debug_engine.proofs.dialogue.debug.Goals as goal
 pub returns-in-Ok-open : goal.returns-in-Ok-open
 returns-in-Ok-open g c =
     let (told, first, all, same) = c.in-Ok-open.ensures in
-    let talks = subst (λ wrote. Talks c.in-Ok.source c.args.setting c.open.new.debugger c.answer_lines.result
+    let talks = subst (λ wrote. Talks c.in-Ok.written c.args.setting c.open.new.debugger c.answer_lines.result
     (g.R.Read.remaining c.args.commands.now.stream) (g.R.Read.remaining c.answer_lines.new.commands.stream) (failures_of c.args.commands.now)
     (failures_of c.answer_lines.new.commands) (g.W.Write.contents c.open.new.writer.stream) (g.W.Write.contents c.answer_lines.new.writer.stream)
     wrote (failures_of c.answer_lines.new.writer)) same c.answer_lines.ensures in
     inr (
-      c.in-Ok.source,
+      c.in-Ok.written,
       c.in-Ok-debugger_of.debugger,
       record { written = c.in-Ok.ensures; begun = c.in-Ok-debugger_of.ensures },
       inr (c.open.new.debugger, told, _, first, all, talks),
@@ -21,8 +21,17 @@ returns-in-Ok-open g c =
 pub returns : goal.returns
 returns g c =
     inr (
-      c.in-Ok.source,
+      c.in-Ok.written,
       c.in-Ok-debugger_of.debugger,
       record { written = c.in-Ok.ensures; begun = c.in-Ok-debugger_of.ensures },
       inl (c.open.new.debugger, c.in-Err-open.ensures, refl, refl),
     )
+
+pub debugger_of-requires-clause-file : goal.debugger_of-requires-clause-file
+debugger_of-requires-clause-file g c = ?
+
+pub debugger_of-requires-clause-text : goal.debugger_of-requires-clause-text
+debugger_of-requires-clause-text g c = ?
+
+pub debugger_of-requires-clause-answers : goal.debugger_of-requires-clause-answers
+debugger_of-requires-clause-answers g c = ?

@@ -1,8 +1,12 @@
 -- The goals of `read_source` in src/reading.rt.
-use Rattle.tb_driver.proofs.ReadSources.{program_read}
+use Rattle.tb_driver.proofs.ReadSources.{source_read, source_refused}
 use Rattle.tb_driver.proofs.reading.read_source.Goals as goal
 
-pub returns-in-Ok-compile-clause-answers : goal.returns-in-Ok-compile-clause-answers
-returns-in-Ok-compile-clause-answers g c =
-    program_read c.args.seed _ _ c.as_slice.result.now c.in-Ok-compile.program _ _ c.in-Ok.ensures.whole c.as_slice.ensures.value
-    c.in-Ok-compile.ensures.found c.in-Ok-compile.ensures.only c.in-Ok-compile.ensures.keeps c.in-Ok.ensures.fault
+pub returns-in-Ok-compile_source-clause-answers : goal.returns-in-Ok-compile_source-clause-answers
+returns-in-Ok-compile_source-clause-answers g c =
+    source_read c.args.seed _ c.in-Ok.text.items c.in-Ok-compile_source.source _ _ c.in-Ok.ensures.whole c.in-Ok-compile_source.ensures c.in-Ok.ensures.fault
+
+pub returns-in-Err-compile_source-clause-answers : goal.returns-in-Err-compile_source-clause-answers
+returns-in-Err-compile_source-clause-answers g c =
+    source_refused c.args.seed _ c.in-Ok.text.items c.in-Err-compile_source.stop c.without_text.result _ _ c.in-Ok.ensures.whole
+    c.in-Err-compile_source.ensures c.without_text.ensures c.in-Ok.ensures.fault

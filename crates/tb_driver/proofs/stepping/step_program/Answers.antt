@@ -1,11 +1,16 @@
 -- The goals of `step_program` in src/stepping.rt.
-use Rattle.std.proofs.Common.{sym, ap, ◌∙◌}
-use Rattle.tb_prg.specs.Prg.{content_of}
-use Rattle.tb_driver.proofs.Stepped.{stepped}
+use Rattle.std.proofs.lemmas.Result.{err_from_is_err_and}
+use Rattle.tb_driver.proofs.Stepped.{not_stepped, stepped}
 use Rattle.tb_driver.proofs.stepping.step_program.Goals as goal
 
 pub returns-in-Ok-answers : goal.returns-in-Ok-answers
 returns-in-Ok-answers c =
-    stepped c.args.keyboard.text.items c.args.keyboard.answers.items c.args.limit c.args.program.now c.args.commands.now c.in-Ok.loaded.at c.in-Ok.loaded.bytes.now
-    c.in_ok-machine.machine c.in-Ok-new.stepper c.answers.new.stepper c.in-Ok-answers.bytes.items
-    c.requires (ap content_of (sym c.prg.ensures) ∙ c.in-Ok.ensures) c.in_ok-machine.ensures.1 c.in-Ok-new.ensures.held c.in-Ok-answers.ensures
+    stepped c.args.keyboard.text.items c.args.keyboard.answers.items c.args.limit c.args.program.now c.args.commands.now c.in_ok-machine.machine
+    c.in-Ok-new.stepper c.answers.new.stepper c.in-Ok-answers.bytes.items (c.in_ok-machine.ensures.loadable c.requires) c.in-Ok-new.ensures.held
+    c.in-Ok-answers.ensures
+
+pub returns-in_err-machine : goal.returns-in_err-machine
+returns-in_err-machine c =
+    let p = err_from_is_err_and c.from_residual.result c.from_residual.ensures.1 in
+    rw (p.1, p.2) (not_stepped c.args.keyboard.text.items c.args.keyboard.answers.items c.args.limit c.args.program.now c.args.commands.now _
+    (c.in_err-machine.ensures.loadable c.requires))

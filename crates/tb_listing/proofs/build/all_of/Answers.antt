@@ -5,11 +5,9 @@ use Rattle.tb_listing.proofs.build.all_of.Goals as goal
 
 pub returns : goal.returns
 returns c = record {
-  prg = c.in_ok-from_slice.ensures.items ∙ c.prg.ensures;
   labels = c.in_ok-labels.ensures ∙ (λ i. labels_text (all_labels (c.starts.ensures i) (c.table.ensures i)));
   listing = c.in_ok-list.ensures.back;
   readable = c.in_ok-list.ensures.readable;
   shows = c.in_ok-list.ensures.shows;
   map = c.in_ok-chart.ensures;
-  warnings = c.in_ok-from_slice-2.ensures.items ∙ c.warnings.ensures;
 }

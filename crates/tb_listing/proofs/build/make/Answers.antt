@@ -1,5 +1,5 @@
 -- The goals of `make` in src/build.rt.
-use Rattle.std.proofs.Common.{Ok}
+use Rattle.std.proofs.Common.{◌≤◌, Ok, arith, length, length-append, subst, sym}
 use Rattle.tb_syntax.specs.PlainData.{lines_of}
 use Rattle.tb_codegen.specs.Compiled.{IsCompiled, starts_of, table_of}
 use Rattle.tb_listing.specs.Builds.{image_size}
@@ -8,26 +8,31 @@ use Rattle.tb_listing.proofs.Sorted.{labels_rise}
 use Rattle.tb_listing.proofs.Sums.{bytes_add_up, prices_add_up}
 use Rattle.tb_listing.proofs.build.make.Goals as goal
 
-pub all_of-requires-clause-ends : goal.all_of-requires-clause-ends
-all_of-requires-clause-ends c =
-    let answer = c.in_ok-compiled.ensures.only (Ok (lines_of c.in-Ok.program)) c.in-Ok.ensures.found in
-    (are_laid c.args.seed c.in-Ok.program c.in_ok-compiled.compiled c.in-Ok.ensures.stated c.in-Ok.ensures.rising
-    answer.0 answer.1).ends
+pub all_of-requires-clause-small : goal.all_of-requires-clause-small
+all_of-requires-clause-small c = (c.requires.1 (Ok (lines_of c.in-Ok.program)) c.in-Ok.ensures.found).0
 
-pub returns-clause-made : goal.returns-clause-made
-returns-clause-made c =
-    let compiled = c.in_ok-compiled.compiled in
-    let answer = c.in_ok-compiled.ensures.only (Ok (lines_of c.in-Ok.program)) c.in-Ok.ensures.found in
-    let is : IsCompiled c.args.seed (lines_of c.in-Ok.program) compiled = answer.1 in
-    let laid = are_laid c.args.seed c.in-Ok.program compiled c.in-Ok.ensures.stated c.in-Ok.ensures.rising answer.0 is in
+pub all_of-requires-clause-headed : goal.all_of-requires-clause-headed
+all_of-requires-clause-headed c =
+    let is : IsCompiled c.requires.0 (lines_of c.in-Ok.program) c.args.compiled.now = (c.requires.1 (Ok (lines_of c.in-Ok.program)) c.in-Ok.ensures.found).1 in
+    subst (λ file. 14 ≤ length file) (sym is.prg) (simp length-append (omega arith))
+
+pub all_of-requires-clause-ends : goal.all_of-requires-clause-ends
+all_of-requires-clause-ends c = (are_laid c.requires.0 c.in-Ok.program c.args.compiled.now c.in-Ok.ensures.stated c.in-Ok.ensures.rising
+    (c.requires.1 (Ok (lines_of c.in-Ok.program)) c.in-Ok.ensures.found).0
+    (c.requires.1 (Ok (lines_of c.in-Ok.program)) c.in-Ok.ensures.found).1).ends
+
+pub returns : goal.returns
+returns c =
+    let compiled = c.args.compiled.now in
+    let seed = c.requires.0 in
+    let is : IsCompiled seed (lines_of c.in-Ok.program) compiled = (c.requires.1 (Ok (lines_of c.in-Ok.program)) c.in-Ok.ensures.found).1 in
+    let laid = are_laid seed c.in-Ok.program compiled c.in-Ok.ensures.stated c.in-Ok.ensures.rising
+    (c.requires.1 (Ok (lines_of c.in-Ok.program)) c.in-Ok.ensures.found).0 is in
     record {
-      compiled = compiled;
-      answered = c.in_ok-compiled.ensures.found;
-      only = c.in_ok-compiled.ensures.only;
       sorted = labels_rise (starts_of compiled) (table_of compiled) (image_size compiled) laid;
       program = lines_of c.in-Ok.program;
       makes = c.in-Ok.ensures.found;
-      tells = c.in_ok-all_of.ensures;
+      tells = c.all_of.ensures;
       bytes = bytes_add_up (starts_of compiled) (table_of compiled) (image_size compiled) (lines_of c.in-Ok.program) laid is.lines;
       prices = prices_add_up (starts_of compiled) (table_of compiled) (image_size compiled) (lines_of c.in-Ok.program) is.lines;
     }

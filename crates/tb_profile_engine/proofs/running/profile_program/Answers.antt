@@ -1,11 +1,15 @@
 -- The goals of `profile_program` in src/running.rt.
-use Rattle.std.proofs.Common.{sym, ap, ◌∙◌}
-use Rattle.tb_prg.specs.Prg.{content_of}
-use Rattle.tb_profile_engine.proofs.Profiling.{started}
+use Rattle.std.proofs.lemmas.Result.{err_from_is_err_and}
+use Rattle.tb_profile_engine.proofs.Profiling.{not_started, started}
 use Rattle.tb_profile_engine.proofs.running.profile_program.Goals as goal
 
 pub returns : goal.returns
 returns g c =
     started g.O.Outside.gives c.args.outside.now c.args.keyboard.text.items c.args.keyboard.answers.items c.args.limit c.args.program.now
-    c.in-Ok.loaded.at c.in-Ok.loaded.bytes.now c.in_ok-machine.machine c.profile_machine.result
-    c.requires (ap content_of (sym c.prg.ensures) ∙ c.in-Ok.ensures) c.in_ok-machine.ensures.1 c.profile_machine.ensures
+    c.in_ok-machine.machine c.profile_machine.result (c.in_ok-machine.ensures.loadable c.requires) c.profile_machine.ensures
+
+pub returns-in_err-machine : goal.returns-in_err-machine
+returns-in_err-machine g c =
+    let p = err_from_is_err_and c.from_residual.result c.from_residual.ensures.1 in
+    rw (p.1, p.2) (not_started g.O.Outside.gives c.args.outside.now c.args.keyboard.text.items c.args.keyboard.answers.items c.args.limit c.args.program.now _
+    (c.in_err-machine.ensures.loadable c.requires))

@@ -1,0 +1,31 @@
+-- What is delivered where there is no text.
+use Rattle.std.proofs.Common.{◌≡◌, ℕ, List, Option, Some, None, Result, Err, refl, sym, subst}
+use Rattle.std.specs.Io.KnownBytes.{Keeps}
+use Rattle.tb_engines.specs.Outcomes.{Answers}
+use Rattle.tb_engines.specs.Delivery.{Shows, DeliveryFaults, outcome_without}
+use Rattle.tb_engines.specs.declared.delivery.Text.{Text}
+use Rattle.tb_engines.specs.declared.delivery.NoText.{NoText}
+use Rattle.tb_engines.specs.declared.delivery.NoText.TheVariants.{Refused, NoMemory}
+use Rattle.tb_engines.specs.declared.outcome.Outcome.{Outcome}
+
+kept : (bytes : Option (List ℕ)) → Keeps bytes bytes
+kept None = tt
+kept (Some xs) = refl
+
+-- nothing is written
+pub nothing_written : (made : Result Text NoText) (stop : NoText) (outcome : Outcome) (bytes : Option (List ℕ)) → made ≡ Err stop
+    → outcome ≡ outcome_without stop → Answers (Shows made) outcome bytes bytes
+nothing_written made stop outcome bytes is ends =
+    subst (λ m. Answers (Shows m) outcome bytes bytes) (sym is) (subst (λ o. Answers (Shows (Err stop)) o bytes bytes) (sym ends) (by stop))
+  where
+    by : (stop : NoText) → Answers (Shows (Err stop)) (outcome_without stop) bytes bytes
+    by (Refused e) = (refl, kept bytes)
+    by NoMemory = kept bytes
+
+-- and no writer fails
+pub nothing_fails : (stop : NoText) (outcome : Outcome) (wrote : ℕ) → outcome ≡ outcome_without stop → DeliveryFaults outcome wrote wrote
+nothing_fails stop outcome wrote ends = subst (λ o. DeliveryFaults o wrote wrote) (sym ends) (by stop)
+  where
+    by : (stop : NoText) → DeliveryFaults (outcome_without stop) wrote wrote
+    by (Refused e) = refl
+    by NoMemory = refl
