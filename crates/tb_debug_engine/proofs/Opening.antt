@@ -73,7 +73,7 @@ module _ (program : Compiled) (text answers : List ℕ) (rom : Rom) where
         shows = shows_so program text answers rom at bytes d content of here small keys polls;
       }
 
--- a program that can't be loaded is none that `compile` made
+  -- a program that can't be loaded is none that `compile` made
   pub not_begun : (stop : NoText) (outcome : Outcome) → outcome ≡ outcome_without stop → StartsPrg text answers (prg_of program) (Err stop)
       → Begins program text answers rom (Err outcome)
   not_begun stop outcome is unloadable = subst (λ o. Begins program text answers rom (Err o)) (sym is) (by stop unloadable)

@@ -8,7 +8,7 @@ use Rattle.tb_templates.specs.Program.{program_code}
 use Rattle.tb_lower.specs.PlainData.{code_of}
 use Rattle.tb_codegen.proofs.SmallPrograms.{are_small, cost_small}
 use Rattle.tb_codegen.proofs.Kept.{file_keeps}
-use Rattle.tb_codegen.proofs.Sized.{settling}
+use Rattle.tb_codegen.proofs.Sized.{items_end, settling}
 use Rattle.tb_gate_compiler.proofs.image.keeping_file.Goals as goal
 
 pub cost-cost-requires : goal.cost-cost-requires
@@ -17,17 +17,17 @@ cost-cost-requires c = cost_small (lines_of c.args.program.now) (are_small (line
 pub program_items-requires-clause-lists : goal.program_items-requires-clause-lists
 program_items-requires-clause-lists c =
     (settling c.args.seed (lines_of c.args.program.now) c.in_ok-code.ensures.lowered c.requires.stated c.requires.rising
-    c.in_ok-code.ensures.in_range c.if-cost-gt-MOST_COST.false c.cost-cost.ensures).lists
+    c.in_ok-code.ensures.in_range c.if-cost-gt-MOST_COST.false c.cost-cost.ensures).listed.lists
 
 pub program_items-requires-clause-lines : goal.program_items-requires-clause-lines
 program_items-requires-clause-lines c =
     (settling c.args.seed (lines_of c.args.program.now) c.in_ok-code.ensures.lowered c.requires.stated c.requires.rising
-    c.in_ok-code.ensures.in_range c.if-cost-gt-MOST_COST.false c.cost-cost.ensures).lines
+    c.in_ok-code.ensures.in_range c.if-cost-gt-MOST_COST.false c.cost-cost.ensures).listed.lines
 
 pub program_items-requires-clause-rising : goal.program_items-requires-clause-rising
 program_items-requires-clause-rising c =
     (settling c.args.seed (lines_of c.args.program.now) c.in_ok-code.ensures.lowered c.requires.stated c.requires.rising
-    c.in_ok-code.ensures.in_range c.if-cost-gt-MOST_COST.false c.cost-cost.ensures).rising
+    c.in_ok-code.ensures.in_range c.if-cost-gt-MOST_COST.false c.cost-cost.ensures).listed.rising
 
 pub returns : goal.returns
 returns c =
@@ -38,4 +38,4 @@ returns c =
     subst (λ es. IsLaid PROLOGUE_AT es c.in-Ok.image.at c.in-Ok.image.bytes.items c.in-Ok.image.labels.entries)
     (ap (map entry_of) c.deref.ensures.value ∙ c.in_ok-items.ensures) c.in-Ok.ensures.laid in
     file_keeps c.ranges.seed.fits c.requires.some
-    c.in_ok-code.ensures.lowered c.in_ok-code.ensures.follows ready laid c.in_ok-write.ensures
+    c.in_ok-code.ensures.lowered c.in_ok-code.ensures.follows ready.listed laid (items_end ready laid) c.in_ok-write.ensures
