@@ -81,7 +81,7 @@ are_laid seed ls c stated rises small h =
     let ns = numbers code in
     let s : IsSettling seed code = settling seed p refl stated rises (in_range ls code h.shallow refl) small refl in
     let labels = labels_from PROLOGUE_AT h.items in
-    let g : Sections seed code h.items labels = sections seed code s.lists s.rising h.items
+    let g : Sections seed code h.items labels = sections seed code s.listed.lists s.listed.rising h.items
     (settled_by PROLOGUE_AT (program_code seed code) h.items h.settled (settled_reaches PROLOGUE_AT (program_code seed code) h.items h.settled)) in
     let own = items_from LINES_AT g.lines in
     let past = past_code ns in let last = last_broken code in let find = find_code ns in let rows = table_code ns in
