@@ -3,6 +3,7 @@ ghost use Rattle.std.specs.Prelude.{◌≡◌};
 ghost use Rattle.tb_check_engine.specs.Outcomes.{status_of};
 
 use std::alloc::AllocError;
+use tb_streams::status;
 use thiserror::Error;
 
 /// How a check of sources ended. At `WriteFault` a prefix of the text was written, at `NoMemory` nothing, and else the
@@ -32,10 +33,10 @@ impl CheckOutcome {
         ensures { result ≡ status_of self.now }
     {
         match self {
-            CheckOutcome::Accepted => 0,
-            CheckOutcome::Refused => 1,
-            CheckOutcome::ReadFault | CheckOutcome::WriteFault => 3,
-            CheckOutcome::NoMemory => 4,
+            CheckOutcome::Accepted => status::DONE,
+            CheckOutcome::Refused => status::REFUSED,
+            CheckOutcome::ReadFault | CheckOutcome::WriteFault => status::FAULT,
+            CheckOutcome::NoMemory => status::NO_MEMORY,
         }
     }
 }

@@ -4,6 +4,7 @@ ghost use Rattle.tb_disk_engine.specs.Outcomes.{status_of};
 
 use std::alloc::AllocError;
 use tb_prg::PrgError;
+use tb_streams::status;
 use thiserror::Error;
 
 /// Why there is no disk.
@@ -47,10 +48,10 @@ impl DiskOutcome {
         ensures { result ≡ status_of self.now }
     {
         match self {
-            DiskOutcome::Done => 0,
-            DiskOutcome::Refused(_) => 1,
-            DiskOutcome::ReadFault | DiskOutcome::WriteFault => 3,
-            DiskOutcome::NoMemory => 4,
+            DiskOutcome::Done => status::DONE,
+            DiskOutcome::Refused(_) => status::REFUSED,
+            DiskOutcome::ReadFault | DiskOutcome::WriteFault => status::FAULT,
+            DiskOutcome::NoMemory => status::NO_MEMORY,
         }
     }
 }

@@ -2,6 +2,7 @@
 use Rattle.std.specs.Prelude.{ℕ, ◌≡◌, ◌≢◌, ◌⊎◌, List, Option, Result, Ok, Err}
 use Rattle.std.specs.Io.KnownBytes.{Appends, Keeps}
 use Rattle.tb_streams.specs.Streams.{Reads, MayPassMost, AppendsPrefix}
+use Rattle.tb_streams.specs.declared.status.TheConstants.{DONE, REFUSED, FAULT, NO_MEMORY, STEP_LIMIT, WAITS_FOR_KEY, WENT_WRONG}
 use Rattle.tb_engines.specs.declared.outcome.End.{End}
 use Rattle.tb_engines.specs.declared.outcome.End.TheVariants.{Done, StepLimit, WaitsForKey, WentWrong}
 use Rattle.tb_engines.specs.declared.outcome.Refusal.{Refusal}
@@ -10,18 +11,18 @@ use Rattle.tb_engines.specs.declared.outcome.Outcome.TheVariants.{Ended, Refused
 
 -- the exit status if the whole text was written
 abbrev pub status_of_end : End → ℕ
-status_of_end Done = 0
-status_of_end StepLimit = 5
-status_of_end WaitsForKey = 6
-status_of_end (WentWrong wrong pc) = 7
+status_of_end Done = DONE
+status_of_end StepLimit = STEP_LIMIT
+status_of_end WaitsForKey = WAITS_FOR_KEY
+status_of_end (WentWrong wrong pc) = WENT_WRONG
 
 -- the exit status by how the call of an engine ended
 abbrev pub status_of : Outcome → ℕ
 status_of (Ended end) = status_of_end end
-status_of (Refused e) = 1
-status_of ReadFault = 3
-status_of WriteFault = 3
-status_of NoMemory = 4
+status_of (Refused e) = REFUSED
+status_of ReadFault = FAULT
+status_of WriteFault = FAULT
+status_of NoMemory = NO_MEMORY
 
 -- what an engine makes of its input: a text to be written, with how the engine ends after it, or a refusal
 abbrev pub Product : Type 0

@@ -6,6 +6,7 @@ use tb_asm::AsmError;
 use tb_compile_errors::CompileError;
 use tb_cpu::Wrong;
 use tb_prg::PrgError;
+use tb_streams::status;
 
 /// How an engine ended whose whole text was written.
 #[derive(Clone, Copy, PartialEq, Eq, Debug, Drop)]
@@ -55,10 +56,10 @@ impl End {
         ensures { result ≡ status_of_end self.now }
     {
         match self {
-            End::Done => 0,
-            End::StepLimit => 5,
-            End::WaitsForKey => 6,
-            End::WentWrong { .. } => 7,
+            End::Done => status::DONE,
+            End::StepLimit => status::STEP_LIMIT,
+            End::WaitsForKey => status::WAITS_FOR_KEY,
+            End::WentWrong { .. } => status::WENT_WRONG,
         }
     }
 }
@@ -70,9 +71,9 @@ impl Outcome {
     {
         match self {
             Outcome::Ended(end) => end.status(),
-            Outcome::Refused(_) => 1,
-            Outcome::ReadFault | Outcome::WriteFault => 3,
-            Outcome::NoMemory => 4,
+            Outcome::Refused(_) => status::REFUSED,
+            Outcome::ReadFault | Outcome::WriteFault => status::FAULT,
+            Outcome::NoMemory => status::NO_MEMORY,
         }
     }
 }
