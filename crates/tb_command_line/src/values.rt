@@ -83,7 +83,7 @@ pub fn runnable_of(alloc: Global, found: &ArgMatches<'_>) -> Result<Runnable, Al
     })
 }
 
-/// The files that are written beside a PRG file.
+/// The files that are written besides a PRG file.
 pub fn extras_of(alloc: Global, found: &ArgMatches<'_>) -> Result<BuildExtras, AllocError> {
     Ok(BuildExtras {
         labels: optional_text(alloc, found, &LABELS)?,

@@ -1,4 +1,4 @@
--- The events that a ROM beside the program gives.
+-- The events that a ROM gives.
 use Rattle.std.proofs.Common.{◌≡◌, true, [], refl, ap, ◌∙◌}
 use Rattle.tb_words.specs.Words.{seed_after}
 use Rattle.tb_cpu.specs.declared.registers.Regs.{Regs}

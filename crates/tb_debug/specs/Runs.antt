@@ -1,4 +1,4 @@
--- The run of a machine beside a ROM, and its moments.
+-- The run of a machine with a ROM, and its moments.
 use Rattle.std.specs.Prelude.{◌≡◌, ℕ, zero, suc, ◌+◌, ◌-◌, ◌<◌, ◌≤◌, ◌==◌, ◌&&◌, ◌||◌, Bool, false, if◌then◌else◌}
 use Rattle.std.specs.Prelude.{ℤ, List, [], ◌∷◌, ◌++◌, All, length, slice_index_or, remove}
 use Rattle.tb_kernal.specs.declared.events.Event.{Event}
@@ -29,7 +29,7 @@ is_begin marks s e = is_own e && is_marked marks s.regs.pc
 
 -- ---- the run
 
--- a point of a run: the machine, the ROM beside it, how many lines were begun, where the last of them begins, and the
+-- a point of a run: the machine, its ROM, how many lines were begun, where the last of them begins, and the
 -- variables as it began; as the run began, if none was
 pub record Point : Type 0 where
   pub state : State

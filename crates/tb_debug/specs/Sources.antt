@@ -21,7 +21,7 @@ pub record IsMadeOf (source : Program) (seed : ℕ) (c : Compiled) : Type 0 wher
   pub compiled : IsCompiled seed source c
   pub marks : MarksLines BASIC_START (loaded_of c) source seed (start_of c)
 
--- a debugger on the run of a source program's code from a start, beside a ROM
+-- a debugger on the run of a source program's code from a start, with a ROM
 pub record Debugs (source : Program) (seed : ℕ) (start : State) (rom : Rom) (d : Debugger) : Type 0 where
   pub made : IsMadeOf source seed d.program.now
   pub starts : Starts BASIC_START (loaded_of d.program.now) start

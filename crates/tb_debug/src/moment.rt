@@ -34,7 +34,7 @@ const MOST_EVENTS: u64 = u64::MAX;
 #[derive(Drop)]
 pub struct Moment {
     pub machine: Machine,
-    /// The ROM beside it.
+    /// Its ROM.
     pub rom: Rom,
     /// How many events came before it.
     pub events: u64,

@@ -1,4 +1,4 @@
-//! What lies beside the program: a quiet ROM, or a rude one.
+//! The ROM next to the program: a quiet one, or a rude one.
 use std::marker::Model;
 use tb_kernal::{Event, Machine, Outside, Quiet, Rude};
 use tb_words::next_seed;

@@ -141,7 +141,7 @@ pub record Talks (w : Written) (setting : Setting) (d : Debugger) (outcome : Out
 
 -- ---- its beginning
 
--- a debugger of a program at the first line of its run from the machine that `run` starts, with this keyboard, beside a ROM.
+-- a debugger of a program at the first line of its run from the machine that `run` starts, with this keyboard, with a ROM.
 -- At each line's beginning to which its commands lead, a program that `compile` made shows its source: `line_here` says what.
 pub record IsBegun (program : Compiled) (text answers : List ℕ) (rom : Rom) (d : Debugger) : Type 0 where
   pub of : d.program.now ≡ program

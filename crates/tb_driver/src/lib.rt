@@ -1,5 +1,5 @@
 //! The engines of the program `tbc`, over any reader and writer: each reads its input to the end, makes all
-//! that is to be written, and then writes it. Those of sources stand here.
+//! that is to be written, and then writes it. The engines of sources are here.
 #![tactic(auto)]
 
 mod playing;

@@ -12,7 +12,7 @@ use tb_streams::Tracked;
 
 /// Plays the PRG file of a program that `read_source` answered, as `play_file` does.
 ///
-/// What was written is the source's output on the keyboard text that was typed: all of it where the program returned or
+/// What was written is the source's output on the keyboard text that was typed: all of it if the program returned or
 /// waits for a key, and a prefix at the limit of events; and at a fault that on what was typed up to there.
 pub fn play_compiled<R: Read, W: Write>(
     alloc: Global,

@@ -76,7 +76,7 @@ fn run_compiled<O: Outside>(
 }
 
 /// Compiles a source with a first state of RND, runs it as `run_prg` does, and writes the host form of what it sent.
-/// That is the source's output: all of it where the program returned or waits for a key, and a prefix at the
+/// That is the source's output: all of it if the program returned or waits for a key, and a prefix at the
 /// step limit.
 pub fn run_text<R: Read, W: Write, O: Outside>(
     alloc: Global,

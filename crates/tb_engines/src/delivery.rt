@@ -34,7 +34,7 @@ pub fn without_input(error: InputError) -> Outcome
     }
 }
 
-/// The outcome where there is no text.
+/// The outcome if there is no text.
 pub fn without_text(stop: NoText) -> Outcome
     ensures { result ≡ outcome_without stop }
 {

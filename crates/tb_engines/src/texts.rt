@@ -1,4 +1,4 @@
-//! What standard error says of an outcome, behind `tbc: `. There is nothing to say where all is done.
+//! What standard error says of an outcome, after `tbc: `. It says nothing if all is done.
 ghost use Rattle.std.specs.Prelude.{◌≡◌, Some};
 ghost use Rattle.tb_engines.specs.Texts.{end_text, source_text, too_large_text, wrong_text};
 

@@ -22,7 +22,7 @@ pub struct Limit {
 }
 
 impl Limit {
-    /// What a run may take where the words don't say.
+    /// What a run may take if the words don't say.
     pub fn default_limit() -> Limit
         ensures { result.events ≡ USUAL_EVENTS }
     {
@@ -31,7 +31,7 @@ impl Limit {
         }
     }
 
-    /// What a program that is played may take where the words don't say.
+    /// What a program that is played may take if the words don't say.
     pub fn most() -> Limit
         ensures { result.events ≡ MOST_EVENTS }
     {
@@ -40,7 +40,7 @@ impl Limit {
         }
     }
 
-    /// A limit of so many events.
+    /// A limit of `events` events; `None` for 0 and for more than `MOST_EVENTS`.
     pub fn new(events: u32) -> Option<Limit>
         ensures found { IsSome result ↔ ((1 ≤ events) × (events ≤ MOST_EVENTS)) }
         ensures value { IfSome result (λ limit. limit.events ≡ events) }
@@ -82,7 +82,7 @@ pub struct Settings {
     pub limit: Limit,
 }
 
-/// The files that a build writes beside the PRG file, where they are wanted.
+/// The files that a build writes besides the PRG file, if they are wanted.
 #[derive(Debug, Drop)]
 pub struct BuildExtras {
     /// The label file.
@@ -96,7 +96,7 @@ pub struct BuildExtras {
 /// A command with its words. File names, key lists and addresses are still texts.
 #[derive(Debug, Drop)]
 pub enum Job {
-    /// Compiles a source, and writes a PRG file and what is wanted beside it.
+    /// Compiles a source, and writes a PRG file and what else is wanted.
     Build {
         source: String,
         out: String,
@@ -119,7 +119,7 @@ pub enum Job {
         seed: u16,
         /// How many events it may take between two lines.
         limit: Limit,
-        /// The key file that is written of all that was typed, where it is wanted.
+        /// The key file that is written of all that was typed, if it is wanted.
         record: Option<String>,
     },
     /// Assembles a text, and writes a PRG file.
@@ -151,7 +151,7 @@ pub enum Job {
         settings: Settings,
         /// The seed of rude events, where they are wanted.
         rude: Option<u16>,
-        /// The page that is written, where it is wanted.
+        /// The page that is written, if it is wanted.
         html: Option<String>,
     },
     /// Writes a disk image.

@@ -55,7 +55,7 @@ ProfilesSource gives o seed text answers limit warnings page source product =
 
 -- ---- steps of the engine
 
--- what was made is to be written, with the page beside it
+-- what was made is to be written, and so is its page
 abbrev pub IsPrepared : Result Made NoText → Prepared → Type 0
 IsPrepared (Ok made) p =
     (p.text ≡ Ok (record { bytes = made.texts.table; end = made.end })) × (p.page.items ≡ made.texts.page.items)

@@ -15,7 +15,7 @@ use tb_kernal::{Keyboard, Outside};
 use tb_profile_table::{Texts, texts_of};
 use tb_streams::Tracked;
 
-/// How profiling ended, and the page, which is empty where there is no table.
+/// How profiling ended, and the page, which is empty if there is no table.
 #[derive(Drop)]
 pub struct Profiled {
     pub report: Report,
@@ -58,7 +58,7 @@ fn make_texts<O: Outside>(
     }
 }
 
-// The page is empty where there is no table.
+// The page is empty if there is no table.
 fn prepare(alloc: Global, made: Result<Made, NoText>) -> Prepared
     ensures { IsPrepared made result }
 {
@@ -78,7 +78,7 @@ fn prepare(alloc: Global, made: Result<Made, NoText>) -> Prepared
 }
 
 /// Compiles a source with a first state of RND, runs it as `run_text` does, and writes a table of what its lines took.
-/// The page is made beside it.
+/// The page is made with it.
 pub fn profile_text<R: Read, W: Write, O: Outside>(
     alloc: Global,
     reader: &mut Tracked<R>,

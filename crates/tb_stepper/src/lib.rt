@@ -1,6 +1,6 @@
 //! Stepping a program forward and back.
 //!
-//! A `Stepper` holds a machine beside its compiled program, and undos of its last 1,000 steps, each
+//! A `Stepper` holds a machine with its compiled program, and undos of its last 1,000 steps, each
 //! of which can be taken back.
 #![tactic(auto)]
 

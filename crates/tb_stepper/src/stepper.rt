@@ -35,7 +35,7 @@ fn has_stopped(status: Status) -> bool
     matches!(status, Status::Returned | Status::Wrong(_))
 }
 
-/// A compiled program's machine beside its outside, and the last 1,000 machines before it.
+/// A compiled program's machine with its outside, and the last 1,000 machines before it.
 #[derive(Drop)]
 pub struct Stepper<'a, O: Outside + Drop> {
     machine: Machine,

@@ -27,7 +27,7 @@ pub fn write_file<R: Files>(rt: &R, path: &str, bytes: &[u8]) -> Result<(), Outc
     }
 }
 
-/// Writes what an engine made in memory to a file, where it made all.
+/// Writes what an engine made in memory to a file, if it made all.
 pub fn save<R: Files>(rt: &R, path: &str, made: Outcome, bytes: &[u8]) -> Outcome {
     match made {
         Outcome::Ended(End::Done) => {}

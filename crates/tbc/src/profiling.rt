@@ -7,7 +7,7 @@ use tb_driver::{Outcome, Report, Tracked};
 use tb_kernal::{Keyboard, Outside};
 use tb_profile_engine::{Profiled, profile_text};
 
-/// Profiles a source, and writes the page where there is a table and the page is wanted.
+/// Profiles a source, and writes the page if there is a table and the page is wanted.
 pub fn profile_file<R: Files + Print + AllocGlobal, O: Outside>(
     rt: &R,
     source: &str,

@@ -122,7 +122,7 @@ fn apart_from_keys(typed: &Typed, page: Option<&str>) -> Result<(), Failure> {
     }
 }
 
-// A run beside a rude ROM, where one is asked for.
+// A run with a rude ROM, if one is asked for.
 fn run_beside<R: Files + Print + AllocGlobal>(
     rt: &R,
     what: &Runnable,
@@ -136,7 +136,7 @@ fn run_beside<R: Files + Print + AllocGlobal>(
     })
 }
 
-// A profile beside a rude ROM, where one is asked for.
+// A profile with a rude ROM, if one is asked for.
 fn profile_beside<R: Files + Print + AllocGlobal>(
     rt: &R,
     source: &str,
