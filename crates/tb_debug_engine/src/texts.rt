@@ -201,7 +201,8 @@ fn push_variable(text: &mut Vec<u8>, index: usize, value: i16) -> Result<(), All
 {
     text.push(name_at(index))?;
     text.push(b'=')?;
-    push_value_line(text, Ok(value))
+    push_value_line(text, Ok(value))?;
+    Ok(())
 }
 
 // Appends a variable and its value, unless that is 0.

@@ -8,4 +8,4 @@ use Rattle.tb_debug_engine.proofs.texts.push_variable.Goals as goal
 pub returns : goal.returns
 returns c =
     variable_more c.args.text.now.items c.push.new.self.items c.push-2.new.self.items c.push_value_line.new.text.items c.name_at.result c.args.index _ c.args.value
-    c.name_at.ensures c.in_ok-push.ensures.items c.in_ok-push-2.ensures.items c.push_value_line.ensures (to_z-of_z {w = w16} (search rules))
+    c.name_at.ensures c.in_ok-push.ensures.items c.in_ok-push-2.ensures.items c.in_ok-push_value_line.ensures (to_z-of_z {w = w16} (search rules))
