@@ -1,5 +1,5 @@
 -- The loop that reads the lines of a file.
-use Rattle.std.proofs.Common.{◌≡◌, ℕ, ◌+◌, List, [], ◌∷◌, ◌++◌, ap, sym, ◌∙◌, subst, append_assoc, append-nil, inl, inr}
+use Rattle.std.proofs.Common.{◌≡◌, ℕ, ◌+◌, List, [], ◌∷◌, ◌++◌, ap, sym, ◌∙◌, append_assoc, append-nil, inl, inr}
 use Rattle.tb_syntax.specs.PlainData.{lines_of}
 use Rattle.tb_parser.specs.Lines.{lines_from, lines_of_file}
 use Rattle.tb_check.specs.Lines.{AreRead, Says, texts_of}
