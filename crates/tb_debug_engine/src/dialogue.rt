@@ -1,8 +1,6 @@
 //! The dialogue.
 ghost use Rattle.std.specs.Prelude.{◌≡◌, OnErr, OnOk, is_err};
 ghost use Rattle.std.specs.Io.KnownBytes.{Appends};
-ghost use Rattle.tb_opcodes.specs.Bytes.{AreBytes};
-ghost use Rattle.tb_codegen.specs.Compiled.{prg_of};
 ghost use Rattle.tb_streams.specs.Failures.{failures_of};
 ghost use Rattle.tb_streams.specs.Streams.{AppendsPrefix, counted};
 ghost use Rattle.tb_debug_engine.specs.Dialogue.{Asks, Begins, Debugs, Exchanges, Opens, Says, Talks, prompt};
@@ -13,7 +11,7 @@ use crate::texts::push_answer;
 use std::alloc::Global;
 use std::io::{Read, Write};
 use tb_debug::{Answer, Debugger, Rom, read_command};
-use tb_driver::{CompiledSource, start_program};
+use tb_driver::{CompiledSource, are_bytes, start_program};
 use tb_engines::{End, Outcome, without_input, without_text};
 use tb_kernal::Keyboard;
 use tb_streams::{MOST_INPUT, StreamFailure, Tracked, read_line, without_return, write_output};
@@ -143,11 +141,11 @@ fn debugger_of<'a>(
     keyboard: Keyboard,
     rom: Rom,
 ) -> Result<Debugger<'a>, Outcome>
-    requires file { AreBytes (prg_of source.now.program) }
-    requires text { AreBytes keyboard.text.items }
-    requires answers { AreBytes keyboard.answers.items }
     ensures { Begins source.now.program keyboard.text.items keyboard.answers.items rom result }
 {
+    are_bytes(source.program.prg());
+    are_bytes(keyboard.text.as_slice());
+    are_bytes(keyboard.answers.as_slice());
     let machine = match start_program(alloc, &source.program, keyboard) {
         Ok(machine) => machine,
         Err(stop) => return Err(without_text(stop)),

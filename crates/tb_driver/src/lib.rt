@@ -10,7 +10,7 @@ mod stepping;
 
 pub use playing::play_compiled;
 pub use reading::{CompiledSource, compile_source, read_source, stop_of};
-pub use sources::{build, run_text};
+pub use sources::{are_bytes, build, run_text};
 pub use starting::start_program;
 pub use stepping::step_text;
 pub use tb_engines::{

@@ -26,12 +26,3 @@ returns g c =
       record { written = c.in-Ok.ensures; begun = c.in-Ok-debugger_of.ensures },
       inl (c.open.new.debugger, c.in-Err-open.ensures, refl, refl),
     )
-
-pub debugger_of-requires-clause-file : goal.debugger_of-requires-clause-file
-debugger_of-requires-clause-file g c = ?
-
-pub debugger_of-requires-clause-text : goal.debugger_of-requires-clause-text
-debugger_of-requires-clause-text g c = ?
-
-pub debugger_of-requires-clause-answers : goal.debugger_of-requires-clause-answers
-debugger_of-requires-clause-answers g c = ?

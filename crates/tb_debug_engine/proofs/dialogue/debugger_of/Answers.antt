@@ -1,5 +1,6 @@
 -- The goals of `debugger_of` in src/dialogue.rt.
-use Rattle.std.proofs.Common.{refl}
+use Rattle.std.proofs.Common.{refl, subst}
+use Rattle.tb_opcodes.specs.Bytes.{AreBytes}
 use Rattle.tb_prg.specs.Prg.{content_of}
 use Rattle.tb_codegen.specs.Compiled.{prg_of}
 use Rattle.tb_debug_engine.proofs.Opening.{begun, not_begun}
@@ -9,7 +10,8 @@ pub returns-in-Ok-new : goal.returns-in-Ok-new
 returns-in-Ok-new c =
     let program = c.args.source.now.program in
     begun program c.args.keyboard.text.items c.args.keyboard.answers.items c.args.rom (content_of (prg_of program)) c.in-Ok.machine c.in-Ok-new.debugger refl
-    c.in-Ok.ensures.prg c.in-Ok-new.ensures.run.0 c.in-Ok-new.ensures.run.1 c.in-Ok-new.ensures.opens c.requires.file c.requires.text c.requires.answers
+    c.in-Ok.ensures.prg c.in-Ok-new.ensures.run.0 c.in-Ok-new.ensures.run.1 c.in-Ok-new.ensures.opens (subst AreBytes c.prg.ensures c.are_bytes.ensures)
+    (subst AreBytes c.as_slice.ensures.value c.are_bytes-2.ensures) (subst AreBytes c.as_slice-2.ensures.value c.are_bytes-3.ensures)
 
 pub returns-in-Err : goal.returns-in-Err
 returns-in-Err c =

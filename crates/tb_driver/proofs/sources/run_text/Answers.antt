@@ -1,15 +1,8 @@
 -- The goals of `run_text` in src/sources.rt.
 use Rattle.tb_codegen.specs.Compiled.{prg_of}
 use Rattle.tb_engines.specs.Programs.{RunsPrg}
-use Rattle.tb_driver.proofs.Output.{all_bytes}
 use Rattle.tb_driver.proofs.ReadSources.{nothing_made, file_made, file_run}
 use Rattle.tb_driver.proofs.sources.run_text.Goals as goal
-
-pub run_compiled-requires-clause-text : goal.run_compiled-requires-clause-text
-run_compiled-requires-clause-text g c = all_bytes c.args.keyboard.text.items ?
-
-pub run_compiled-requires-clause-answers : goal.run_compiled-requires-clause-answers
-run_compiled-requires-clause-answers g c = all_bytes c.args.keyboard.answers.items ?
 
 pub returns-in-Err-clause-answers : goal.returns-in-Err-clause-answers
 returns-in-Err-clause-answers g c =
