@@ -1,8 +1,9 @@
 -- The goals of `make` in src/build.rt.
 use Rattle.std.proofs.Common.{◌≤◌, Ok, arith, length, length-append, subst, sym}
+use Rattle.std.proofs.lemmas.Result.{IfOk-weaker}
 use Rattle.tb_syntax.specs.PlainData.{lines_of}
 use Rattle.tb_codegen.specs.Compiled.{IsCompiled, starts_of, table_of}
-use Rattle.tb_listing.specs.Builds.{image_size}
+use Rattle.tb_listing.specs.Builds.{IsMade, Tells, image_size}
 use Rattle.tb_listing.proofs.Laid.{are_laid}
 use Rattle.tb_listing.proofs.Sorted.{labels_rise}
 use Rattle.tb_listing.proofs.Sums.{bytes_add_up, prices_add_up}
@@ -23,16 +24,18 @@ all_of-requires-clause-ends c = (are_laid c.requires.0 c.in-Ok.program c.args.co
 
 pub returns : goal.returns
 returns c =
+    let source = c.args.source.now in
     let compiled = c.args.compiled.now in
-    let seed = c.requires.0 in
-    let is : IsCompiled seed (lines_of c.in-Ok.program) compiled = (c.requires.1 (Ok (lines_of c.in-Ok.program)) c.in-Ok.ensures.found).1 in
-    let laid = are_laid seed c.in-Ok.program compiled c.in-Ok.ensures.stated c.in-Ok.ensures.rising
-    (c.requires.1 (Ok (lines_of c.in-Ok.program)) c.in-Ok.ensures.found).0 is in
-    record {
+    let program = lines_of c.in-Ok.program in
+    let answer = c.requires.1 (Ok program) c.in-Ok.ensures.found in
+    let is : IsCompiled c.requires.0 program compiled = answer.1 in
+    let laid = are_laid c.requires.0 c.in-Ok.program compiled c.in-Ok.ensures.stated c.in-Ok.ensures.rising answer.0 is in
+    IfOk-weaker c.all_of.result (Tells source compiled program) (IsMade source compiled)
+    (λ made tells. record {
       sorted = labels_rise (starts_of compiled) (table_of compiled) (image_size compiled) laid;
-      program = lines_of c.in-Ok.program;
+      program = program;
       makes = c.in-Ok.ensures.found;
-      tells = c.all_of.ensures;
-      bytes = bytes_add_up (starts_of compiled) (table_of compiled) (image_size compiled) (lines_of c.in-Ok.program) laid is.lines;
-      prices = prices_add_up (starts_of compiled) (table_of compiled) (image_size compiled) (lines_of c.in-Ok.program) is.lines;
-    }
+      tells = tells;
+      bytes = bytes_add_up (starts_of compiled) (table_of compiled) (image_size compiled) program laid is.lines;
+      prices = prices_add_up (starts_of compiled) (table_of compiled) (image_size compiled) program is.lines;
+    }) c.all_of.ensures
