@@ -6,7 +6,7 @@ use Rattle.tb_driver.proofs.stepping.step_program.Goals as goal
 pub returns-in-Ok-answers : goal.returns-in-Ok-answers
 returns-in-Ok-answers c =
     stepped c.args.keyboard.text.items c.args.keyboard.answers.items c.args.limit c.args.program.now c.args.commands.now c.in_ok-machine.machine
-    c.in-Ok-new.stepper c.answers.new.stepper c.in-Ok-answers.bytes.items (c.in_ok-machine.ensures.loadable c.requires) c.in-Ok-new.ensures.held
+    c.in-Ok.stepper c.answers.new.stepper c.in-Ok-answers.bytes.items (c.in_ok-machine.ensures.loadable c.requires) c.in-Ok.ensures.held
     c.in-Ok-answers.ensures
 
 pub returns-in_err-machine : goal.returns-in_err-machine
