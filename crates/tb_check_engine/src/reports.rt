@@ -1,6 +1,7 @@
 //! What there is to say of a file, as a text.
-ghost use Rattle.std.specs.Prelude.{◌≡◌, ◌++◌, OnOk, flat_map};
+ghost use Rattle.std.specs.Prelude.{◌≡◌, flat_map};
 ghost use Rattle.std.specs.Fmt.{decimal};
+ghost use Rattle.tb_words.specs.Texts.{AppendsBytes};
 ghost use Rattle.tb_engines.specs.Texts.{too_deep_text};
 ghost use Rattle.tb_check_engine.specs.Reports.{bad_line_rows, deep_rows, error_row, file_row, line_at, lines_in};
 ghost use Rattle.tb_check_engine.specs.Reports.{note_row, place_rows, report, too_large_row, warning_rows};
@@ -39,7 +40,7 @@ pub fn push_report(
     source: &Source<'_>,
     findings: &Findings,
 ) -> Result<(), AllocError>
-    ensures { OnOk result (text.new.items ≡ text.old.items ++ report source.now.name.now (lines_in source.now) findings.now) }
+    ensures { AppendsBytes result text.old text.new (report source.now.name.now (lines_in source.now) findings.now) }
 {
     match findings {
         Findings::BadLines(lines) => push_bad_lines(alloc, text, source, lines),
@@ -58,7 +59,7 @@ pub fn push_report(
 }
 
 fn push_row(text: &mut Vec<u8>, row: &str) -> Result<(), AllocError>
-    ensures { OnOk result (text.new.items ≡ text.old.items ++ row.now) }
+    ensures { AppendsBytes result text.old text.new row.now }
 {
     text.extend_from_slice(row.as_bytes())
 }
@@ -70,7 +71,7 @@ fn push_about_file(
     source: &Source<'_>,
     fault: &str,
 ) -> Result<(), AllocError>
-    ensures { OnOk result (text.new.items ≡ text.old.items ++ file_row source.now.name.now fault.now) }
+    ensures { AppendsBytes result text.old text.new (file_row source.now.name.now fault.now) }
 {
     let name = source.name;
     push_row(text, &format!(in alloc; "{name}: error: {fault}\n")?)
@@ -82,8 +83,7 @@ fn push_bad_lines(
     source: &Source<'_>,
     lines: &[BadLine],
 ) -> Result<(), AllocError>
-    ensures { OnOk result (text.new.items ≡ text.old.items
-        ++ flat_map (bad_line_rows source.now.name.now (lines_in source.now)) lines.now) }
+    ensures { AppendsBytes result text.old text.new (flat_map (bad_line_rows source.now.name.now (lines_in source.now)) lines.now) }
 {
     for line in lines {
         push_bad_line(alloc, text, source, line)?;
@@ -97,7 +97,7 @@ fn push_bad_line(
     source: &Source<'_>,
     bad: &BadLine,
 ) -> Result<(), AllocError>
-    ensures { OnOk result (text.new.items ≡ text.old.items ++ bad_line_rows source.now.name.now (lines_in source.now) bad.now) }
+    ensures { AppendsBytes result text.old text.new (bad_line_rows source.now.name.now (lines_in source.now) bad.now) }
 {
     push_error(alloc, text, source, bad.error)?;
     push_place(alloc, text, source, bad.error)?;
@@ -110,7 +110,7 @@ fn push_error(
     source: &Source<'_>,
     error: SourceError,
 ) -> Result<(), AllocError>
-    ensures { OnOk result (text.new.items ≡ text.old.items ++ error_row source.now.name.now error) }
+    ensures { AppendsBytes result text.old text.new (error_row source.now.name.now error) }
 {
     let (name, line, column) = (source.name, error.line, error.column);
     let fault = source_text(error.kind);
@@ -127,7 +127,7 @@ fn push_place(
     source: &Source<'_>,
     error: SourceError,
 ) -> Result<(), AllocError>
-    ensures { OnOk result (text.new.items ≡ text.old.items ++ place_rows (lines_in source.now) error) }
+    ensures { AppendsBytes result text.old text.new (place_rows (lines_in source.now) error) }
 {
     let line = error.line;
     let number = format!(in alloc; "{line}")?;
@@ -142,7 +142,7 @@ fn push_note(
     error: SourceError,
     note: Option<Note>,
 ) -> Result<(), AllocError>
-    ensures { OnOk result (text.new.items ≡ text.old.items ++ note_row source.now.name.now error note) }
+    ensures { AppendsBytes result text.old text.new (note_row source.now.name.now error note) }
 {
     let Some(note) = note else {
         return Ok(());
@@ -162,7 +162,7 @@ fn push_source_line(
     source: &Source<'_>,
     line: usize,
 ) -> Result<(), AllocError>
-    ensures { OnOk result (text.new.items ≡ text.old.items ++ line_row (decimal line) (line_at (lines_in source.now) line)) }
+    ensures { AppendsBytes result text.old text.new (line_row (decimal line) (line_at (lines_in source.now) line)) }
 {
     let number = format!(in alloc; "{line}")?;
     push_line(text, number.as_bytes(), source.line(line))
@@ -174,7 +174,7 @@ fn push_deep_lines(
     source: &Source<'_>,
     lines: &[usize],
 ) -> Result<(), AllocError>
-    ensures { OnOk result (text.new.items ≡ text.old.items ++ flat_map (deep_rows source.now.name.now (lines_in source.now)) lines.now) }
+    ensures { AppendsBytes result text.old text.new (flat_map (deep_rows source.now.name.now (lines_in source.now)) lines.now) }
 {
     for line in lines {
         push_deep_line(alloc, text, source, *line)?;
@@ -195,7 +195,7 @@ fn push_deep_line(
     source: &Source<'_>,
     line: usize,
 ) -> Result<(), AllocError>
-    ensures { OnOk result (text.new.items ≡ text.old.items ++ deep_rows source.now.name.now (lines_in source.now) line) }
+    ensures { AppendsBytes result text.old text.new (deep_rows source.now.name.now (lines_in source.now) line) }
 {
     let name = source.name;
     let fault = too_deep();
@@ -209,7 +209,7 @@ fn push_too_large(
     source: &Source<'_>,
     cost: Option<u32>,
 ) -> Result<(), AllocError>
-    ensures { OnOk result (text.new.items ≡ text.old.items ++ too_large_row source.now.name.now cost) }
+    ensures { AppendsBytes result text.old text.new (too_large_row source.now.name.now cost) }
 {
     match cost {
         Some(cost) => {
@@ -226,8 +226,7 @@ fn push_warnings(
     source: &Source<'_>,
     warnings: &[LineWarning],
 ) -> Result<(), AllocError>
-    ensures { OnOk result (text.new.items ≡ text.old.items
-        ++ flat_map (warning_rows source.now.name.now (lines_in source.now)) warnings.now) }
+    ensures { AppendsBytes result text.old text.new (flat_map (warning_rows source.now.name.now (lines_in source.now)) warnings.now) }
 {
     for warning in warnings {
         push_warning(alloc, text, source, *warning)?;
@@ -241,7 +240,7 @@ fn push_warning(
     source: &Source<'_>,
     warning: LineWarning,
 ) -> Result<(), AllocError>
-    ensures { OnOk result (text.new.items ≡ text.old.items ++ warning_rows source.now.name.now (lines_in source.now) warning) }
+    ensures { AppendsBytes result text.old text.new (warning_rows source.now.name.now (lines_in source.now) warning) }
 {
     let (name, line) = (source.name, warning.line);
     let said = WarningText(warning.warning);

@@ -1,5 +1,5 @@
 //! Rows that show a line of a source, and a place in it.
-ghost use Rattle.std.specs.Prelude.{◌≡◌, ◌++◌, OnOk};
+ghost use Rattle.tb_words.specs.Texts.{AppendsBytes};
 ghost use Rattle.tb_check_engine.specs.Rows.{caret_row, line_row};
 
 use std::alloc::AllocError;
@@ -10,7 +10,7 @@ const NUMBER_COLUMNS: usize = 5;
 
 /// Appends a line of a source, with its number.
 pub fn push_line(text: &mut Vec<u8>, number: &[u8], line: &[u8]) -> Result<(), AllocError>
-    ensures { OnOk result (text.new.items ≡ text.old.items ++ line_row number.now line.now) }
+    ensures { AppendsBytes result text.old text.new (line_row number.now line.now) }
 {
     push_spaces(text, NUMBER_COLUMNS.saturating_sub(number.len()))?;
     text.extend_from_slice(number)?;
@@ -22,7 +22,7 @@ pub fn push_line(text: &mut Vec<u8>, number: &[u8], line: &[u8]) -> Result<(), A
 /// Appends a row with a caret under a column, from 1, of the line with this number, if that is under what is shown or
 /// right after it.
 pub fn push_caret(text: &mut Vec<u8>, number: &[u8], column: usize) -> Result<(), AllocError>
-    ensures { OnOk result (text.new.items ≡ text.old.items ++ caret_row number.now column) }
+    ensures { AppendsBytes result text.old text.new (caret_row number.now column) }
 {
     if column == 0 || MOST_SHOWN + 1 < column {
         return Ok(());

@@ -1,5 +1,6 @@
 //! Checks of sources.
-ghost use Rattle.std.specs.Prelude.{◌≡◌, ◌+◌, ◌++◌, ℕ, Result, IfOk, OnOk, map};
+ghost use Rattle.std.specs.Prelude.{◌≡◌, ◌+◌, ℕ, Result, IfOk, map};
+ghost use Rattle.tb_words.specs.Texts.{AppendsBytes};
 ghost use Rattle.tb_parser.specs.Lines.{lines_of_file};
 ghost use Rattle.tb_compile_errors.specs.declared.refusals.CompileError.{CompileError};
 ghost use Rattle.tb_codegen.specs.declared.compiled.Compiled.{Compiled};
@@ -59,7 +60,7 @@ pub fn with_source<R: Read>(
 
 /// Calls `push_caret`.
 pub fn caret_put(text: &mut Vec<u8>, number: &[u8], column: usize) -> Result<(), AllocError>
-    ensures { OnOk result (text.new.items ≡ text.old.items ++ caret_row number.now column) }
+    ensures { AppendsBytes result text.old text.new (caret_row number.now column) }
 {
     push_caret(text, number, column)
 }
