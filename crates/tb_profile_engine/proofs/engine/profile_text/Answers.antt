@@ -1,4 +1,6 @@
 -- The goals of `profile_text` in src/engine.rt.
+use Rattle.std.proofs.Common.{ℕ, List}
+use Rattle.tb_codegen.specs.declared.compiled.Compiled.{Compiled}
 use Rattle.tb_driver.proofs.ReadSources.{nothing_made, product_made}
 use Rattle.tb_profile_engine.specs.Profiles.{Profiles}
 use Rattle.tb_profile_engine.proofs.Profiling.{prepared}
@@ -10,11 +12,11 @@ make_texts-requires g c = (c.args.seed, c.in-Ok.ensures.answers.1.answer.found)
 pub returns-in-Err-clause-answers : goal.returns-in-Err-clause-answers
 returns-in-Err-clause-answers g c =
     nothing_made c.args.seed c.in-Err.outcome c.new.result _ _ _ _ c.in-Err.ensures.answers c.new.ensures.outcome c.new.ensures.warnings
-    (λ source p. Profiles g.O.Outside.gives c.args.outside.now c.args.keyboard.text.items c.args.keyboard.answers.items c.args.limit source p c.new-2.result.items)
+    (λ source p. Profiles g.O.Outside.gives c.args.outside.now c.args.keyboard.text.items c.args.keyboard.answers.items c.args.limit source p c.new-in-Err.result.items)
 
 pub returns-clause-answers : goal.returns-clause-answers
 returns-clause-answers g c =
-    let profiles = λ source p. Profiles g.O.Outside.gives c.args.outside.now c.args.keyboard.text.items c.args.keyboard.answers.items c.args.limit source p in
+    let profiles = λ (source : List ℕ) (p : Compiled). Profiles g.O.Outside.gives c.args.outside.now c.args.keyboard.text.items c.args.keyboard.answers.items c.args.limit source p in
     let source = c.in-Ok.source in
     product_made c.args.seed _ source _ _ c.in-Ok.ensures.answers _ _ _ (λ text p. profiles text p c.prepare.result.page.items) c.into_warnings.result.items
     c.prepare.result.text c.into_warnings.ensures
