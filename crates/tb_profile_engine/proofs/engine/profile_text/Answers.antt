@@ -18,7 +18,7 @@ pub returns-clause-answers : goal.returns-clause-answers
 returns-clause-answers g c =
     let profiles = λ (source : List ℕ) (p : Compiled). Profiles g.O.Outside.gives c.args.outside.now c.args.keyboard.text.items c.args.keyboard.answers.items c.args.limit source p in
     let source = c.in-Ok.source in
-    product_made c.args.seed _ source _ _ c.in-Ok.ensures.answers _ _ _ (λ text p. profiles text p c.prepare.result.page.items) c.into_warnings.result.items
-    c.prepare.result.text c.into_warnings.ensures
-    (prepared (profiles source.text.items source.program) c.make_texts.result c.prepare.result c.make_texts.ensures c.prepare.ensures)
+    product_made c.args.seed _ source _ _ c.in-Ok.ensures.answers _ _ _ (λ text p. profiles text p c.prepare-text.result.page.items) c.into_warnings.result.items
+    c.prepare-text.result.text c.into_warnings.ensures
+    (prepared (profiles source.text.items source.program) c.make_texts.result c.prepare-text.result c.make_texts.ensures c.prepare-text.ensures)
     c.deliver.ensures.answers
