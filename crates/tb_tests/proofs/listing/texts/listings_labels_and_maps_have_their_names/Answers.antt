@@ -2,4 +2,4 @@
 use Rattle.tb_tests.proofs.listing.texts.listings_labels_and_maps_have_their_names.Goals as goal
 
 pub make-requires : goal.make-requires
-make-requires c = (1, c.in_ok-program.ensures.only)
+make-requires c after = (1, after.in_ok-program.ensures.only)
