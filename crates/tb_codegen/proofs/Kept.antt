@@ -14,10 +14,11 @@ use Rattle.tb_selection.specs.Laws.{AreClosed}
 use Rattle.tb_selection.proofs.Closed.{all_closed}
 use Rattle.tb_settling.specs.Settled.{IsLaid}
 use Rattle.tb_templates.specs.Program.{program_code}
-use Rattle.tb_simulation.specs.Kept.{Keeps}
+use Rattle.tb_simulation.specs.Theorem.{Keeps}
 use Rattle.tb_correctness.specs.Laid.{ArePolled}
 use Rattle.tb_correctness.proofs.Whole.Compiled.{image_keeps}
-use Rattle.tb_codegen.proofs.Sized.{IsListed, same_numbers}
+use Rattle.tb_codegen.specs.Coded.{IsListed}
+use Rattle.tb_codegen.proofs.Sized.{same_numbers}
 use Rattle.tb_codegen.proofs.SmallPrograms.{count_numbers}
 
 -- each line of a program takes an answer first

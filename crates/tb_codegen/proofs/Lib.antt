@@ -1,10 +1,12 @@
 -- ── what is read ──
 -- bounds of a text that is read as a statement
 pub mod Reading
--- small programs settle, and where their lines are
+-- cheap programs fit, and where the lines of programs are
 pub mod Sized
 -- what a file's program has
 pub mod SmallPrograms
+-- code that takes more bytes than there are
+pub mod TooLong
 -- ── where code is ──
 -- where the lines of a compiled program begin
 pub mod Placed
@@ -17,7 +19,7 @@ pub mod Kept
 pub mod Marked
 -- a line with what is done after it for the STOP key
 pub mod Stretches
--- items that settle are refused only for memory or length
-pub mod Roomy
 -- what both calls compile is the same
 pub mod Same
+-- what linking answers is what the two calls answer
+pub mod Answering

@@ -24,7 +24,8 @@ use Rattle.tb_correctness.proofs.Whole.Compiled.{image_marks}
 use Rattle.tb_simulation.proofs.Numbers.{start_of_line}
 use Rattle.tb_codegen.specs.Compiled.{start_in, starts_in}
 use Rattle.tb_codegen.proofs.Kept.{all_polled}
-use Rattle.tb_codegen.proofs.Sized.{IsListed, same_numbers}
+use Rattle.tb_codegen.specs.Coded.{IsListed}
+use Rattle.tb_codegen.proofs.Sized.{same_numbers}
 use Rattle.tb_codegen.proofs.SmallPrograms.{count_numbers}
 
 -- where a compiled program's lines begin

@@ -16,7 +16,7 @@ use Rattle.tb_templates.specs.Program.{program_code}
 use Rattle.tb_codegen.specs.declared.compiled.Compiled.{Compiled}
 use Rattle.tb_codegen.specs.Compiled.{IsCompiled, starts_in, table_of}
 use Rattle.tb_codegen.specs.Answers.{HasOutcome, OutcomeAnswer, LinesMake, FitAnswer, FitOutcome, AreSame, GivesSame}
-use Rattle.tb_codegen.proofs.Roomy.{one_way}
+use Rattle.tb_settling.proofs.Rounds.{one_way}
 
 same_items : (at : ℕ) (es items others : List Entry) → SettlesTo at es items → SettlesTo at es others → items ≡ others
 same_items at es items others a b = a.are ∙ ap (items_from at) (one_way at (map kept es) a.forms b.forms a.settled b.settled) ∙ sym b.are
@@ -41,9 +41,9 @@ program_same seed p c (Err (Lower deep.NoMemory)) a h = h
 program_same seed p c (Err (Lower (deep.TooDeep n))) a h = let e : None ≡ Some n = sym a.shallow ∙ h in true≢false (sym (ap is_some e))
 program_same seed p c (Err (TooLarge n)) a h =
     let es = program_code seed (lowered.program_code p) in
-    let e = ap size (a.settled.are ∙ ap (items_from PROLOGUE_AT) (one_way PROLOGUE_AT (map kept es) a.settled.forms h.2.forms a.settled.settled h.2.rounds)) in
-    let b = h.2.beyond in let f = a.ends in
-    absurd (omega (arith, e, b, f))
+    let b = h.1.least in let g = h.1.more in let f = a.ends in
+    let e = ap size (a.settled.are ∙ ap (items_from PROLOGUE_AT) (one_way PROLOGUE_AT (map kept es) a.settled.forms h.1.forms a.settled.settled h.1.rounds)) in
+    absurd (omega (arith, e, b, f, g))
 program_same seed p c (Err NoMemory) a h = tt
 
 -- if one answer is a compiled program, the other shows the same program or memory ran out

@@ -1,9 +1,9 @@
 -- Small programs have code that settles and that the assembler takes, and the addresses of their lines.
-use Rattle.std.proofs.Common.{◌≡◌, ℕ, ◌+◌, ◌*◌, ◌<◌, ◌≤◌, List, [], ◌∷◌, ◌++◌, length, map, ap, sym, subst, ◌∙◌}
+use Rattle.std.proofs.Common.{◌≡◌, ℕ, ◌+◌, ◌≤◌, List, [], ◌∷◌, ◌++◌, length, map, ap, sym, subst, ◌∙◌}
 use Rattle.std.proofs.Common.{arith, refl, true, None, Some, is_some, append_assoc, length-append}
 use Rattle.tb_asm.specs.declared.names.Name.{Name}
 use Rattle.tb_asm.specs.Layout.{Entry, size, address_in, labels_from, image_of, bytes_from}
-use Rattle.tb_asm.specs.Settle.{items_from, SettlesTo}
+use Rattle.tb_asm.specs.Settle.{kept, items_from, SettlesTo}
 use Rattle.tb_asm.proofs.Laws.{all_size, bytes_append}
 use Rattle.tb_syntax.specs.Source.{Program, numbers, Rises}
 use Rattle.tb_syntax.specs.Texts.{HasShortTexts}
@@ -17,24 +17,18 @@ use Rattle.tb_lower.specs.Slots.{Jump, Call, JumpTo, CallTo, Return, End, SlotCo
 use Rattle.tb_parser.specs.Files.{AreStated}
 use Rattle.tb_prg.specs.Prg.{header}
 use Rattle.tb_runtime16.specs.Addresses.{PROLOGUE_AT, LINES_AT}
-use Rattle.tb_settling.specs.Settled.{IsLaid, Suits, most as most_bytes}
-use Rattle.tb_settling.proofs.Forms.{forms_most, items_size, size_append}
+use Rattle.tb_settling.specs.Settled.{IsLaid}
+use Rattle.tb_settling.proofs.Forms.{forms_most, items_size, kept_forms, settled_forms}
 use Rattle.tb_templates.specs.declared.labels.Target.TheVariants.{Past, Table}
 use Rattle.tb_templates.specs.Labels.{label_of}
 use Rattle.tb_templates.specs.Sizes.{room, list_room}
-use Rattle.tb_templates.specs.Program.{lines_code, past_code, find_code, rows_code, still_asking, table_code, block_code, program_code, AreCodable}
-use Rattle.tb_templates.specs.Breaks.{all_broken}
-use Rattle.tb_codegen.proofs.Roomy.{unsettled_long}
+use Rattle.tb_templates.specs.Program.{past_code, find_code, table_code, block_code, program_code, AreCodable}
 use Rattle.tb_templates.proofs.Fitting.{statement_room, program_fits}
-use Rattle.tb_templates.proofs.Taken.{block_size, program_labels, program_most, program_suits}
-use Rattle.tb_templates.proofs.Woven.{lowest, distinct}
-use Rattle.tb_templates.proofs.Ordered.{program_woven}
-use Rattle.tb_templates.proofs.Accepted.{program_modes, program_moves}
-use Rattle.tb_templates.proofs.Reached.{program_known}
-use Rattle.tb_codegen.specs.Roomy.{EndsFrom, SuitsAnywhere}
+use Rattle.tb_templates.proofs.Taken.{block_size, program_most}
 use Rattle.tb_words.specs.Words.{word_of}
 use Rattle.tb_codegen.specs.declared.compiled.Compiled.{Compiled}
 use Rattle.tb_codegen.specs.Compiled.{prg_of, starts_of, table_of, warnings_of, IsCompiled, starts_in, stands_at, AreKnown, AddressesRise, most_cost}
+use Rattle.tb_codegen.specs.Coded.{IsListed, TakesTooMuch}
 use Rattle.tb_codegen.specs.Texts.{LinesHoldTexts, offset_of}
 use Rattle.tb_templates.proofs.Settled.{Sections, last_broken, sections}
 use Rattle.tb_codegen.proofs.Placed.{lines_known, lines_begin_in_order, start_numbers}
@@ -86,12 +80,6 @@ pub code_rises : (p : Program) → Rises 1 32768 (numbers p) → Rises 0 65536 (
 code_rises p h = subst (Rises 0 65536) (sym (same_numbers p)) (rising_zero (numbers p) (rising_words 0 (numbers p) h))
 
 -- ── a file's code ──
--- code that is listed and laid out: its lists and lines can be counted, and its numbers rise
-pub record IsListed (code : SlotCode) : Type 0 where
-  pub lists : AreCodable code
-  pub lines : length code < 65536
-  pub rising : Rises 0 65536 (numbers code)
-
 -- a line of a file has a list of a bounded length
 lists_codable : (p : Program) → AreSmall p → IsCodeInRange 256 (lowered.program_code p) → AreCodable (lowered.program_code p)
 lists_codable [] small ranges = tt
@@ -116,63 +104,17 @@ listed p same stated rises ranges =
     let small = are_small p stated in
     subst IsListed (sym same) (listed_code p small rises (subst (IsCodeInRange 256) same (ranges 256 (small_short p small))))
 
--- listed code settles, wherever it ends
-pub suits_anywhere : (seed : ℕ) {code : SlotCode} → IsListed code → SuitsAnywhere PROLOGUE_AT (program_code seed code)
-suits_anywhere seed {code} s =
-    let es = program_code seed code in
-    record {
-      modes = program_modes seed code;
-      names = distinct lowest 0 es (program_woven seed code s.rising s.lists);
-      known = program_known (labels_from PROLOGUE_AT es) PROLOGUE_AT seed code (program_labels seed code s.rising s.lists);
-      movable = program_moves seed code;
-    }
-
--- a row of the line table for each line
-rows_size : (ns : List ℕ) → size (rows_code ns) ≡ 4 * length ns
-rows_size [] = refl
-rows_size (n ∷ ns) = let a = rows_size ns in omega (arith, a)
-
-rows_within : (seed : ℕ) (code : SlotCode) → 4 * length (numbers code) ≤ size (program_code seed code)
-rows_within seed code =
-    let ns = numbers code in
-    let lines = lines_code ns seed [] code in let past = past_code ns in let last = all_broken (still_asking [] code) in let search = find_code ns in let table = table_code ns in
-    let b = size_append block_code (lines ++ (past ++ (last ++ (search ++ table)))) in
-    let c = size_append lines (past ++ (last ++ (search ++ table))) in
-    let d = size_append past (last ++ (search ++ table)) in
-    let e = size_append last (search ++ table) in
-    let f = size_append search table in
-    let g = rows_size ns in
-    omega (arith, b, c, d, e, f, g)
-
--- a line table that is too long for the room makes the code end past $9FFF
-pub many_lines : (seed : ℕ) (code : SlotCode) → 38899 < 4 * length code → EndsFrom 0xA001 PROLOGUE_AT (program_code seed code)
-many_lines seed code many = unsettled_long PROLOGUE_AT (program_code seed code) (let a = rows_within seed code in let b = count_numbers code in omega (arith, a, b, many))
-
--- ── a small program's code ──
-pub record IsSettling (seed : ℕ) (code : SlotCode) : Type 0 where
-  pub listed : IsListed code
-  pub ends : PROLOGUE_AT + most_bytes (program_code seed code) ≤ 0xA000
-  pub suits : Suits PROLOGUE_AT (program_code seed code)
-
-settling_code : (seed : ℕ) (p : Program) → AreSmall p → Rises 1 32768 (numbers p) → IsCodeInRange 256 (lowered.program_code p) → cost p ≤ most_cost
-    → IsSettling seed (lowered.program_code p)
-settling_code seed p small rises ranges cheap =
-    let code = lowered.program_code p in
-    let a = program_fits p (small_spaced p small) in
-    let c = program_most seed code in
-    let l = listed_code p small rises ranges in
-    record {
-      listed = l;
-      ends = omega (arith, a, c, cheap);
-      suits = program_suits seed code l.rising l.lists (omega (arith, a, c, cheap));
-    }
-
--- the code of a program whose cost is small enough settles
-pub settling : (seed : ℕ) (p : Program) {code : SlotCode} {n : ℕ} → code ≡ lowered.program_code p → AreStated p → Rises 1 32768 (numbers p)
-    → ((limit : ℕ) → HasShortTexts limit p → IsCodeInRange limit code) → n ≤ most_cost → n ≡ cost p → IsSettling seed code
-settling seed p same stated rises ranges cheap costs =
-    let small = are_small p stated in
-    subst (IsSettling seed) (sym same) (settling_code seed p small rises (subst (IsCodeInRange 256) same (ranges 256 (small_short p small))) (omega (arith, cheap, costs)))
+-- a program whose cost is small enough does not take too much
+pub cheap_fits : (seed : ℕ) (p : Program) {code : SlotCode} {n : ℕ} → code ≡ lowered.program_code p → AreStated p → cost p ≤ most_cost → TakesTooMuch n seed code → ⊥
+cheap_fits seed p {code} {n} same stated cheap long =
+    let t = subst (TakesTooMuch n seed) same long in
+    let es = program_code seed (lowered.program_code p) in
+    let a = program_fits p (small_spaced p (are_small p stated)) in
+    let b = program_most seed (lowered.program_code p) in
+    let d = forms_most es t.forms (settled_forms PROLOGUE_AT es (map kept es) t.forms t.rounds (kept_forms es)) in
+    let e = items_size PROLOGUE_AT t.forms in
+    let f = t.more in let g = t.least in
+    omega (arith, a, b, cheap, d, e, f, g)
 
 -- ── its image ──
 module _ (seed : ℕ) {code : SlotCode} (s : IsListed code) {from : ℕ} {image : List ℕ} {labels : List (Name × ℕ)} (l : IsLaid PROLOGUE_AT (program_code seed code) from image labels) where
@@ -197,16 +139,6 @@ module _ (seed : ℕ) {code : SlotCode} (s : IsListed code) {from : ℕ} {image 
   -- the items are as long as the image's bytes
   pub bytes_end : PROLOGUE_AT + length image ≤ 0xA000 → PROLOGUE_AT + size items ≤ 0xA000
   bytes_end h = let a = ap length l.bytes_are in let b = all_size own PROLOGUE_AT items in omega (arith, a, b, h)
-
--- a small program's code ends by $9FFF
-pub items_end : {seed : ℕ} {code : SlotCode} (s : IsSettling seed code) {from : ℕ} {image : List ℕ} {labels : List (Name × ℕ)}
-    (l : IsLaid PROLOGUE_AT (program_code seed code) from image labels) → PROLOGUE_AT + size l.items ≤ 0xA000
-items_end {seed} {code} s l =
-    let a = forms_most (program_code seed code) l.settled.forms l.settled.of in
-    let b = items_size PROLOGUE_AT l.settled.forms in
-    let c = ap size l.settled.are in
-    let d = s.ends in
-    omega (arith, a, b, c, d)
 
 -- ── what is compiled ──
 -- the texts of a PRG file's program

@@ -13,10 +13,8 @@ use Rattle.tb_compile_errors.specs.declared.refusals.CompileError.{CompileError}
 use Rattle.tb_compile_errors.specs.declared.refusals.CompileError.TheVariants.{Source, Lower, TooLarge, NoMemory}
 use Rattle.tb_codegen.specs.Compiled.{IsCompiled, most_cost, prg_of, starts_of, table_of, warnings_of}
 use Rattle.tb_words.specs.Words.{word_of}
-use Rattle.tb_codegen.specs.Roomy.{EndsFrom}
-use Rattle.tb_lower.specs.Lowered as lowered
-use Rattle.tb_runtime16.specs.Addresses.{PROLOGUE_AT}
-use Rattle.tb_templates.specs.Program.{program_code}
+use Rattle.tb_lower.specs.Lowered.{program_code}
+use Rattle.tb_codegen.specs.Coded.{TakesTooMuch}
 
 -- the answer for a program: its expressions are checked before its cost
 abbrev pub ProgramAnswer : ℕ → Program → Result Compiled CompileError → Type 0
@@ -27,14 +25,13 @@ ProgramAnswer seed program (Err (Lower (deep.TooDeep n))) = too_deep program ≡
 ProgramAnswer seed program (Err (TooLarge n)) = (too_deep program ≡ None) × (cost program ≡ n) × (most_cost < n)
 ProgramAnswer seed program (Err NoMemory) = Unit {0}
 
--- the answer of `compile_to_fit` for a program: it is refused if its settled code and line table end past $9FFF, and then
--- its cost is reported
+-- the answer of `compile_to_fit` for a program: it is refused if its settled code and line table end past $9FFF
 abbrev pub FitAnswer : ℕ → Program → Result Compiled CompileError → Type 0
 FitAnswer seed program (Ok c) = IsCompiled seed program c
 FitAnswer seed program (Err (Source e)) = ⊥
 FitAnswer seed program (Err (Lower deep.NoMemory)) = ⊥
 FitAnswer seed program (Err (Lower (deep.TooDeep n))) = too_deep program ≡ Some n
-FitAnswer seed program (Err (TooLarge n)) = (too_deep program ≡ None) × (cost program ≡ n) × EndsFrom 0xA001 PROLOGUE_AT (program_code seed (lowered.program_code program))
+FitAnswer seed program (Err (TooLarge n)) = (too_deep program ≡ None) × TakesTooMuch n seed (program_code program)
 FitAnswer seed program (Err NoMemory) = Unit {0}
 
 -- what an error says of a line is the file's refusal; an error that says nothing, as running out of memory, is not one
@@ -71,15 +68,18 @@ HasOutcome seed source (Err NoMemory) = Unit {0}
 HasOutcome seed source result = Answered seed source result
 
 -- ── the answer of `compile_to_fit` ──
+-- the answer for what the lines of a file make
 abbrev pub FitOutcome : ℕ → Outcome → Result Compiled CompileError → Type 0
 FitOutcome seed (Ok program) result = FitAnswer seed program result
 FitOutcome seed (Err r) result = RefusalAnswer r result
 
+-- the file's outcome, and the answer for it
 pub record FitAnswered (seed : ℕ) (source : List ℕ) (result : Result Compiled CompileError) : Type 0 where
   pub outcome : Outcome
   pub made : LinesMake source outcome
   pub answer : FitOutcome seed outcome result
 
+-- unless memory ran out, the file has an outcome
 abbrev pub HasFitOutcome : ℕ → List ℕ → Result Compiled CompileError → Type 0
 HasFitOutcome seed source (Err NoMemory) = Unit {0}
 HasFitOutcome seed source result = FitAnswered seed source result

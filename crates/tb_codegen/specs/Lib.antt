@@ -1,4 +1,5 @@
 pub mod Answers
 pub mod Compiled
+pub mod Coded
 pub mod Texts
-pub mod Roomy
+pub mod Theorem

@@ -4,6 +4,7 @@
 mod compiled;
 mod compiler;
 mod costs;
+mod linking;
 
 pub use compiled::{Compiled, LineStart};
 pub use compiler::{MOST_COST, Options, compile, compile_to_fit};

@@ -5,7 +5,7 @@ use Rattle.tb_syntax.specs.Source.{Program, numbers}
 use Rattle.tb_lower.specs.Follows.{Follows}
 use Rattle.tb_lower.specs.Slots.{SlotCode}
 use Rattle.tb_reaching.specs.View.{part_at}
-use Rattle.tb_simulation.specs.Kept.{Keeps}
+use Rattle.tb_simulation.specs.Theorem.{Keeps}
 use Rattle.tb_selection.specs.Laws.{AreClosed}
 use Rattle.tb_simulation.specs.Layout.{layout_of}
 use Rattle.tb_correctness.specs.Laid.{ArePolled, Laid}

@@ -3,7 +3,7 @@ use Rattle.std.proofs.Common.{◌≡◌, ℕ, ◌+◌, ◌-◌, ◌*◌, ◌≤�
 use Rattle.std.specs.Prelude.{nat_lt}
 use Rattle.tb_syntax.specs.Source.{Statement, Program}
 use Rattle.tb_grammar.specs.Statements.{States}
-use Rattle.tb_grammar.specs.Reading.{is_digit}
+use Rattle.tb_grammar.specs.Grammar.{is_digit}
 use Rattle.tb_parser.specs.declared.squeeze.Mode.{Mode}
 use Rattle.tb_parser.specs.declared.squeeze.Mode.TheVariants.{Code}
 use Rattle.tb_parser.specs.declared.squeeze.Placed.{Placed}

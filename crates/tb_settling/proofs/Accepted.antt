@@ -1,5 +1,5 @@
 -- Items that suit are refused neither by settling nor by the two passes after it.
-use Rattle.std.proofs.Common.{◌≡◌, ℕ, ◌+◌, ◌/◌, ◌%◌, ◌<◌, ◌≤◌, Bool, true, false, not, ◌&&◌, ◌||◌, cond, List, []}
+use Rattle.std.proofs.Common.{◌≡◌, ℕ, ◌+◌, ◌/◌, ◌%◌, ◌<◌, Bool, true, false, not, ◌&&◌, ◌||◌, cond, List, []}
 use Rattle.std.proofs.Common.{◌∷◌, ◌++◌, Option, Some, None, refl, sym, ap, ◌∙◌, subst, arith, true≢false, is_some, map, if◌then◌else◌}
 use Rattle.std.specs.Prelude.{eqb}
 use Rattle.std.specs.List.{list_all, list_any}
@@ -18,14 +18,16 @@ use Rattle.tb_asm.specs.declared.errors.AsmErrorKind.TheVariants.{NoSuchMode, Un
 use Rattle.tb_asm.specs.Layout.{Entry, instr, label, bytes, word, size_of, size, has_mode, same_name, labels_from, address_in, value_in, distance, is_near}
 use Rattle.tb_asm.specs.Layout.{with_value, reach_fault, code_fault, first_fault, place_refusal, image_of}
 use Rattle.tb_asm.specs.Assembled.{refusal, either, RefusesAt}
-use Rattle.tb_asm.specs.Settle.{Form, kept, long, inverse, items_at, items_from, form_size, is_beyond, is_far, form_past, past_from, unknown_fault, early_refusal, SettlesTo, some_branch_far, AllReach}
+use Rattle.tb_asm.specs.Settle.{Form, Settles, kept, long, inverse, items_at, items_from, form_size, is_beyond, is_far}
+use Rattle.tb_asm.specs.Settle.{form_past, past_from, unknown_fault, early_refusal, SettlesTo, some_branch_far, AllReach}
 use Rattle.tb_asm.specs.Marks.{SettleErr}
 use Rattle.tb_asm.specs.Suited.{names_of, AreDistinct, AllReachFrom, Suited}
 use Rattle.tb_asm.proofs.Faults.{first_none}
 use Rattle.tb_asm.proofs.Settled.{settled_as_they_are, settled_reaches, only_memory}
 use Rattle.tb_asm.proofs.Suits.{placed_suits, ends_below, suited_accepted}
-use Rattle.tb_settling.specs.Settled.{IsFormOf, AreFormsOf, IsSettled, IsLaid, most, may_move, AllKnown, Suits}
-use Rattle.tb_settling.proofs.Forms.{is_branch, kept_forms, settled_forms, settled_by, forms_size, kept_size, items_size, forms_most, items_names}
+use Rattle.tb_settling.specs.Settled.{IsFormOf, AreFormsOf, IsLaid, may_move, AllKnown, MayRefuse, unsettled, settled, Suits}
+use Rattle.tb_settling.proofs.Forms.{is_branch, kept_forms, settled_forms, settled_by, forms_size, items_size, items_names}
+use Rattle.tb_settling.proofs.Rounds.{rounds_end, forms_least}
 
 inverse_mode : (n : Mnemonic) → is_some (encoded n Relative) ≡ true → is_some (encoded (inverse n) Relative) ≡ true
 unfolding encoded
@@ -104,9 +106,6 @@ known_first labels before (e ∷ es) h =
     first_none (λ front x. unknown_fault labels x) before es e h.0 ∙ known_first labels (before ++ e ∷ []) es h.1
 
 -- ---- addresses
-within_most : (es : List Entry) → size es ≤ most es
-within_most es = let a = forms_most es (map kept es) (kept_forms es) in let b = kept_size es in omega (arith, a, b)
-
 form_below : (a : ℕ) (f : Form) → a + form_size f < 65536 → form_past a f ≡ false
 form_below a (kept e) h = ends_below a e h
 form_below a (long n l) h = grind (arith, nat_tests)
@@ -192,47 +191,67 @@ items_reach labels a (e ∷ es) (long n b ∷ fs) h k m l r =
       ),
     )
 
--- ---- items that suit
-module _ (at : ℕ) (es : List Entry) (s : Suits at es) where
-  forms_end : (fs : List Form) → AreFormsOf es fs → at + forms_size fs < 65536
-  forms_end fs h = let a = forms_most es fs h in let b = s.ends in omega (arith, a, b)
+-- no refusal is a refusal for want of memory alone
+none_but_memory : (k : AsmErrorKind) (i : ℕ) → RefusesAt None k i → k ≡ NoMemory
+none_but_memory NoMemory i q = refl
+none_but_memory NoSuchMode i q = cc
+none_but_memory UnknownLabel i q = cc
+none_but_memory LabelTwice i q = cc
+none_but_memory BranchOutOfRange i q = cc
+none_but_memory RunsPast i q = cc
+none_but_memory IndirectAtPageEnd i q = cc
+
+-- ---- items that suit, and end below 65,536 once they are settled
+module _ (at : ℕ) (es : List Entry) (s : Suits at es) (ends : (gs : List Form) → Settles at (map kept es) gs → at + forms_size gs < 65536) where
+  fits : at + size [] + size es < 65536
+  fits =
+      let r = rounds_end at es in
+      let a = forms_least es r.0 (settled_forms at es (map kept es) r.0 r.1 (kept_forms es)) in let b = ends r.0 r.1 in omega (arith, a, b)
 
   placed : place_refusal at es ≡ None
-  placed = placed_suits at [] es s.modes s.names (let a = within_most es in let b = s.ends in omega (arith, a, b))
+  placed = placed_suits at [] es s.modes s.names fits
 
   nothing_early : early_refusal at es ≡ None
   nothing_early = λ i. either (placed i) (known_first (labels_from at es) [] es s.known i)
 
   -- settling refuses such items only if memory runs out
-  pub settling_takes : (k : AsmErrorKind) (i : ℕ) → SettleErr at es k i → k ≡ NoMemory
-  settling_takes = only_memory at es nothing_early (λ gs r. none_past 0 at gs (forms_end gs (settled_forms at es (map kept es) gs r (kept_forms es))))
+  settling_short : (k : AsmErrorKind) (i : ℕ) → SettleErr at es k i → k ≡ NoMemory
+  settling_short = only_memory at es nothing_early (λ gs r. none_past 0 at gs (ends gs r))
 
   -- settled items suit as they are
-  module _ (items : List Entry) (to : IsSettled at es items) where
+  module _ (items : List Entry) (to : SettlesTo at es items) where
+    of : AreFormsOf es to.forms
+    of = settled_forms at es (map kept es) to.forms to.settled (kept_forms es)
+
     same_names : names_of items ≡ names_of es
-    same_names = ap names_of to.are ∙ items_names at es to.forms to.of
+    same_names = ap names_of to.are ∙ items_names at es to.forms of
 
     same_labels : (n : Name) → is_some (address_in (labels_from at items) n) ≡ is_some (address_in (labels_from at es) n)
     same_labels n = has_address at items n ∙ ap (list_any (same_name n)) same_names ∙ sym (has_address at es n)
 
-    -- such items, settled, suit
-    pub suit : Suited at items
+    suit : Suited at items
     suit =
         let labels = labels_from at items in
-        let near : some_branch_far labels at (items_from at to.forms) ≡ false = ap (some_branch_far labels at) (sym to.are) ∙ to.reach in
+        let near : some_branch_far labels at (items_from at to.forms) ≡ false = ap (some_branch_far labels at) (sym to.are) ∙ settled_reaches at es items to in
         record {
-          modes = ap (list_all has_mode) to.are ∙ items_modes at es to.forms to.of s.modes;
+          modes = ap (list_all has_mode) to.are ∙ items_modes at es to.forms of s.modes;
           names = subst AreDistinct (sym same_names) s.names;
-          ends = let a = forms_end to.forms to.of in let b = ap size to.are ∙ items_size at to.forms in omega (arith, a, b);
+          ends = let a = ends to.forms to.settled in let b = ap size to.are ∙ items_size at to.forms in omega (arith, a, b);
           reach = subst (AllReachFrom labels at) (sym to.are)
-              (items_reach labels at es to.forms to.of (same_known labels (labels_from at es) same_labels es s.known) s.movable (forms_end to.forms to.of) near);
+              (items_reach labels at es to.forms of (same_known labels (labels_from at es) same_labels es s.known) s.movable (ends to.forms to.settled) near);
         }
 
     -- the two passes refuse none of the settled items
-    pub passes_take : refusal at items ≡ None
+    passes_take : refusal at items ≡ None
     passes_take = suited_accepted at items suit
 
+  -- such items are refused only if memory runs out
+  pub memory_short : (k : AsmErrorKind) (i : ℕ) → MayRefuse at es k i → k ≡ NoMemory
+  memory_short _ _ (unsettled k i h) = settling_short k i h
+  memory_short _ _ (settled items k i to h) = none_but_memory k i (subst (λ r. RefusesAt r k i) (passes_take items to) h)
+
 -- ---- the image
+-- items that settle and then assemble are laid
 pub laid_by : (at : ℕ) (es items : List Entry) (from : ℕ) (image : List ℕ) (labels : List (Name × ℕ)) → SettlesTo at es items → AllReach at items
     → (refusal at items ≡ None) × (from ≡ at) × (image ≡ image_of at items) × (labels ≡ labels_from at items) → IsLaid at es from image labels
 laid_by at es items from image labels rounds reach h = record {
@@ -251,17 +270,3 @@ pub laid_at_once : (at : ℕ) (es : List Entry) (from : ℕ) (image : List ℕ) 
 laid_at_once at es from image labels h =
     let rounds = settled_as_they_are at es h.0 in
     laid_by at es es from image labels rounds (settled_reaches at es es rounds) h
-
--- the two passes refuse settled items that suit only if memory runs out
-pub memory_short : (at : ℕ) (es items : List Entry) → SettlesTo at es items → AllReach at items → Suits at es → (k : AsmErrorKind) (i : ℕ)
-    → RefusesAt (refusal at items) k i → k ≡ NoMemory
-memory_short at es items rounds reach s k i h = by k (subst (λ r. RefusesAt r k i) (passes_take at es s items (settled_by at es items rounds reach)) h)
-  where
-    by : (l : AsmErrorKind) → RefusesAt None l i → l ≡ NoMemory
-    by NoMemory q = refl
-    by NoSuchMode q = cc
-    by UnknownLabel q = cc
-    by LabelTwice q = cc
-    by BranchOutOfRange q = cc
-    by RunsPast q = cc
-    by IndirectAtPageEnd q = cc

@@ -1,2 +1,4 @@
 pub mod Forms
+pub mod Rounds
 pub mod Accepted
+pub mod TooLong

@@ -1,14 +1,14 @@
 -- Settled items: each branch to a label reaches it, as it is or as the inverse branch over a jump.
-use Rattle.std.specs.Prelude.{◌≡◌, ℕ, ◌+◌, ◌%◌, ◌<◌, Bool, true, false, not, eqb, is_some, if◌then◌else◌, Some, None, List, [], ◌∷◌}
+use Rattle.std.specs.Prelude.{◌≡◌, ℕ, ◌+◌, ◌%◌, ◌≤◌, Bool, true, false, not, eqb, is_some, if◌then◌else◌, Some, None, List, [], ◌∷◌, map}
 use Rattle.std.specs.List.{AllZip, list_all}
 use Rattle.tb_opcodes.specs.declared.Mode.TheVariants.{Relative, Indirect}
 use Rattle.tb_asm.specs.declared.names.Name.{Name}
 use Rattle.tb_asm.specs.declared.items.Operand.{Operand}
 use Rattle.tb_asm.specs.declared.items.Operand.TheVariants.{Word, Label}
 use Rattle.tb_asm.specs.declared.errors.AsmErrorKind.{AsmErrorKind}
-use Rattle.tb_asm.specs.Layout.{Entry, instr, size_of, has_mode, labels_from, image_of}
+use Rattle.tb_asm.specs.Layout.{Entry, instr, size_of, size, has_mode, labels_from, image_of}
 use Rattle.tb_asm.specs.Assembled.{RefusesAt, refusal}
-use Rattle.tb_asm.specs.Settle.{Form, kept, long, branch_to, items_from, unknown_fault, SettlesTo, AllReach}
+use Rattle.tb_asm.specs.Settle.{Form, kept, long, branch_to, items_from, unknown_fault, Settles, SettlesTo, AllReach}
 use Rattle.tb_asm.specs.Marks.{SettleErr}
 use Rattle.tb_asm.specs.Suited.{names_of, AreDistinct}
 
@@ -75,11 +75,15 @@ abbrev pub AllKnown : List (Name × ℕ) → List Entry → Type 0
 AllKnown labels [] = Unit {0}
 AllKnown labels (e ∷ es) = (unknown_fault labels e ≡ None) × AllKnown labels es
 
--- items that settle and assemble: their operands suit, their labels are distinct and known, they may move, and however
--- many branches are replaced they end below 65,536
+-- items that suit: their operands do, their labels are distinct and known, and they may move
 pub record Suits (at : ℕ) (es : List Entry) : Type 0 where
   pub modes : list_all has_mode es ≡ true
   pub names : AreDistinct (names_of es)
   pub known : AllKnown (labels_from at es) es
   pub movable : list_all may_move es ≡ true
-  pub ends : at + most es < 65536
+
+-- once they are settled, items end at an address or after it
+pub record EndsFrom (place at : ℕ) (es : List Entry) : Type 0 where
+  pub forms : List Form
+  pub rounds : Settles at (map kept es) forms
+  pub beyond : place ≤ at + size (items_from at forms)

@@ -17,7 +17,7 @@ use Rattle.tb_reaching.proofs.Barred.{quiet, begins, enters, open_up}
 use Rattle.tb_meaning.specs.Steps.{End, Ended, Faulted, Step, Goes, Stops}
 use Rattle.tb_meaning.specs.Steps as steps
 use Rattle.tb_lower.specs.Slots.{SlotState, Rest, Whole, Left}
-use Rattle.tb_simulation.specs.Kept.{HasEnded}
+use Rattle.tb_simulation.specs.Theorem.{HasEnded}
 use Rattle.tb_runtime16.specs.Routines.{Waiting}
 use Rattle.tb_simulation.proofs.Inductions as keeps
 pub use Rattle.tb_simulation.proofs.Inductions.{sent_in}

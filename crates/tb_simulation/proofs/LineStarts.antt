@@ -27,7 +27,7 @@ use Rattle.tb_lower.specs.Follows.{Follows, longest}
 use Rattle.tb_lower.specs.Slots.{Instr, SlotCode, SlotState, Rest, Whole, Left}
 use Rattle.tb_runtime16.specs.Addresses.{NOTES}
 use Rattle.tb_templates.specs.Templates.{var_at}
-use Rattle.tb_simulation.specs.Kept.{Starts}
+use Rattle.tb_simulation.specs.Theorem.{Starts}
 use Rattle.tb_simulation.specs.Layout.{Layout, is_start, inner, place_address}
 use Rattle.tb_runtime16.specs.Routines.{AreReturns, WordAt}
 use Rattle.tb_simulation.proofs.Inductions as keeps

@@ -1,3 +1,3 @@
 pub mod Layout
-pub mod Kept
+pub mod Theorem
 pub mod LineStarts

@@ -14,7 +14,7 @@ use Rattle.tb_meaning.specs.Control.{At, Past, Place, State, deepest, has_line}
 use Rattle.tb_meaning.specs.Meaning.{source_run}
 use Rattle.tb_runtime16.specs.Addresses.{NOTES, RETURN_HIGH, RETURN_LOW}
 use Rattle.tb_templates.specs.Templates.{var_at}
-use Rattle.tb_simulation.specs.Kept.{Starts}
+use Rattle.tb_simulation.specs.Theorem.{Starts}
 use Rattle.tb_simulation.specs.Layout.{is_start}
 
 -- how many Go events of a list come when the machine is at a line's start

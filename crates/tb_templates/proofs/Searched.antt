@@ -1,13 +1,22 @@
--- A search by halves in line numbers that rise finds a number if it is one of them.
-use Rattle.std.proofs.Common.{◌≡◌, ℕ, zero, suc, ◌+◌, ◌<◌, ◌≤◌, Bool, true, false, List, [], ◌∷◌, length, refl, sym, ap, arith, get_or, Result, Ok, Err}
-use Rattle.std.specs.Prelude.{◌||◌, nat_eq, nat_lt, is_ok}
+-- Line numbers: the last is the highest line's, and a search by halves finds a number if it is one of them.
+use Rattle.std.proofs.Common.{◌≡◌, ℕ, zero, suc, ◌+◌, ◌<◌, ◌≤◌, Bool, true, false, List, [], ◌∷◌, length, refl, sym, ap, ◌∙◌, arith, get_or, Result, Ok, Err, ◌-◌}
+use Rattle.std.specs.Prelude.{◌||◌, nat_eq, nat_lt, is_ok, slice_get, unwrap_or}
 use Rattle.std.specs.Ordering.{nat_cmp}
 use Rattle.std.specs.List.Sorted.{IsBinarySearchResult}
 use Rattle.std.proofs.lemmas.List.Sorted.{searched}
 use Rattle.std.proofs.lemmas.Bool.Decides.{nat_tests}
 use Rattle.std.proofs.lemmas.Bool.{or_right}
 use Rattle.tb_syntax.specs.Source.{Rises}
-use Rattle.tb_meaning.specs.Control.{has_line}
+use Rattle.tb_meaning.specs.Control.{has_line, highest}
+
+last_at : (n : ℕ) (ns : List ℕ) → unwrap_or (slice_get (n ∷ ns) (length ns)) 0 ≡ highest (n ∷ ns)
+last_at n [] = refl
+last_at n (m ∷ ns) = last_at m ns
+
+-- the last number, 0 if there is none, is the highest line's
+pub last_is : (ns : List ℕ) → unwrap_or (slice_get ns (length ns - 1)) 0 ≡ highest ns
+last_is [] = refl
+last_is (n ∷ ns) = ap (λ k. unwrap_or (slice_get (n ∷ ns) k) 0) (let e : length (n ∷ ns) - 1 ≡ length ns = omega arith in e) ∙ last_at n ns
 
 -- each of the numbers is at least the lowest
 at_least : (low : ℕ) (ns : List ℕ) (i : ℕ) → Rises low 65536 ns → i < length ns → low ≤ get_or ns i 0

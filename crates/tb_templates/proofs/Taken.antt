@@ -1,5 +1,5 @@
 -- A program's code can be settled and assembled, and its size.
-use Rattle.std.proofs.Common.{◌≡◌, ℕ, ◌+◌, ◌*◌, ◌<◌, ◌≤◌, Bool, true, false, List, [], ◌∷◌, ◌++◌, length, length-append, refl, arith}
+use Rattle.std.proofs.Common.{◌≡◌, ℕ, ◌+◌, ◌*◌, ◌≤◌, Bool, true, false, List, [], ◌∷◌, ◌++◌, length, length-append, refl, arith}
 use Rattle.tb_asm.specs.Layout.{size, labels_from}
 use Rattle.tb_lower.specs.Slots.{SlotCode}
 use Rattle.tb_syntax.specs.Source.{numbers, Rises}
@@ -67,14 +67,12 @@ pub program_labels : (seed : ℕ) (code : SlotCode) → Rises 0 65536 (numbers c
     → LabelsAt (labels_from PROLOGUE_AT (program_code seed code)) PROLOGUE_AT (program_code seed code)
 program_labels seed code r c = labels_hold PROLOGUE_AT lowest 0 [] (program_code seed code) tt (program_woven seed code r c)
 
--- nothing of a program's code is refused
-pub program_suits : (seed : ℕ) (code : SlotCode) → Rises 0 65536 (numbers code) → AreCodable code → PROLOGUE_AT + most (program_code seed code) < 65536
-    → Suits PROLOGUE_AT (program_code seed code)
-program_suits seed code r c l =
+-- a program's code suits
+pub program_suits : (seed : ℕ) (code : SlotCode) → Rises 0 65536 (numbers code) → AreCodable code → Suits PROLOGUE_AT (program_code seed code)
+program_suits seed code r c =
     let es = program_code seed code in record {
       modes = program_modes seed code;
       names = distinct lowest 0 es (program_woven seed code r c);
       known = program_known (labels_from PROLOGUE_AT es) PROLOGUE_AT seed code (program_labels seed code r c);
       movable = program_moves seed code;
-      ends = l;
     }

@@ -196,14 +196,11 @@ fn put_past(items: &mut Vec<Item>, numbers: &[u16]) -> Result<(), AllocError>
 }
 
 // The last number; 0 if there is none.
+#[tactic(auto, using(crate::proofs::Searched::last_is))]
 fn last(numbers: &[u16]) -> u16
     ensures { result ≡ highest numbers.now }
 {
-    match numbers {
-        [] => 0,
-        [only] => *only,
-        [_, rest @ ..] => last(rest),
-    }
+    numbers.last().copied().unwrap_or(0)
 }
 
 // The search in the line table.

@@ -13,7 +13,7 @@ use Rattle.tb_lower.specs.Slots.{SlotCode}
 use Rattle.tb_runtime16.specs.Addresses.{PROLOGUE_AT}
 use Rattle.tb_templates.specs.Program.{program_code, AreCodable}
 use Rattle.tb_runtime16.specs.Routines.{limit_by}
-use Rattle.tb_simulation.specs.Kept.{Starts, Keeps}
+use Rattle.tb_simulation.specs.Theorem.{Starts, Keeps}
 use Rattle.tb_selection.specs.Laws.{AreClosed}
 use Rattle.tb_settling.specs.Settled.{IsSettled}
 use Rattle.tb_simulation.specs.Layout.{layout_of}

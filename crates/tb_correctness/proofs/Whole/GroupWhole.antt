@@ -9,7 +9,7 @@ use Rattle.tb_meaning.specs.Control.{first_place}
 use Rattle.tb_lower.specs.Follows.{Follows}
 use Rattle.tb_lower.specs.Slots.{SlotCode, SlotState, Whole}
 use Rattle.tb_runtime16.specs.Addresses.{LINES_AT}
-use Rattle.tb_simulation.specs.Kept.{Starts, Keeps}
+use Rattle.tb_simulation.specs.Theorem.{Starts, Keeps}
 use Rattle.tb_simulation.specs.LineStarts.{MarksLines}
 use Rattle.tb_simulation.specs.Layout.{Layout, inner, place_address}
 use Rattle.tb_runtime16.specs.Ends.{Begun}

@@ -5,7 +5,8 @@ use Rattle.tb_asm.specs.Layout.{entry_of}
 use Rattle.tb_asm.specs.Assembled.{refusal, RefusesAt}
 use Rattle.tb_asm.specs.Settle.{SettlesTo, AllReach}
 use Rattle.tb_settling.specs.Settled.{settled}
-use Rattle.tb_settling.proofs.Accepted.{laid_by, laid_at_once, memory_short}
+use Rattle.tb_settling.proofs.Accepted.{laid_by, laid_at_once}
+use Rattle.tb_settling.proofs.TooLong.{refused_for}
 use Rattle.tb_settling.proofs.settling.assemble_settled.Goals as goal
 
 on_ok : {C E : Type 0} (P Q : C → Type 0) (r : Result C E) → ((c : C) → P c → Q c) → IfOk r P → IfOk r Q
@@ -38,5 +39,5 @@ pub returns-clause-suited : goal.returns-clause-suited
 returns-clause-suited c s =
     let at = c.args.at in let es = map entry_of c.args.items.now in let items = map entry_of c.deref.result.now in
     let rounds = subst (λ xs. SettlesTo at es (map entry_of xs)) (sym c.deref.ensures.value) c.in_ok-settled.ensures.settled in
-    let reach = subst (λ xs. AllReach at (map entry_of xs)) (sym c.deref.ensures.value) c.in_ok-settled.ensures.reach in
-    on_err (λ e. RefusesAt (refusal at items) e.kind e.item) _ c.assemble-2.result (λ e h. memory_short at es items rounds reach s e.kind e.item h) c.assemble-2.ensures.refused
+    on_err (λ e. RefusesAt (refusal at items) e.kind e.item) _ c.assemble-2.result (λ e h. refused_for at es s e.kind e.item (settled items e.kind e.item rounds h))
+    c.assemble-2.ensures.refused

@@ -1,9 +1,9 @@
--- What holds at each turn of the loop of `line_starts` in src/compiler.rt.
+-- What holds at each turn of the loop of `line_starts` in src/linking.rt.
 use Rattle.std.proofs.Common.{◌≡◌, ◌++◌, map, drop}
 use Rattle.tb_syntax.specs.Source.{numbers}
 use Rattle.tb_lower.specs.PlainData.{code_of}
 use Rattle.tb_codegen.specs.Compiled.{AreKnown, pair_of, starts_in}
-use Rattle.tb_codegen.proofs.compiler.line_starts.Given as goal
+use Rattle.tb_codegen.proofs.linking.line_starts.Given as goal
 
 abbrev pub invariant-loop-line : goal.invariant-loop-line
 invariant-loop-line l =

@@ -1,0 +1,36 @@
+-- The goals of `linked` in src/linking.rt.
+use Rattle.std.proofs.Common.{ap, sym, subst, ◌∙◌}
+use Rattle.tb_syntax.specs.Source.{numbers}
+use Rattle.tb_lower.specs.PlainData.{code_of}
+use Rattle.tb_codegen.specs.Compiled.{AreKnown, starts_in}
+use Rattle.tb_codegen.proofs.Kept.{file_keeps}
+use Rattle.tb_codegen.proofs.Marked.{file_marks}
+use Rattle.tb_codegen.proofs.Sized.{bytes_end, has_table, known, made}
+use Rattle.tb_codegen.proofs.linking.linked.Goals as goal
+
+pub line_starts-requires : goal.line_starts-requires
+line_starts-requires c = subst (λ k. AreKnown c.in_ok-image.image.labels.entries (numbers (code_of k))) (sym c.lines.ensures)
+    (known c.args.seed c.requires.listed c.in_ok-image.ensures.laid)
+
+pub label_address-requires : goal.label_address-requires
+label_address-requires c = has_table c.args.seed c.requires.listed c.in_ok-image.ensures.laid
+
+pub returns-clause-compiled : goal.returns-clause-compiled
+returns-clause-compiled c =
+    let image = c.in_ok-image.ensures in
+    made (record { prg = c.in_ok-write.field-0; starts = c.in_ok-line_starts.field-0; table = c.label_address.result; warnings = c.in_ok-warnings.field-0 })
+    c.requires.lowered c.requires.listed c.requires.shallow image.laid (bytes_end c.args.seed c.requires.listed image.laid image.fits) c.in_ok-write.ensures
+    (c.in_ok-line_starts.ensures ∙ ap (λ k. starts_in c.in_ok-image.image.labels.entries (numbers (code_of k))) c.lines.ensures) c.label_address.ensures c.in_ok-warnings.ensures
+
+pub returns-clause-keeps : goal.returns-clause-keeps
+returns-clause-keeps c some =
+    let image = c.in_ok-image.ensures in
+    file_keeps c.ranges.seed.fits some c.requires.lowered c.requires.follows c.requires.listed image.laid
+    (bytes_end c.args.seed c.requires.listed image.laid image.fits) c.in_ok-write.ensures
+
+pub returns-clause-marks : goal.returns-clause-marks
+returns-clause-marks c some =
+    let image = c.in_ok-image.ensures in
+    file_marks c.ranges.seed.fits some c.requires.lowered c.requires.follows c.requires.listed image.laid
+    (bytes_end c.args.seed c.requires.listed image.laid image.fits) c.in_ok-write.ensures
+    (c.in_ok-line_starts.ensures ∙ ap (λ k. starts_in c.in_ok-image.image.labels.entries (numbers (code_of k))) c.lines.ensures)

@@ -1,0 +1,25 @@
+-- The theorem of `compile`: what is compiled keeps its source, and marks its lines.
+use Rattle.std.specs.Prelude.{ℕ, List, Ok}
+use Rattle.tb_memmap.specs.Regions.{BASIC_START}
+use Rattle.tb_syntax.specs.Source.{Program}
+use Rattle.tb_simulation.specs.LineStarts.{MarksLines}
+use Rattle.tb_simulation.specs.Theorem.{Keeps}
+use Rattle.tb_codegen.specs.declared.compiled.Compiled.{Compiled}
+use Rattle.tb_codegen.specs.Answers.{LinesMake}
+use Rattle.tb_codegen.specs.Compiled.{loaded_of, start_of}
+
+-- a compiled file's code, loaded at $0801, keeps a program, whatever the ROM does
+abbrev pub KeepsProgram : ℕ → Program → Compiled → Type 0
+KeepsProgram seed program c = Keeps BASIC_START (loaded_of c) program seed
+
+-- when it comes to the address that start_of answers for a line, the program begins that line, in the same state
+abbrev pub MarksProgram : ℕ → Program → Compiled → Type 0
+MarksProgram seed program c = MarksLines BASIC_START (loaded_of c) program seed (start_of c)
+
+-- it keeps the program that its source makes
+abbrev pub KeepsItsSource : ℕ → List ℕ → Compiled → Type 0
+KeepsItsSource seed source c = (program : Program) × LinesMake source (Ok program) × KeepsProgram seed program c
+
+-- it marks the lines of the program that its source makes
+abbrev pub MarksItsLines : ℕ → List ℕ → Compiled → Type 0
+MarksItsLines seed source c = (program : Program) × LinesMake source (Ok program) × MarksProgram seed program c
