@@ -12,7 +12,7 @@ use Rattle.tb_compile_errors.specs.declared.refusals.CompileError.{CompileError}
 use Rattle.tb_codegen.specs.Answers.{ProgramAnswer}
 use Rattle.tb_codegen.specs.Compiled.{most_cost}
 use Rattle.tb_codegen.specs.declared.compiled.Compiled.{Compiled}
-use Rattle.tb_check.specs.Agreement.{Accepts, AgreesWith, Compiles, RefusesFirst, RefusesProgram, first_of}
+use Rattle.tb_check.specs.Agreement.{Accepts, Agrees, AgreesWith, Compiles, RefusesFirst, RefusesProgram, first_of}
 use Rattle.tb_check.specs.BadLines.{FirstIs}
 use Rattle.tb_check.specs.Verdicts.{HasFaults, IsGood, Judges, deep_lines, excess}
 use Rattle.tb_check.specs.declared.judging.ProgramFaults.{ProgramFaults}
@@ -73,7 +73,6 @@ agree seed source (Refused f) answer h only = refused seed h.0 f answer h.2.0 h.
 agree seed source (Accepted p) answer h only = accepted seed h.0 answer h.2.1 (only _ h.1)
 
 -- what a call answers agrees
-pub agree_on : {E : Type 0} (source : List ℕ) (r : Result Verdict E) → IfOk r (Judges source)
-    → IfOk r (λ v. (seed : ℕ) (answer : Result Compiled CompileError) → Compiles seed source answer → AgreesWith v answer)
+pub agree_on : {E : Type 0} (source : List ℕ) (r : Result Verdict E) → IfOk r (Judges source) → IfOk r (Agrees source)
 agree_on source (Ok v) h = λ seed answer only. agree seed source v answer h only
 agree_on source (Err e) h = tt

@@ -1,7 +1,8 @@
 -- What becomes of a source and what is told of it, by what was read.
-use Rattle.std.proofs.Common.{◌≡◌, ℕ, ◌<◌, List, [], Result, Ok, Err, sym, ◌∙◌, subst}
+use Rattle.std.proofs.Common.{◌≡◌, ℕ, ◌<◌, List, [], Result, Ok, Err, ap, sym, ◌∙◌, subst}
 use Rattle.std.specs.Prelude.{IfOk}
 use Rattle.tb_syntax.specs.PlainData.{lines_of}
+use Rattle.tb_syntax.specs.Source.{Program}
 use Rattle.tb_syntax.specs.declared.statements.Statement.{Statement}
 use Rattle.tb_meaning.specs.Cost.{cost}
 use Rattle.tb_parser.specs.Files.{at_end}
@@ -9,16 +10,18 @@ use Rattle.tb_parser.specs.Lines.{lines_of_file}
 use Rattle.tb_codegen.specs.Answers.{LinesMake}
 use Rattle.tb_check.specs.BadLines.{BadLinesAre, FirstIs}
 use Rattle.tb_check.specs.Entries.{DeepLinesAre}
-use Rattle.tb_check.specs.Findings.{AreFindings, Tells}
-use Rattle.tb_check.specs.Lines.{AreRead}
+use Rattle.tb_check.specs.Findings.{AreFindings, Tells, WarningsAre}
+use Rattle.tb_check.specs.Lines.{AreRead, texts_of}
 use Rattle.tb_check.specs.Remaining.{remaining}
 use Rattle.tb_check.specs.Verdicts.{Judges, JudgesLines, deep_lines}
+use Rattle.tb_check.specs.Warnings.{warnings_on}
 use Rattle.tb_check.specs.declared.examination.Findings.{Findings}
 use Rattle.tb_check.specs.declared.examination.Findings.TheVariants as findings
 use Rattle.tb_check.specs.declared.judging.Verdict.{Verdict}
 use Rattle.tb_check.specs.declared.judging.Verdict.TheVariants.{BadLines, Empty, Refused, Accepted}
 use Rattle.tb_check.specs.declared.lines.NumberedLine.{NumberedLine}
 use Rattle.tb_check.specs.declared.lines.SourceLines.{SourceLines}
+use Rattle.tb_check.specs.declared.warnings.LineWarning.{LineWarning}
 use Rattle.tb_check.proofs.Checked.{first_is}
 use Rattle.tb_check.proofs.Depth.{deep_of_file}
 use Rattle.tb_check.proofs.Makes.{made, made_small, some_left}
@@ -47,13 +50,21 @@ module _ (source : List ℕ) (lines : SourceLines) (read : AreRead source lines)
   deep : (numbers found : List ℕ) → numbers ≡ deep_lines (lines_of lines.program) → found ≡ remaining numbers lines.numbered.items → DeepLinesAre source found
   deep numbers found are remain = (read.entries, read.entered, remain ∙ rw (are, read.program, read.numbered) (sym (deep_of_file read.entries)))
 
+  -- the warnings on the program, as those on the source
+  warned : (p : Program) (found : List LineWarning) → found ≡ warnings_on p lines.numbered.items → WarningsAre source p found
+  warned p found are = (read.entries, read.entered, are ∙ ap (warnings_on p) read.numbered)
+
   abbrev Remain : List ℕ → List ℕ → Type 0
   Remain numbers found = found ≡ remaining numbers lines.numbered.items
 
   abbrev AreDeep : List ℕ → List ℕ → Type 0
   AreDeep numbers found = DeepLinesAre source found
 
-  told : (v : Verdict) (f : Findings) → JudgesLines lines.bad.items lines.program v → Tells Remain v f → Tells AreDeep v f
+  abbrev Warned : Program → List LineWarning → Type 0
+  Warned p found = found ≡ warnings_on p lines.numbered.items
+
+  told : (v : Verdict) (f : Findings) → JudgesLines lines.bad.items lines.program v → Tells (lines_of_file source) Remain Warned v f
+      → Tells (lines_of_file source) AreDeep (WarningsAre source) v f
   told (BadLines errors) (findings.BadLines bad) j t = t
   told (BadLines errors) findings.Empty j t = t
   told (BadLines errors) (findings.Refused found large) j t = t
@@ -69,11 +80,14 @@ module _ (source : List ℕ) (lines : SourceLines) (read : AreRead source lines)
   told (Accepted p) (findings.BadLines bad) j t = t
   told (Accepted p) findings.Empty j t = t
   told (Accepted p) (findings.Refused found large) j t = t
-  told (Accepted p) (findings.Accepted warnings) j t = t
+  told (Accepted p) (findings.Accepted warnings) j t = warned (lines_of p) warnings.items t
+
+  abbrev ToldBy : List (List ℕ) → List NumberedLine → Verdict → Findings → Type 0
+  ToldBy texts numbered = Tells texts (λ numbers found. found ≡ remaining numbers numbered) (λ p found. found ≡ warnings_on p numbered)
 
   -- the clause `findings` of `examine`
-  pub found_on : (v : Verdict) (f : Findings) (numbered : List NumberedLine) → numbered ≡ lines.numbered.items → JudgesLines lines.bad.items lines.program v
-      → Tells (λ numbers found. found ≡ remaining numbers numbered) v f → AreFindings source f
-  found_on v f numbered same j t =
-      let Family : List NumberedLine → Type 0 = λ ns. Tells (λ numbers found. found ≡ remaining numbers ns) v f in
-      (v, judged v j, told v f j (subst Family same t))
+  pub found_on : (v : Verdict) (f : Findings) (texts : List (List ℕ)) (numbered : List NumberedLine) → texts ≡ texts_of lines → numbered ≡ lines.numbered.items
+      → JudgesLines lines.bad.items lines.program v → ToldBy texts numbered v f → AreFindings source f
+  found_on v f texts numbered written same j t =
+      let here = subst (λ ls. ToldBy ls numbered v f) (written ∙ read.texts) t in
+      (v, judged v j, told v f j (subst (λ ns. ToldBy (lines_of_file source) ns v f) same here))

@@ -50,3 +50,7 @@ AgreesWith (BadLines found) answer = RefusesFirst found.items answer
 AgreesWith Empty answer = RefusalAnswer (refused_at 0 (at_column kind.Empty 0)) answer
 AgreesWith (Refused f) answer = RefusesProgram f answer
 AgreesWith (Accepted p) answer = Accepts answer
+
+-- whatever the compiler may answer for a source agrees with a verdict
+abbrev pub Agrees : List ℕ → Verdict → Type 0
+Agrees source v = (seed : ℕ) (answer : Result Compiled CompileError) → Compiles seed source answer → AgreesWith v answer

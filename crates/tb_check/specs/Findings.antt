@@ -1,20 +1,41 @@
 -- What is told of a source.
-use Rattle.std.specs.Prelude.{◌≡◌, ℕ, List, map}
-use Rattle.tb_check.specs.Entries.{DeepLinesAre}
+use Rattle.std.specs.Prelude.{◌≡◌, ℕ, ◌-◌, List, map}
+use Rattle.std.specs.Option.{option_and_then}
+use Rattle.std.specs.List.{slice_get}
+use Rattle.tb_syntax.specs.PlainData.{lines_of}
+use Rattle.tb_syntax.specs.Source.{Program}
+use Rattle.tb_parser.specs.declared.errors.SourceError.{SourceError}
+use Rattle.tb_parser.specs.Lines.{lines_of_file}
+use Rattle.tb_check.specs.Entries.{DeepLinesAre, Entry, EntriesAre, numbered_of}
+use Rattle.tb_check.specs.Notes.{note_on}
 use Rattle.tb_check.specs.Verdicts.{Judges}
+use Rattle.tb_check.specs.Warnings.{warnings_on}
 use Rattle.tb_check.specs.declared.judging.Verdict.{Verdict}
 use Rattle.tb_check.specs.declared.judging.Verdict.TheVariants as verdict
+use Rattle.tb_check.specs.declared.examination.BadLine.{BadLine}
 use Rattle.tb_check.specs.declared.examination.Findings.{Findings}
 use Rattle.tb_check.specs.declared.examination.Findings.TheVariants.{BadLines, Empty, Refused, Accepted}
+use Rattle.tb_check.specs.declared.warnings.LineWarning.{LineWarning}
 
--- findings with the faults of a verdict: by the numbers of lines that are too deep, these lines of the file
-abbrev pub Tells : (numbers_and_lines : List ℕ → List ℕ → Type 0) → Verdict → Findings → Type 0
-Tells AreDeep (verdict.BadLines errors) (BadLines lines) = map (λ l. l.error) lines.items ≡ errors.items
-Tells AreDeep verdict.Empty Empty = Unit {0}
-Tells AreDeep (verdict.Refused f) (Refused deep too_large) = (too_large ≡ f.too_large) × AreDeep f.deep.items deep.items
-Tells AreDeep (verdict.Accepted p) (Accepted warnings) = Unit {0}
-Tells _ _ _ = ⊥
+-- a fault of one of these lines, with its note
+abbrev pub noted : List (List ℕ) → SourceError → BadLine
+noted lines e = record { error = e; note = option_and_then (λ line. note_on line e) (slice_get lines (e.line - 1)) }
+
+-- findings with the faults of a verdict on these lines: the bad lines with their notes; by the numbers of lines that are
+-- too deep, these lines of the file; the warnings on a program
+abbrev pub Tells : (lines : List (List ℕ)) (AreDeep : List ℕ → List ℕ → Type 0) (AreWarnings : Program → List LineWarning → Type 0)
+    → Verdict → Findings → Type 0
+Tells lines AreDeep AreWarnings (verdict.BadLines errors) (BadLines bad) = bad.items ≡ map (noted lines) errors.items
+Tells lines AreDeep AreWarnings verdict.Empty Empty = Unit {0}
+Tells lines AreDeep AreWarnings (verdict.Refused f) (Refused deep too_large) = (too_large ≡ f.too_large) × AreDeep f.deep.items deep.items
+Tells lines AreDeep AreWarnings (verdict.Accepted p) (Accepted warnings) = AreWarnings (lines_of p) warnings.items
+Tells _ _ _ _ _ = ⊥
+
+-- the warnings on a source and its program
+abbrev pub WarningsAre : List ℕ → Program → List LineWarning → Type 0
+WarningsAre source p found = (es : List Entry) × EntriesAre 1 (lines_of_file source) es × (found ≡ warnings_on p (map numbered_of es))
 
 -- findings of a source
 abbrev pub AreFindings : List ℕ → Findings → Type 0
-AreFindings source f = (v : Verdict) × Judges source v × Tells (λ numbers deep. DeepLinesAre source deep) v f
+AreFindings source f =
+    (v : Verdict) × Judges source v × Tells (lines_of_file source) (λ numbers deep. DeepLinesAre source deep) (WarningsAre source) v f

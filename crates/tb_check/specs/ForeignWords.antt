@@ -1,7 +1,10 @@
 -- Words of other BASICs.
-use Rattle.std.specs.Prelude.{ℕ, List, codes}
+use Rattle.std.specs.Prelude.{ℕ, ◌+◌, nat_eq, Bool, true, false, ◌&&◌, ◌||◌, ◌==◌, List, [], ◌∷◌, length, Option, codes}
+use lib.Pointwise.{pointwise}
+use Rattle.std.specs.List.{find, starts_with}
 use Rattle.tb_check.specs.declared.foreign_words.ForeignWord.{ForeignWord}
-use Rattle.tb_check.specs.declared.foreign_words.ForeignWord.TheVariants.{For, Next, Step, Poke, Peek, Dim, Get, On, Read, Data, Def, Else, And, Or, Not, Stop, Cls, Abs, Tab, Chr}
+use Rattle.tb_check.specs.declared.foreign_words.ForeignWord.TheVariants.{For, Next, Step, Poke, Peek, Dim, Get, On, Read, Data}
+use Rattle.tb_check.specs.declared.foreign_words.ForeignWord.TheVariants.{Def, Else, And, Or, Not, Stop, Cls, Abs, Tab, Chr}
 
 -- how a word is written
 abbrev pub name_of : ForeignWord → List ℕ
@@ -25,3 +28,27 @@ name_of Cls = codes "CLS"
 name_of Abs = codes "ABS"
 name_of Tab = codes "TAB"
 name_of Chr = codes "CHR$"
+
+-- all of them
+abbrev pub foreign_words : List ForeignWord
+foreign_words =
+    For ∷ Next ∷ Step ∷ Poke ∷ Peek ∷ Dim ∷ Get ∷ On ∷ Read ∷ Data ∷ Def ∷ Else ∷ And ∷ Or ∷ Not ∷ Stop ∷ Cls ∷ Abs ∷ Tab ∷ Chr ∷ []
+
+-- whether a name follows a word, which may come right after its letters
+abbrev pub takes_name : ForeignWord → Bool
+takes_name For = true
+takes_name Next = true
+takes_name Dim = true
+takes_name Get = true
+takes_name Read = true
+takes_name _ = false
+
+-- whether letters, with the `$` after them, are a word, or without it a word and the letter of a name
+abbrev pub is_written : ForeignWord → (letters whole : List ℕ) → Bool
+is_written f letters whole =
+    (takes_name f && ((length letters == length (name_of f) + 1) && starts_with nat_eq letters (name_of f)))
+    || pointwise nat_eq whole (name_of f)
+
+-- the word that is written
+abbrev pub foreign_word : (letters whole : List ℕ) → Option ForeignWord
+foreign_word letters whole = find (λ f. is_written f letters whole) foreign_words

@@ -1,8 +1,25 @@
+-- ── the lines of a source ──
+-- the lines with a number, and those of them that are too deep
 pub mod Entries
+-- the bad lines
 pub mod BadLines
+-- what is read of a source
 pub mod Lines
+-- which lines remain in the program
 pub mod Remaining
+-- ── verdicts ──
+-- what becomes of a source, with all the reasons
 pub mod Verdicts
+-- a verdict compared with what the compiler answers
 pub mod Agreement
-pub mod Findings
+-- ── what helps ──
+-- words of other BASICs
 pub mod ForeignWords
+-- words one letter away from those of statements
+pub mod NearWords
+-- the note on the first fault of a line
+pub mod Notes
+-- the warnings on a source that is compiled
+pub mod Warnings
+-- all that is told of a source
+pub mod Findings

@@ -1,8 +1,9 @@
 //! All that there is to say of a source.
 ghost use Rattle.std.specs.Prelude.{◌≡◌, ◌∷◌, ◌++◌, [], IfOk, OnOk, map};
 ghost use Rattle.tb_parser.specs.Lines.{lines_of_file};
-ghost use Rattle.tb_check.specs.Findings.{AreFindings, Tells};
+ghost use Rattle.tb_check.specs.Findings.{AreFindings, Tells, noted};
 ghost use Rattle.tb_check.specs.Remaining.{remaining};
+ghost use Rattle.tb_check.specs.Warnings.{warnings_on};
 
 use crate::judging::{Verdict, verdict_on};
 use crate::lines::{NumberedLine, read_lines};
@@ -66,7 +67,8 @@ fn findings_by(
     numbered: &[NumberedLine],
     verdict: &Verdict,
 ) -> Result<Findings, AllocError>
-    ensures { IfOk result (Tells (λ numbers deep. deep ≡ remaining numbers numbered.now) verdict.now) }
+    ensures { IfOk result (Tells (map (λ t. t.now) texts.now) (λ numbers deep. deep ≡ remaining numbers numbered.now)
+        (λ program found. found ≡ warnings_on program numbered.now) verdict.now) }
 {
     match verdict {
         Verdict::BadLines(errors) => Ok(Findings::BadLines(noted(alloc, texts, errors)?)),
@@ -83,7 +85,7 @@ fn findings_by(
 
 // Bad lines with their notes, by the lines of their file.
 fn noted(alloc: Global, texts: &[&[u8]], errors: &[SourceError]) -> Result<Vec<BadLine>, AllocError>
-    ensures { IfOk result (λ lines. map (λ l. l.error) lines.items ≡ errors.now) }
+    ensures { IfOk result (λ bad. bad.items ≡ map (noted (map (λ t. t.now) texts.now)) errors.now) }
 {
     let mut found = Vec::new(alloc);
     for error in errors {
@@ -98,14 +100,14 @@ fn push_noted(
     error: SourceError,
     found: &mut Vec<BadLine>,
 ) -> Result<(), AllocError>
-    ensures { OnOk result (map (λ l. l.error) found.new.items ≡ map (λ l. l.error) found.old.items ++ error ∷ []) }
+    ensures { OnOk result (found.new.items ≡ found.old.items ++ noted (map (λ t. t.now) texts.now) error ∷ []) }
 {
     found.push(with_note(alloc, texts, error)?)?;
     Ok(())
 }
 
 fn with_note(alloc: Global, texts: &[&[u8]], error: SourceError) -> Result<BadLine, AllocError>
-    ensures { IfOk result (λ line. line.error ≡ error) }
+    ensures { IfOk result (λ bad. bad ≡ noted (map (λ t. t.now) texts.now) error) }
 {
     let note = match texts.get(error.line.saturating_sub(1)) {
         Some(text) => note_of(alloc, text, error)?,

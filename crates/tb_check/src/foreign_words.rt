@@ -1,7 +1,7 @@
-//! Words at a place where no statement has them: those of other BASICs, and misspelled ones.
-use std::alloc::{AllocError, Global};
-use strsim::generic_levenshtein;
-use tb_grammar::{KEYWORDS, Keyword, THEN};
+//! Words of other BASICs.
+ghost use Rattle.std.specs.Prelude.{◌≡◌};
+ghost use Rattle.std.specs.List.{find};
+ghost use Rattle.tb_check.specs.ForeignWords.{foreign_word, is_written};
 
 /// A word of other BASICs that Tiny BASIC does not have.
 #[derive(Clone, Copy, Drop)]
@@ -53,7 +53,7 @@ const FOREIGN_WORDS: [ForeignWord; 20] = [
 
 impl ForeignWord {
     ghost use Rattle.std.specs.Prelude.{◌≡◌};
-    ghost use Rattle.tb_check.specs.ForeignWords.{name_of};
+    ghost use Rattle.tb_check.specs.ForeignWords.{is_written, name_of, takes_name};
 
     /// How it is written.
     pub fn name(self) -> &'static str
@@ -84,7 +84,9 @@ impl ForeignWord {
     }
 
     // Whether a name follows it, which may come right after its letters.
-    fn takes_name(self) -> bool {
+    fn takes_name(self) -> bool
+        ensures { result ≡ takes_name self }
+    {
         matches!(
             self,
             ForeignWord::For
@@ -96,39 +98,29 @@ impl ForeignWord {
     }
 
     // Whether letters are this word, with a `$` if it has one, or this word and the letter of a name.
-    fn is_written(self, letters: &[u8], whole: &[u8]) -> bool {
-        match letters {
-            [front @ .., _] if self.takes_name() && front == self.name().as_bytes() => true,
-            _ => whole == self.name().as_bytes(),
-        }
+    fn is_written(self, letters: &[u8], whole: &[u8]) -> bool
+        ensures { result ≡ is_written self letters.now whole.now }
+    {
+        let name = self.name().as_bytes();
+        let is_longer = letters.len() == name.len() + 1;
+        (self.takes_name() && is_longer && letters.starts_with(name)) || whole == name
     }
 }
 
 /// The word of other BASICs that letters in upper case spell; `whole` has the `$` that follows them too, if one does.
-pub fn foreign_word(letters: &[u8], whole: &[u8]) -> Option<ForeignWord> {
-    for word in FOREIGN_WORDS {
+pub fn foreign_word(letters: &[u8], whole: &[u8]) -> Option<ForeignWord>
+    ensures { result ≡ foreign_word letters.now whole.now }
+{
+    first_written(&FOREIGN_WORDS, letters, whole)
+}
+
+fn first_written(words: &[ForeignWord], letters: &[u8], whole: &[u8]) -> Option<ForeignWord>
+    ensures { result ≡ find (λ f. is_written f letters.now whole.now) words.now }
+{
+    for word in words {
         if word.is_written(letters, whole) {
-            return Some(word);
+            return Some(*word);
         }
     }
     None
-}
-
-/// The word of a statement, other than PR, from which a word in upper case is one letter away: changed, left out or
-/// added. Fails only if memory runs out.
-pub fn near_statement(alloc: Global, word: &[u8]) -> Result<Option<&'static str>, AllocError> {
-    for keyword in KEYWORDS {
-        if keyword != Keyword::Pr && is_near(alloc, word, keyword.spelling())? {
-            return Ok(Some(keyword.spelling()));
-        }
-    }
-    Ok(if is_near(alloc, word, THEN)? {
-        Some(THEN)
-    } else {
-        None
-    })
-}
-
-fn is_near(alloc: Global, word: &[u8], other: &str) -> Result<bool, AllocError> {
-    Ok(generic_levenshtein(alloc, word, other.as_bytes())? == 1)
 }

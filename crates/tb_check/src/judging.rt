@@ -1,10 +1,8 @@
 //! Whether a source is compiled, and if not, all the reasons.
-ghost use Rattle.std.specs.Prelude.{◌≡◌, ◌<◌, ℕ, [], Result, IfOk};
+ghost use Rattle.std.specs.Prelude.{◌≡◌, ◌<◌, [], IfOk};
 ghost use Rattle.tb_syntax.specs.PlainData.{lines_of};
 ghost use Rattle.tb_meaning.specs.Cost as costs;
-ghost use Rattle.tb_compile_errors.specs.declared.refusals.CompileError.{CompileError};
-ghost use Rattle.tb_codegen.specs.declared.compiled.Compiled.{Compiled};
-ghost use Rattle.tb_check.specs.Agreement.{AgreesWith, Compiles};
+ghost use Rattle.tb_check.specs.Agreement.{Agrees};
 ghost use Rattle.tb_check.specs.Verdicts.{HasFaults, Judges, JudgesLines, JudgesProgram, deep_lines, excess};
 
 use crate::lines::read_lines;
@@ -40,8 +38,7 @@ pub enum Verdict {
 pub fn judge(alloc: Global, source: &[u8]) -> Result<Verdict, AllocError>
     ensures judged { IfOk result (Judges source.now) }
     // What the compiler answers agrees with it.
-    ensures agrees { IfOk result (λ v. (seed : ℕ) (answer : Result Compiled CompileError)
-        → Compiles seed source.now answer → AgreesWith v answer) }
+    ensures agrees { IfOk result (Agrees source.now) }
 {
     let lines = read_lines(alloc, source)?;
     verdict_on(alloc, lines.bad, lines.program)

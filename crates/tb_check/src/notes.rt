@@ -1,8 +1,11 @@
 //! Notes: what may help with a bad line, by what is at the place of its fault.
-ghost use Rattle.std.specs.Prelude.{◌<◌, ◌≤◌, length};
+ghost use Rattle.std.specs.Prelude.{◌≡◌, ◌<◌, ◌≤◌, IfOk, length};
+ghost use Rattle.tb_check.specs.Notes as spec;
 
-use crate::foreign_words::{ForeignWord, foreign_word, near_statement};
+use crate::foreign_words::{ForeignWord, foreign_word};
+use crate::near_words::{StatementWord, near_word};
 use std::alloc::{AllocError, Global};
+use tb_grammar::THEN;
 use tb_parser::{SourceError, SourceErrorKind};
 
 /// The bytes with which some editors begin a file.
@@ -29,69 +32,109 @@ pub enum Note {
     /// The file begins with a byte order mark.
     ByteOrderMark,
     /// A word one letter away from that of a statement.
-    Near(&'static str),
+    Near(StatementWord),
 }
 
 /// The note on the first fault of a line, if there is one. Fails only if memory runs out.
-pub fn note_of(alloc: Global, line: &[u8], error: SourceError) -> Result<Option<Note>, AllocError> {
+pub fn note_of(alloc: Global, line: &[u8], error: SourceError) -> Result<Option<Note>, AllocError>
+    ensures { IfOk result (λ note. note ≡ spec.note_on line.now error) }
+{
     match error.kind {
         SourceErrorKind::BadByte => Ok(note_on_byte(line, error)),
-        SourceErrorKind::Syntax => note_on_syntax(alloc, line, error.column.saturating_sub(1)),
+        SourceErrorKind::Syntax => {
+            let line = line.to_ascii_uppercase(alloc)?;
+            Ok(note_on_syntax(&line, error.column.saturating_sub(1)))
+        }
         _ => Ok(None),
     }
 }
 
-fn note_on_byte(line: &[u8], error: SourceError) -> Option<Note> {
-    if error.line == 1 && error.column == 1 && line.starts_with(BYTE_ORDER_MARK) {
-        return Some(Note::ByteOrderMark);
+fn note_on_byte(line: &[u8], error: SourceError) -> Option<Note>
+    ensures { result ≡ spec.note_on_byte line.now error }
+{
+    if is_at_mark(line, error) {
+        Some(Note::ByteOrderMark)
+    } else {
+        note_on_tab(line.get(error.column.saturating_sub(1)).copied())
     }
-    match line.get(error.column.saturating_sub(1)) {
+}
+
+// Whether a fault is at the byte order mark of the file.
+fn is_at_mark(line: &[u8], error: SourceError) -> bool
+    ensures { result ≡ spec.is_at_mark line.now error }
+{
+    error.line == 1 && error.column == 1 && line.starts_with(BYTE_ORDER_MARK)
+}
+
+fn note_on_tab(byte: Option<u8>) -> Option<Note>
+    ensures { result ≡ spec.note_on_tab byte }
+{
+    match byte {
         Some(b'\t') => Some(Note::Tab),
         _ => None,
     }
 }
 
-// The note on a place of a line, from 0, at which no line of the language goes on like this.
-fn note_on_syntax(alloc: Global, line: &[u8], place: usize) -> Result<Option<Note>, AllocError> {
-    let line = in_upper_case(alloc, line)?;
-    note_at(alloc, &line, place)
-}
-
-// The same on a line in upper case.
-fn note_at(alloc: Global, line: &[u8], place: usize) -> Result<Option<Note>, AllocError> {
+// The note on a place of a line in upper case, from 0, at which no line of the language goes on like this.
+fn note_on_syntax(line: &[u8], place: usize) -> Option<Note>
+    ensures { result ≡ spec.note_on_syntax line.now place }
+{
     match line.get(place) {
-        None => Ok(note_on_end(line)),
-        Some(b'?') => Ok(Some(Note::QuestionMark)),
-        Some(b':') => Ok(Some(Note::Colon)),
-        Some(b'0'..=b'9') => Ok(note_on_number(&line[..place])),
-        Some(b'A'..=b'Z' | b'$') => note_on_word(alloc, &word_at(line, place)),
-        Some(_) => Ok(None),
+        Some(byte) => note_at(line, place, *byte),
+        None if is_open(line) => Some(Note::OpenText),
+        None => None,
     }
 }
 
-fn in_upper_case(alloc: Global, line: &[u8]) -> Result<Vec<u8>, AllocError> {
-    line.iter()
-        .map(|byte| byte.to_ascii_uppercase())
-        .collect(alloc)
+// The note on a byte.
+fn note_at(line: &[u8], place: usize, byte: u8) -> Option<Note>
+    requires { place < length line.now }
+    ensures { result ≡ spec.note_at line.now place byte }
+{
+    if byte == b'?' {
+        Some(Note::QuestionMark)
+    } else if byte == b':' {
+        Some(Note::Colon)
+    } else if byte.is_ascii_digit() {
+        note_on_number(&line[..place])
+    } else if byte.is_ascii_uppercase() || byte == b'$' {
+        note_on_word(&word_at(line, place))
+    } else {
+        None
+    }
 }
 
-// The note on a line that ends too early.
-fn note_on_end(line: &[u8]) -> Option<Note> {
+// Whether a line has a text without its second quote.
+fn is_open(line: &[u8]) -> bool
+    ensures { result ≡ spec.is_open line.now }
+{
     let mut is_open = false;
     for byte in line {
         if *byte == b'"' {
             is_open = !is_open;
         }
     }
-    if is_open { Some(Note::OpenText) } else { None }
+    is_open
 }
 
 // The note on a number, by what is before it.
-fn note_on_number(before: &[u8]) -> Option<Note> {
-    if before.trim_ascii_end().ends_with(b"THEN") {
+fn note_on_number(before: &[u8]) -> Option<Note>
+    ensures { result ≡ spec.note_on_number before.now }
+{
+    if before_spaces(before).ends_with(THEN.as_bytes()) {
         Some(Note::ThenNumber)
     } else {
         None
+    }
+}
+
+// A text without the spaces at its end.
+fn before_spaces(text: &[u8]) -> &[u8]
+    ensures { result.now ≡ spec.before_spaces text.now }
+{
+    match text {
+        [front @ .., last] if *last == b' ' => before_spaces(front),
+        _ => text,
     }
 }
 
@@ -110,78 +153,97 @@ struct Word<'a> {
 // The word around a place of a line, from its first letter on.
 fn word_at(line: &[u8], place: usize) -> Word<'_>
     requires { place < length line.now }
+    ensures { spec.word_of result ≡ spec.word_at line.now place }
 {
     let before = letters_at_end(&line[..place]);
     let word = &line[place - before..];
     let count = letters_at_front(word);
     let rest = &word[count..];
+    let whole = if rest.starts_with(b"$") {
+        count + 1
+    } else {
+        count
+    };
     Word {
         letters: &word[..count],
-        whole: match rest {
-            [b'$', ..] => &word[..count + 1],
-            _ => &word[..count],
-        },
+        whole: &word[..whole],
         before,
-        is_assigned: rest.trim_ascii_start().starts_with(b"="),
+        is_assigned: after_spaces(rest).starts_with(b"="),
+    }
+}
+
+// A text without the spaces at its front.
+fn after_spaces(text: &[u8]) -> &[u8]
+    ensures { result.now ≡ spec.after_spaces text.now }
+{
+    match text {
+        [first, rest @ ..] if *first == b' ' => after_spaces(rest),
+        _ => text,
     }
 }
 
 // How many letters a text in upper case begins with.
 fn letters_at_front(text: &[u8]) -> usize
-    ensures { result ≤ length text.now }
+    ensures value { result ≡ spec.letters_at_front text.now }
+    ensures within { result ≤ length text.now }
 {
-    for (i, byte) in text.iter().enumerate() {
-        if !byte.is_ascii_uppercase() {
-            return i;
-        }
+    match text {
+        [first, rest @ ..] if first.is_ascii_uppercase() => letters_at_front(rest) + 1,
+        _ => 0,
     }
-    text.len()
 }
 
 // How many letters a text in upper case ends with.
 fn letters_at_end(text: &[u8]) -> usize
-    ensures { result ≤ length text.now }
+    ensures value { result ≡ spec.letters_at_end text.now }
+    ensures within { result ≤ length text.now }
 {
     match text {
-        [front @ .., last] if last.is_ascii_uppercase() => 1 + letters_at_end(front),
+        [front @ .., last] if last.is_ascii_uppercase() => letters_at_end(front) + 1,
         _ => 0,
     }
 }
 
 // The note on a word. Words of other BASICs are looked for before near ones.
-fn note_on_word(alloc: Global, word: &Word<'_>) -> Result<Option<Note>, AllocError> {
+fn note_on_word(word: &Word<'_>) -> Option<Note>
+    ensures { result ≡ spec.note_on_word (spec.word_of word.now) }
+{
     if let Some(foreign) = foreign_word(word.letters, word.whole) {
-        return Ok(Some(Note::ForeignWord(foreign)));
+        return Some(Note::ForeignWord(foreign));
     }
     if word.letters.len() < word.whole.len() {
-        return Ok(Some(Note::TextName));
+        return Some(Note::TextName);
     }
     if word.is_name() {
-        return Ok(Some(Note::LongName));
+        return Some(Note::LongName);
     }
     // A word whose first letter was read as a name is not at the place of a statement.
     if word.before == 1 || word.letters.len() < 2 {
-        return Ok(None);
+        return None;
     }
-    note_on_slip(alloc, word.letters)
+    note_on_slip(word.letters)
 }
 
 impl Word<'_> {
     // Whether it is at the place of a name: before `=`, or its first letter was read as a name.
-    fn is_name(&self) -> bool {
-        match self.letters.len() {
-            0 | 1 => false,
-            2 => self.is_assigned || self.before == 1,
-            _ => self.is_assigned,
+    fn is_name(&self) -> bool
+        ensures { result ≡ spec.is_name (spec.word_of self.now) }
+    {
+        if self.letters.len() == 2 {
+            self.is_assigned || self.before == 1
+        } else {
+            2 < self.letters.len() && self.is_assigned
         }
     }
 }
 
 // The note on a word at the place of a statement.
-fn note_on_slip(alloc: Global, word: &[u8]) -> Result<Option<Note>, AllocError> {
-    match near_statement(alloc, word)? {
-        Some(statement) => Ok(Some(Note::Near(statement))),
-        None if word.len() == 2 => Ok(Some(Note::LongName)),
-        None => Ok(None),
+fn note_on_slip(letters: &[u8]) -> Option<Note>
+    ensures { result ≡ spec.note_on_slip letters.now }
+{
+    match near_word(letters) {
+        Some(word) => Some(Note::Near(word)),
+        None if letters.len() == 2 => Some(Note::LongName),
+        None => None,
     }
 }

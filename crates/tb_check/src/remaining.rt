@@ -1,7 +1,10 @@
 //! Which lines of a file remain in its program: those that no later line replaces or takes out.
-ghost use Rattle.std.specs.Prelude.{◌≡◌, ◌++◌, IfOk, OnOk, map};
+ghost use Rattle.std.specs.Prelude.{◌≡◌, ◌++◌, ℕ, IfOk, OnOk, map};
+ghost use Rattle.std.specs.BTreeMap as tree;
+ghost use Rattle.std.specs.Ordering.{nat_cmp};
 ghost use Rattle.tb_check.specs.Entries.{is_one_of};
 ghost use Rattle.tb_check.specs.Remaining.{remaining, remaining_here};
+ghost use Rattle.tb_check.specs.Warnings.{another, last_with};
 
 use crate::lines::NumberedLine;
 use std::alloc::{AllocError, Global};
@@ -53,7 +56,9 @@ fn has_number(lines: &[NumberedLine], number: u16) -> bool
 pub fn last_lines(
     alloc: Global,
     lines: &[NumberedLine],
-) -> Result<BTreeMap<u16, NumberedLine>, AllocError> {
+) -> Result<BTreeMap<u16, NumberedLine>, AllocError>
+    ensures { IfOk result (λ last. (n : ℕ) → tree.get nat_cmp last n ≡ last_with n lines.now) }
+{
     let mut last = BTreeMap::new(alloc);
     for line in lines {
         last.insert(line.number, *line)?;
@@ -61,8 +66,10 @@ pub fn last_lines(
     Ok(last)
 }
 
-/// The line that replaces another one or takes it out, if there is one.
-pub fn outdone_by(last: &BTreeMap<u16, NumberedLine>, line: &NumberedLine) -> Option<NumberedLine> {
+/// The later line that has a line's number, by the last line with each number.
+pub fn outdone_by(last: &BTreeMap<u16, NumberedLine>, line: &NumberedLine) -> Option<NumberedLine>
+    ensures { result ≡ another line.now (tree.get nat_cmp last.now line.now.number) }
+{
     match last.get(&line.number) {
         Some(by) if by.line != line.line => Some(*by),
         _ => None,

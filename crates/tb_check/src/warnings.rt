@@ -1,8 +1,16 @@
 //! Warnings on a source that is compiled.
+ghost use Rattle.std.specs.Prelude.{◌≡◌, ◌∷◌, ◌++◌, [], Some, IfOk, OnOk, flat_map, map};
+ghost use Rattle.tb_words.specs.Words.{word_of};
+ghost use Rattle.tb_syntax.specs.PlainData.{expression_of, item_of, lines_of, statement_of};
+ghost use Rattle.tb_syntax.specs.Source.{numbers};
+ghost use Rattle.tb_meaning.specs.Control.{content_at, highest as highest_of};
+ghost use Rattle.tb_meaning.specs.Missing.{missing_targets};
+ghost use Rattle.tb_check.specs.Entries.{is_one_of};
+ghost use Rattle.tb_check.specs.Warnings as spec;
+
 use crate::lines::NumberedLine;
 use crate::remaining::{last_lines, outdone_by};
 use std::alloc::{AllocError, Global};
-use std::collections::BTreeMap;
 use tb_meaning::{Warning as MissingJump, constant, warnings as missing_jumps};
 use tb_syntax::{Expr, PrintItem, Program, Statement};
 
@@ -31,12 +39,14 @@ pub struct LineWarning {
     pub warning: Warning,
 }
 
-// What the warnings on lines are made from.
+// A program, and what is known of the whole of it.
 #[derive(Drop)]
-struct Facts {
-    last: BTreeMap<u16, NumberedLine>,
+struct Facts<'a> {
+    program: &'a Program,
     jumps: Vec<MissingJump>,
     highest: u16,
+    ghost jumps_are: { map (λ w. (w.line, word_of w.target)) jumps.items ≡ missing_targets (lines_of program.now) },
+    ghost highest_is: { highest ≡ highest_of (numbers (lines_of program.now)) },
 }
 
 /// The warnings on a program, which the numbered lines of a file make, in the order of these lines.
@@ -44,25 +54,32 @@ pub fn warnings(
     alloc: Global,
     program: &Program,
     lines: &[NumberedLine],
-) -> Result<Vec<LineWarning>, AllocError> {
-    let facts = facts_of(alloc, program, lines)?;
+) -> Result<Vec<LineWarning>, AllocError>
+    ensures { IfOk result (λ found. found.items ≡ spec.warnings_on (lines_of program.now) lines.now) }
+{
+    let facts = facts_of(alloc, program)?;
+    let last = last_lines(alloc, lines)?;
     let mut found = Vec::new(alloc);
-    warn_of_outdone(&facts, lines, &mut found)?;
-    warn_of_program(alloc, &facts, program, &mut found)?;
-    found.sort_by_key(|warning| warning.line)?;
+    for line in lines {
+        let by = outdone_by(&last, line);
+        warn_of_line(alloc, &facts, line, by, &mut found)?;
+    }
     Ok(found)
 }
 
-fn facts_of(alloc: Global, program: &Program, lines: &[NumberedLine]) -> Result<Facts, AllocError> {
-    let last = last_lines(alloc, lines)?;
+fn facts_of(alloc: Global, program: &Program) -> Result<Facts<'_>, AllocError>
+    ensures { IfOk result (λ facts. facts.program.now ≡ program.now) }
+{
     Ok(Facts {
-        last,
+        program,
         jumps: missing_jumps(alloc, program)?,
         highest: highest_line(program),
     })
 }
 
-fn highest_line(program: &Program) -> u16 {
+fn highest_line(program: &Program) -> u16
+    ensures { result ≡ highest_of (numbers (lines_of program.now)) }
+{
     let mut highest = 0;
     for (number, _) in program.lines() {
         highest = *number;
@@ -70,27 +87,16 @@ fn highest_line(program: &Program) -> u16 {
     highest
 }
 
-fn push(found: &mut Vec<LineWarning>, line: usize, warning: Warning) -> Result<(), AllocError> {
+fn push(found: &mut Vec<LineWarning>, line: usize, warning: Warning) -> Result<(), AllocError>
+    ensures { OnOk result (found.new.items ≡ found.old.items ++ record { line = line; warning = warning } ∷ []) }
+{
     found.push(LineWarning { line, warning })?;
     Ok(())
 }
 
-// Appends a warning on each statement that a later line replaces or takes out.
-fn warn_of_outdone(
-    facts: &Facts,
-    lines: &[NumberedLine],
-    found: &mut Vec<LineWarning>,
-) -> Result<(), AllocError> {
-    for line in lines {
-        match outdone_by(&facts.last, line) {
-            Some(last) if !line.is_bare => push(found, line.line, outdone(line.number, last))?,
-            _ => {}
-        }
-    }
-    Ok(())
-}
-
-fn outdone(number: u16, last: NumberedLine) -> Warning {
+fn outdone(number: u16, last: NumberedLine) -> Warning
+    ensures { result ≡ spec.outdone number last }
+{
     let by = last.line;
     if last.is_bare {
         Warning::TakenOut { number, by }
@@ -99,34 +105,54 @@ fn outdone(number: u16, last: NumberedLine) -> Warning {
     }
 }
 
-// Appends the warnings on the lines of the program.
+// Appends the warnings on a line of the file, which a later line may replace or take out.
+fn warn_of_line(
+    alloc: Global,
+    facts: &Facts<'_>,
+    line: &NumberedLine,
+    by: Option<NumberedLine>,
+    found: &mut Vec<LineWarning>,
+) -> Result<(), AllocError>
+    ensures { OnOk result (found.new.items ≡ found.old.items ++ spec.on_line (lines_of facts.now.program.now) line.now by) }
+{
+    match by {
+        _ if line.is_bare => Ok(()),
+        Some(by) => push(found, line.line, outdone(line.number, by)),
+        None => warn_of_program(alloc, facts, line, found),
+    }
+}
+
+// Appends the warnings on a line of the program.
 fn warn_of_program(
     alloc: Global,
-    facts: &Facts,
-    program: &Program,
+    facts: &Facts<'_>,
+    line: &NumberedLine,
     found: &mut Vec<LineWarning>,
-) -> Result<(), AllocError> {
-    for (number, statement) in program.lines() {
-        if let Some(line) = facts.last.get(number) {
-            warn_of_statement(alloc, facts, line, statement, found)?;
+) -> Result<(), AllocError>
+    ensures { OnOk result (found.new.items ≡ found.old.items ++ spec.at line.now.line
+        (spec.on_statement (lines_of facts.now.program.now) line.now.number
+        (content_at (lines_of facts.now.program.now) line.now.number))) }
+{
+    for (number, statement) in facts.program.lines() {
+        if *number == line.number {
+            return warn_of_statement(alloc, facts, line, statement, found);
         }
     }
     Ok(())
 }
 
-// Appends the warnings on a line of the program.
+// Appends the warnings on a line with a statement of the program.
 fn warn_of_statement(
     alloc: Global,
-    facts: &Facts,
+    facts: &Facts<'_>,
     line: &NumberedLine,
     statement: &Statement,
     found: &mut Vec<LineWarning>,
-) -> Result<(), AllocError> {
-    for jump in &facts.jumps {
-        if jump.line == line.number {
-            push(found, line.line, Warning::NoLine(jump.target))?;
-        }
-    }
+) -> Result<(), AllocError>
+    ensures { OnOk result (found.new.items ≡ found.old.items ++ spec.at line.now.line
+        (spec.on_statement (lines_of facts.now.program.now) line.now.number (Some (statement_of statement.now)))) }
+{
+    warn_of_jumps(&facts.jumps, line, found)?;
     if line.number == facts.highest && goes_on(statement) {
         push(found, line.line, Warning::RunsPast)?;
     }
@@ -134,35 +160,61 @@ fn warn_of_statement(
     warn_of_bounds(line.line, &bounds, found)
 }
 
-// Appends a warning on each of these bounds.
+// Appends the warnings on the missing targets of a line.
+fn warn_of_jumps(
+    jumps: &[MissingJump],
+    line: &NumberedLine,
+    found: &mut Vec<LineWarning>,
+) -> Result<(), AllocError>
+    ensures { OnOk result (found.new.items ≡ found.old.items ++ spec.at line.now.line
+        (spec.to_targets (spec.targets_at line.now.number (map (λ w. (w.line, word_of w.target)) jumps.now)))) }
+{
+    for jump in jumps {
+        if jump.line == line.number {
+            push(found, line.line, Warning::NoLine(jump.target))?;
+        }
+    }
+    Ok(())
+}
+
+// Appends a warning on each even bound, where it comes first.
 fn warn_of_bounds(
     line: usize,
     bounds: &[u16],
     found: &mut Vec<LineWarning>,
-) -> Result<(), AllocError> {
-    for bound in bounds {
-        push(found, line, Warning::EvenBound(*bound))?;
+) -> Result<(), AllocError>
+    ensures { OnOk result (found.new.items ≡ found.old.items ++ spec.at line (spec.even_bounds bounds.now)) }
+{
+    for (i, bound) in bounds.iter().enumerate() {
+        if is_even_bound(*bound) && !bounds[..i].contains(bound) {
+            push(found, line, Warning::EvenBound(*bound))?;
+        }
     }
     Ok(())
 }
 
 // Whether the next line may follow a statement.
-fn goes_on(statement: &Statement) -> bool {
+fn goes_on(statement: &Statement) -> bool
+    ensures { result ≡ spec.goes_on (statement_of statement.now) }
+{
     !matches!(
         statement,
         Statement::Goto(_) | Statement::Return | Statement::End
     )
 }
 
-// The even bounds of RND in a statement, each once.
-fn bounds_of(alloc: Global, statement: &Statement) -> Result<Vec<u16>, AllocError> {
+// The bounds of RND in a statement that have a value.
+fn bounds_of(alloc: Global, statement: &Statement) -> Result<Vec<u16>, AllocError>
+    ensures { IfOk result (λ bounds. bounds.items ≡ spec.statement_bounds (statement_of statement.now)) }
+{
     let mut bounds = Vec::new(alloc);
     statement_bounds(statement, &mut bounds)?;
     Ok(bounds)
 }
 
-// Appends those of them that are not there yet.
-fn statement_bounds(statement: &Statement, bounds: &mut Vec<u16>) -> Result<(), AllocError> {
+fn statement_bounds(statement: &Statement, bounds: &mut Vec<u16>) -> Result<(), AllocError>
+    ensures { OnOk result (bounds.new.items ≡ bounds.old.items ++ spec.statement_bounds (statement_of statement.now)) }
+{
     match statement {
         Statement::Let(_, e) | Statement::Goto(e) | Statement::Gosub(e) => {
             expression_bounds(e, bounds)
@@ -177,7 +229,9 @@ fn statement_bounds(statement: &Statement, bounds: &mut Vec<u16>) -> Result<(), 
     }
 }
 
-fn items_bounds(items: &[PrintItem], bounds: &mut Vec<u16>) -> Result<(), AllocError> {
+fn items_bounds(items: &[PrintItem], bounds: &mut Vec<u16>) -> Result<(), AllocError>
+    ensures { OnOk result (bounds.new.items ≡ bounds.old.items ++ flat_map spec.item_bounds (map item_of items.now)) }
+{
     for item in items {
         if let PrintItem::Value(e) = item {
             expression_bounds(e, bounds)?;
@@ -186,7 +240,9 @@ fn items_bounds(items: &[PrintItem], bounds: &mut Vec<u16>) -> Result<(), AllocE
     Ok(())
 }
 
-fn expression_bounds(e: &Expr, bounds: &mut Vec<u16>) -> Result<(), AllocError> {
+fn expression_bounds(e: &Expr, bounds: &mut Vec<u16>) -> Result<(), AllocError>
+    ensures { OnOk result (bounds.new.items ≡ bounds.old.items ++ spec.expression_bounds (expression_of e.now)) }
+{
     match e {
         Expr::Number(_) | Expr::Variable(_) => Ok(()),
         Expr::Negate(e) => expression_bounds(e, bounds),
@@ -195,20 +251,18 @@ fn expression_bounds(e: &Expr, bounds: &mut Vec<u16>) -> Result<(), AllocError> 
             expression_bounds(right, bounds)
         }
         Expr::Random(bound) => match constant(bound) {
-            Some(bound) => add_bound(bound, bounds),
+            Some(bound) => {
+                bounds.push(bound)?;
+                Ok(())
+            }
             None => expression_bounds(bound, bounds),
         },
     }
 }
 
-fn add_bound(bound: u16, bounds: &mut Vec<u16>) -> Result<(), AllocError> {
-    if is_even_bound(bound) && !bounds.contains(&bound) {
-        bounds.push(bound)?;
-    }
-    Ok(())
-}
-
 // Whether the values of RND with this bound are odd and even in turns, and there is a better bound.
-fn is_even_bound(bound: u16) -> bool {
+fn is_even_bound(bound: u16) -> bool
+    ensures { result ≡ spec.is_even_bound bound }
+{
     bound % 2 == 0 && 2 <= bound && bound <= LARGEST_BOUND
 }

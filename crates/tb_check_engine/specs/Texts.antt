@@ -2,6 +2,7 @@
 use Rattle.std.specs.Prelude.{ℕ, ◌*◌, ◌/◌, ◌==◌, if◌then◌else◌, List, ◌++◌, codes}
 use Rattle.std.specs.Fmt.{decimal, signed_decimal}
 use Rattle.tb_check.specs.ForeignWords.{name_of}
+use Rattle.tb_check.specs.NearWords.{spelling_of}
 use Rattle.tb_check.specs.declared.foreign_words.ForeignWord.{ForeignWord}
 use Rattle.tb_check.specs.declared.foreign_words.ForeignWord.TheVariants as foreign
 use Rattle.tb_check.specs.declared.notes.Note.{Note}
@@ -43,7 +44,7 @@ note_text note.ThenNumber = codes "a statement follows THEN; write THEN GOTO"
 note_text note.OpenText = codes "the text has no second quote"
 note_text note.Tab = codes "this is a tab; write spaces"
 note_text note.ByteOrderMark = codes "the file begins with a byte order mark (EF BB BF); save it without one"
-note_text (note.Near statement) = codes "did you mean " ++ statement.now
+note_text (note.Near word) = codes "did you mean " ++ spelling_of word
 
 -- how often a bound of RND goes into 30,000
 abbrev pub times_of : ℕ → ℕ

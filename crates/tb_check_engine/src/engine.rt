@@ -1,6 +1,6 @@
 //! Checking sources.
-ghost use Rattle.std.specs.Prelude.{◌≡◌, ◌+◌, [], false, MatchResult};
-ghost use Rattle.tb_streams.specs.Streams.{most_input, ConsumesAtMost};
+ghost use Rattle.std.specs.Prelude.{◌≡◌, [], false, MatchResult};
+ghost use Rattle.tb_streams.specs.Uses.{use_of, TakesInput};
 ghost use Rattle.tb_streams.specs.Failures.{failures_of};
 ghost use Rattle.tb_check_engine.specs.Checks.{Adds, LooksAt, PassesOver, Writes, WriteFaults, is_refused};
 ghost use Rattle.tb_check_engine.specs.declared.outcome.CheckOutcome.TheVariants.{NoMemory};
@@ -60,8 +60,7 @@ impl Checked {
         reader: &mut Tracked<R>,
     ) -> Result<Checked, CheckOutcome>
         ensures adds { Adds self name.now (R.remaining reader.old.stream) (failures_of reader.old) (failures_of reader.new) result }
-        ensures taken { ConsumesAtMost (R.remaining reader.old.stream) (R.remaining reader.new.stream)
-            (most_input + 1) }
+        ensures taken { TakesInput (use_of R.remaining reader.old reader.new) }
     {
         let source = match read_input(alloc, reader) {
             Ok(source) => source,

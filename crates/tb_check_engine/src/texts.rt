@@ -60,7 +60,7 @@ impl fmt::Display for NoteText {
             Note::ByteOrderMark => f.write_str(
                 "the file begins with a byte order mark (EF BB BF); save it without one",
             ),
-            Note::Near(statement) => write!(f, "did you mean {statement}"),
+            Note::Near(word) => write!(f, "did you mean {}", word.spelling()),
         }
     }
 }

@@ -1,0 +1,141 @@
+-- The note on the first fault of a bad line, by the bytes of the line.
+use Rattle.std.specs.Prelude.{ℕ, ◌+◌, ◌-◌, nat_eq, nat_lt, Bool, false, not, ◌&&◌, ◌||◌, ◌==◌, if◌then◌else◌, Option, Some, None, option_map}
+use Rattle.std.specs.Prelude.{List, [], ◌∷◌, length, map, reverse, take, drop, codes}
+use Rattle.std.specs.Option.{option_or}
+use Rattle.std.specs.Char.{is_ascii_digit, is_ascii_uppercase, to_ascii_uppercase}
+use Rattle.std.specs.List.{slice_get, starts_with, ends_with}
+use Rattle.tb_parser.specs.declared.errors.SourceError.{SourceError}
+use Rattle.tb_parser.specs.declared.errors.SourceErrorKind.{SourceErrorKind}
+use Rattle.tb_parser.specs.declared.errors.SourceErrorKind.TheVariants.{BadByte, Syntax}
+use Rattle.tb_check.specs.declared.notes.Note.{Note}
+use Rattle.tb_check.specs.declared.notes.Note.TheVariants.{ForeignWord, QuestionMark, Colon, LongName, TextName, ThenNumber, OpenText, Tab}
+use Rattle.tb_check.specs.declared.notes.Note.TheVariants.{ByteOrderMark, Near}
+use Rattle.tb_check.specs.declared.notes.Word.{Word as RustWord}
+use Rattle.tb_check.specs.ForeignWords.{foreign_word}
+use Rattle.tb_check.specs.NearWords.{near_word}
+
+-- ── a byte that no line may have ──
+-- a note, if a condition holds
+abbrev pub note_if : Bool → Note → Option Note
+note_if b note = if b then Some note else None
+
+-- whether a fault is at the mark (EF BB BF) with which the file begins
+abbrev pub is_at_mark : List ℕ → SourceError → Bool
+is_at_mark line e = (e.line == 1) && ((e.column == 1) && starts_with nat_eq line (239 ∷ 187 ∷ 191 ∷ []))
+
+-- at a tab
+abbrev pub note_on_tab : Option ℕ → Option Note
+note_on_tab (Some b) = note_if (b == 9) Tab
+note_on_tab None = None
+
+-- at a byte that no line may have
+abbrev pub note_on_byte : List ℕ → SourceError → Option Note
+note_on_byte line e = if is_at_mark line e then Some ByteOrderMark else note_on_tab (slice_get line (e.column - 1))
+
+-- ── runs of bytes ──
+-- how many letters a text in upper case begins with
+abbrev pub letters_at_front : List ℕ → ℕ
+letters_at_front [] = 0
+letters_at_front (b ∷ bs) = if is_ascii_uppercase b then letters_at_front bs + 1 else 0
+
+-- how many it ends with
+abbrev pub letters_at_end : List ℕ → ℕ
+letters_at_end text = letters_at_front (reverse text)
+
+-- a text without the spaces at its front
+abbrev pub after_spaces : List ℕ → List ℕ
+after_spaces [] = []
+after_spaces (b ∷ bs) = if b == 32 then after_spaces bs else b ∷ bs
+
+-- a text without the spaces at its end
+abbrev pub before_spaces : List ℕ → List ℕ
+before_spaces text = reverse (after_spaces (reverse text))
+
+-- whether a text has no second quote: the number of quotes is odd
+abbrev pub is_open : List ℕ → Bool
+is_open [] = false
+is_open (b ∷ bs) = if b == 34 then not (is_open bs) else is_open bs
+
+-- ── words ──
+-- a word of a line: its letters, the same with the `$` after them if there is one, how many of the letters are before
+-- the place, and whether `=` follows
+pub record Word : Type 0 where
+  pub letters : List ℕ
+  pub whole : List ℕ
+  pub before : ℕ
+  pub is_assigned : Bool
+
+-- the code's word as this one
+abbrev pub word_of : RustWord → Word
+word_of w = record { letters = w.letters.now; whole = w.whole.now; before = w.before; is_assigned = w.is_assigned }
+
+-- the word of n letters at the front of a text
+abbrev pub word_with : List ℕ → ℕ → ℕ → Word
+word_with text n before = record {
+  letters = take n text;
+  whole = take (if starts_with nat_eq (drop n text) (codes "$") then n + 1 else n) text;
+  before = before;
+  is_assigned = starts_with nat_eq (after_spaces (drop n text)) (codes "=");
+}
+
+-- the word that begins with the letters right before a place
+abbrev pub word_from : List ℕ → ℕ → ℕ → Word
+word_from line place before = word_with (drop (place - before) line) (letters_at_front (drop (place - before) line)) before
+
+-- the word around a place
+abbrev pub word_at : List ℕ → ℕ → Word
+word_at line place = word_from line place (letters_at_end (take place line))
+
+-- whether a word is at the place of a name: before `=`, or its first letter was read as a name
+abbrev pub is_name : Word → Bool
+is_name w = if length w.letters == 2 then w.is_assigned || (w.before == 1) else nat_lt 2 (length w.letters) && w.is_assigned
+
+-- at a word that is neither a foreign one nor a name
+abbrev pub note_on_slip : List ℕ → Option Note
+note_on_slip letters = option_or (option_map (λ w. Near w) (near_word letters)) (note_if (length letters == 2) LongName)
+
+-- at a word that is no foreign one; where its first letter alone was read as a name, it is not at the place of a statement
+abbrev pub note_on_other : Word → Option Note
+note_on_other w =
+    if nat_lt (length w.letters) (length w.whole) then Some TextName
+    else if is_name w then Some LongName
+    else if (w.before == 1) || nat_lt (length w.letters) 2 then None
+    else note_on_slip w.letters
+
+-- at a word
+abbrev pub note_on_word : Word → Option Note
+note_on_word w = option_or (option_map (λ f. ForeignWord f) (foreign_word w.letters w.whole)) (note_on_other w)
+
+-- ── a place at which no line of the language goes on like this ──
+-- at a number, by what is before it
+abbrev pub note_on_number : List ℕ → Option Note
+note_on_number before = note_if (ends_with nat_eq (before_spaces before) (codes "THEN")) ThenNumber
+
+-- at a byte
+abbrev pub note_at : List ℕ → ℕ → ℕ → Option Note
+note_at line place b =
+    if b == 63 then Some QuestionMark
+    else if b == 58 then Some Colon
+    else if is_ascii_digit b then note_on_number (take place line)
+    else if is_ascii_uppercase b || (b == 36) then note_on_word (word_at line place)
+    else None
+
+-- at a byte that is at a place, or at the end of the line
+abbrev pub note_on_place : List ℕ → ℕ → Option ℕ → Option Note
+note_on_place line place (Some b) = note_at line place b
+note_on_place line place None = note_if (is_open line) OpenText
+
+-- at a place of a line in upper case, from 0
+abbrev pub note_on_syntax : List ℕ → ℕ → Option Note
+note_on_syntax line place = note_on_place line place (slice_get line place)
+
+-- ── all notes ──
+-- by the kind of the fault
+abbrev pub note_by : SourceErrorKind → List ℕ → SourceError → Option Note
+note_by BadByte line e = note_on_byte line e
+note_by Syntax line e = note_on_syntax (map to_ascii_uppercase line) (e.column - 1)
+note_by _ line e = None
+
+-- the note on the first fault of a line, if there is one
+abbrev pub note_on : List ℕ → SourceError → Option Note
+note_on line e = note_by e.kind line e

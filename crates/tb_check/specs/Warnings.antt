@@ -1,0 +1,125 @@
+-- The warnings on a source that is compiled.
+use Rattle.std.specs.Prelude.{ℕ, ◌%◌, nat_le, Bool, true, false, not, ◌&&◌, ◌==◌, if◌then◌else◌, List, [], ◌∷◌, ◌++◌, flat_map, map}
+use Rattle.std.specs.Prelude.{Option, Some, None}
+use Rattle.std.specs.Option.{option_or}
+use Rattle.tb_words.specs.Words.{signed}
+use Rattle.tb_syntax.specs.Source.{Expression, Number, Variable, Negate, Binary, Random, Item, Text, Value, Zone, Program, numbers}
+use Rattle.tb_syntax.specs.Source.{Statement, Let, Print, Input, If, Goto, Gosub, Return, End, Remark}
+use Rattle.tb_meaning.specs.Control.{content_at, highest}
+use Rattle.tb_meaning.specs.Missing.{missing_targets}
+use Rattle.tb_meaning.specs.Values.{constant}
+use Rattle.tb_check.specs.declared.lines.NumberedLine.{NumberedLine}
+use Rattle.tb_check.specs.declared.warnings.LineWarning.{LineWarning}
+use Rattle.tb_check.specs.declared.warnings.Warning.{Warning}
+use Rattle.tb_check.specs.declared.warnings.Warning.TheVariants.{NoLine, Replaced, TakenOut, RunsPast, EvenBound}
+use Rattle.tb_check.specs.declared.warnings.TheConstants.{LARGEST_BOUND}
+use Rattle.tb_check.specs.Entries.{is_one_of}
+
+-- ── a later line ──
+-- the last line that has a number, if one has
+abbrev pub last_with : ℕ → List NumberedLine → Option NumberedLine
+last_with n [] = None
+last_with n (l ∷ ls) = option_or (last_with n ls) (if l.number == n then Some l else None)
+
+-- the same, if it is another line than this
+abbrev pub another : NumberedLine → Option NumberedLine → Option NumberedLine
+another l None = None
+another l (Some by) = if by.line == l.line then None else Some by
+
+-- a line whose number a later line has: taken out if that is a bare number, else replaced
+abbrev pub outdone : ℕ → NumberedLine → Warning
+outdone number by = if by.is_bare then TakenOut number by.line else Replaced number by.line
+
+-- ── a missing line ──
+-- the targets of line n among lines with targets
+abbrev pub targets_at : ℕ → List (ℕ × ℕ) → List ℕ
+targets_at n [] = []
+targets_at n (jump ∷ jumps) = if jump.0 == n then jump.1 ∷ targets_at n jumps else targets_at n jumps
+
+-- that there is no line of each of these numbers
+abbrev pub to_targets : List ℕ → List Warning
+to_targets targets = map (λ target. NoLine (signed target)) targets
+
+-- the missing target of line n, of which the compiler warns
+abbrev pub no_lines : Program → ℕ → List Warning
+no_lines p n = to_targets (targets_at n (missing_targets p))
+
+-- ── the last line ──
+-- whether the next line may follow a statement
+abbrev pub goes_on : Statement → Bool
+goes_on (Goto e) = false
+goes_on Return = false
+goes_on End = false
+goes_on _ = true
+
+-- the highest line, if the next one would follow it
+abbrev pub runs_past : Program → ℕ → Statement → List Warning
+runs_past p n c = if (n == highest (numbers p)) && goes_on c then RunsPast ∷ [] else []
+
+-- ── bounds of RND ──
+-- the value of a bound; the bounds inside, if it has none
+abbrev pub value_or : List ℕ → Option ℕ → List ℕ
+value_or inside (Some n) = n ∷ []
+value_or inside None = inside
+
+-- the bounds of an expression that have a value without variables and RND, from left to right
+abbrev pub expression_bounds : Expression → List ℕ
+expression_bounds (Number n) = []
+expression_bounds (Variable x) = []
+expression_bounds (Negate e) = expression_bounds e
+expression_bounds (Binary op l r) = expression_bounds l ++ expression_bounds r
+expression_bounds (Random e) = value_or (expression_bounds e) (constant e)
+
+-- those of an item of PRINT
+abbrev pub item_bounds : Item → List ℕ
+item_bounds (Text t) = []
+item_bounds (Value e) = expression_bounds e
+item_bounds Zone = []
+
+-- those of a statement
+abbrev pub statement_bounds : Statement → List ℕ
+statement_bounds (Let x e) = expression_bounds e
+statement_bounds (Print items ends) = flat_map item_bounds items
+statement_bounds (Input xs) = []
+statement_bounds (If l rel r c) = expression_bounds l ++ (expression_bounds r ++ statement_bounds c)
+statement_bounds (Goto e) = expression_bounds e
+statement_bounds (Gosub e) = expression_bounds e
+statement_bounds Return = []
+statement_bounds End = []
+statement_bounds Remark = []
+
+-- whether RND with a bound is odd and even in turns, and there is a better bound
+abbrev pub is_even_bound : ℕ → Bool
+is_even_bound n = (n % 2 == 0) && (nat_le 2 n && nat_le n LARGEST_BOUND)
+
+-- of bounds after others: the even ones, each once
+abbrev pub even_after : (before bounds : List ℕ) → List ℕ
+even_after before [] = []
+even_after before (n ∷ ns) = (if is_even_bound n && not (is_one_of n before) then n ∷ [] else []) ++ even_after (before ++ n ∷ []) ns
+
+-- a statement's even bounds of RND, each once
+abbrev pub even_bounds : List ℕ → List Warning
+even_bounds bounds = map (λ n. EvenBound n) (even_after [] bounds)
+
+-- ── all warnings ──
+-- on line n of the program, in their order
+abbrev pub on_statement : Program → ℕ → Option Statement → List Warning
+on_statement p n None = []
+on_statement p n (Some c) = no_lines p n ++ (runs_past p n c ++ even_bounds (statement_bounds c))
+
+-- on a line that is not bare, by the later line that has its number; if there is none, it is the program's
+abbrev pub on_stated : Program → ℕ → Option NumberedLine → List Warning
+on_stated p n (Some by) = outdone n by ∷ []
+on_stated p n None = on_statement p n (content_at p n)
+
+-- warnings at a line of the file
+abbrev pub at : ℕ → List Warning → List LineWarning
+at line ws = map (λ w. record { line = line; warning = w }) ws
+
+-- on a line of the file, by the later line that has its number
+abbrev pub on_line : Program → NumberedLine → Option NumberedLine → List LineWarning
+on_line p l by = at l.line (if l.is_bare then [] else on_stated p l.number by)
+
+-- on all lines, in the order of the file
+abbrev pub warnings_on : Program → List NumberedLine → List LineWarning
+warnings_on p lines = flat_map (λ l. on_line p l (another l (last_with l.number lines))) lines
