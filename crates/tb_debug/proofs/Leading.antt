@@ -1,5 +1,5 @@
 -- Where ways end.
-use Rattle.std.proofs.Common.{◌≡◌, ℕ, ◌+◌, ◌<◌, ◌≤◌, ◌&&◌, Bool, true, false, List, refl, sym, ap, ◌∙◌, subst, inl, inr, arith}
+use Rattle.std.proofs.Common.{◌≡◌, ℕ, ◌+◌, ◌<◌, ◌≤◌, ◌&&◌, Bool, true, false, List, length, refl, sym, ap, ◌∙◌, subst, inl, inr, arith}
 use Rattle.std.specs.Prelude.{if◌then◌else◌, ◌==◌, nat_lt, ◌-◌}
 use Rattle.std.proofs.lemmas.Bool.{cases_lt}
 use Rattle.std.proofs.lemmas.Bool.Decides.{nat_tests}
@@ -7,11 +7,13 @@ use Rattle.tb_kernal.specs.declared.status.Status.{Status}
 use Rattle.tb_kernal.specs.declared.status.Status.TheVariants.{Returned, Running, Waits, Wrong}
 use Rattle.tb_kernal.specs.Machine.{state_of, status}
 use Rattle.tb_codegen.specs.Compiled.{starts_of}
-use Rattle.tb_debug.specs.Begins.{Advances, IsLimited, StandsBy, standing_by, standing_of}
+use Rattle.tb_debug.specs.Begins.{Advances, BeginsThere, IsLimited, StandsBy, standing_by, standing_of}
 use Rattle.tb_debug.specs.Debuggers.{IsAtTime, OnRun, begun_by}
-use Rattle.tb_debug.specs.Runs.{Point, IsOfRun, is_marked, point_at}
+use Rattle.tb_debug.specs.Runs.{Point, IsOfRun, is_marked, newest, newest_events, point_at, spacing}
+use Rattle.tb_debug.specs.Searching.{IsUntil}
 use Rattle.tb_debug.specs.Stopping.{IsNewest, IsThere, breaks_at, changes, leads_from}
 use Rattle.tb_debug.specs.declared.debugger.Debugger.{Debugger}
+use Rattle.tb_debug.specs.declared.history.Checkpoint.{Checkpoint}
 use Rattle.tb_debug.specs.declared.searching.Destination.{Destination}
 use Rattle.tb_debug.specs.declared.moment.Moment.{Moment}
 use Rattle.tb_debug.specs.declared.moment.Reached.{Reached}
@@ -55,13 +57,20 @@ no_time time marks Within p q other on = on
 no_time time marks (Ended why) p q other on = tt
 no_time time marks Limit p q other on = tt
 
+-- nor of where one begins
+pub no_line : (marks : List Bool) (start : Point) (reached : Reached) (p q : Moment) → ((reached ≡ Line) → ⊥) → BeginsThere marks start reached p q
+no_line marks start Line p q other = absurd (other refl)
+no_line marks start Within p q other = tt
+no_line marks start (Ended why) p q other = tt
+no_line marks start Limit p q other = tt
+
 -- a line that is begun before a time doesn't pass it
 pub time_more : (time b c : ℕ) (marked : Bool) → (b == time && marked) ≡ false → b ≤ time → c ≤ b + (if marked then 1 else 0) → c ≤ time
 time_more time b c true off few more = grind (arith, nat_tests)
 time_more time b c false off few more = omega (arith, few, more)
 
 -- a line that is begun makes the count larger
-earlier : (marks : List Bool) (start : Point) (p q : Moment) (time : ℕ) → IsOfRun marks start p → IsOfRun marks start q → time < p.begun → q.begun ≤ time
+pub earlier : (marks : List Bool) (start : Point) (p q : Moment) (time : ℕ) → IsOfRun marks start p → IsOfRun marks start q → time < p.begun → q.begun ≤ time
     → q.events < p.events
 earlier marks start p q time of_p of_q past few =
     elim (cases_lt q.events p.events) [
@@ -92,6 +101,26 @@ comes_back marks start p k q time limit Limit of_p of_q past few at stands used 
           let count = ap (λ x. x.begun) of_p.stands in
           let begun = begun_few marks start p.events in
           absurd (omega (arith, e, few, past, small, count, begun, none))
+    ]
+
+-- a way back from the newest checkpoint is short
+pub short_back : (d : Debugger) (start : Point) (k q : Moment) (time : ℕ) → OnRun start d → IsOfRun d.starts start q → time < begun_by d
+    → q.begun ≤ time → k.events ≡ newest_events d.history.first d.history.later.items → BeginsThere d.starts start Line k q
+    → q.events < newest_events d.history.first d.history.later.items + spacing
+short_back d start k q time on of_q past few newest (inl stays) = omega (arith, stays, newest)
+short_back d start k q time on of_q past few newest (inr comes) =
+    let before = earlier d.starts start d.present q time on.of_run of_q past few in
+    on.near q.events (omega (arith, before)) comes
+
+-- the newest checkpoint that doesn't come after a time is the newest of all, if that doesn't
+pub all_until : (time count index : ℕ) (first : Checkpoint) (ks : List Checkpoint) → length ks ≡ count → IsUntil time ks count index
+    → (newest first ks).moment.begun ≤ time → index ≡ count
+all_until time count index first ks many until few =
+    elim (cases_lt index count) [
+      | inl under ↦
+          let late = until.behind (length ks - 1) first (omega (arith, under, many)) (omega (arith, under, many)) in
+          absurd (omega (arith, late, few))
+      | inr past ↦ omega (arith, past, until.few)
     ]
 
 -- ---- back to the newest stop

@@ -11,6 +11,8 @@ pub mod Counting
 pub mod EventLists
 -- checkpoints are of the run
 pub mod Keeping
+-- checkpoints keep their distance, and the newest of them is near
+pub mod Spacing
 -- the run with more at the end of the keyboard's text
 pub mod Typing
 -- checkpoints that are typed to one by one

@@ -1,11 +1,13 @@
 -- The run of a start with more at the end of the keyboard's text.
-use Rattle.std.proofs.Common.{◌≡◌, ℕ, zero, suc, ◌<◌, ◌≤◌, Bool, List, length, slice_index_or, sym, ap, ◌∙◌, arith}
-use Rattle.std.specs.Prelude.{◌≢◌}
+use Rattle.std.proofs.Common.{◌≡◌, ℕ, zero, suc, ◌<◌, ◌≤◌, Bool, List, length, slice_index_or, refl, sym, ap, ◌∙◌, arith}
+use Rattle.std.specs.Prelude.{◌≢◌, ◌&&◌}
 use Rattle.tb_kernal.specs.declared.status.Status.TheVariants.{Running, Waits}
 use Rattle.tb_kernal.specs.Machine.{State, status}
 use Rattle.tb_kernal.proofs.Typing.{happens_kept, status_kept}
+use Rattle.tb_kernal.specs.Runs.{is_own}
+use Rattle.tb_debug.specs.Begins.{IsNear, comes_to}
 use Rattle.tb_debug.specs.Roms.{event_at}
-use Rattle.tb_debug.specs.Runs.{Point, RunsUpTo, IsOfRun, IsCheckpoint, AreCheckpoints, IsTyped, AreTyped, next_point, point_at, typed, unsent}
+use Rattle.tb_debug.specs.Runs.{Point, RunsUpTo, IsOfRun, IsCheckpoint, AreCheckpoints, IsTyped, AreTyped, is_marked, next_point, point_at, typed, unsent}
 use Rattle.tb_debug.specs.declared.history.Checkpoint.{Checkpoint}
 use Rattle.tb_debug.specs.declared.moment.Moment.{Moment}
 use Rattle.tb_debug.proofs.Running.{at_next, at_start}
@@ -61,3 +63,21 @@ pub typed_all : (marks : List Bool) (start : Point) (more : List ℕ) (n : ℕ) 
 typed_all marks start more n ks ls ran t all i d inside =
     let there : i < length ks = omega (arith, inside, t.many) in
     typed_checkpoint marks start more n (slice_index_or ks i d) (slice_index_or ls i d) ran (t.each i d there) (t.sent i d there) (all i d there)
+
+-- lines begin at the same points
+comes_typed : (marks : List Bool) (start : Point) (more : List ℕ) (n : ℕ) → RunsUpTo marks start n
+    → comes_to marks (typed more start) n ≡ comes_to marks start n
+unfolding comes_to
+comes_typed marks start more zero ran = refl
+comes_typed marks start more (suc n) ran =
+    let own = ap (λ p. is_own (event_at p.rom p.state.regs)) (typed_at marks start more n (λ k below. ran k (omega (arith, below)))) in
+    let marked = ap (λ p. is_marked marks p.state.regs.pc) (typed_at marks start more (suc n) ran) in
+    λ i. own i && marked i
+
+-- so the newest checkpoint is as near as it was
+pub near_typed : (marks : List Bool) (start : Point) (more : List ℕ) (before after n m : ℕ) → RunsUpTo marks start n → after ≡ before → m ≡ n
+    → IsNear marks start before n → IsNear marks (typed more start) after m
+near_typed marks start more before after n m ran same stays near k inside comes =
+    let there = comes_typed marks start more k (λ j below. ran j (omega (arith, below, inside, stays))) in
+    let few = near k (omega (arith, inside, stays)) (sym there ∙ comes) in
+    omega (arith, few, same)

@@ -5,7 +5,7 @@ use Rattle.tb_kernal.specs.declared.status.Status.TheVariants.{Running}
 use Rattle.tb_kernal.specs.Machine.{state_of, status}
 use Rattle.tb_kernal.specs.Runs.{is_own}
 use Rattle.tb_debug.specs.Roms.{event_at}
-use Rattle.tb_debug.specs.Runs.{Point, is_marked, point_at}
+use Rattle.tb_debug.specs.Runs.{Point, is_marked, point_at, spacing}
 use Rattle.tb_debug.specs.declared.moment.Moment.{Moment}
 use Rattle.tb_debug.specs.declared.moment.Reached.{Reached}
 use Rattle.tb_debug.specs.declared.moment.Reached.TheVariants.{Line, Within, Ended, Limit}
@@ -32,6 +32,11 @@ abbrev pub Passes : List Bool → Point → ℕ → ℕ → ℕ → Type 0
 Passes marks start m zero n = n ≡ m
 Passes marks start m (suc k) n = (i : ℕ) × Passes marks start m k i × IsNext marks start i n
 
+-- each line that begins up to the point after n events begins fewer than `spacing` events after a checkpoint's: so it takes
+-- no more to run again from there to that line
+abbrev pub IsNear : List Bool → Point → ℕ → ℕ → Type 0
+IsNear marks start checkpoint n = (k : ℕ) → k ≤ n → comes_to marks start k ≡ true → k < checkpoint + spacing
+
 -- a limit of events, or what can be counted, is used up
 abbrev pub IsUsedUp : ℕ → Moment → Moment → Type 0
 IsUsedUp limit m n = (n.events ≡ m.events + limit) ⊎ (n.events ≡ 18446744073709551615) ⊎ (n.begun ≡ 18446744073709551615)
@@ -55,6 +60,11 @@ abbrev pub Advances : Reached → Moment → Moment → Type 0
 Advances Line m n = m.events < n.events
 Advances Within m n = ⊥
 Advances _ m n = Unit {0}
+
+-- if the answer is that a line begins, one does there, or nothing was gone on
+abbrev pub BeginsThere : List Bool → Point → Reached → Moment → Moment → Type 0
+BeginsThere marks start Line m n = (n.events ≡ m.events) ⊎ (comes_to marks start n.events ≡ true)
+BeginsThere marks start _ m n = Unit {0}
 
 -- how a machine of this status stands, by whether a line begins
 abbrev pub standing_by : Status → Bool → Reached

@@ -1,5 +1,7 @@
 -- Breakpoints and watches.
-use Rattle.std.specs.Prelude.{◌≡◌, ℕ, Bool, false, not, ◌||◌, ◌==◌, if◌then◌else◌, ℤ, pos, List, [], ◌∷◌, Option, Some, None, slice_index_or}
+use Rattle.std.specs.Prelude.{◌≡◌, ℕ, Bool, false, not, ◌||◌, ◌==◌, if◌then◌else◌, ℤ, pos}
+use Rattle.std.specs.Prelude.{List, [], ◌∷◌, Option, Some, None, slice_index_or}
+use Rattle.std.specs.List.Sorted.{IsNonDecreasingBy}
 use Rattle.std.specs.Ordering.{int_eq}
 use Rattle.tb_words.specs.declared.Letter.{Letter}
 use Rattle.tb_words.specs.Letters.{letter_index}
@@ -12,6 +14,10 @@ breakpoints_of s = s.breakpoints.items
 -- the watched variables
 abbrev pub watches_of : StopPoints → List Letter
 watches_of s = s.watches.items
+
+-- lines are in rising order
+abbrev pub AreRising : List ℕ → Type 0
+AreRising lines = IsNonDecreasingBy (λ line. line) lines
 
 -- a line is one of these
 abbrev pub is_among : List ℕ → ℕ → Bool

@@ -1,5 +1,5 @@
 -- A debugger on the run of its program.
-use Rattle.std.specs.Prelude.{◌≡◌, ◌⊎◌, ℕ, ◌-◌, ◌<◌, ◌≤◌, Bool, true, List, [], length}
+use Rattle.std.specs.Prelude.{◌≡◌, ◌⊎◌, ℕ, ◌+◌, ◌-◌, ◌<◌, ◌≤◌, Bool, true, List, [], ◌∷◌, length}
 use Rattle.tb_play.specs.Lines.{keys_of_text}
 use Rattle.tb_codegen.specs.Compiled.{starts_of}
 use Rattle.tb_codegen.specs.declared.compiled.Compiled.{Compiled}
@@ -11,17 +11,21 @@ use Rattle.tb_debug.specs.declared.moment.Moment.{Moment}
 use Rattle.tb_debug.specs.declared.moment.Reached.{Reached}
 use Rattle.tb_debug.specs.declared.moment.Reached.TheVariants.{Line, Within, Ended, Limit}
 use Rattle.tb_debug.specs.Breakpoints.{breakpoints_of, watches_of}
-use Rattle.tb_debug.specs.Begins.{EndsAt, IsLimited, standing_of}
-use Rattle.tb_debug.specs.Runs.{Point, IsOfRun, IsFirst, AreCheckpoints, begins_at, is_marked, most_checkpoints, typed}
+use Rattle.tb_debug.specs.Begins.{EndsAt, IsLimited, IsNear, standing_of}
+use Rattle.tb_debug.specs.Runs.{Point, IsOfRun, IsFirst, AreCheckpoints, AreSpaced}
+use Rattle.tb_debug.specs.Runs.{begins_at, is_marked, most_checkpoints, newest, newest_events, spacing, typed}
 
 -- the marks are where the lines of a program begin, and the present moment and the checkpoints, of which there are no more
--- than may be, are of the run from a start
+-- than may be, are of the run from a start; the checkpoints keep their distance, and the newest of them is never far: what
+-- lies between is less than the spacing, and the line that was begun last
 pub record StandsOn (program : Compiled) (start : Point) (marks : List Bool) (history : History) (present : Moment) : Type 0 where
   pub marked : (a : ℕ) → is_marked marks a ≡ begins_at (starts_of program) a
   pub of_run : IsOfRun marks start present
   pub of_first : IsFirst marks start history.first
   pub of_past : AreCheckpoints marks start present.events history.later.items
   pub few : length history.later.items < most_checkpoints
+  pub spaced : AreSpaced (history.first ∷ history.later.items)
+  pub near : IsNear marks start (newest_events history.first history.later.items) present.events
 
 -- a debugger is on its program's run from a start
 abbrev pub OnRun : Point → Debugger → Type 0
@@ -74,6 +78,14 @@ pub record GoesToTime (time limit : ℕ) (d : Debugger) (reached : Reached) (m :
   pub there : IsAtTime time d.starts reached m
   pub on : begun_by d ≤ time → (m.begun ≤ time) × IsLimited limit reached d.present m
   pub back : (start : Point) → start.begun ≡ 0 → OnRun start d → time < begun_by d → reached ≡ Line
+
+-- a way back to a time that doesn't come before the newest checkpoint ends fewer than `spacing` events after it: so it takes
+-- no more to run again from there
+abbrev pub IsShort : ℕ → Debugger → Moment → Type 0
+IsShort time d m =
+    (start : Point) → start.begun ≡ 0 → OnRun start d → time < begun_by d
+    → (newest d.history.first d.history.later.items).moment.begun ≤ time
+    → m.events < newest_events d.history.first d.history.later.items + spacing
 
 -- a way back to the line at a time; if no line was begun, there is none to go back to
 abbrev pub RewindsTo : ℕ → Debugger → Reached → Moment → Type 0

@@ -5,7 +5,8 @@ use Rattle.tb_kernal.specs.Machine.{Content, state_of, happens}
 use Rattle.tb_kernal.specs.Runs.{is_own}
 
 -- an event that an outside gave a machine, with the outside and the machine after it; room may be made before it
-pub record Took {O : Type 0} (gives : O → Content → Event → O → Type 0) (o : O) (m : Content) (own : Bool) (p : O) (n : Content) : Type 0 where
+pub record Took {O : Type 0} (gives : O → Content → Event → O → Type 0) (o : O) (m : Content) (own : Bool) (p : O) (n : Content)
+    : Type 0 where
   pub event : Event
   pub ready : Content
   pub same : state_of ready ≡ state_of m

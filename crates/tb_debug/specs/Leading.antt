@@ -32,6 +32,7 @@ Leads limit command.Continue d reached m = RunsUntil Stop limit d reached m
 Leads limit command.ReverseContinue d reached m = ReverseContinues d reached m
 Leads limit (command.ToTime time) d reached m = GoesToTime time limit d reached m
 Leads limit (command.ToLine line) d reached m =
-    (address : ℕ) → start_in (starts_of d.program.now) line ≡ Some address → StandsAt address reached m × RunsUntil (Address address) limit d reached m
+    (address : ℕ) → start_in (starts_of d.program.now) line ≡ Some address
+    → StandsAt address reached m × RunsUntil (Address address) limit d reached m
 Leads limit (command.Step events) d reached m = StepsBy events d.present m
 Leads limit _ d reached m = Unit {0}

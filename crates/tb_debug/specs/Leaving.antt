@@ -3,7 +3,7 @@ use Rattle.std.specs.Prelude.{◌≡◌, ℕ, Option, Some, None}
 use Rattle.tb_words.specs.declared.Letter.{Letter}
 use Rattle.tb_words.specs.Letters.{letter_index}
 use Rattle.tb_codegen.specs.Compiled.{start_in, starts_of}
-use Rattle.tb_debug.specs.Breakpoints.{Turned, WatchTurned, breakpoints_of, watches_of}
+use Rattle.tb_debug.specs.Breakpoints.{AreRising, Turned, WatchTurned, breakpoints_of, watches_of}
 use Rattle.tb_debug_commands.specs.declared.command.Command.{Command}
 use Rattle.tb_debug_commands.specs.declared.command.Command.TheVariants as command
 use Rattle.tb_debug.specs.declared.debugger.Debugger.{Debugger}
@@ -12,10 +12,12 @@ use Rattle.tb_debug.specs.declared.debugger.Debugger.{Debugger}
 abbrev pub LeavesStops : Debugger → Debugger → Type 0
 LeavesStops d e = e.stops ≡ d.stops
 
--- the breakpoint of a line of the program is turned, and nothing else changes; a line that is none changes nothing
+-- the breakpoint of a line of the program is turned, and nothing else changes: their order stays; a line that is none changes
+-- nothing
 abbrev pub TurnsBreakpoint : Option ℕ → ℕ → Debugger → Debugger → Type 0
 TurnsBreakpoint (Some address) line d e =
-    Turned line (breakpoints_of d.stops) (breakpoints_of e.stops) × (watches_of e.stops ≡ watches_of d.stops) × (e ≡ record d { stops = e.stops })
+    Turned line (breakpoints_of d.stops) (breakpoints_of e.stops) × (watches_of e.stops ≡ watches_of d.stops)
+    × (e ≡ record d { stops = e.stops }) × (AreRising (breakpoints_of d.stops) → AreRising (breakpoints_of e.stops))
 TurnsBreakpoint None line d e = e ≡ d
 
 -- the watch of a variable is turned, and nothing else changes

@@ -1,6 +1,6 @@
 -- The run of a machine with a ROM, and its moments.
 use Rattle.std.specs.Prelude.{◌≡◌, ℕ, zero, suc, ◌+◌, ◌-◌, ◌<◌, ◌≤◌, ◌==◌, ◌&&◌, ◌||◌, Bool, false, if◌then◌else◌}
-use Rattle.std.specs.Prelude.{ℤ, List, [], ◌∷◌, ◌++◌, All, length, slice_index_or, remove}
+use Rattle.std.specs.Prelude.{ℤ, List, [], ◌∷◌, ◌++◌, All, AllPairs, length, slice_index_or, remove}
 use Rattle.tb_kernal.specs.declared.events.Event.{Event}
 use Rattle.tb_kernal.specs.declared.status.Status.TheVariants.{Running}
 use Rattle.tb_kernal.specs.Machine.{State, state_of, happens, status}
@@ -109,9 +109,17 @@ most_checkpoints = 32
 abbrev pub spacing : ℕ
 spacing = 131072
 
--- how many events came before the newest checkpoint, by the first one and the later ones
+-- the newest checkpoint, by the first one and the later ones
+abbrev pub newest : Checkpoint → List Checkpoint → Checkpoint
+newest first later = slice_index_or later (length later - 1) first
+
+-- how many events came before it
 abbrev pub newest_events : Checkpoint → List Checkpoint → ℕ
-newest_events first later = (slice_index_or later (length later - 1) first).moment.events
+newest_events first later = (newest first later).moment.events
+
+-- each checkpoint comes at least the spacing after each one before it
+abbrev pub AreSpaced : List Checkpoint → Type 0
+AreSpaced ks = AllPairs (λ k l. k.moment.events + spacing ≤ l.moment.events) ks
 
 -- checkpoints, one of them left out
 pub record WithoutOne (old new : List Checkpoint) : Type 0 where

@@ -1,10 +1,10 @@
 -- What a debugger shows at a line's beginning is what the source's interpreter has.
-use Rattle.std.specs.Prelude.{◌≡◌, ◌<◌, ℕ, map, Option, Some, None, slice_index}
+use Rattle.std.specs.Prelude.{◌≡◌, ◌<◌, ℕ, map, IfSome, Option, Some, None, slice_index}
 use Rattle.std.specs.Int.{cast_signed, w16}
 use Rattle.tb_memmap.specs.Regions.{BASIC_START}
 use Rattle.tb_meaning.specs.Control.{At, Past, Place}
 use Rattle.tb_kernal.specs.Machine.{State, state_of}
-use Rattle.tb_simulation.specs.Kept.{Starts}
+use Rattle.tb_simulation.specs.Theorem.{Starts}
 use Rattle.tb_simulation.specs.LineStarts.{BeginsLine, MarksLines}
 use Rattle.tb_syntax.specs.Source.{Program}
 use Rattle.tb_codegen.specs.Compiled.{IsCompiled, loaded_of, start_of, starts_of}
@@ -38,3 +38,9 @@ pub record ShowsLine (source : Program) (seed : ℕ) (start : State) (d : Debugg
   pub begins : BeginsLine source seed (start_of d.program.now) start d.present.begun line (state_of d.present.machine)
   pub variables : (x : ℕ) → x < 26 → value_in (state_of d.present.machine).mem x ≡ cast_signed w16 (slice_index begins.state.vars x)
   pub returns : returns_of (starts_of d.program.now) (state_of d.present.machine).mem ≡ map line_of begins.state.returns
+
+-- if `compile` made the program, and the run is one from its start, the line that begins here shows its source
+abbrev pub ShowsSource : Debugger → Option ℕ → Type 0
+ShowsSource d here =
+    (source : Program) (seed : ℕ) (start : State) (rom : Rom) → Debugs source seed start rom d
+    → IfSome here (λ line. ShowsLine source seed start d line)

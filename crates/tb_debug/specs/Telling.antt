@@ -1,5 +1,6 @@
 -- What answers say of the run and of the machine.
-use Rattle.std.specs.Prelude.{◌≡◌, ℕ, Bool, true, false, ℤ, pos, not, List, drop, length, map, Option, Some, None, Result, if◌then◌else◌, slice_index_or}
+use Rattle.std.specs.Prelude.{◌≡◌, ℕ, Bool, true, false, ℤ, pos, not, List, drop, length, map, Option, Some, None, Result}
+use Rattle.std.specs.Prelude.{if◌then◌else◌, slice_index_or}
 use Rattle.tb_words.specs.Words.{word_of}
 use Rattle.tb_words.specs.declared.Letter.{Letter}
 use Rattle.tb_words.specs.Letters.{letter_index}
@@ -85,7 +86,8 @@ TellsStop shown limit d _ = ⊥
 -- a command led somewhere by at most `limit` events: what was sent since the last stop is told, and the stop
 abbrev pub TellsWay : ℕ → Command → Debugger → Debugger → Option Answer → Type 0
 TellsWay limit c d e (Some told) =
-    (reached : Reached) × Leads limit c d reached e.present × StandsBy d.starts reached e.present × TellsStop d.shown (is_limit reached) e told
+    (reached : Reached) × Leads limit c d reached e.present × StandsBy d.starts reached e.present
+    × TellsStop d.shown (is_limit reached) e told
 TellsWay limit c d e None = ⊥
 
 -- the same of one that leads to a line; or that the program has no such line
@@ -128,7 +130,8 @@ output_told _ = None
 
 -- the value of a variable is told
 abbrev pub TellsValue : Letter → Debugger → Option Answer → Type 0
-TellsValue letter d told = told ≡ Some (answer.Variable (letter_index letter) (slice_index_or (variables_here d) (letter_index letter) (pos 0)))
+TellsValue letter d told =
+    told ≡ Some (answer.Variable (letter_index letter) (slice_index_or (variables_here d) (letter_index letter) (pos 0)))
 
 -- the answer to a text that came to this: its value, or `what?`
 abbrev pub value_answer : Option (Result ℤ EvalError) → Answer

@@ -1,7 +1,8 @@
 //! Breakpoints and watches.
-ghost use Rattle.std.specs.Prelude.{◌≡◌, ◌≤◌, [], true, not, length, IfOk, OnOk, OnErr};
+ghost use Rattle.std.specs.Prelude.{◌≡◌, ◌<◌, ◌≤◌, ℕ, [], true, not, length, slice_index_or, IfOk, OnOk, OnErr};
 ghost use Rattle.tb_words.specs.Letters.{letter_index};
-ghost use Rattle.tb_debug.specs.Breakpoints.{Turned, WatchTurned, breakpoints_of, watches_of, is_among, is_watched, breaks, differ};
+ghost use Rattle.tb_debug.specs.Breakpoints.{AreRising, Turned, WatchTurned, breakpoints_of, watches_of};
+ghost use Rattle.tb_debug.specs.Breakpoints.{is_among, is_watched, breaks, differ};
 
 use std::alloc::{AllocError, Global};
 use tb_inspection::Variables;
@@ -73,6 +74,7 @@ impl StopPoints {
         ensures turned { OnOk result (Turned line (breakpoints_of self.old) (breakpoints_of self.new)) }
         ensures refused { OnErr result (breakpoints_of self.new ≡ breakpoints_of self.old) }
         ensures watches { watches_of self.new ≡ watches_of self.old }
+        ensures rising { AreRising (breakpoints_of self.old) → AreRising (breakpoints_of self.new) }
     {
         if is_among(self.breakpoints.as_slice(), line) {
             self.breakpoints.retain(|set| *set != line);
@@ -144,10 +146,12 @@ fn is_watched(letters: &[Letter], index: usize) -> bool
 
 // The index before which a line belongs among lines in rising order.
 fn position_of(lines: &[u16], line: u16) -> usize
-    ensures { result ≤ length lines.now }
+    ensures few { result ≤ length lines.now }
+    ensures before { (k d : ℕ) → k < result → slice_index_or lines.now k d ≤ line }
+    ensures after { (d : ℕ) → result < length lines.now → line < slice_index_or lines.now result d }
 {
-    for (index, other) in lines.iter().enumerate() {
-        if line < *other {
+    for index in 0..lines.len() {
+        if line < lines[index] {
             return index;
         }
     }

@@ -1,17 +1,16 @@
 //! A run that can be walked both ways.
-ghost use Rattle.std.specs.Prelude.{◌≡◌, ◌+◌, ◌-◌, ◌<◌, ◌≤◌, ℕ, if◌then◌else◌, vec_len, IfOk, IfSome, OnOk};
-ghost use Rattle.tb_kernal.specs.Machine.{State, state_of};
-ghost use Rattle.tb_syntax.specs.Source.{Program};
+ghost use Rattle.std.specs.Prelude.{◌≡◌, ◌+◌, ◌-◌, ◌<◌, ◌≤◌, ℕ, if◌then◌else◌, vec_len, IfOk, OnOk};
+ghost use Rattle.tb_kernal.specs.Machine.{state_of};
 ghost use Rattle.tb_codegen.specs.Compiled.{starts_of};
-ghost use Rattle.tb_debug.specs.Begins.{Advances, EndsAt, GoesBy, IsLimited, StandsBy, StepsBy, standing_of};
+ghost use Rattle.tb_debug.specs.Begins.{Advances, BeginsThere, EndsAt, GoesBy, IsLimited, StandsBy, StepsBy, standing_of};
 ghost use Rattle.tb_inspection.specs.Readings.{values_in};
 ghost use Rattle.tb_debug.specs.Lines.{line_at};
-ghost use Rattle.tb_debug.specs.Runs.{Point, IsOfRun, first_point, is_marked};
+ghost use Rattle.tb_debug.specs.Runs.{Point, IsOfRun, first_point, is_marked, newest_events};
 ghost use Rattle.tb_debug.specs.Searching.{IsUntil};
-ghost use Rattle.tb_debug.specs.Sources.{Debugs, ShowsLine};
+ghost use Rattle.tb_debug.specs.Sources.{ShowsSource};
 ghost use Rattle.tb_debug.specs.declared.moment.Reached.TheVariants.{Line};
-ghost use Rattle.tb_debug.specs.declared.rom.Rom.{Rom};
-ghost use Rattle.tb_debug.specs.Debuggers.{IsAtTime, IsOpening, KeepsRun, KeepsRunTyped, RewindsBy, GoesToTime, OnRun, begun_by};
+ghost use Rattle.tb_debug.specs.Debuggers.{GoesToTime, IsAtTime, IsOpening, IsShort, KeepsRun, KeepsRunTyped, OnRun};
+ghost use Rattle.tb_debug.specs.Debuggers.{RewindsBy, begun_by};
 
 use crate::breakpoints::StopPoints;
 use crate::history::{Checkpoint, History};
@@ -54,8 +53,9 @@ impl<'a> Debugger<'a> {
         let starts = Starts::new(alloc, program)?;
         let mut present = Moment::first(machine, rom);
         let first = Checkpoint::of(alloc, &present)?;
-        let history = History::new(alloc, first);
+        let mut history = History::new(alloc, first);
         present.to_next_start(&starts, MOST_OPENING)?;
+        history.keep(alloc, &present)?;
         Ok(Debugger {
             program,
             starts,
@@ -78,8 +78,7 @@ impl<'a> Debugger<'a> {
         ensures line { result ≡ line_at (starts_of self.now.program.now) self.now.present.machine.regs.pc }
         // If `compile` made the program, and the run is one from its start, the source goes on at that line after as many
         // lines as were begun, with what the machine holds.
-        ensures source { (source : Program) (seed : ℕ) (start : State) (rom : Rom) → Debugs source seed start rom self.now
-            → IfSome result (λ line. ShowsLine source seed start self.now line) }
+        ensures source { ShowsSource self.now result }
     {
         line_from(self.program, self.present.machine.regs().pc)
     }
@@ -173,6 +172,8 @@ impl<'a> Debugger<'a> {
         ensures run { OnOk result (KeepsRun self.old self.new) }
         ensures time { IfOk result (λ reached. IsAtTime time self.old.starts reached self.new.present) }
         ensures few { OnOk result (begun_by self.old ≤ time → begun_by self.new ≤ time) }
+        ensures begins { IfOk result (λ reached. (start : Point) → OnRun start self.old
+            → BeginsThere self.old.starts start reached self.old.present self.new.present) }
         ensures stands { IfOk result (λ reached. StandsBy self.old.starts reached self.new.present) }
         ensures limited { IfOk result (λ reached. IsLimited limit reached self.old.present self.new.present) }
         ensures shown { OnOk result (self.new.shown ≡ self.old.shown) }
@@ -197,6 +198,8 @@ impl<'a> Debugger<'a> {
         ensures time { IfOk result (λ reached. IsAtTime time self.old.starts reached self.new.present) }
         ensures back { IfOk result (λ reached. (start : Point) → start.begun ≡ 0 → OnRun start self.old
             → time < begun_by self.old → reached ≡ Line) }
+        // From the newest checkpoint it takes few events.
+        ensures short { OnOk result (IsShort time self.old self.new.present) }
         ensures stands { IfOk result (λ reached. StandsBy self.old.starts reached self.new.present) }
         ensures shown { OnOk result (self.new.shown ≡ self.old.shown) }
         ensures stops { OnOk result (self.new.stops ≡ self.old.stops) }
@@ -217,12 +220,14 @@ impl<'a> Debugger<'a> {
         ensures before { OnOk result ((time : ℕ) (start : Point) → IsUntil time self.old.history.later.items
             (vec_len self.old.history.later) index → start.begun ≡ 0 → OnRun start self.old
             → begun_by self.new ≤ time) }
+        ensures newest { OnOk result (index ≡ vec_len self.old.history.later
+            → self.new.present.events ≡ newest_events self.old.history.first self.old.history.later.items) }
     {
         let Some(checkpoint) = self.history.get(index) else {
             return Ok(());
         };
         let moment = checkpoint.again(alloc, self.present.machine.sent())?;
-        self.history.forget_after(moment.events);
+        self.history.forget_after(index);
         self.present = moment;
         Ok(())
     }
@@ -242,7 +247,7 @@ impl<'a> Debugger<'a> {
     }
 
     /// Runs on by `events` events.
-    pub fn step(&mut self, events: u64) -> Result<Reached, AllocError>
+    pub fn step(&mut self, alloc: Global, events: u64) -> Result<Reached, AllocError>
         ensures run { OnOk result (KeepsRun self.old self.new) }
         ensures steps { OnOk result (StepsBy events self.old.present self.new.present) }
         ensures stands { IfOk result (λ reached. reached ≡ standing_of self.old.starts self.new.present) }
@@ -250,6 +255,7 @@ impl<'a> Debugger<'a> {
         ensures stops { OnOk result (self.new.stops ≡ self.old.stops) }
     {
         self.present.step(&self.starts, events)?;
+        self.history.keep(alloc, &self.present)?;
         Ok(self.standing())
     }
 

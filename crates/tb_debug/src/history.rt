@@ -1,10 +1,10 @@
 //! The checkpoints of a run, from which it is run again.
 ghost use Rattle.std.specs.Prelude.{◌≡◌, ◌∷◌, ◌++◌, ◌+◌, ◌<◌, ◌≤◌, [], ℕ, List, Bool, IfOk, IfSome, IsSome, OnOk};
-ghost use Rattle.std.specs.Prelude.{IsTrue, ◌↔◌, length, slice_index_or, vec_len};
+ghost use Rattle.std.specs.Prelude.{IsTrue, ◌↔◌, length, slice_index_or, take, vec_len};
 ghost use Rattle.tb_debug.specs.declared.history.Checkpoint.{Checkpoint};
 ghost use Rattle.tb_debug.specs.Searching.{IsUntil};
 ghost use Rattle.tb_debug.specs.Runs.{Point, IsOfRun, IsFirst, IsCheckpoint, IsTyped, AreCheckpoints, AreTyped};
-ghost use Rattle.tb_debug.specs.Runs.{KeepsOneMore, WithoutOne, most_checkpoints, newest_events, spacing};
+ghost use Rattle.tb_debug.specs.Runs.{AreSpaced, KeepsOneMore, WithoutOne, most_checkpoints, newest_events, spacing};
 
 use crate::moment::Moment;
 use std::alloc::{AllocError, Global};
@@ -82,6 +82,7 @@ impl History {
             → AreCheckpoints marks start n self.now.later.items
             → IfSome result (λ k. IsCheckpoint marks start k.now × (k.now.moment.events ≤ n)) }
         ensures some { index < vec_len self.now.later + 1 → IsSome result }
+        ensures inside { IfSome result (λ k. index < vec_len self.now.later + 1) }
         ensures first { index ≡ 0 → IfSome result (λ k. k.now ≡ self.now.first) }
         ensures later { (n : ℕ) (d : Checkpoint) → index ≡ n + 1 → IfSome result (λ k. k.now ≡ slice_index_or self.now.later.items n d) }
     {
@@ -103,6 +104,10 @@ impl History {
         ensures others { OnOk result (newest_events self.old.first self.old.later.items + spacing ≤ moment.now.events
             → KeepsOneMore self.old.later.items self.new.later.items) }
         ensures few { length self.old.later.items < most_checkpoints → length self.new.later.items < most_checkpoints }
+        ensures spaced { OnOk result (AreSpaced (self.old.first ∷ self.old.later.items)
+            → AreSpaced (self.new.first ∷ self.new.later.items)) }
+        // The newest checkpoint is never far.
+        ensures near { OnOk result (moment.now.events < newest_events self.new.first self.new.later.items + spacing) }
     {
         if !self.is_due(moment.events) {
             return Ok(());
@@ -183,15 +188,12 @@ impl History {
         found
     }
 
-    /// Forgets all checkpoints after `events` events, but the first one.
-    pub fn forget_after(&mut self, events: u64)
+    /// Forgets all checkpoints after the one at an index.
+    pub fn forget_after(&mut self, index: usize)
         ensures first { self.new.first ≡ self.old.first }
-        ensures later { (marks : List Bool) (start : Point) (n : ℕ) → AreCheckpoints marks start n self.old.later.items
-            → AreCheckpoints marks start events self.new.later.items }
-        ensures few { length self.new.later.items ≤ length self.old.later.items }
+        ensures later { self.new.later.items ≡ take index self.old.later.items }
     {
-        self.later
-            .retain(|checkpoint| checkpoint.moment.events <= events);
+        self.later.truncate(index);
     }
 
     /// Adds bytes to the end of the keyboard's text in each checkpoint.

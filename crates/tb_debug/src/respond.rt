@@ -90,7 +90,7 @@ impl<'a> Debugger<'a> {
             Command::Continue => Ok(Some(self.continue_(alloc, limit)?)),
             Command::ReverseContinue => Ok(Some(self.reverse_continue(alloc)?)),
             Command::ToTime(time) => Ok(Some(self.to_time(alloc, time, limit)?)),
-            Command::Step(events) => Ok(Some(self.step(events)?)),
+            Command::Step(events) => Ok(Some(self.step(alloc, events)?)),
             Command::ToLine(line) => match self.program.start_of(line) {
                 Some(address) => Ok(Some(self.run_to_line(alloc, address, limit)?)),
                 None => Ok(None),

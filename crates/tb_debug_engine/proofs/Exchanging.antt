@@ -17,6 +17,7 @@ use Rattle.tb_engines.specs.declared.outcome.Outcome.TheVariants.{Ended, Refused
 use Rattle.tb_debug.specs.declared.answer.Answer.{Answer}
 use Rattle.tb_debug.specs.declared.debugger.Debugger.{Debugger}
 use Rattle.tb_debug_engine.specs.Dialogue.{Answers, Exchanges, Says, prompt}
+use Rattle.tb_debug_engine.specs.Streams.{Streams, Stream, Takes, Writes}
 use Rattle.tb_inspection.specs.Texts.{value_text}
 use Rattle.tb_debug_engine.specs.Sources.{shown_of}
 use Rattle.tb_debug_engine.specs.declared.dialogue.Setting.{Setting}
@@ -41,17 +42,25 @@ answered limit d e command taken told spelled run tells shown leaves =
     record { command = command; spelled = spelled; run = run; tells = tells; shown = shown; leaves = leaves }
 
 -- an answer that can't be told
-pub said_wrong : (w : Written) (setting : Setting) (d e : Debugger) (outcome : Outcome) (taken : List ℕ) (told : Answer) (had left old now new : Option (List ℕ))
-    (read read' wrote mid wrote' : ℕ) → TakesLine had taken left → Answers setting.limit d taken (Some told) e → read' ≡ read → Appends old now (prompt setting.prompts)
-    → mid ≡ wrote → Says (shown_of w told) (Err outcome) now new mid wrote'
-    → Exchanges w setting d (Err outcome) e had left read read' old new wrote wrote'
-said_wrong w setting d e WriteFault taken told had left old now new read read' wrote mid wrote' took answers same before same_count (part, other) =
-    (same, subst (λ x. wrote' ≢ x) same_count other, inr (told, (taken, took, answers), prefix_more (prompt setting.prompts) (shown_of w told) old now new before part))
-said_wrong w setting d e NoMemory taken told had left old now new read read' wrote mid wrote' took answers same before same_count (kept, count) =
-    (taken, taken_in_part had left taken took, Appends-kept old now new (prompt setting.prompts) before kept, same, count ∙ same_count)
-said_wrong w setting d e ReadFault taken told had left old now new read read' wrote mid wrote' took answers same before same_count h = absurd h
-said_wrong w setting d e (Ended end) taken told had left old now new read read' wrote mid wrote' took answers same before same_count h = absurd h
-said_wrong w setting d e (Refused why) taken told had left old now new read read' wrote mid wrote' took answers same before same_count h = absurd h
+pub said_wrong : (w : Written) (setting : Setting) (d e : Debugger) (outcome : Outcome) (taken : List ℕ) (told : Answer) (old new : Streams) (mid : Stream)
+    → Takes taken old.commands new.commands → Answers setting.limit d taken (Some told) e → Writes (prompt setting.prompts) old.answers mid
+    → Says (shown_of w told) (Err outcome) mid new.answers → Exchanges w setting d (Err outcome) e old new
+said_wrong w setting d e WriteFault taken told old new mid took answers (before, same) (part, other) =
+    inr (
+      told,
+      (taken, took, answers),
+      (
+        prefix_more (prompt setting.prompts) (shown_of w told) old.answers.bytes mid.bytes new.answers.bytes before part,
+        subst (λ x. new.answers.failures ≢ x) same other,
+      ),
+    )
+said_wrong w setting d e NoMemory taken told old new mid (took, sound) answers (before, same) (kept, count) = (
+  (taken, taken_in_part old.commands.bytes new.commands.bytes taken took, sound),
+  (Appends-kept old.answers.bytes mid.bytes new.answers.bytes (prompt setting.prompts) before kept, count ∙ same),
+)
+said_wrong w setting d e ReadFault taken told old new mid took answers before h = absurd h
+said_wrong w setting d e (Ended end) taken told old new mid took answers before h = absurd h
+said_wrong w setting d e (Refused why) taken told old new mid took answers before h = absurd h
 
 -- two bytes and a text after another one
 two_more : (before one two all rest : List ℕ) (x x' y : ℕ) → x ≡ x' → one ≡ before ++ x ∷ [] → two ≡ one ++ y ∷ [] → all ≡ two ++ rest

@@ -1,14 +1,15 @@
 -- The beginning of a dialogue.
-use Rattle.std.proofs.Common.{◌≡◌, ◌+◌, ◌≤◌, Bool, true, false, List, [], length, ℕ, Option, refl, sym, ap, subst, ◌∙◌}
+use Rattle.std.proofs.Common.{◌≡◌, ◌+◌, ◌≤◌, Bool, true, false, List, [], length, ℕ, refl, sym, ap, subst, ◌∙◌}
 use Rattle.std.specs.Prelude.{Result, Ok, Err}
 use Rattle.tb_memmap.specs.Regions.{BASIC_START}
 use Rattle.tb_kernal.specs.Machine.{Content, state_of, status}
+use Rattle.tb_kernal.specs.declared.machine.Keyboard.{Keyboard}
 use Rattle.tb_kernal.specs.declared.status.Status.{Status}
 use Rattle.tb_kernal.specs.declared.status.Status.TheVariants.{Returned, Running, Waits, Wrong}
 use Rattle.tb_prg.specs.Prg.{content_of}
 use Rattle.tb_opcodes.specs.Bytes.{AreBytes}
 use Rattle.tb_syntax.specs.Source.{Program}
-use Rattle.tb_simulation.specs.Kept.{Starts}
+use Rattle.tb_simulation.specs.Theorem.{Starts}
 use Rattle.tb_prg.specs.declared.PrgError.{PrgError}
 use Rattle.tb_engines.specs.Programs.{StartsContent, StartsPrg, start}
 use Rattle.tb_engines.specs.Delivery.{outcome_without}
@@ -32,6 +33,7 @@ use Rattle.tb_debug.specs.declared.rom.Rom.{Rom}
 use Rattle.tb_debug.specs.declared.debugger.Debugger.{Debugger}
 use Rattle.tb_debug_engine.specs.Dialogue.{Begins, IsBegun, IsFirst, Opens, Says}
 use Rattle.tb_debug_engine.specs.Sources.{shown_of}
+use Rattle.tb_debug_engine.specs.Streams.{Stream}
 use Rattle.tb_debug_engine.specs.declared.sources.Written.{Written}
 
 -- a program that `compile` made is loaded at $0801, below $A000
@@ -55,11 +57,12 @@ shows_so c text answers rom at bytes d content of on file keys polls source seed
       on = on;
     }
 
-module _ (program : Compiled) (text answers : List ℕ) (rom : Rom) where
+module _ (program : Compiled) (keyboard : Keyboard) (rom : Rom) where
   -- a debugger on the run of a program's file
   pub begun : (content : Result (ℕ × List ℕ) PrgError) (m : Content) (d : Debugger) → content_of (prg_of program) ≡ content
-      → StartsContent text answers content (Ok m) → d.program.now ≡ program → OnRun (first_point (state_of m) rom) d
-      → IsOpening (first_point (state_of m) rom) d → AreBytes (prg_of program) → AreBytes text → AreBytes answers → IsBegun program text answers rom d
+      → StartsContent keyboard.text.items keyboard.answers.items content (Ok m) → d.program.now ≡ program → OnRun (first_point (state_of m) rom) d
+      → IsOpening (first_point (state_of m) rom) d → AreBytes (prg_of program) → AreBytes keyboard.text.items
+      → AreBytes keyboard.answers.items → IsBegun program keyboard rom d
   begun (Err e) m d content none of on opens small keys polls = absurd none
   begun (Ok (at, bytes)) m d content (in_ram, machine) of on opens small keys polls =
       let here = subst (λ x. OnRun (first_point (state_of x) rom) d) machine on in
@@ -70,20 +73,20 @@ module _ (program : Compiled) (text answers : List ℕ) (rom : Rom) where
         content = content;
         on = here;
         opens = subst (λ x. IsOpening (first_point (state_of x) rom) d) machine opens;
-        shows = shows_so program text answers rom at bytes d content of here small keys polls;
+        shows = shows_so program keyboard.text.items keyboard.answers.items rom at bytes d content of here small keys polls;
       }
 
   -- a program that can't be loaded is none that `compile` made
-  pub not_begun : (stop : NoText) (outcome : Outcome) → outcome ≡ outcome_without stop → StartsPrg text answers (prg_of program) (Err stop)
-      → Begins program text answers rom (Err outcome)
-  not_begun stop outcome is unloadable = subst (λ o. Begins program text answers rom (Err o)) (sym is) (by stop unloadable)
+  pub not_begun : (stop : NoText) (outcome : Outcome) → outcome ≡ outcome_without stop → StartsPrg keyboard.text.items keyboard.answers.items (prg_of program) (Err stop)
+      → Begins program keyboard rom (Err outcome)
+  not_begun stop outcome is unloadable = subst (λ o. Begins program keyboard rom (Err o)) (sym is) (by stop unloadable)
     where
-      by : (stop : NoText) → StartsPrg text answers (prg_of program) (Err stop) → Begins program text answers rom (Err (outcome_without stop))
+      by : (stop : NoText) → StartsPrg keyboard.text.items keyboard.answers.items (prg_of program) (Err stop) → Begins program keyboard rom (Err (outcome_without stop))
       by (CantLoad why) unloadable = record {
         unloadable = unloadable;
         unmade = λ source seed made.
             let whole = loads source seed program made in
-            starts_loadable text answers program (Err (CantLoad why)) unloadable (whole.0, in_ram (length (loaded_of program)) whole.1);
+            starts_loadable keyboard.text.items keyboard.answers.items program (Err (CantLoad why)) unloadable (whole.0, in_ram (length (loaded_of program)) whole.1);
       }
       by NoMachine unloadable = tt
 
@@ -103,11 +106,11 @@ first_told d e told reached stands run stays stop =
     record { run = run; stays = ap (λ x. x.present) stays; stop = subst (λ b. TellsStop d.shown b e told) none stop }
 
 -- telling the first stop
-pub opened : (w : Written) (d e : Debugger) (told : Answer) (result : Result (Unit {0}) Outcome) (old new : Option (List ℕ)) (wrote wrote' : ℕ)
-    → IsFirst d told e → Says (shown_of w told) result old new wrote wrote' → Opens w d result e old new wrote wrote'
-opened w d e told (Ok done) old new wrote wrote' first (all, same) = (told, first, all, same)
-opened w d e told (Err WriteFault) old new wrote wrote' first (part, other) = (told, first, part, other)
-opened w d e told (Err NoMemory) old new wrote wrote' first said = said
-opened w d e told (Err ReadFault) old new wrote wrote' first h = absurd h
-opened w d e told (Err (Ended end)) old new wrote wrote' first h = absurd h
-opened w d e told (Err (Refused why)) old new wrote wrote' first h = absurd h
+pub opened : (w : Written) (d e : Debugger) (told : Answer) (result : Result (Unit {0}) Outcome) (old new : Stream) → IsFirst d told e
+    → Says (shown_of w told) result old new → Opens w d result e old new
+opened w d e told (Ok done) old new first said = (told, first, said)
+opened w d e told (Err WriteFault) old new first said = (told, first, said)
+opened w d e told (Err NoMemory) old new first said = said
+opened w d e told (Err ReadFault) old new first h = absurd h
+opened w d e told (Err (Ended end)) old new first h = absurd h
+opened w d e told (Err (Refused why)) old new first h = absurd h

@@ -1,5 +1,6 @@
 -- Lines of a source, as the debugger shows them.
-use Rattle.std.specs.Prelude.{ℕ, suc, ◌+◌, ◌-◌, ◌==◌, Bool, false, List, [], ◌∷◌, ◌++◌, codes, drop, flat_map, map, take, Option, Some, None, if◌then◌else◌}
+use Rattle.std.specs.Prelude.{ℕ, suc, ◌+◌, ◌-◌, ◌==◌, Bool, false, if◌then◌else◌}
+use Rattle.std.specs.Prelude.{List, [], ◌∷◌, ◌++◌, codes, drop, flat_map, map, take, Option, Some, None}
 use Rattle.tb_source_text.specs.Lines.{last_of}
 use Rattle.tb_source_text.specs.ShownBytes.{shown}
 

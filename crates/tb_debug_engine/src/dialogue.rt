@@ -5,6 +5,7 @@ ghost use Rattle.tb_streams.specs.Failures.{failures_of};
 ghost use Rattle.tb_streams.specs.Streams.{AppendsPrefix, counted};
 ghost use Rattle.tb_debug_engine.specs.Dialogue.{Asks, Begins, Debugs, Exchanges, Opens, Says, Talks, prompt};
 ghost use Rattle.tb_debug_engine.specs.Sources.{shown_of};
+ghost use Rattle.tb_debug_engine.specs.Streams.{stream_of, streams_of};
 
 use crate::sources::Written;
 use crate::texts::push_answer;
@@ -36,8 +37,7 @@ fn say<W: Write>(
     source: &Written<'_>,
     answer: Answer,
 ) -> Result<(), Outcome>
-    ensures { Says (shown_of source.now answer) result (W.contents writer.old.stream) (W.contents writer.new.stream)
-        (failures_of writer.old) (failures_of writer.new) }
+    ensures { Says (shown_of source.now answer) result (stream_of W.contents writer.old) (stream_of W.contents writer.new) }
 {
     let mut text = Vec::new(alloc);
     if push_answer(alloc, &mut text, source, answer).is_err() {
@@ -70,8 +70,7 @@ fn ask<R: Read, W: Write>(
     writer: &mut Tracked<W>,
 ) -> Result<Option<Vec<u8>>, Outcome>
     ensures { Asks prompts result
-        (R.remaining commands.old.stream) (R.remaining commands.new.stream) (failures_of commands.old) (failures_of commands.new)
-        (W.contents writer.old.stream) (W.contents writer.new.stream) (failures_of writer.old) (failures_of writer.new) }
+        (streams_of R.remaining commands.old W.contents writer.old) (streams_of R.remaining commands.new W.contents writer.new) }
 {
     if prompt(writer, prompts).is_err() {
         return Err(Outcome::WriteFault);
@@ -92,8 +91,7 @@ fn answer_line<R: Read, W: Write>(
     writer: &mut Tracked<W>,
 ) -> Result<bool, Outcome>
     ensures { Exchanges source.now setting debugger.old result debugger.new
-        (R.remaining commands.old.stream) (R.remaining commands.new.stream) (failures_of commands.old) (failures_of commands.new)
-        (W.contents writer.old.stream) (W.contents writer.new.stream) (failures_of writer.old) (failures_of writer.new) }
+        (streams_of R.remaining commands.old W.contents writer.old) (streams_of R.remaining commands.new W.contents writer.new) }
 {
     let line = match ask(alloc, setting.prompts, commands, writer) {
         Ok(Some(line)) => line,
@@ -121,8 +119,7 @@ fn answer_lines<R: Read, W: Write>(
     writer: &mut Tracked<W>,
 ) -> Outcome
     ensures { Talks source.now setting debugger.old result
-        (R.remaining commands.old.stream) (R.remaining commands.new.stream) (failures_of commands.old) (failures_of commands.new)
-        (W.contents writer.old.stream) (W.contents writer.new.stream) (failures_of writer.old) (failures_of writer.new) }
+        (streams_of R.remaining commands.old W.contents writer.old) (streams_of R.remaining commands.new W.contents writer.new) }
 {
     for asked in 0..u64::MAX {
         match answer_line(alloc, debugger, source, setting, commands, writer) {
@@ -141,7 +138,7 @@ fn debugger_of<'a>(
     keyboard: Keyboard,
     rom: Rom,
 ) -> Result<Debugger<'a>, Outcome>
-    ensures { Begins source.now.program keyboard.text.items keyboard.answers.items rom result }
+    ensures { Begins source.now.program keyboard rom result }
 {
     are_bytes(source.program.prg());
     are_bytes(keyboard.text.as_slice());
@@ -163,8 +160,7 @@ fn open<W: Write>(
     source: &Written<'_>,
     writer: &mut Tracked<W>,
 ) -> Result<(), Outcome>
-    ensures { Opens source.now debugger.old result debugger.new (W.contents writer.old.stream) (W.contents writer.new.stream)
-        (failures_of writer.old) (failures_of writer.new) }
+    ensures { Opens source.now debugger.old result debugger.new (stream_of W.contents writer.old) (stream_of W.contents writer.new) }
 {
     match debugger.stop(alloc, debugger.standing()) {
         Ok(first) => say(alloc, writer, source, first),
@@ -182,9 +178,8 @@ pub fn debug<R: Read, W: Write>(
     commands: &mut Tracked<R>,
     writer: &mut Tracked<W>,
 ) -> Outcome
-    ensures { Debugs source.now keyboard.text.items keyboard.answers.items setting result
-        (R.remaining commands.old.stream) (R.remaining commands.new.stream) (failures_of commands.old) (failures_of commands.new)
-        (W.contents writer.old.stream) (W.contents writer.new.stream) (failures_of writer.old) (failures_of writer.new) }
+    ensures { Debugs source.now keyboard setting result
+        (streams_of R.remaining commands.old W.contents writer.old) (streams_of R.remaining commands.new W.contents writer.new) }
 {
     let Ok(written) = Written::new(alloc, source) else {
         return Outcome::NoMemory;

@@ -2,6 +2,7 @@
 ghost use Rattle.std.specs.Prelude.{◌≡◌, ◌+◌, ◌<◌, ◌≤◌, map};
 ghost use Rattle.tb_memmap.specs.Bytes.{at};
 ghost use Rattle.tb_cpu.specs.Operands.{word_from, word_in};
+ghost use Rattle.tb_words.specs.declared.TheConstants.{LETTERS};
 ghost use Rattle.tb_words.specs.Letters.{letter_index};
 ghost use Rattle.tb_words.specs.Words.{word_of};
 ghost use Rattle.tb_meaning.specs.Control.{deepest};
@@ -10,10 +11,10 @@ ghost use Rattle.tb_inspection.specs.Readings.{return_in, value_in, values_in, v
 
 use tb_memmap::Memory;
 use tb_runtime16::{NOTES, RETURN_HIGH, RETURN_LOW, VARS};
-use tb_words::Letter;
+use tb_words::{LETTERS, Letter};
 
 /// The values of A to Z.
-pub type Variables = [i16; 26];
+pub type Variables = [i16; LETTERS];
 
 // The byte at an address among a program's data.
 fn byte(memory: &Memory, address: u16) -> u8
@@ -43,7 +44,7 @@ fn word(memory: &Memory, address: u16) -> u16
 
 // The value of the variable at an index in the alphabet.
 fn value(memory: &Memory, index: usize) -> i16
-    requires { index < 26 }
+    requires { index < LETTERS }
     ensures word { word_of result ≡ variable_in (at memory.now) index }
     ensures value { result ≡ value_in (at memory.now) index }
 {
@@ -63,8 +64,8 @@ pub fn variables(memory: &Memory) -> Variables
     ensures words { map word_of result ≡ variables_in (at memory.now) }
     ensures values { result ≡ values_in (at memory.now) }
 {
-    let mut values = [0; 26];
-    for index in 0..26 {
+    let mut values = [0; LETTERS];
+    for index in 0..LETTERS {
         values[index] = value(memory, index);
     }
     values

@@ -9,11 +9,11 @@ use Rattle.tb_debug_engine.proofs.dialogue.debugger_of.Goals as goal
 pub returns-in-Ok-new : goal.returns-in-Ok-new
 returns-in-Ok-new c =
     let program = c.args.source.now.program in
-    begun program c.args.keyboard.text.items c.args.keyboard.answers.items c.args.rom (content_of (prg_of program)) c.in-Ok.machine c.in-Ok-new.debugger refl
+    begun program c.args.keyboard c.args.rom (content_of (prg_of program)) c.in-Ok.machine c.in-Ok-new.debugger refl
     c.in-Ok.ensures.prg c.in-Ok-new.ensures.run.0 c.in-Ok-new.ensures.run.1 c.in-Ok-new.ensures.opens (subst AreBytes c.prg.ensures c.are_bytes.ensures)
     (subst AreBytes c.as_slice.ensures.value c.are_bytes-2.ensures) (subst AreBytes c.as_slice-2.ensures.value c.are_bytes-3.ensures)
 
 pub returns-in-Err : goal.returns-in-Err
 returns-in-Err c =
-    not_begun c.args.source.now.program c.args.keyboard.text.items c.args.keyboard.answers.items c.args.rom c.in-Err.stop c.without_text.result
+    not_begun c.args.source.now.program c.args.keyboard c.args.rom c.in-Err.stop c.without_text.result
     c.without_text.ensures c.in-Err.ensures.prg

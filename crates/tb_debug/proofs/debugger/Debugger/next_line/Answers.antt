@@ -1,7 +1,6 @@
 -- The goals of `Debugger::next_line` in src/debugger.rt.
-use Rattle.std.proofs.Common.{refl, sym, subst}
-use Rattle.tb_debug.specs.Runs.{IsFirst}
-use Rattle.tb_debug.proofs.Keeping.{kept_later}
+use Rattle.std.proofs.Common.{refl}
+use Rattle.tb_debug.proofs.Spacing.{kept_on}
 use Rattle.tb_debug.proofs.debugger.Debugger.next_line.Goals as goal
 
 pub returns-in_ok-keep-clause-run : goal.returns-in_ok-keep-clause-run
@@ -9,14 +8,7 @@ returns-in_ok-keep-clause-run c = (
   refl,
   refl,
   λ start h.
-      let marks = c.args.self.now.starts in
-      let on = c.in_ok-reached.ensures.run in
-      let now = on.on start h.of_run in
-      record {
-        marked = h.marked;
-        of_run = now;
-        of_first = subst (IsFirst marks start) (sym c.in_ok-keep.ensures.first) h.of_first;
-        of_past = c.in_ok-keep.ensures.later marks start now (kept_later marks start _ _ _ on.later h.of_past);
-        few = c.in_ok-keep.ensures.few h.few;
-      },
+      let kept = c.in_ok-keep.ensures in
+      kept_on c.args.self.now.program.now start c.args.self.now.starts c.args.self.now.history c.keep.new.self c.args.self.now.present
+      c.to_next_start.new.self c.in_ok-reached.ensures.run kept.first kept.later kept.few kept.spaced kept.near h,
 )

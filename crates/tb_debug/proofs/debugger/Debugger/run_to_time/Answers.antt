@@ -2,7 +2,7 @@
 use Rattle.std.proofs.Common.{◌∙◌, subst, sym}
 use Rattle.tb_debug.specs.Begins.{StandsBy}
 use Rattle.tb_debug.specs.Runs.{is_marked}
-use Rattle.tb_debug.proofs.Leading.{no_time, time_more}
+use Rattle.tb_debug.proofs.Leading.{no_line, no_time, time_more}
 use Rattle.tb_debug.proofs.Stopping.{last_is, limited_on, then_keeps}
 use Rattle.tb_debug.proofs.debugger.Debugger.run_to_time.Goals as goal
 
@@ -20,6 +20,7 @@ returns-in_default c =
       time = no_time c.args.time d.starts reached e.present f.present c.in_default.not-Line next.advances;
       few = λ before.
           time_more c.args.time e.present.begun f.present.begun (is_marked e.starts e.present.machine.regs.pc) off (known.before before) next.begun;
+      begins = λ start on. no_line d.starts start reached d.present f.present c.in_default.not-Line;
       stands = subst (λ marks. StandsBy marks reached f.present) known.run.1 next.stands;
       limited = limited_on c.args.limit c.saturating_add-last.result c.left.result reached d.present e.present f.present next.limited c.left.ensures known.few
           (last_is d.present.events c.args.limit _ c.saturating_add-last.ensures);

@@ -1,7 +1,8 @@
 -- The goals of `Debugger::type_text` in src/debugger.rt.
 use Rattle.std.proofs.Common.{refl, sym, subst, ◌∙◌, arith}
 use Rattle.tb_debug.specs.Runs.{AreCheckpoints, typed}
-use Rattle.tb_debug.proofs.Typing.{typed_all, typed_checkpoint, typed_moment}
+use Rattle.tb_debug.proofs.Spacing.{newest_typed, spaced_typed}
+use Rattle.tb_debug.proofs.Typing.{near_typed, typed_all, typed_checkpoint, typed_moment}
 use Rattle.tb_debug.proofs.debugger.Debugger.type_text.Goals as goal
 
 pub returns-clause-run : goal.returns-clause-run
@@ -22,5 +23,8 @@ returns-clause-run c = (
         of_past = subst (λ n. AreCheckpoints marks (typed more start) n c.type_text-2.new.self.later.items) (sym now.events)
             (typed_all marks start more c.args.self.now.present.events c.args.self.now.history.later.items c.type_text-2.new.self.later.items h.of_run.ran c.in_ok-type_text-2.ensures.later h.of_past);
         few = omega (arith, c.in_ok-type_text-2.ensures.later.many, h.few);
+        spaced = spaced_typed more _ _ _ _ c.in_ok-type_text-2.ensures.first c.in_ok-type_text-2.ensures.later h.spaced;
+        near = near_typed marks start more _ _ _ _ h.of_run.ran
+            (newest_typed more _ _ _ _ c.in_ok-type_text-2.ensures.first c.in_ok-type_text-2.ensures.later) now.events h.near;
       },
 )
