@@ -5,7 +5,7 @@ ghost use Rattle.tb_templates.specs.Labels.{label_of};
 use tb_asm::Name;
 use tb_templates::{Target, label};
 
-/// The label of a target.
+/// Calls `label`.
 pub fn label_alone(target: Target) -> Name
     ensures { result ≡ label_of target }
 {

@@ -1,10 +1,8 @@
-//! The compiler's theorems alone. `lower` and `compile` promise the exact lists and the exact bytes as well as the
-//! theorem, and a wrong body is already refused for these. Here only the theorem is asked for, so it can be seen to
-//! refuse. `label` is here for the same reason: what refuses a wrong one is its promise alone. Of `compile` and
-//! `line_at` there are the clauses that their wrong bodies are tried on.
+//! What `compile` answers, `line_at` and the labels of generated code, restated as in `tb_gate_parts`: functions that hand
+//! a call on, each with the call's clauses, so that what refuses a wrong body is the promise and no body's proof. The
+//! theorems stand once more by themselves. `compile` promises the exact bytes as well, and these alone would refuse any
+//! other program; here it is seen that the theorems refuse one too.
 #![tactic(auto)]
 
-mod image;
 mod labels;
-mod lists;
 mod sources;

@@ -1,6 +1,6 @@
 //! The dialogue.
-ghost use Rattle.tb_streams.specs.Failures.{failures_of};
 ghost use Rattle.tb_debug_engine.specs.Dialogue.{Debugs};
+ghost use Rattle.tb_debug_engine.specs.Streams.{streams_of};
 
 use std::alloc::Global;
 use std::io::{Read, Write};
@@ -19,9 +19,8 @@ pub fn debugged<R: Read, W: Write>(
     commands: &mut Tracked<R>,
     writer: &mut Tracked<W>,
 ) -> Outcome
-    ensures { Debugs source.now keyboard.text.items keyboard.answers.items setting result
-        (R.remaining commands.old.stream) (R.remaining commands.new.stream) (failures_of commands.old) (failures_of commands.new)
-        (W.contents writer.old.stream) (W.contents writer.new.stream) (failures_of writer.old) (failures_of writer.new) }
+    ensures { Debugs source.now keyboard setting result
+        (streams_of R.remaining commands.old W.contents writer.old) (streams_of R.remaining commands.new W.contents writer.new) }
 {
     debug(alloc, source, keyboard, setting, commands, writer)
 }

@@ -1,7 +1,6 @@
 //! What the debugger and its parts promise, and the copies of machine and memory that it works on, once more and in one
-//! place: functions that only hand a call on, each with clauses of the call's contract, mostly those that wrong bodies
-//! are tried on. The call may promise more, as each walk does of what was shown, and a few functions here have no wrong
-//! body.
+//! place: functions that only hand a call on, each with all clauses of the call's contract. A few functions here have no
+//! wrong body.
 //!
 //! As in `tb_gate_parts`, the wrong bodies are in `must-fail/`, and no proof of the debugger counts here: what refuses
 //! them is the promise alone.

@@ -1,16 +1,15 @@
 //! Going on and back along a run.
-ghost use Rattle.std.specs.Prelude.{◌≡◌, ℕ, IfOk, IfSome, OnOk};
-ghost use Rattle.tb_kernal.specs.Machine.{State};
-ghost use Rattle.tb_syntax.specs.Source.{Program};
+ghost use Rattle.std.specs.Prelude.{◌≡◌, IfOk, OnOk};
+ghost use Rattle.tb_codegen.specs.Compiled.{starts_of};
 ghost use Rattle.tb_debug.specs.Debuggers.{KeepsRun, KeepsRunTyped, RewindsBy, GoesToTime, Responds};
 ghost use Rattle.tb_debug.specs.Begins.{StandsBy};
 ghost use Rattle.tb_debug.specs.Kinds.{IsWalk};
 ghost use Rattle.tb_debug.specs.Leading.{ReverseContinues, RunsUntil};
 ghost use Rattle.tb_debug.specs.Leaving.{Leaves};
 ghost use Rattle.tb_debug.specs.declared.searching.Destination.TheVariants as destination;
-ghost use Rattle.tb_debug.specs.Sources.{Debugs, ShowsLine};
+ghost use Rattle.tb_debug.specs.Lines.{line_at};
+ghost use Rattle.tb_debug.specs.Sources.{ShowsSource};
 ghost use Rattle.tb_debug.specs.Telling.{Tells};
-ghost use Rattle.tb_debug.specs.declared.rom.Rom.{Rom};
 
 use std::alloc::{AllocError, Global};
 use tb_debug::{Answer, Command, Debugger, Reached};
@@ -24,6 +23,7 @@ pub fn gone_on(
     ensures run { OnOk result (KeepsRun debugger.old debugger.new) }
     ensures stop { IfOk result (λ reached. RunsUntil destination.Stop limit debugger.old reached debugger.new.present) }
     ensures stands { IfOk result (λ reached. StandsBy debugger.old.starts reached debugger.new.present) }
+    ensures shown { OnOk result (debugger.new.shown ≡ debugger.old.shown) }
     ensures stops { OnOk result (debugger.new.stops ≡ debugger.old.stops) }
 {
     debugger.continue_(alloc, limit)
@@ -34,6 +34,7 @@ pub fn gone_back(debugger: &mut Debugger<'_>, alloc: Global) -> Result<Reached, 
     ensures run { OnOk result (KeepsRun debugger.old debugger.new) }
     ensures stop { IfOk result (λ reached. ReverseContinues debugger.old reached debugger.new.present) }
     ensures stands { IfOk result (λ reached. StandsBy debugger.old.starts reached debugger.new.present) }
+    ensures shown { OnOk result (debugger.new.shown ≡ debugger.old.shown) }
     ensures stops { OnOk result (debugger.new.stops ≡ debugger.old.stops) }
 {
     debugger.reverse_continue(alloc)
@@ -49,6 +50,7 @@ pub fn gone_to(
     ensures run { OnOk result (KeepsRun debugger.old debugger.new) }
     ensures time { IfOk result (λ reached. GoesToTime time limit debugger.old reached debugger.new.present) }
     ensures stands { IfOk result (λ reached. StandsBy debugger.old.starts reached debugger.new.present) }
+    ensures shown { OnOk result (debugger.new.shown ≡ debugger.old.shown) }
     ensures stops { OnOk result (debugger.new.stops ≡ debugger.old.stops) }
 {
     debugger.to_time(alloc, time, limit)
@@ -63,6 +65,7 @@ pub fn stepped_back(
     ensures run { OnOk result (KeepsRun debugger.old debugger.new) }
     ensures lines { IfOk result (λ reached. RewindsBy lines debugger.old reached debugger.new.present) }
     ensures stands { IfOk result (λ reached. StandsBy debugger.old.starts reached debugger.new.present) }
+    ensures shown { OnOk result (debugger.new.shown ≡ debugger.old.shown) }
     ensures stops { OnOk result (debugger.new.stops ≡ debugger.old.stops) }
 {
     debugger.previous(alloc, lines)
@@ -70,8 +73,8 @@ pub fn stepped_back(
 
 /// Calls `Debugger::line_here`.
 pub fn line_begun(debugger: &Debugger<'_>) -> Option<u16>
-    ensures { (source : Program) (seed : ℕ) (start : State) (rom : Rom) → Debugs source seed start rom debugger.now
-        → IfSome result (λ line. ShowsLine source seed start debugger.now line) }
+    ensures line { result ≡ line_at (starts_of debugger.now.program.now) debugger.now.present.machine.regs.pc }
+    ensures source { ShowsSource debugger.now result }
 {
     debugger.line_here()
 }

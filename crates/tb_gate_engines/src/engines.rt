@@ -1,15 +1,16 @@
 //! Running, assembling and listing.
-ghost use Rattle.std.specs.Prelude.{◌≡◌, ◌+◌};
-ghost use Rattle.tb_streams.specs.Streams.{most_input, ConsumesAtMost};
-ghost use Rattle.tb_streams.specs.Failures.{failures_of};
-ghost use Rattle.tb_engines.specs.Assembly.{ListsPrg};
+ghost use Rattle.std.specs.Prelude.{◌≡◌};
+ghost use Rattle.tb_streams.specs.Uses.{use_of, TakesInput};
+ghost use Rattle.tb_engines.specs.Assembly.{Assembles, ListsPrg};
 ghost use Rattle.tb_engines.specs.Delivery.{Makes, Shows, DeliveryFaults, outcome_without};
-ghost use Rattle.tb_engines.specs.Outcomes.{Answers, Faults, MadeFrom};
-ghost use Rattle.tb_engines.specs.Programs.{RunsPrg, StartsPrg};
+ghost use Rattle.tb_engines.specs.Outcomes.{Answers, AnswersInput, Faults};
+ghost use Rattle.tb_engines.specs.Programs.{settings_of, RunsPrg, StartsPrg};
 
 use std::alloc::Global;
 use std::io::{Read, Write};
-use tb_engines::{NoText, Outcome, Text, deliver, dis_text, run_file, start_file, without_text};
+use tb_engines::{
+    NoText, Outcome, Text, asm_text, deliver, dis_text, run_file, run_prg, start_file, without_text,
+};
 use tb_kernal::{Keyboard, Machine, Outside};
 use tb_streams::Tracked;
 
@@ -17,7 +18,7 @@ use tb_streams::Tracked;
 pub fn delivered<W: Write>(writer: &mut Tracked<W>, made: Result<Text, NoText>) -> Outcome
     ensures answers { Answers (Shows made) result
         (W.contents writer.old.stream) (W.contents writer.new.stream) }
-    ensures faults { DeliveryFaults result (failures_of writer.old) (failures_of writer.new) }
+    ensures faults { DeliveryFaults result (use_of W.contents writer.old writer.new) }
 {
     deliver(writer, made)
 }
@@ -44,8 +45,7 @@ pub fn run_of_file<O: Outside>(
     limit: u64,
     outside: &mut O,
 ) -> Result<Text, NoText>
-    ensures { Makes (RunsPrg O.gives outside.old keyboard.text.items keyboard.answers.items limit
-        file.now) result }
+    ensures { Makes (RunsPrg (settings_of O.gives outside.old keyboard limit) file.now) result }
 {
     run_file(alloc, file, keyboard, limit, outside)
 }
@@ -56,13 +56,42 @@ pub fn listed_file<R: Read, W: Write>(
     reader: &mut Tracked<R>,
     writer: &mut Tracked<W>,
 ) -> Outcome
-    ensures answers { Answers (MadeFrom (R.remaining reader.old.stream) ListsPrg) result
-        (W.contents writer.old.stream) (W.contents writer.new.stream) }
-    ensures faults { Faults result (R.remaining reader.old.stream)
-        (failures_of reader.old) (failures_of reader.new)
-        (failures_of writer.old) (failures_of writer.new) }
-    ensures taken { ConsumesAtMost (R.remaining reader.old.stream) (R.remaining reader.new.stream)
-        (most_input + 1) }
+    ensures answers { AnswersInput ListsPrg result
+        (use_of R.remaining reader.old reader.new) (use_of W.contents writer.old writer.new) }
+    ensures faults { Faults result (use_of R.remaining reader.old reader.new) (use_of W.contents writer.old writer.new) }
+    ensures taken { TakesInput (use_of R.remaining reader.old reader.new) }
 {
     dis_text(alloc, reader, writer)
+}
+
+/// Calls `asm_text`.
+pub fn assembled_text<R: Read, W: Write>(
+    alloc: Global,
+    reader: &mut Tracked<R>,
+    writer: &mut Tracked<W>,
+    at: u16,
+) -> Outcome
+    ensures answers { AnswersInput (Assembles at) result
+        (use_of R.remaining reader.old reader.new) (use_of W.contents writer.old writer.new) }
+    ensures faults { Faults result (use_of R.remaining reader.old reader.new) (use_of W.contents writer.old writer.new) }
+    ensures taken { TakesInput (use_of R.remaining reader.old reader.new) }
+{
+    asm_text(alloc, reader, writer, at)
+}
+
+/// Calls `run_prg`.
+pub fn run_of_prg<R: Read, W: Write, O: Outside>(
+    alloc: Global,
+    reader: &mut Tracked<R>,
+    writer: &mut Tracked<W>,
+    keyboard: Keyboard,
+    limit: u64,
+    outside: &mut O,
+) -> Outcome
+    ensures answers { AnswersInput (RunsPrg (settings_of O.gives outside.old keyboard limit)) result
+        (use_of R.remaining reader.old reader.new) (use_of W.contents writer.old writer.new) }
+    ensures faults { Faults result (use_of R.remaining reader.old reader.new) (use_of W.contents writer.old writer.new) }
+    ensures taken { TakesInput (use_of R.remaining reader.old reader.new) }
+{
+    run_prg(alloc, reader, writer, keyboard, limit, outside)
 }

@@ -1,6 +1,5 @@
-//! What readers and writers, files for disks and the engines that compile nothing promise, once more and in one place:
-//! functions that only hand a call on, each with the clauses of the call's contract that wrong bodies are tried on. The
-//! call may promise more.
+//! What readers and writers, PRG files, files for disks and the engines that compile nothing promise, once more and in
+//! one place: functions that only hand a call on, each with the call's contract.
 //!
 //! As in `tb_gate_parts`, the wrong bodies are in `must-fail/`, and no proof of the engines counts here: what refuses
 //! them is the promise alone.
@@ -9,4 +8,5 @@
 mod disks;
 mod engines;
 mod play;
+mod prg;
 mod streams;

@@ -1,22 +1,24 @@
 //! Sources as programs.
-ghost use Rattle.std.specs.Prelude.{◌≡◌, ◌<◌, ℕ, Option, Result, IfOk, [], length};
-ghost use Rattle.tb_syntax.specs.Source.{Statement as SourceStatement, Expression};
+ghost use Rattle.std.specs.Prelude.{◌≡◌, ◌<◌, ℕ, Option, Result, IfOk, IfErr, OnOk, [], length};
+ghost use Rattle.tb_syntax.specs.Source.{Statement as SourceStatement, Expression, Rises, numbers};
 ghost use Rattle.tb_syntax.specs.PlainData.{statement_of, expression_of, lines_of};
 ghost use Rattle.tb_grammar.specs.Grammar.{Whole, Reads};
 ghost use Rattle.tb_grammar.specs.Statements.{States};
 ghost use Rattle.tb_grammar.specs.ReadValues as shown;
 ghost use Rattle.tb_grammar.specs.StatementReading.{spelled};
-ghost use Rattle.tb_parser.specs.Answers.{Answers, InLineOne};
-ghost use Rattle.tb_parser.specs.Files.{FileRefusal, LinesAre, Outcome};
+ghost use Rattle.tb_parser.specs.declared.errors.SourceErrorKind.TheVariants.{NoMemory};
+ghost use Rattle.tb_parser.specs.Answers.{edit_of, Answers, InLineOne};
+ghost use Rattle.tb_parser.specs.Files.{AreStated, FileRefusal, LinesAre, Outcome, edited};
 ghost use Rattle.tb_parser.specs.Lines.{lines_of_file};
 ghost use Rattle.tb_parser.specs.Readings.{ExpressionIs};
+ghost use Rattle.tb_parser.specs.Refusals.{out_of_memory};
 ghost use Rattle.tb_parser.specs.Tokens.{AreTokens};
 
 use std::alloc::{AllocError, Global};
 use tb_grammar::{
     Keyword, ReadError, ReadExpression, ReadStatement, read_expression, read_statement,
 };
-use tb_parser::{Expr, Program, SourceError, Token, parse, parse_expr, tokens};
+use tb_parser::{Expr, LineEdit, Program, SourceError, Token, apply, parse, parse_expr, tokens};
 
 /// Calls `Keyword::spelling`.
 pub fn spelling_of(keyword: Keyword) -> &'static str
@@ -51,11 +53,22 @@ pub fn tokens_of(alloc: Global, line: &[u8]) -> Result<Vec<Token<'_>>, AllocErro
     tokens(alloc, line)
 }
 
+/// Calls `apply`.
+pub fn edit_applied(program: &mut Program, edit: LineEdit) -> Result<(), SourceError>
+    ensures ok { OnOk result (lines_of program.new ≡ edited (edit_of edit) (lines_of program.old)) }
+    ensures err { IfErr result (λ e. e ≡ out_of_memory) }
+{
+    apply(program, edit)
+}
+
 /// Calls `parse`.
 pub fn parsed(alloc: Global, source: &[u8]) -> Result<Program, SourceError>
     ensures found { Answers lines_of result (LinesAre 1 [] (lines_of_file source.now)) }
+    ensures rising { IfOk result (λ p. Rises 1 32768 (numbers (lines_of p))) }
+    ensures stated { IfOk result (λ p. AreStated (lines_of p)) }
     ensures only { (outcome : Outcome) → LinesAre 1 [] (lines_of_file source.now) outcome
         → Answers lines_of result (λ said. said ≡ outcome) }
+    ensures memory { IfErr result (λ e. e.kind ≡ NoMemory → e ≡ out_of_memory) }
 {
     parse(alloc, source)
 }
@@ -65,6 +78,7 @@ pub fn parsed_expression(alloc: Global, text: &[u8]) -> Result<Expr, SourceError
     ensures found { Answers expression_of result (InLineOne (ExpressionIs text.now)) }
     ensures only { (outcome : Result Expression FileRefusal) → InLineOne (ExpressionIs text.now) outcome
         → Answers expression_of result (λ said. said ≡ outcome) }
+    ensures memory { IfErr result (λ e. e.kind ≡ NoMemory → e ≡ out_of_memory) }
 {
     parse_expr(alloc, text)
 }

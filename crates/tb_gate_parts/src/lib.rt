@@ -1,13 +1,15 @@
-//! What the lower layers promise, once more and in one place: functions that only hand a call on, each with clauses of
-//! the call's contract. These are the clauses that wrong bodies are tried on; the call may promise more.
+//! What the lower layers promise, once more and in one place: functions that only hand a call on, each with the clauses
+//! of the call's contract. If a call comes to promise less, the function here is no longer proved.
 //!
-//! If a call comes to promise less than these clauses, the function here is no longer proved. The wrong bodies are in
-//! `must-fail/`: what refuses them is the promise alone, and not one body's proof.
+//! The wrong bodies are in `must-fail/`: what refuses them is the promise alone, and not one body's proof. Next to each
+//! is a control in `controls/`: it changes the same line and means the same as before, and it is proved.
 #![tactic(auto)]
 
 mod assembler;
 mod cycles;
 mod language;
+mod listing;
+mod lists;
 mod machine;
 mod meaning;
 mod memory;

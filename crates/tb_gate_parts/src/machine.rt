@@ -27,8 +27,8 @@ pub fn machine_entered(
         × (m ≡ entered memory regs keyboard.text.items keyboard.answers.items)) }
     ensures refused { IfErr result (λ e. entry_refusal (at memory) regs ≡ Some e.kind) }
     ensures handed_back { IfErr result (λ e. (e.memory ≡ memory) × (e.keyboard ≡ keyboard)) }
-    ensures start { IfOk result (λ m. (place : ℕ) (bytes : List ℕ) → LieAt place bytes (at memory)
-        → HoldsBytes (at memory) → regs.pc ≡ CODE_START → IsStart place bytes (state_of m)) }
+    ensures start { IfOk result (λ m. (base : ℕ) (bytes : List ℕ) → LieAt base bytes (at memory)
+        → HoldsBytes (at memory) → regs.pc ≡ CODE_START → IsStart base bytes (state_of m)) }
 {
     Machine::enter(alloc, memory, regs, keyboard)
 }

@@ -1,18 +1,14 @@
-//! What a program means, and its slot code.
-ghost use Rattle.std.specs.Prelude.{◌≡◌, IfOk, IfErr, map};
+//! What a program means.
+ghost use Rattle.std.specs.Prelude.{◌≡◌, IfOk, map};
 ghost use Rattle.tb_words.specs.Words.{word_of};
 ghost use Rattle.tb_syntax.specs.PlainData as shown;
 ghost use Rattle.tb_meaning.specs.Evaluation.{IsEvaluation};
 ghost use Rattle.tb_meaning.specs.Interpreted.{IsRun};
-ghost use Rattle.tb_lower.specs.Lowered.{program_code};
 ghost use Rattle.tb_meaning.specs.Meaning.{source_run};
 ghost use Rattle.tb_meaning.specs.Missing.{missing_targets};
 ghost use Rattle.tb_meaning.specs.Parts.{place_of};
-ghost use Rattle.tb_lower.specs.Refusals.{IsRefusal};
-ghost use Rattle.tb_lower.specs.PlainData.{code_of};
 
 use std::alloc::{AllocError, Global};
-use tb_lower::{LowerError, SlotCode, lower};
 use tb_meaning::{EvalError, SourceRun, Warning, eval, run_source, warnings};
 use tb_syntax::{Expr, Program};
 
@@ -43,12 +39,4 @@ pub fn run_of(
         run.end run.sent.items (place_of run.place) run.variables) }
 {
     run_source(alloc, program, seed, text, answers, limit)
-}
-
-/// Calls `lower`.
-pub fn lowered(alloc: Global, program: &Program) -> Result<SlotCode, LowerError>
-    ensures lowered { IfOk result (λ code. code_of code ≡ program_code (shown.lines_of program.now)) }
-    ensures refused { IfErr result (λ e. IsRefusal (shown.lines_of program.now) e) }
-{
-    lower(alloc, program)
 }

@@ -1,5 +1,6 @@
 //! Words and letters.
 ghost use Rattle.std.specs.Prelude.{◌≡◌, ◌≢◌, ℕ, MatchOption, [], ◌<◌, ℤ, pos, ◌-ℤ◌, IsTrue, ◌↔◌};
+ghost use Rattle.tb_words.specs.declared.TheConstants.{LETTERS};
 ghost use Rattle.tb_words.specs.Signed.{wrapped, IsDivision, Holds};
 ghost use Rattle.tb_words.specs.Words.{word_of, negated, quotient};
 ghost use Rattle.tb_words.specs.Words.{holds as holds_on};
@@ -36,7 +37,7 @@ pub fn are_related(rel: Rel, a: i16, b: i16) -> bool
 
 /// Calls `Letter::read`.
 pub fn letter_of(byte: u8) -> Option<Letter>
-    ensures { MatchOption result ((n : ℕ) → n < 26 → ¬ (Spells byte n))
+    ensures { MatchOption result ((n : ℕ) → n < LETTERS → ¬ (Spells byte n))
         (λ letter. Spells byte (letter_index letter)) }
 {
     Letter::read(byte)

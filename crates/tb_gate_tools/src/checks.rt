@@ -1,20 +1,18 @@
 //! Checks of sources.
-ghost use Rattle.std.specs.Prelude.{◌≡◌, ◌+◌, ℕ, Result, IfOk, map};
+ghost use Rattle.std.specs.Prelude.{◌≡◌, IfOk, map};
 ghost use Rattle.tb_words.specs.Texts.{AppendsBytes};
 ghost use Rattle.tb_parser.specs.Lines.{lines_of_file};
-ghost use Rattle.tb_compile_errors.specs.declared.refusals.CompileError.{CompileError};
-ghost use Rattle.tb_codegen.specs.declared.compiled.Compiled.{Compiled};
-ghost use Rattle.tb_streams.specs.Streams.{most_input, ConsumesAtMost};
 ghost use Rattle.tb_streams.specs.Failures.{failures_of};
-ghost use Rattle.tb_check.specs.Agreement.{AgreesWith, Compiles};
+ghost use Rattle.tb_streams.specs.Uses.{use_of, TakesInput};
+ghost use Rattle.tb_check.specs.Agreement.{Agrees};
 ghost use Rattle.tb_check.specs.BadLines.{BadLinesAre, FirstIs};
 ghost use Rattle.tb_check.specs.Findings.{AreFindings};
 ghost use Rattle.tb_check.specs.Verdicts.{Judges};
-ghost use Rattle.tb_check_engine.specs.Checks.{Adds};
+ghost use Rattle.tb_check_engine.specs.Checks.{Adds, Writes, WriteFaults};
 ghost use Rattle.tb_check_engine.specs.Rows.{caret_row};
 
 use std::alloc::{AllocError, Global};
-use std::io::Read;
+use std::io::{Read, Write};
 use tb_check::{Examined, SourceError, Verdict, bad_lines, examine, judge};
 use tb_check_engine::{CheckOutcome, Checked, push_caret};
 use tb_streams::Tracked;
@@ -30,8 +28,7 @@ pub fn lines_that_are_bad(alloc: Global, source: &[u8]) -> Result<Vec<SourceErro
 /// Calls `judge`.
 pub fn judged(alloc: Global, source: &[u8]) -> Result<Verdict, AllocError>
     ensures judged { IfOk result (Judges source.now) }
-    ensures agrees { IfOk result (λ v. (seed : ℕ) (answer : Result Compiled CompileError)
-        → Compiles seed source.now answer → AgreesWith v answer) }
+    ensures agrees { IfOk result (Agrees source.now) }
 {
     judge(alloc, source)
 }
@@ -52,10 +49,17 @@ pub fn with_source<R: Read>(
     reader: &mut Tracked<R>,
 ) -> Result<Checked, CheckOutcome>
     ensures adds { Adds checked name.now (R.remaining reader.old.stream) (failures_of reader.old) (failures_of reader.new) result }
-    ensures taken { ConsumesAtMost (R.remaining reader.old.stream) (R.remaining reader.new.stream)
-        (most_input + 1) }
+    ensures taken { TakesInput (use_of R.remaining reader.old reader.new) }
 {
     checked.add(alloc, name, reader)
+}
+
+/// Calls `Checked::write`.
+pub fn report_written<W: Write>(checked: &Checked, writer: &mut Tracked<W>) -> CheckOutcome
+    ensures writes { Writes checked.now result (W.contents writer.old.stream) (W.contents writer.new.stream) }
+    ensures faults { WriteFaults result (failures_of writer.old) (failures_of writer.new) }
+{
+    checked.write(writer)
 }
 
 /// Calls `push_caret`.

@@ -1,12 +1,14 @@
-//! Sources that are read, built and run.
-ghost use Rattle.std.specs.Prelude.{◌≡◌, ◌+◌};
-ghost use Rattle.tb_streams.specs.Streams.{most_input, ConsumesAtMost};
-ghost use Rattle.tb_streams.specs.Failures.{failures_of};
+//! Sources that are read, built, run, played and profiled.
+ghost use Rattle.std.specs.Prelude.{◌≡◌, ◌≤◌, vec_len};
+ghost use Rattle.tb_streams.specs.Uses.{use_of, TakesInput};
 ghost use Rattle.tb_codegen.specs.Compiled.{prg_of, warnings_of};
-ghost use Rattle.tb_engines.specs.Outcomes.{Answers, Faults, MadeFrom};
-ghost use Rattle.tb_engines.specs.Programs.{RunsPrg, StartsPrg};
-ghost use Rattle.tb_driver.specs.Sources.{IsFile, FromSource, WarnsOfRead};
-ghost use Rattle.tb_driver.specs.Output.{RunsSource};
+ghost use Rattle.tb_engines.specs.Outcomes.{AnswersInput, Faults};
+ghost use Rattle.tb_engines.specs.Programs.{settings_of, StartsPrg};
+ghost use Rattle.tb_play.specs.Lines.{most_typed};
+ghost use Rattle.tb_play.specs.Plays.{PlaysFile, PlayFaults, RunsTyped, Shows, WritesFileBeforeReading};
+ghost use Rattle.tb_profile_engine.specs.Profiles.{ProfilesSource};
+ghost use Rattle.tb_driver.specs.Sources.{IsFile, FromSource, RunsText, WarnsOfRead};
+ghost use Rattle.tb_driver.specs.Output.{RunsSource, ShowsSources};
 ghost use Rattle.tb_driver.specs.Reading.{CompilesText, ReadsSource};
 ghost use Rattle.tb_driver.specs.Starting.{IsLoadable, StartsLoadable};
 
@@ -14,11 +16,13 @@ use std::alloc::Global;
 use std::io::{Read, Write};
 use tb_codegen::Compiled;
 use tb_driver::{
-    CompiledSource, Outcome, Report, build, compile_source, read_source, run_text, start_program,
+    CompiledSource, Outcome, Played, Report, build, compile_source, play_compiled, read_source,
+    run_text, start_program,
 };
 use tb_engines::NoText;
 use tb_kernal::{Keyboard, Machine, Outside};
 use tb_meaning::Warning;
+use tb_profile_engine::{Profiled, profile_text};
 use tb_streams::Tracked;
 
 /// Calls `Compiled::into_warnings`.
@@ -54,10 +58,8 @@ pub fn source_read<R: Read>(
     reader: &mut Tracked<R>,
     seed: u16,
 ) -> Result<CompiledSource, Outcome>
-    ensures answers { ReadsSource seed result (R.remaining reader.old.stream)
-        (failures_of reader.old) (failures_of reader.new) }
-    ensures taken { ConsumesAtMost (R.remaining reader.old.stream) (R.remaining reader.new.stream)
-        (most_input + 1) }
+    ensures answers { ReadsSource seed result (use_of R.remaining reader.old reader.new) }
+    ensures taken { TakesInput (use_of R.remaining reader.old reader.new) }
 {
     read_source(alloc, reader, seed)
 }
@@ -69,15 +71,11 @@ pub fn built<R: Read, W: Write>(
     writer: &mut Tracked<W>,
     seed: u16,
 ) -> Report
-    ensures answers { Answers (MadeFrom (R.remaining reader.old.stream)
-        (FromSource seed IsFile result.warnings.items)) result.outcome
-        (W.contents writer.old.stream) (W.contents writer.new.stream) }
+    ensures answers { AnswersInput (FromSource seed IsFile result.warnings.items) result.outcome
+        (use_of R.remaining reader.old reader.new) (use_of W.contents writer.old writer.new) }
     ensures warned { WarnsOfRead result.outcome result.warnings.items }
-    ensures faults { Faults result.outcome (R.remaining reader.old.stream)
-        (failures_of reader.old) (failures_of reader.new)
-        (failures_of writer.old) (failures_of writer.new) }
-    ensures taken { ConsumesAtMost (R.remaining reader.old.stream) (R.remaining reader.new.stream)
-        (most_input + 1) }
+    ensures faults { Faults result.outcome (use_of R.remaining reader.old reader.new) (use_of W.contents writer.old writer.new) }
+    ensures taken { TakesInput (use_of R.remaining reader.old reader.new) }
 {
     build(alloc, reader, writer, seed)
 }
@@ -92,19 +90,53 @@ pub fn ran<R: Read, W: Write, O: Outside>(
     limit: u64,
     outside: &mut O,
 ) -> Report
-    ensures answers { Answers (MadeFrom (R.remaining reader.old.stream)
-        (FromSource seed (λ program. RunsPrg O.gives outside.old keyboard.text.items
-        keyboard.answers.items limit (prg_of program)) result.warnings.items)) result.outcome
-        (W.contents writer.old.stream) (W.contents writer.new.stream) }
-    ensures output { Answers (MadeFrom (R.remaining reader.old.stream)
-        (RunsSource seed keyboard.text.items keyboard.answers.items)) result.outcome
-        (W.contents writer.old.stream) (W.contents writer.new.stream) }
+    ensures answers { AnswersInput (RunsText (settings_of O.gives outside.old keyboard limit) seed result.warnings.items)
+        result.outcome (use_of R.remaining reader.old reader.new) (use_of W.contents writer.old writer.new) }
+    ensures output { AnswersInput (RunsSource seed keyboard.text.items keyboard.answers.items)
+        result.outcome (use_of R.remaining reader.old reader.new) (use_of W.contents writer.old writer.new) }
     ensures warned { WarnsOfRead result.outcome result.warnings.items }
-    ensures faults { Faults result.outcome (R.remaining reader.old.stream)
-        (failures_of reader.old) (failures_of reader.new)
-        (failures_of writer.old) (failures_of writer.new) }
-    ensures taken { ConsumesAtMost (R.remaining reader.old.stream) (R.remaining reader.new.stream)
-        (most_input + 1) }
+    ensures faults { Faults result.outcome (use_of R.remaining reader.old reader.new) (use_of W.contents writer.old writer.new) }
+    ensures taken { TakesInput (use_of R.remaining reader.old reader.new) }
 {
     run_text(alloc, reader, writer, seed, keyboard, limit, outside)
+}
+
+/// Calls `play_compiled`.
+pub fn source_played<R: Read, W: Write>(
+    alloc: Global,
+    file: &[u8],
+    keys: &mut Tracked<R>,
+    writer: &mut Tracked<W>,
+    limit: u64,
+) -> Played
+    ensures dialogue { PlaysFile limit file.now result.outcome result.typed.items
+        (use_of R.remaining keys.old keys.new) (use_of W.contents writer.old writer.new) }
+    ensures written_first { WritesFileBeforeReading limit file.now
+        (use_of R.remaining keys.old keys.new) (use_of W.contents writer.old writer.new) }
+    ensures whole { Shows (RunsTyped file.now) result.outcome result.typed.items (use_of W.contents writer.old writer.new) }
+    ensures output { ShowsSources file.now result.outcome result.typed.items (use_of W.contents writer.old writer.new) }
+    ensures within { vec_len result.typed ≤ most_typed }
+    ensures faults { PlayFaults result.outcome (use_of R.remaining keys.old keys.new) (use_of W.contents writer.old writer.new) }
+{
+    play_compiled(alloc, file, keys, writer, limit)
+}
+
+/// Calls `profile_text`.
+pub fn source_profiled<R: Read, W: Write, O: Outside>(
+    alloc: Global,
+    reader: &mut Tracked<R>,
+    writer: &mut Tracked<W>,
+    seed: u16,
+    keyboard: Keyboard,
+    limit: u32,
+    outside: &mut O,
+) -> Profiled
+    ensures answers { AnswersInput
+        (ProfilesSource (settings_of O.gives outside.old keyboard limit) seed result.report.warnings.items result.page.items)
+        result.report.outcome (use_of R.remaining reader.old reader.new) (use_of W.contents writer.old writer.new) }
+    ensures warned { WarnsOfRead result.report.outcome result.report.warnings.items }
+    ensures faults { Faults result.report.outcome (use_of R.remaining reader.old reader.new) (use_of W.contents writer.old writer.new) }
+    ensures taken { TakesInput (use_of R.remaining reader.old reader.new) }
+{
+    profile_text(alloc, reader, writer, seed, keyboard, limit, outside)
 }

@@ -1,22 +1,21 @@
 //! Stepping, and the commands that ask for it.
-ghost use Rattle.std.specs.Prelude.{◌≡◌, ◌+◌, ◌++◌, [], ◌∷◌, IfOk, OnOk, OnErr};
-ghost use Rattle.tb_streams.specs.Streams.{most_input, ConsumesAtMost};
-ghost use Rattle.tb_streams.specs.Failures.{failures_of};
+ghost use Rattle.std.specs.Prelude.{◌≡◌, ◌++◌, [], ◌∷◌, IfOk, OnOk, OnErr};
+ghost use Rattle.tb_streams.specs.Uses.{use_of, TakesInput};
 ghost use Rattle.tb_kernal.specs.Machine.{state_of, SameKeyboard};
 ghost use Rattle.tb_codegen.specs.Compiled.{starts_of, table_of, line_in, start_in};
 ghost use Rattle.tb_stepper.specs.History.{machines, Stepped, ReachesLine};
 ghost use Rattle.tb_commands.specs.Commands.{asked_of, asked_in};
 ghost use Rattle.tb_commands.specs.Lines.{lines_of};
 ghost use Rattle.tb_commands.specs.Dialogue.{Dialogue};
-ghost use Rattle.tb_engines.specs.Outcomes.{Answers};
+ghost use Rattle.tb_play.specs.Plays.{quietly};
 ghost use Rattle.tb_driver.specs.Sources.{WarnsOfRead};
-ghost use Rattle.tb_driver.specs.Stepping.{StepsThrough, MadeFromBoth, FaultsOfBoth};
+ghost use Rattle.tb_driver.specs.Stepping.{AnswersBoth, FaultsOfBoth, StepsThrough};
 
 use std::alloc::{AllocError, Global};
 use std::io::{Read, Write};
 use tb_commands::{Command, answers, read_command};
 use tb_driver::{Report, step_text};
-use tb_kernal::{Keyboard, Outside, Status};
+use tb_kernal::{Event, EventError, Keyboard, Machine, Outside, Status};
 use tb_stepper::{NothingBack, Reached, StepError, Stepper};
 use tb_streams::Tracked;
 
@@ -36,6 +35,16 @@ pub fn taken_back<O: Outside + Drop>(stepper: &mut Stepper<'_, O>) -> Result<(),
     ensures refused { OnErr result ((stepper.old.undos ≡ []) × (stepper.new ≡ stepper.old)) }
 {
     stepper.back()
+}
+
+/// What `Stepper::step` and `Stepper::back` do with their machine: it is noted before an event, and restored after it.
+pub fn there_and_back(machine: &mut Machine, event: Event) -> Result<Status, EventError>
+    ensures restored { state_of machine.new ≡ state_of machine.old }
+{
+    let undo = machine.note(&event);
+    let status = machine.event(event)?;
+    machine.undo(&undo);
+    Ok(status)
 }
 
 /// Calls `Stepper::line`.
@@ -85,19 +94,16 @@ pub fn stepped_through<R: Read, C: Read, W: Write>(
     keyboard: Keyboard,
     limit: u64,
 ) -> Report
-    ensures answers { Answers (MadeFromBoth (R.remaining source.old.stream) (C.remaining commands.old.stream)
-        (C.remaining commands.new.stream) (StepsThrough seed keyboard.text.items keyboard.answers.items limit
-        result.warnings.items)) result.outcome
-        (W.contents writer.old.stream) (W.contents writer.new.stream) }
+    ensures answers { AnswersBoth
+        (StepsThrough (quietly keyboard.text.items keyboard.answers.items limit) seed result.warnings.items) result.outcome
+        (use_of R.remaining source.old source.new) (use_of C.remaining commands.old commands.new)
+        (use_of W.contents writer.old writer.new) }
     ensures warned { WarnsOfRead result.outcome result.warnings.items }
     ensures faults { FaultsOfBoth result.outcome
-        (R.remaining source.old.stream) (failures_of source.old) (failures_of source.new)
-        (C.remaining commands.old.stream) (failures_of commands.old) (failures_of commands.new)
-        (failures_of writer.old) (failures_of writer.new) }
-    ensures source_taken { ConsumesAtMost (R.remaining source.old.stream) (R.remaining source.new.stream)
-        (most_input + 1) }
-    ensures commands_taken { ConsumesAtMost (C.remaining commands.old.stream) (C.remaining commands.new.stream)
-        (most_input + 1) }
+        (use_of R.remaining source.old source.new) (use_of C.remaining commands.old commands.new)
+        (use_of W.contents writer.old writer.new) }
+    ensures source_taken { TakesInput (use_of R.remaining source.old source.new) }
+    ensures commands_taken { TakesInput (use_of C.remaining commands.old commands.new) }
 {
     step_text(alloc, source, commands, writer, seed, keyboard, limit)
 }
