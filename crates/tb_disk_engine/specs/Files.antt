@@ -1,7 +1,8 @@
 -- What taking files in and making a disk of them come to.
-use Rattle.std.specs.Prelude.{ℕ, ◌≡◌, ◌≢◌, ◌⊎◌, List, [], ◌∷◌, ◌++◌, map, Contains, Option, Result, Ok, Err, is_ok, true, ⊤}
+use Rattle.std.specs.Prelude.{ℕ, ◌≡◌, List, [], ◌∷◌, ◌++◌, map, Contains, Option, Result, Ok, Err, is_ok, true, ⊤}
 use Rattle.std.specs.Io.KnownBytes.{Appends, Keeps}
-use Rattle.tb_streams.specs.Streams.{Reads, MayPassMost, AppendsPrefix}
+use Rattle.tb_streams.specs.Streams.{Reads, AppendsPrefix}
+use Rattle.tb_streams.specs.Uses.{Use, Fails, NeverFails, MayFault}
 use Rattle.tb_prg.specs.Prg.{content_of}
 use Rattle.tb_disk.specs.declared.names.Name.{Name}
 use Rattle.tb_disk.specs.declared.image.File.{File}
@@ -58,14 +59,14 @@ Adds old name had (Err NoMemory) = ⊤
 Adds old name had (Err Done) = ⊥
 Adds old name had (Err WriteFault) = ⊥
 
--- a fault comes only if the reader failed in this call, by its count of failures, or gave too many bytes
-abbrev pub AddFaults : Result DiskFiles DiskOutcome → Option (List ℕ) → ℕ → ℕ → Type 0
-AddFaults (Ok new) had old new' = new' ≡ old
-AddFaults (Err ReadFault) had old new' = (new' ≢ old) ⊎ MayPassMost had
-AddFaults (Err (Refused e)) had old new' = new' ≡ old
-AddFaults (Err NoMemory) had old new' = new' ≡ old
-AddFaults (Err Done) had old new' = ⊥
-AddFaults (Err WriteFault) had old new' = ⊥
+-- a fault comes only if the reader failed in this call, or gave too many bytes
+abbrev pub AddFaults : Result DiskFiles DiskOutcome → Use → Type 0
+AddFaults (Ok new) reader = NeverFails reader
+AddFaults (Err ReadFault) reader = MayFault reader
+AddFaults (Err (Refused e)) reader = NeverFails reader
+AddFaults (Err NoMemory) reader = NeverFails reader
+AddFaults (Err Done) reader = ⊥
+AddFaults (Err WriteFault) reader = ⊥
 
 -- these are the files that were taken in
 abbrev pub AreTaken : DiskFiles → List File → Type 0
@@ -86,20 +87,20 @@ HasNoImage d DiskFull = IsFull d
 HasNoImage d NoRoom = ⊤
 
 -- what was written, by how it ended
-abbrev pub Writes : DiskFiles → List ℕ → DiskOutcome → Option (List ℕ) → Option (List ℕ) → Type 0
-Writes d path Done old new = (image : List ℕ) × IsImageOf d path image × Appends old new image
-Writes d path (Refused Full) old new = IsFull d × Keeps old new
-Writes d path (Refused BadName) old new = ⊥
-Writes d path (Refused NameTwice) old new = ⊥
-Writes d path (Refused (Prg e)) old new = ⊥
-Writes d path ReadFault old new = ⊥
-Writes d path WriteFault old new = (image : List ℕ) × IsImageOf d path image × AppendsPrefix old new image
-Writes d path NoMemory old new = Keeps old new
+abbrev pub Writes : DiskFiles → List ℕ → DiskOutcome → Use → Type 0
+Writes d path Done writer = (image : List ℕ) × IsImageOf d path image × Appends writer.old writer.new image
+Writes d path (Refused Full) writer = IsFull d × Keeps writer.old writer.new
+Writes d path (Refused BadName) writer = ⊥
+Writes d path (Refused NameTwice) writer = ⊥
+Writes d path (Refused (Prg e)) writer = ⊥
+Writes d path ReadFault writer = ⊥
+Writes d path WriteFault writer = (image : List ℕ) × IsImageOf d path image × AppendsPrefix writer.old writer.new image
+Writes d path NoMemory writer = Keeps writer.old writer.new
 
 -- a write fault comes only if the writer failed in this call
-abbrev pub WriteFaults : DiskOutcome → ℕ → ℕ → Type 0
-WriteFaults WriteFault old new = new ≢ old
-WriteFaults Done old new = new ≡ old
-WriteFaults (Refused e) old new = new ≡ old
-WriteFaults ReadFault old new = ⊥
-WriteFaults NoMemory old new = new ≡ old
+abbrev pub WriteFaults : DiskOutcome → Use → Type 0
+WriteFaults WriteFault writer = Fails writer
+WriteFaults Done writer = NeverFails writer
+WriteFaults (Refused e) writer = NeverFails writer
+WriteFaults ReadFault writer = ⊥
+WriteFaults NoMemory writer = NeverFails writer

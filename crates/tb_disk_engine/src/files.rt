@@ -1,7 +1,6 @@
 //! The files for a disk, and its image.
-ghost use Rattle.std.specs.Prelude.{◌≡◌, ◌+◌, [], map, IfOk, MatchBool, MatchResult};
-ghost use Rattle.tb_streams.specs.Failures.{failures_of};
-ghost use Rattle.tb_streams.specs.Streams.{most_input, ConsumesAtMost};
+ghost use Rattle.std.specs.Prelude.{◌≡◌, [], map, IfOk, MatchBool, MatchResult};
+ghost use Rattle.tb_streams.specs.Uses.{use_of, TakesInput};
 ghost use Rattle.tb_disk_engine.specs.Files.{entry_of, entry_in, entries, IsUsed, NamesNext, Adds, AddFaults};
 ghost use Rattle.tb_disk_engine.specs.Files.{IsImageOf, HasNoImage, Writes, WriteFaults};
 
@@ -82,10 +81,8 @@ impl DiskFiles {
         reader: &mut Tracked<R>,
     ) -> Result<DiskFiles, DiskOutcome>
         ensures adds { Adds self name (R.remaining reader.old.stream) result }
-        ensures faults { AddFaults result (R.remaining reader.old.stream)
-            (failures_of reader.old) (failures_of reader.new) }
-        ensures taken { ConsumesAtMost (R.remaining reader.old.stream) (R.remaining reader.new.stream)
-            (most_input + 1) }
+        ensures faults { AddFaults result (use_of R.remaining reader.old reader.new) }
+        ensures taken { TakesInput (use_of R.remaining reader.old reader.new) }
     {
         let bytes = match read_input(alloc, reader) {
             Ok(bytes) => bytes,
@@ -114,9 +111,8 @@ impl DiskFiles {
     /// Writes the image of the disk with the files; the disk is named by a path. Nothing is written if there is no
     /// image; after a write fault, a prefix of it is.
     pub fn write<W: Write>(&self, alloc: Global, path: &str, writer: &mut Tracked<W>) -> DiskOutcome
-        ensures writes { Writes self.now path.now result
-            (W.contents writer.old.stream) (W.contents writer.new.stream) }
-        ensures faults { WriteFaults result (failures_of writer.old) (failures_of writer.new) }
+        ensures writes { Writes self.now path.now result (use_of W.contents writer.old writer.new) }
+        ensures faults { WriteFaults result (use_of W.contents writer.old writer.new) }
     {
         let image = match self.image(alloc, path) {
             Ok(image) => image,

@@ -10,10 +10,9 @@ use Rattle.tb_memmap.proofs.View.{at_zero, at_loaded, length-loaded}
 use Rattle.tb_asm.specs.Layout.{labels_from, image_of}
 use Rattle.tb_asm.proofs.Laws.{all_size}
 use Rattle.tb_prg.specs.Prg.{header, content_of}
-use Rattle.tb_kernal.specs.declared.events.Event.{Event}
 use Rattle.tb_kernal.specs.declared.status.Status.{Status}
 use Rattle.tb_kernal.specs.declared.status.Status.TheVariants.{Running, Waits as WaitsForKey, Returned, Wrong as WentWrong}
-use Rattle.tb_kernal.specs.Machine.{State, Content, state_of, status}
+use Rattle.tb_kernal.specs.Machine.{State, state_of, status}
 use Rattle.tb_kernal.specs.Starts.{LieAt, HoldsBytes}
 use Rattle.tb_syntax.specs.Source.{Program}
 use Rattle.tb_meaning.specs.Meaning.{source_run}
@@ -21,14 +20,14 @@ use Rattle.tb_meaning.specs.Steps.{End, Ended, Faulted, Waits, Over}
 use Rattle.tb_parser.specs.Files.{Outcome}
 use Rattle.tb_runtime16.specs.Addresses.{PROLOGUE_AT}
 use Rattle.tb_opcodes.specs.Bytes.{AreBytes}
-use Rattle.tb_simulation.specs.Kept.{Starts, HasEnded, IsSound, Keeps}
+use Rattle.tb_simulation.specs.Theorem.{Starts, HasEnded, IsSound, Keeps}
 use Rattle.tb_codegen.specs.declared.compiled.Compiled.{Compiled}
 use Rattle.tb_codegen.specs.Answers.{LinesMake, OutcomeAnswer, Answered}
 use Rattle.tb_codegen.specs.Compiled.{prg_of, loaded_of, IsCompiled}
 use Rattle.tb_streams.specs.HostForm.{host_form_of}
 use Rattle.tb_engines.specs.Outcomes.{Product}
 use Rattle.tb_engines.specs.Delivery.{Makes}
-use Rattle.tb_engines.specs.Programs.{start_memory, start, end_of, RunsAt, RunsContent, RunsPrg}
+use Rattle.tb_engines.specs.Programs.{start_memory, start, end_of, Settings, RunsAt, RunsContent, RunsPrg}
 use Rattle.tb_driver.specs.Output.{ShowsOutput, RunsSource, KeepsSource}
 use Rattle.tb_engines.specs.declared.delivery.Text.{Text}
 use Rattle.tb_engines.specs.declared.delivery.NoText.{NoText}
@@ -144,30 +143,30 @@ in_ram n h k below = let a : BASIC_START + k < 0xa000 = omega arith in open_so (
     open_so : (a : ℕ) → BASIC_START ≤ a → a < 0xa000 → is_open a ≡ true
     open_so a from to = grind (arith, nat_tests)
 
-module _ {O : Type 0} (gives : O → Content → Event → O → Type 0) (o : O) (seed : ℕ) (source file text answers : List ℕ) (limit : ℕ)
-    (kept : KeepsSource seed source file) (small : AreBytes file) (small_text : AreBytes text) (small_answers : AreBytes answers) where
+module _ {O : Type 0} (s : Settings O) (seed : ℕ) (source file : List ℕ)
+    (kept : KeepsSource seed source file) (small : AreBytes file) (small_text : AreBytes s.text) (small_answers : AreBytes s.answers) where
   abbrev bytes : List ℕ
   bytes = drop 2 file
 
   abbrev begun : State
-  begun = state_of (start BASIC_START bytes text answers)
+  begun = state_of (start BASIC_START bytes s.text s.answers)
 
   begins : Starts BASIC_START bytes begun
-  begins = starts bytes text answers kept.ends (bytes_behind file small) small_text small_answers
+  begins = starts bytes s.text s.answers kept.ends (bytes_behind file small) small_text small_answers
 
-  runs_loaded : (x : Product) → RunsAt gives o BASIC_START bytes text answers limit x → RunsSource seed text answers source x
+  runs_loaded : (x : Product) → RunsAt s BASIC_START bytes x → RunsSource seed s.text s.answers source x
   runs_loaded (Ok product) (opens, (t, p, n, ran, is)) =
       let sound = subst (IsSound kept.program seed begun) (sym ran.ran) (kept.keeps.sound begun begins ran.events ran.lawful) in
-      (kept.program, kept.made, subst (λ x. ShowsOutput kept.program seed text answers x.1 x.0) (sym is) (shows kept.program seed begun (state_of n) n.regs.pc t sound ran.answer.0))
+      (kept.program, kept.made, subst (λ x. ShowsOutput kept.program seed s.text s.answers x.1 x.0) (sym is) (shows kept.program seed begun (state_of n) n.regs.pc t sound ran.answer.0))
   runs_loaded (Err e) (is, closed) = absurd (closed (in_ram (length bytes) kept.ends))
 
   -- what comes of running the file comes of running the source
-  pub runs_source : (x : Product) → RunsPrg gives o text answers limit file x → RunsSource seed text answers source x
-  runs_source x runs = runs_loaded x (subst (λ c. RunsContent gives o c text answers limit x) kept.content runs)
+  pub runs_source : (x : Product) → RunsPrg s file x → RunsSource seed s.text s.answers source x
+  runs_source x runs = runs_loaded x (subst (λ c. RunsContent s c x) kept.content runs)
 
   -- what is made by running the file is made by running the source
-  pub made_of_source : (made : Result Text NoText) → Makes (RunsPrg gives o text answers limit file) made → Makes (RunsSource seed text answers source) made
-  made_of_source made m = makes_as (RunsPrg gives o text answers limit file) (RunsSource seed text answers source) runs_source made m
+  pub made_of_source : (made : Result Text NoText) → Makes (RunsPrg s file) made → Makes (RunsSource seed s.text s.answers source) made
+  made_of_source made m = makes_as (RunsPrg s file) (RunsSource seed s.text s.answers source) runs_source made m
 
 -- ---- the compiled file
 

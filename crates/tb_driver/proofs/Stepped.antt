@@ -1,5 +1,5 @@
 -- What is delivered of a source and commands.
-use Rattle.std.proofs.Common.{◌≡◌, ℕ, List, [], Option, Result, Ok, Err, refl, subst, ◌∙◌}
+use Rattle.std.proofs.Common.{◌≡◌, ℕ, List, [], Result, Ok, Err, refl, subst, ◌∙◌}
 use Rattle.std.specs.Io.KnownBytes.{Consumes}
 use Rattle.tb_memmap.specs.Regions.{BASIC_START}
 use Rattle.tb_meaning.specs.declared.missing.Warning.{Warning}
@@ -11,9 +11,9 @@ use Rattle.tb_stepper.specs.Holding.{Holds}
 use Rattle.tb_commands.specs.Lines.{lines_of}
 use Rattle.tb_commands.specs.Dialogue.{Dialogue}
 use Rattle.tb_streams.specs.Streams.{Reads}
-use Rattle.tb_play.specs.Talks.{gives_quiet}
 use Rattle.tb_engines.specs.Delivery.{Makes}
-use Rattle.tb_engines.specs.Programs.{start}
+use Rattle.tb_streams.specs.Uses.{Use}
+use Rattle.tb_engines.specs.Programs.{start, Settings}
 use Rattle.tb_driver.specs.Sources.{Compiles, FromSource}
 use Rattle.tb_driver.specs.Reading.{CompilesText}
 use Rattle.tb_driver.specs.Starting.{StartsLoadable}
@@ -24,36 +24,35 @@ use Rattle.tb_engines.specs.declared.delivery.NoText.TheVariants.{Refused, NoMem
 use Rattle.tb_engines.specs.declared.outcome.End.TheVariants.{Done}
 use Rattle.tb_driver.proofs.Delivered.{makes_as, from_compiled, from_refusal}
 
-module _ (text answers : List ℕ) (limit : ℕ) where
+module _ (s : Settings Quiet) where
   -- the answers over the machine with which a loadable program starts
   pub stepped : (program : Compiled) (commands : List ℕ) (m : Content) (h k : Holds Quiet) (said : List ℕ)
-      → m ≡ start BASIC_START (loaded_of program) text answers → h ≡ record (start_of_history text answers program) { machine = m }
-      → Dialogue gives_quiet limit h (lines_of commands) said k → Steps text answers limit program commands (Ok (said, Done))
+      → m ≡ start BASIC_START (loaded_of program) s.text s.answers → h ≡ record (start_of_history s program) { machine = m }
+      → Dialogue s.gives s.limit h (lines_of commands) said k → Steps s program commands (Ok (said, Done))
   stepped program commands m h k said machine same talked =
-      let whole : h ≡ start_of_history text answers program = same ∙ (λ i. record (start_of_history text answers program) { machine = machine i }) in
-      (k, subst (λ x. Dialogue gives_quiet limit x (lines_of commands) said k) whole talked, refl)
+      let whole : h ≡ start_of_history s program = same ∙ (λ i. record (start_of_history s program) { machine = machine i }) in
+      (k, subst (λ x. Dialogue s.gives s.limit x (lines_of commands) said k) whole talked, refl)
 
   -- where the machine of a loadable program is not started, memory is wanting
-  pub not_stepped : (program : Compiled) (commands : List ℕ) (stop : NoText) → StartsLoadable text answers program (Err stop)
-      → Makes (Steps text answers limit program commands) (Err stop)
+  pub not_stepped : (program : Compiled) (commands : List ℕ) (stop : NoText) → StartsLoadable s.text s.answers program (Err stop)
+      → Makes (Steps s program commands) (Err stop)
   not_stepped program commands (Refused e) none = absurd none
   not_stepped program commands NoMemory none = tt
 
   -- what was made of a source's program and of commands that were read
-  pub steps_made : (seed : ℕ) (had_commands left_commands : Option (List ℕ)) (source typed commands : List ℕ) (program : Compiled) (warnings : List Warning)
-      (made : Result Text NoText) → Reads had_commands typed → Consumes had_commands left_commands typed → commands ≡ typed
+  pub steps_made : (seed : ℕ) (reader : Use) (source typed commands : List ℕ) (program : Compiled) (warnings : List Warning)
+      (made : Result Text NoText) → Reads reader.old typed → Consumes reader.old reader.new typed → commands ≡ typed
       → Compiles seed source (Ok program) → warnings ≡ warnings_of program
-      → Makes (Steps text answers limit program commands) made
-      → Makes (MadeFromTaken had_commands left_commands (StepsThrough seed text answers limit warnings source)) made
-  steps_made seed had_commands left_commands source typed commands program warnings made reads taken same compiled warned m =
-      let here = subst (λ c. Makes (Steps text answers limit program c) made) same m in
-      makes_as (FromSource seed (λ p. Steps text answers limit p typed) warnings source) (MadeFromTaken had_commands left_commands (StepsThrough seed text answers limit warnings source))
-      (λ x h. (typed, reads, taken, h)) made (from_compiled seed (λ p. Steps text answers limit p typed) source program warnings made compiled warned here)
+      → Makes (Steps s program commands) made → Makes (MadeFromTaken reader (StepsThrough s seed warnings source)) made
+  steps_made seed reader source typed commands program warnings made reads taken same compiled warned m =
+      let here = subst (λ c. Makes (Steps s program c) made) same m in
+      makes_as (FromSource seed (λ p. Steps s p typed) warnings source) (MadeFromTaken reader (StepsThrough s seed warnings source))
+      (λ x h. (typed, reads, taken, h)) made (from_compiled seed (λ p. Steps s p typed) source program warnings made compiled warned here)
 
   -- what was made of a source that is refused
-  pub steps_refused : (seed : ℕ) (had_commands left_commands : Option (List ℕ)) (source typed : List ℕ) (stop : NoText) → Reads had_commands typed
-      → Consumes had_commands left_commands typed → CompilesText seed source (Err stop)
-      → Makes (MadeFromTaken had_commands left_commands (StepsThrough seed text answers limit [] source)) (Err stop)
-  steps_refused seed had_commands left_commands source typed stop reads taken refused =
-      makes_as (FromSource seed (λ p. Steps text answers limit p typed) [] source) (MadeFromTaken had_commands left_commands (StepsThrough seed text answers limit [] source))
-      (λ x h. (typed, reads, taken, h)) (Err stop) (from_refusal seed (λ p. Steps text answers limit p typed) source stop refused)
+  pub steps_refused : (seed : ℕ) (reader : Use) (source typed : List ℕ) (stop : NoText) → Reads reader.old typed
+      → Consumes reader.old reader.new typed → CompilesText seed source (Err stop)
+      → Makes (MadeFromTaken reader (StepsThrough s seed [] source)) (Err stop)
+  steps_refused seed reader source typed stop reads taken refused =
+      makes_as (FromSource seed (λ p. Steps s p typed) [] source) (MadeFromTaken reader (StepsThrough s seed [] source))
+      (λ x h. (typed, reads, taken, h)) (Err stop) (from_refusal seed (λ p. Steps s p typed) source stop refused)

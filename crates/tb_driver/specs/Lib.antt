@@ -1,3 +1,4 @@
+pub mod Refused
 pub mod Sources
 pub mod Starting
 pub mod Output

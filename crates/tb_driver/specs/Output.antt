@@ -1,20 +1,23 @@
 -- Running a text writes the source's output: what is said of the source alone.
-use Rattle.std.specs.Prelude.{ℕ, ◌≡◌, ◌⊎◌, ◌+◌, ◌≤◌, List, length, drop, Ok, Err}
+use Rattle.std.specs.Prelude.{ℕ, ◌≡◌, ◌⊎◌, ◌+◌, ◌≤◌, List, [], length, drop, Ok, Err}
 use Rattle.tb_memmap.specs.Regions.{BASIC_START}
 use Rattle.tb_syntax.specs.Source.{Program}
 use Rattle.tb_meaning.specs.Steps as source
 use Rattle.tb_meaning.specs.Steps.{Ended, Faulted, Waits, Over, sent_by}
 use Rattle.tb_words.specs.Prefixes.{IsPrefix}
 use Rattle.tb_meaning.specs.Meaning.{source_run}
-use Rattle.tb_simulation.specs.Kept.{Keeps}
+use Rattle.tb_simulation.specs.Theorem.{Keeps}
 use Rattle.tb_codegen.specs.Answers.{LinesMake}
 use Rattle.tb_prg.specs.Prg.{content_of}
 use Rattle.tb_streams.specs.HostForm.{host_form_of}
+use Rattle.tb_streams.specs.Uses.{Use}
 use Rattle.tb_engines.specs.Outcomes.{Product}
-use Rattle.tb_driver.specs.Sources.{Compiles}
+use Rattle.tb_driver.specs.Refused.{IsRefused}
 use Rattle.tb_engines.specs.declared.outcome.End.{End}
 use Rattle.tb_engines.specs.declared.outcome.End.TheVariants.{Done, StepLimit, WaitsForKey, WentWrong}
+use Rattle.tb_engines.specs.declared.outcome.Outcome.{Outcome}
 use Rattle.tb_engines.specs.declared.outcome.Refusal.TheVariants.{Source}
+use Rattle.tb_play.specs.Plays.{Shows}
 
 -- what is written is the host form of a program's whole output: of all that it sent until its run ended this way
 pub record ShowsWhole (program : Program) (seed : ℕ) (text answers : List ℕ) (why : source.End) (written : List ℕ) : Type 0 where
@@ -39,11 +42,11 @@ ShowsOutput program seed text answers WaitsForKey written = ShowsWhole program s
 ShowsOutput program seed text answers StepLimit written = ShowsPart program seed text answers written
 ShowsOutput program seed text answers (WentWrong wrong pc) written = ⊥
 
--- what comes of running a source: what is written of the program that its lines make, or the compiler's refusal
+-- what comes of running a source: what is written of the program that its lines make, or why it is refused
 abbrev pub RunsSource : ℕ → List ℕ → List ℕ → List ℕ → Product → Type 0
 RunsSource seed text answers source (Ok shown) =
     (program : Program) × LinesMake source (Ok program) × ShowsOutput program seed text answers shown.1 shown.0
-RunsSource seed text answers source (Err (Source e)) = Compiles seed source (Err e)
+RunsSource seed text answers source (Err (Source e)) = IsRefused source e
 RunsSource seed text answers source (Err e) = ⊥
 
 -- a PRG file, loaded at $0801 and ending below $A000, keeps the program that the source's lines make
@@ -53,3 +56,9 @@ pub record KeepsSource (seed : ℕ) (source file : List ℕ) : Type 0 where
   pub content : content_of file ≡ Ok (BASIC_START, drop 2 file)
   pub ends : BASIC_START + length (drop 2 file) ≤ 0xa000
   pub keeps : Keeps BASIC_START (drop 2 file) program seed
+
+-- what playing a file wrote is, for each source that it keeps, that source's output on what was typed
+abbrev pub ShowsSources : List ℕ → Outcome → List ℕ → Use → Type 0
+ShowsSources file outcome typed writer =
+    (seed : ℕ) (source : List ℕ) → KeepsSource seed source file
+    → Shows (λ text product. RunsSource seed text [] source product) outcome typed writer

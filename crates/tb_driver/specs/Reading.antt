@@ -1,9 +1,10 @@
 -- Reading and compiling a source.
-use Rattle.std.specs.Prelude.{ℕ, ◌≡◌, ◌≢◌, ◌⊎◌, List, Option, Result, Ok, Err}
+use Rattle.std.specs.Prelude.{ℕ, ◌≡◌, List, Result, Ok, Err}
 use Rattle.tb_memmap.specs.Regions.{BASIC_START}
 use Rattle.tb_syntax.specs.Source.{Program}
 use Rattle.tb_simulation.specs.LineStarts.{MarksLines}
-use Rattle.tb_streams.specs.Streams.{Reads, MayPassMost}
+use Rattle.tb_streams.specs.Streams.{Reads}
+use Rattle.tb_streams.specs.Uses.{Use, NeverFails, MayFault}
 use Rattle.tb_compile_errors.specs.declared.refusals.CompileError.{CompileError}
 use Rattle.tb_engines.specs.declared.delivery.NoText.{NoText}
 use Rattle.tb_engines.specs.declared.delivery.NoText.TheVariants.{Refused as NoTextRefused, NoMemory as NoTextNoMemory}
@@ -32,13 +33,12 @@ CompilesText seed text (Ok s) = (s.text.items ≡ text) × IsCompilation seed s.
 CompilesText seed text (Err (NoTextRefused why)) = (e : CompileError) × Compiles seed text (Err e) × (why ≡ Source e)
 CompilesText seed text (Err NoTextNoMemory) = Unit {0}
 
--- what reading and compiling a source answers, with the reader's count of failures: all that the reader had, with its
--- program, or why there is none
-abbrev pub ReadsSource : ℕ → Result CompiledSource Outcome → Option (List ℕ) → ℕ → ℕ → Type 0
-ReadsSource seed (Ok s) had read read' = Reads had s.text.items × IsCompilation seed s.text.items s.program × (read' ≡ read)
-ReadsSource seed (Err (Refused why)) had read read' =
-    (source : List ℕ) × (e : CompileError) × Reads had source × Compiles seed source (Err e) × (why ≡ Source e) × (read' ≡ read)
-ReadsSource seed (Err ReadFault) had read read' = (read' ≢ read) ⊎ MayPassMost had
-ReadsSource seed (Err NoMemory) had read read' = read' ≡ read
-ReadsSource seed (Err (Ended end)) had read read' = ⊥
-ReadsSource seed (Err WriteFault) had read read' = ⊥
+-- what reading and compiling a source answers: all that the reader had, with its program, or why there is none
+abbrev pub ReadsSource : ℕ → Result CompiledSource Outcome → Use → Type 0
+ReadsSource seed (Ok s) reader = Reads reader.old s.text.items × IsCompilation seed s.text.items s.program × NeverFails reader
+ReadsSource seed (Err (Refused why)) reader =
+    (source : List ℕ) × (e : CompileError) × Reads reader.old source × Compiles seed source (Err e) × (why ≡ Source e) × NeverFails reader
+ReadsSource seed (Err ReadFault) reader = MayFault reader
+ReadsSource seed (Err NoMemory) reader = NeverFails reader
+ReadsSource seed (Err (Ended end)) reader = ⊥
+ReadsSource seed (Err WriteFault) reader = ⊥

@@ -8,6 +8,7 @@ use Rattle.tb_compile_errors.specs.declared.refusals.CompileError.TheVariants.{N
 use Rattle.tb_codegen.specs.Answers.{HasOutcome, LinesMake, OutcomeAnswer}
 use Rattle.tb_codegen.specs.Compiled.{prg_of, warnings_of}
 use Rattle.tb_engines.specs.Outcomes.{Product}
+use Rattle.tb_engines.specs.Programs.{Settings, RunsPrg}
 use Rattle.tb_engines.specs.declared.delivery.NoText.{NoText}
 use Rattle.tb_engines.specs.declared.delivery.NoText.TheVariants.{Refused as NoTextRefused, NoMemory as NoTextNoMemory}
 use Rattle.tb_engines.specs.declared.outcome.End.TheVariants.{Done}
@@ -44,6 +45,10 @@ FromAnswer makes warnings (Err e) product = (warnings ≡ []) × (product ≡ Er
 abbrev pub FromSource : ℕ → (Compiled → Product → Type 0) → List Warning → List ℕ → Product → Type 0
 FromSource seed makes warnings source product =
     (answer : Result Compiled CompileError) × Compiles seed source answer × FromAnswer makes warnings answer product
+
+-- what comes of running a source: the run of its program's PRG file
+abbrev pub RunsText : {O : Type 0} → Settings O → ℕ → List Warning → List ℕ → Product → Type 0
+RunsText s seed warnings source product = FromSource seed (λ program. RunsPrg s (prg_of program)) warnings source product
 
 -- if an input was not read, there is nothing to warn of
 abbrev pub WarnsOfRead : EngineOutcome → List Warning → Type 0

@@ -19,5 +19,5 @@ pub use tb_engines::{
 pub use tb_play::{MOST_TYPED, Played, play_file};
 pub use tb_streams::{
     InputError, KeyError, KeyFileError, MOST_INPUT, StreamFailure, Tracked, address, host_form,
-    key_file, key_list, read_input, read_key_file, write_output,
+    key_list, read_input, read_key_file, write_output,
 };

@@ -1,8 +1,9 @@
 //! Reading and compiling a source.
-ghost use Rattle.std.specs.Prelude.{◌≡◌, ◌+◌};
-ghost use Rattle.tb_streams.specs.Streams.{most_input, ConsumesAtMost};
-ghost use Rattle.tb_streams.specs.Failures.{failures_of};
-ghost use Rattle.tb_driver.specs.Sources.{stop_of};
+ghost use Rattle.std.specs.Prelude.{◌≡◌, ◌↔◌, ℕ, List, Err};
+ghost use Rattle.tb_compile_errors.specs.declared.refusals.CompileError.{CompileError};
+ghost use Rattle.tb_streams.specs.Uses.{use_of, TakesInput};
+ghost use Rattle.tb_driver.specs.Refused.{IsRefused};
+ghost use Rattle.tb_driver.specs.Sources.{Compiles, stop_of};
 ghost use Rattle.tb_driver.specs.Reading.{CompilesText, ReadsSource};
 
 use std::alloc::Global;
@@ -28,6 +29,12 @@ pub fn stop_of(error: CompileError) -> NoText
     }
 }
 
+/// A law: the compiler answers a refusal exactly for the sources that are refused for it, as is said of the source
+/// alone. It does nothing.
+pub fn refusals_are_answers()
+    ensures { (seed : ℕ) (source : List ℕ) (e : CompileError) → Compiles seed source (Err e) ↔ IsRefused source e }
+{}
+
 /// Compiles a source with a first state of RND.
 pub fn compile_source(alloc: Global, text: Vec<u8>, seed: u16) -> Result<CompiledSource, NoText>
     ensures { CompilesText seed text.items result }
@@ -44,10 +51,8 @@ pub fn read_source<R: Read>(
     reader: &mut Tracked<R>,
     seed: u16,
 ) -> Result<CompiledSource, Outcome>
-    ensures answers { ReadsSource seed result (R.remaining reader.old.stream)
-        (failures_of reader.old) (failures_of reader.new) }
-    ensures taken { ConsumesAtMost (R.remaining reader.old.stream) (R.remaining reader.new.stream)
-        (most_input + 1) }
+    ensures answers { ReadsSource seed result (use_of R.remaining reader.old reader.new) }
+    ensures taken { TakesInput (use_of R.remaining reader.old reader.new) }
 {
     let text = match read_input(alloc, reader) {
         Ok(text) => text,

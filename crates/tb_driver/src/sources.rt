@@ -1,13 +1,11 @@
 //! Building a source, and running it.
-ghost use Rattle.std.specs.Prelude.{◌+◌, ℕ, List};
+ghost use Rattle.std.specs.Prelude.{ℕ, List};
 ghost use Rattle.tb_opcodes.specs.Bytes.{AreBytes};
-ghost use Rattle.tb_streams.specs.Streams.{most_input, ConsumesAtMost};
-ghost use Rattle.tb_streams.specs.Failures.{failures_of};
-ghost use Rattle.tb_engines.specs.Outcomes.{Answers, Faults, MadeFrom};
+ghost use Rattle.tb_streams.specs.Uses.{use_of, TakesInput};
+ghost use Rattle.tb_engines.specs.Outcomes.{Answers, AnswersInput, Faults};
 ghost use Rattle.tb_engines.specs.Delivery.{DeliveryFaults, Makes};
-ghost use Rattle.tb_engines.specs.Programs.{RunsPrg};
-ghost use Rattle.tb_driver.specs.Sources.{IsFile, FromSource, WarnsOfRead};
-ghost use Rattle.tb_codegen.specs.Compiled.{prg_of};
+ghost use Rattle.tb_engines.specs.Programs.{settings_of, RunsPrg};
+ghost use Rattle.tb_driver.specs.Sources.{IsFile, FromSource, RunsText, WarnsOfRead};
 ghost use Rattle.tb_driver.specs.Output.{KeepsSource, RunsSource};
 
 use crate::reading::read_source;
@@ -22,7 +20,7 @@ use tb_streams::{Tracked, write_output};
 fn write_program<W: Write>(writer: &mut Tracked<W>, program: &Compiled) -> Outcome
     ensures answers { Answers (IsFile program.now) result
         (W.contents writer.old.stream) (W.contents writer.new.stream) }
-    ensures faults { DeliveryFaults result (failures_of writer.old) (failures_of writer.new) }
+    ensures faults { DeliveryFaults result (use_of W.contents writer.old writer.new) }
 {
     match write_output(writer, program.prg()) {
         Ok(()) => Outcome::Ended(End::Done),
@@ -37,15 +35,11 @@ pub fn build<R: Read, W: Write>(
     writer: &mut Tracked<W>,
     seed: u16,
 ) -> Report
-    ensures answers { Answers (MadeFrom (R.remaining reader.old.stream)
-        (FromSource seed IsFile result.warnings.items)) result.outcome
-        (W.contents writer.old.stream) (W.contents writer.new.stream) }
+    ensures answers { AnswersInput (FromSource seed IsFile result.warnings.items) result.outcome
+        (use_of R.remaining reader.old reader.new) (use_of W.contents writer.old writer.new) }
     ensures warned { WarnsOfRead result.outcome result.warnings.items }
-    ensures faults { Faults result.outcome (R.remaining reader.old.stream)
-        (failures_of reader.old) (failures_of reader.new)
-        (failures_of writer.old) (failures_of writer.new) }
-    ensures taken { ConsumesAtMost (R.remaining reader.old.stream) (R.remaining reader.new.stream)
-        (most_input + 1) }
+    ensures faults { Faults result.outcome (use_of R.remaining reader.old reader.new) (use_of W.contents writer.old writer.new) }
+    ensures taken { TakesInput (use_of R.remaining reader.old reader.new) }
 {
     let source = match read_source(alloc, reader, seed) {
         Ok(source) => source,
@@ -70,8 +64,7 @@ fn run_compiled<O: Outside>(
     limit: u64,
     outside: &mut O,
 ) -> Result<Text, NoText>
-    ensures machine { Makes (RunsPrg O.gives outside.old keyboard.text.items keyboard.answers.items
-        limit file.now) result }
+    ensures machine { Makes (RunsPrg (settings_of O.gives outside.old keyboard limit) file.now) result }
     ensures output { (seed : ℕ) (source : List ℕ) → KeepsSource seed source file.now
         → Makes (RunsSource seed keyboard.text.items keyboard.answers.items source) result }
 {
@@ -92,19 +85,13 @@ pub fn run_text<R: Read, W: Write, O: Outside>(
     limit: u64,
     outside: &mut O,
 ) -> Report
-    ensures answers { Answers (MadeFrom (R.remaining reader.old.stream)
-        (FromSource seed (λ program. RunsPrg O.gives outside.old keyboard.text.items
-        keyboard.answers.items limit (prg_of program)) result.warnings.items)) result.outcome
-        (W.contents writer.old.stream) (W.contents writer.new.stream) }
-    ensures output { Answers (MadeFrom (R.remaining reader.old.stream)
-        (RunsSource seed keyboard.text.items keyboard.answers.items)) result.outcome
-        (W.contents writer.old.stream) (W.contents writer.new.stream) }
+    ensures answers { AnswersInput (RunsText (settings_of O.gives outside.old keyboard limit) seed result.warnings.items)
+        result.outcome (use_of R.remaining reader.old reader.new) (use_of W.contents writer.old writer.new) }
+    ensures output { AnswersInput (RunsSource seed keyboard.text.items keyboard.answers.items)
+        result.outcome (use_of R.remaining reader.old reader.new) (use_of W.contents writer.old writer.new) }
     ensures warned { WarnsOfRead result.outcome result.warnings.items }
-    ensures faults { Faults result.outcome (R.remaining reader.old.stream)
-        (failures_of reader.old) (failures_of reader.new)
-        (failures_of writer.old) (failures_of writer.new) }
-    ensures taken { ConsumesAtMost (R.remaining reader.old.stream) (R.remaining reader.new.stream)
-        (most_input + 1) }
+    ensures faults { Faults result.outcome (use_of R.remaining reader.old reader.new) (use_of W.contents writer.old writer.new) }
+    ensures taken { TakesInput (use_of R.remaining reader.old reader.new) }
 {
     let source = match read_source(alloc, reader, seed) {
         Ok(source) => source,

@@ -1,12 +1,10 @@
 //! Stepping through a source by commands.
-ghost use Rattle.std.specs.Prelude.{◌≡◌, ◌+◌};
-ghost use Rattle.tb_streams.specs.Streams.{most_input, ConsumesAtMost};
-ghost use Rattle.tb_streams.specs.Failures.{failures_of};
-ghost use Rattle.tb_engines.specs.Outcomes.{Answers};
+ghost use Rattle.tb_streams.specs.Uses.{use_of, TakesInput};
+ghost use Rattle.tb_play.specs.Plays.{quietly};
 ghost use Rattle.tb_engines.specs.Delivery.{Makes};
 ghost use Rattle.tb_driver.specs.Sources.{WarnsOfRead};
 ghost use Rattle.tb_driver.specs.Starting.{IsLoadable};
-ghost use Rattle.tb_driver.specs.Stepping.{Steps, StepsThrough, MadeFromBoth, FaultsOfBoth};
+ghost use Rattle.tb_driver.specs.Stepping.{AnswersBoth, FaultsOfBoth, Steps, StepsThrough};
 
 use crate::reading::compile_source;
 use crate::starting::start_program;
@@ -28,7 +26,7 @@ fn step_program(
     limit: u64,
 ) -> Result<Text, NoText>
     requires { IsLoadable program.now }
-    ensures { Makes (Steps keyboard.text.items keyboard.answers.items limit program.now commands.now) result }
+    ensures { Makes (Steps (quietly keyboard.text.items keyboard.answers.items limit) program.now commands.now) result }
 {
     let machine = start_program(alloc, program, keyboard)?;
     let Ok(mut stepper) = Stepper::new(alloc, machine, program, Quiet) else {
@@ -55,19 +53,16 @@ pub fn step_text<R: Read, C: Read, W: Write>(
     keyboard: Keyboard,
     limit: u64,
 ) -> Report
-    ensures answers { Answers (MadeFromBoth (R.remaining source.old.stream) (C.remaining commands.old.stream)
-        (C.remaining commands.new.stream) (StepsThrough seed keyboard.text.items keyboard.answers.items limit
-        result.warnings.items)) result.outcome
-        (W.contents writer.old.stream) (W.contents writer.new.stream) }
+    ensures answers { AnswersBoth
+        (StepsThrough (quietly keyboard.text.items keyboard.answers.items limit) seed result.warnings.items) result.outcome
+        (use_of R.remaining source.old source.new) (use_of C.remaining commands.old commands.new)
+        (use_of W.contents writer.old writer.new) }
     ensures warned { WarnsOfRead result.outcome result.warnings.items }
     ensures faults { FaultsOfBoth result.outcome
-        (R.remaining source.old.stream) (failures_of source.old) (failures_of source.new)
-        (C.remaining commands.old.stream) (failures_of commands.old) (failures_of commands.new)
-        (failures_of writer.old) (failures_of writer.new) }
-    ensures source_taken { ConsumesAtMost (R.remaining source.old.stream) (R.remaining source.new.stream)
-        (most_input + 1) }
-    ensures commands_taken { ConsumesAtMost (C.remaining commands.old.stream) (C.remaining commands.new.stream)
-        (most_input + 1) }
+        (use_of R.remaining source.old source.new) (use_of C.remaining commands.old commands.new)
+        (use_of W.contents writer.old writer.new) }
+    ensures source_taken { TakesInput (use_of R.remaining source.old source.new) }
+    ensures commands_taken { TakesInput (use_of C.remaining commands.old commands.new) }
 {
     let text = match read_input(alloc, source) {
         Ok(text) => text,

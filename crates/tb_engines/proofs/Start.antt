@@ -18,7 +18,7 @@ use Rattle.tb_engines.specs.declared.delivery.NoText.{NoText}
 use Rattle.tb_engines.specs.declared.delivery.NoText.TheVariants.{Refused, NoMemory}
 use Rattle.tb_engines.specs.declared.outcome.Refusal.TheVariants.{Prg}
 use Rattle.tb_engines.specs.Delivery.{Makes}
-use Rattle.tb_engines.specs.Programs.{start_regs, start_memory, start, end_of, Runs, RunsOn, RunsContent, StartsContent}
+use Rattle.tb_engines.specs.Programs.{start_regs, start_memory, start, end_of, Settings, Runs, RunsOn, RunsContent, StartsContent}
 
 -- what lies at the first two addresses of a load of two bytes
 loaded_two : (m : List ℕ) (a x y k : ℕ) → a + 2 ≤ length m → k < 2
@@ -72,10 +72,10 @@ runs_on gives o p limit m n t shown end ran same_text same_end = (t, p, n, ran, 
 
 -- ---- a PRG file
 
-module _ {O : Type 0} (gives : O → Content → Event → O → Type 0) (o : O) (text answers : List ℕ) (limit : ℕ) where
+module _ {O : Type 0} (s : Settings O) where
   -- where a PRG file is not started, that is what comes of it
-  pub not_started : (content : Result (ℕ × List ℕ) PrgError) (stop : NoText) → StartsContent text answers content (Err stop)
-      → Makes (RunsContent gives o content text answers limit) (Err stop)
+  pub not_started : (content : Result (ℕ × List ℕ) PrgError) (stop : NoText) → StartsContent s.text s.answers content (Err stop)
+      → Makes (RunsContent s content) (Err stop)
   not_started (Ok p) (Refused e) unloadable = unloadable
   not_started (Ok p) NoMemory unloadable = tt
   not_started (Err why) (Refused e) is =
@@ -85,9 +85,9 @@ module _ {O : Type 0} (gives : O → Content → Event → O → Type 0) (o : O)
   not_started (Err why) NoMemory is = tt
 
   -- what comes of the start machine of a PRG file comes of the file
-  pub runs_content : (content : Result (ℕ × List ℕ) PrgError) (m : Content) (made : Result Text NoText) → StartsContent text answers content (Ok m)
-      → Makes (RunsOn gives o m limit) made → Makes (RunsContent gives o content text answers limit) made
-  runs_content (Ok p) m (Ok shown) (in_ram, same) ran = (in_ram, subst (λ x. Runs gives o x limit (shown.bytes.items, shown.end)) same ran)
+  pub runs_content : (content : Result (ℕ × List ℕ) PrgError) (m : Content) (made : Result Text NoText) → StartsContent s.text s.answers content (Ok m)
+      → Makes (RunsOn s.gives s.outside m s.limit) made → Makes (RunsContent s content) made
+  runs_content (Ok p) m (Ok shown) (in_ram, same) ran = (in_ram, subst (λ x. Runs s.gives s.outside x s.limit (shown.bytes.items, shown.end)) same ran)
   runs_content (Ok p) m (Err (Refused e)) started none = absurd none
   runs_content (Ok p) m (Err NoMemory) started ran = tt
   runs_content (Err why) m made none ran = absurd none

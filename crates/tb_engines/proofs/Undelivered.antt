@@ -1,6 +1,7 @@
 -- What is delivered where there is no text.
 use Rattle.std.proofs.Common.{◌≡◌, ℕ, List, Option, Some, None, Result, Err, refl, sym, subst}
 use Rattle.std.specs.Io.KnownBytes.{Keeps}
+use Rattle.tb_streams.specs.Uses.{Use}
 use Rattle.tb_engines.specs.Outcomes.{Answers}
 use Rattle.tb_engines.specs.Delivery.{Shows, DeliveryFaults, outcome_without}
 use Rattle.tb_engines.specs.declared.delivery.Text.{Text}
@@ -23,9 +24,13 @@ nothing_written made stop outcome bytes is ends =
     by NoMemory = kept bytes
 
 -- and no writer fails
-pub nothing_fails : (stop : NoText) (outcome : Outcome) (wrote : ℕ) → outcome ≡ outcome_without stop → DeliveryFaults outcome wrote wrote
-nothing_fails stop outcome wrote ends = subst (λ o. DeliveryFaults o wrote wrote) (sym ends) (by stop)
+pub nothing_fails : (stop : NoText) (outcome : Outcome) (bytes : Option (List ℕ)) (failures : ℕ) → outcome ≡ outcome_without stop
+    → DeliveryFaults outcome (record { old = bytes; new = bytes; old_failures = failures; new_failures = failures })
+nothing_fails stop outcome bytes failures ends = subst (λ o. DeliveryFaults o untouched) (sym ends) (by stop)
   where
-    by : (stop : NoText) → DeliveryFaults (outcome_without stop) wrote wrote
+    untouched : Use
+    untouched = record { old = bytes; new = bytes; old_failures = failures; new_failures = failures }
+
+    by : (stop : NoText) → DeliveryFaults (outcome_without stop) untouched
     by (Refused e) = refl
     by NoMemory = refl

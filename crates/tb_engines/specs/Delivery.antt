@@ -1,5 +1,6 @@
 -- The steps of an engine: what it made, and how that is delivered.
-use Rattle.std.specs.Prelude.{ℕ, ◌≡◌, ◌≢◌, Result, Ok, Err}
+use Rattle.std.specs.Prelude.{◌≡◌, Result, Ok, Err}
+use Rattle.tb_streams.specs.Uses.{Use, Fails, NeverFails}
 use Rattle.tb_engines.specs.declared.delivery.Text.{Text}
 use Rattle.tb_engines.specs.declared.delivery.NoText.{NoText}
 use Rattle.tb_engines.specs.declared.delivery.NoText.TheVariants.{Refused as NoTextRefused, NoMemory as NoTextNoMemory}
@@ -32,9 +33,9 @@ Shows (Err (NoTextRefused e)) product = product ≡ Err e
 Shows (Err NoTextNoMemory) product = ⊥
 
 -- delivering never ends in a read fault, and in a write fault only if the writer failed
-abbrev pub DeliveryFaults : Outcome → ℕ → ℕ → Type 0
-DeliveryFaults ReadFault old new = ⊥
-DeliveryFaults WriteFault old new = new ≢ old
-DeliveryFaults (Ended end) old new = new ≡ old
-DeliveryFaults (Refused e) old new = new ≡ old
-DeliveryFaults NoMemory old new = new ≡ old
+abbrev pub DeliveryFaults : Outcome → Use → Type 0
+DeliveryFaults ReadFault writer = ⊥
+DeliveryFaults WriteFault writer = Fails writer
+DeliveryFaults (Ended end) writer = NeverFails writer
+DeliveryFaults (Refused e) writer = NeverFails writer
+DeliveryFaults NoMemory writer = NeverFails writer

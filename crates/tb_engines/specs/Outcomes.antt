@@ -1,7 +1,8 @@
 -- The exit statuses, and what an engine writes and answers.
-use Rattle.std.specs.Prelude.{ℕ, ◌≡◌, ◌≢◌, ◌⊎◌, List, Option, Result, Ok, Err}
+use Rattle.std.specs.Prelude.{ℕ, List, Option, Result, Ok, Err}
 use Rattle.std.specs.Io.KnownBytes.{Appends, Keeps}
-use Rattle.tb_streams.specs.Streams.{Reads, MayPassMost, AppendsPrefix}
+use Rattle.tb_streams.specs.Streams.{Reads, AppendsPrefix}
+use Rattle.tb_streams.specs.Uses.{Use, Fails, NeverFails, MayFault}
 use Rattle.tb_streams.specs.declared.status.TheConstants.{DONE, REFUSED, FAULT, NO_MEMORY, STEP_LIMIT, WAITS_FOR_KEY, WENT_WRONG}
 use Rattle.tb_engines.specs.declared.outcome.End.{End}
 use Rattle.tb_engines.specs.declared.outcome.End.TheVariants.{Done, StepLimit, WaitsForKey, WentWrong}
@@ -41,11 +42,15 @@ Answers makes NoMemory old new = Keeps old new
 abbrev pub MadeFrom : Option (List ℕ) → (List ℕ → Product → Type 0) → Product → Type 0
 MadeFrom had makes product = (input : List ℕ) × Reads had input × makes input product
 
--- a fault comes only if a stream failed in this call, by its count of failures, or the reader gave too many bytes; at
--- every other outcome no stream failed
-abbrev pub Faults : Outcome → Option (List ℕ) → ℕ → ℕ → ℕ → ℕ → Type 0
-Faults ReadFault had read read' wrote wrote' = ((read' ≢ read) ⊎ MayPassMost had) × (wrote' ≡ wrote)
-Faults WriteFault had read read' wrote wrote' = (read' ≡ read) × (wrote' ≢ wrote)
-Faults (Ended end) had read read' wrote wrote' = (read' ≡ read) × (wrote' ≡ wrote)
-Faults (Refused e) had read read' wrote wrote' = (read' ≡ read) × (wrote' ≡ wrote)
-Faults NoMemory had read read' wrote wrote' = (read' ≡ read) × (wrote' ≡ wrote)
+-- what an engine wrote of all that its reader had
+abbrev pub AnswersInput : (List ℕ → Product → Type 0) → Outcome → Use → Use → Type 0
+AnswersInput makes outcome reader writer = Answers (MadeFrom reader.old makes) outcome writer.old writer.new
+
+-- a fault comes only if a stream failed in this call, or the reader gave too many bytes; at every other outcome no
+-- stream failed
+abbrev pub Faults : Outcome → Use → Use → Type 0
+Faults ReadFault reader writer = MayFault reader × NeverFails writer
+Faults WriteFault reader writer = NeverFails reader × Fails writer
+Faults (Ended end) reader writer = NeverFails reader × NeverFails writer
+Faults (Refused e) reader writer = NeverFails reader × NeverFails writer
+Faults NoMemory reader writer = NeverFails reader × NeverFails writer

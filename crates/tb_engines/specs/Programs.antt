@@ -4,6 +4,7 @@ use Rattle.tb_memmap.specs.Regions.{BASIC_START, CODE_START}
 use Rattle.tb_cpu.specs.declared.registers.Regs.{Regs}
 use Rattle.tb_memmap.specs.Bytes.{loaded, IsOpenRange}
 use Rattle.tb_kernal.specs.declared.events.Event.{Event}
+use Rattle.tb_kernal.specs.declared.machine.Keyboard.{Keyboard}
 use Rattle.tb_kernal.specs.declared.status.Status.{Status}
 use Rattle.tb_kernal.specs.declared.status.Status.TheVariants.{Running, Waits, Returned, Wrong}
 use Rattle.tb_kernal.specs.Machine.{Content}
@@ -70,25 +71,33 @@ Runs gives o m limit shown =
     × RanOver gives o m limit (Ok t) p n
     × (shown ≡ (host_form_of n.sent, end_of t n.regs.pc))
 
+-- what a run is given: an outside, and what it gives; a keyboard's text and answers; the most events that it may take
+pub record Settings (O : Type 0) : Type 1 where
+  pub gives : O → Content → Event → O → Type 0
+  pub outside : O
+  pub text : List ℕ
+  pub answers : List ℕ
+  pub limit : ℕ
+
+-- the settings that an engine is called with
+abbrev pub settings_of : {O : Type 0} → (O → Content → Event → O → Type 0) → O → Keyboard → ℕ → Settings O
+settings_of gives outside keyboard limit =
+    record { gives = gives; outside = outside; text = keyboard.text.items; answers = keyboard.answers.items; limit = limit }
+
 -- what comes of a program at an address: a run, if all of it lies in RAM
-abbrev pub RunsAt : {O : Type 0} → (O → Content → Event → O → Type 0) → O → ℕ → List ℕ
-    → List ℕ → List ℕ → ℕ → Product → Type 0
-RunsAt gives o at bytes text answers limit (Ok shown) =
-    IsOpenRange at (length bytes) × Runs gives o (start at bytes text answers) limit shown
-RunsAt gives o at bytes text answers limit (Err e) = (e ≡ NotRam) × ¬ (IsOpenRange at (length bytes))
+abbrev pub RunsAt : {O : Type 0} → Settings O → ℕ → List ℕ → Product → Type 0
+RunsAt s at bytes (Ok shown) =
+    IsOpenRange at (length bytes) × Runs s.gives s.outside (start at bytes s.text s.answers) s.limit shown
+RunsAt s at bytes (Err e) = (e ≡ NotRam) × ¬ (IsOpenRange at (length bytes))
 
 -- what comes of the load address and the bytes of a PRG file, or of a file that is no PRG file
-abbrev pub RunsContent : {O : Type 0} → (O → Content → Event → O → Type 0) → O
-    → Result (ℕ × List ℕ) PrgError → List ℕ → List ℕ → ℕ → Product → Type 0
-RunsContent gives o (Ok p) text answers limit product =
-    RunsAt gives o p.0 p.1 text answers limit product
-RunsContent gives o (Err e) text answers limit product = product ≡ Err (Prg e)
+abbrev pub RunsContent : {O : Type 0} → Settings O → Result (ℕ × List ℕ) PrgError → Product → Type 0
+RunsContent s (Ok p) product = RunsAt s p.0 p.1 product
+RunsContent s (Err e) product = product ≡ Err (Prg e)
 
 -- what comes of a PRG file: its run from the start machine, or why there is none
-abbrev pub RunsPrg : {O : Type 0} → (O → Content → Event → O → Type 0) → O → List ℕ → List ℕ
-    → ℕ → List ℕ → Product → Type 0
-RunsPrg gives o text answers limit file product =
-    RunsContent gives o (content_of file) text answers limit product
+abbrev pub RunsPrg : {O : Type 0} → Settings O → List ℕ → Product → Type 0
+RunsPrg s file product = RunsContent s (content_of file) product
 
 -- why a program is not loaded: it does not lie in RAM, or memory ran out
 abbrev pub IsUnloadable : ℕ → List ℕ → NoText → Type 0

@@ -1,8 +1,6 @@
 //! Assembling a text, and listing a PRG file.
-ghost use Rattle.std.specs.Prelude.{◌≡◌, ◌+◌, ◌≤◌, length};
-ghost use Rattle.tb_streams.specs.Streams.{most_input, ConsumesAtMost};
-ghost use Rattle.tb_streams.specs.Failures.{failures_of};
-ghost use Rattle.tb_engines.specs.Outcomes.{Answers, Faults, MadeFrom};
+ghost use Rattle.tb_streams.specs.Uses.{use_of, TakesInput};
+ghost use Rattle.tb_engines.specs.Outcomes.{AnswersInput, Faults};
 ghost use Rattle.tb_engines.specs.Delivery.{Makes};
 ghost use Rattle.tb_engines.specs.Assembly.{Assembles, ListsPrg};
 
@@ -71,13 +69,10 @@ pub fn asm_text<R: Read, W: Write>(
     writer: &mut Tracked<W>,
     at: u16,
 ) -> Outcome
-    ensures answers { Answers (MadeFrom (R.remaining reader.old.stream) (Assembles at)) result
-        (W.contents writer.old.stream) (W.contents writer.new.stream) }
-    ensures faults { Faults result (R.remaining reader.old.stream)
-        (failures_of reader.old) (failures_of reader.new)
-        (failures_of writer.old) (failures_of writer.new) }
-    ensures taken { ConsumesAtMost (R.remaining reader.old.stream) (R.remaining reader.new.stream)
-        (most_input + 1) }
+    ensures answers { AnswersInput (Assembles at) result
+        (use_of R.remaining reader.old reader.new) (use_of W.contents writer.old writer.new) }
+    ensures faults { Faults result (use_of R.remaining reader.old reader.new) (use_of W.contents writer.old writer.new) }
+    ensures taken { TakesInput (use_of R.remaining reader.old reader.new) }
 {
     match read_input(alloc, reader) {
         Ok(text) => deliver(writer, assemble_prg(alloc, at, text.as_slice())),
@@ -91,13 +86,10 @@ pub fn dis_text<R: Read, W: Write>(
     reader: &mut Tracked<R>,
     writer: &mut Tracked<W>,
 ) -> Outcome
-    ensures answers { Answers (MadeFrom (R.remaining reader.old.stream) ListsPrg) result
-        (W.contents writer.old.stream) (W.contents writer.new.stream) }
-    ensures faults { Faults result (R.remaining reader.old.stream)
-        (failures_of reader.old) (failures_of reader.new)
-        (failures_of writer.old) (failures_of writer.new) }
-    ensures taken { ConsumesAtMost (R.remaining reader.old.stream) (R.remaining reader.new.stream)
-        (most_input + 1) }
+    ensures answers { AnswersInput ListsPrg result
+        (use_of R.remaining reader.old reader.new) (use_of W.contents writer.old writer.new) }
+    ensures faults { Faults result (use_of R.remaining reader.old reader.new) (use_of W.contents writer.old writer.new) }
+    ensures taken { TakesInput (use_of R.remaining reader.old reader.new) }
 {
     match read_input(alloc, reader) {
         Ok(file) => deliver(writer, list_prg(alloc, file.as_slice())),

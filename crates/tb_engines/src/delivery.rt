@@ -1,8 +1,7 @@
 //! What an engine made, and how it is written.
 ghost use Rattle.std.specs.Prelude.{◌≡◌};
-ghost use Rattle.tb_streams.specs.Streams.{Reads};
-ghost use Rattle.tb_streams.specs.Failures.{failures_of};
-ghost use Rattle.tb_engines.specs.Outcomes.{Answers, Faults};
+ghost use Rattle.tb_streams.specs.Uses.{use_of};
+ghost use Rattle.tb_engines.specs.Outcomes.{Answers};
 ghost use Rattle.tb_engines.specs.Delivery.{Shows, DeliveryFaults, outcome_of, outcome_without};
 
 use crate::outcome::{End, Outcome, Refusal};
@@ -48,7 +47,7 @@ pub fn without_text(stop: NoText) -> Outcome
 pub fn deliver<W: Write>(writer: &mut Tracked<W>, made: Result<Text, NoText>) -> Outcome
     ensures answers { Answers (Shows made) result
         (W.contents writer.old.stream) (W.contents writer.new.stream) }
-    ensures faults { DeliveryFaults result (failures_of writer.old) (failures_of writer.new) }
+    ensures faults { DeliveryFaults result (use_of W.contents writer.old writer.new) }
 {
     let text = match made {
         Ok(text) => text,

@@ -1,10 +1,9 @@
 //! Running a PRG file.
-ghost use Rattle.std.specs.Prelude.{◌≡◌, ◌+◌};
-ghost use Rattle.tb_streams.specs.Streams.{most_input, ConsumesAtMost};
-ghost use Rattle.tb_streams.specs.Failures.{failures_of};
-ghost use Rattle.tb_engines.specs.Outcomes.{Answers, Faults, MadeFrom};
+ghost use Rattle.std.specs.Prelude.{◌≡◌};
+ghost use Rattle.tb_streams.specs.Uses.{use_of, TakesInput};
+ghost use Rattle.tb_engines.specs.Outcomes.{AnswersInput, Faults};
 ghost use Rattle.tb_engines.specs.Delivery.{Makes};
-ghost use Rattle.tb_engines.specs.Programs.{end_of, RunsOn, RunsPrg};
+ghost use Rattle.tb_engines.specs.Programs.{end_of, settings_of, RunsOn, RunsPrg};
 
 use crate::delivery::{NoText, Text, deliver, without_input};
 use crate::loading::start_file;
@@ -53,8 +52,7 @@ pub fn run_file<O: Outside>(
     limit: u64,
     outside: &mut O,
 ) -> Result<Text, NoText>
-    ensures { Makes (RunsPrg O.gives outside.old keyboard.text.items keyboard.answers.items limit
-        file.now) result }
+    ensures { Makes (RunsPrg (settings_of O.gives outside.old keyboard limit) file.now) result }
 {
     let mut machine = start_file(alloc, file, keyboard)?;
     run_machine(alloc, &mut machine, limit, outside)
@@ -71,14 +69,10 @@ pub fn run_prg<R: Read, W: Write, O: Outside>(
     limit: u64,
     outside: &mut O,
 ) -> Outcome
-    ensures answers { Answers (MadeFrom (R.remaining reader.old.stream)
-        (RunsPrg O.gives outside.old keyboard.text.items keyboard.answers.items limit)) result
-        (W.contents writer.old.stream) (W.contents writer.new.stream) }
-    ensures faults { Faults result (R.remaining reader.old.stream)
-        (failures_of reader.old) (failures_of reader.new)
-        (failures_of writer.old) (failures_of writer.new) }
-    ensures taken { ConsumesAtMost (R.remaining reader.old.stream) (R.remaining reader.new.stream)
-        (most_input + 1) }
+    ensures answers { AnswersInput (RunsPrg (settings_of O.gives outside.old keyboard limit)) result
+        (use_of R.remaining reader.old reader.new) (use_of W.contents writer.old writer.new) }
+    ensures faults { Faults result (use_of R.remaining reader.old reader.new) (use_of W.contents writer.old writer.new) }
+    ensures taken { TakesInput (use_of R.remaining reader.old reader.new) }
 {
     match read_input(alloc, reader) {
         Ok(file) => deliver(

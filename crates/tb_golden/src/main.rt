@@ -125,7 +125,7 @@ fn put_rows<R: Files + AllocGlobal>(
     subject: Subject,
     rows: &str,
 ) {
-    let (between, behind, end) = frame(subject);
+    let (between, after, end) = frame(subject);
     for row in rows.lines() {
         if page.has_failed() {
             return;
@@ -136,7 +136,7 @@ fn put_rows<R: Files + AllocGlobal>(
         } else {
             page.put(between);
             put_answer(rt, page, bench, subject, row);
-            page.put(behind);
+            page.put(after);
         }
     }
     page.put(end);

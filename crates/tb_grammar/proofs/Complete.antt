@@ -10,7 +10,8 @@ use Rattle.tb_syntax.specs.declared.expressions.Operator.{Operator}
 use Rattle.tb_syntax.specs.Source.{Expression, Number, Variable, Binary, Random}
 use Rattle.tb_grammar.specs.Grammar.{IsDigit, IsLetter, value_after, word_of, large_at, Part, Whole, Term, Factor, operator, Reads, number, variable, random}
 use Rattle.tb_grammar.specs.Grammar.{parentheses, factor, product, term, plus, minus, sum}
-use Rattle.tb_grammar.specs.Reading.{◌>>=◌, Found, is_digit, is_letter, digits_at, literal_at, behind, behind_word, closed, negated, variable_at, group_by}
+use Rattle.tb_grammar.specs.Reading.{◌>>=◌, Found, digits_at, literal_at, behind, behind_word, closed, negated, variable_at, group_by}
+use Rattle.tb_grammar.specs.Grammar.{is_digit, is_letter}
 use Rattle.tb_grammar.specs.Reading.{starts_digit, factor_by, operator_at, more, term_by, signed_by, whole_by, whole_at, factor_at, term_at, front_of}
 use Rattle.tb_grammar.proofs.Steps.{chosen}
 

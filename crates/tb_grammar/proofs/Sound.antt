@@ -6,7 +6,8 @@ use Rattle.std.proofs.lemmas.List.Elements.{All-cons}
 use Rattle.tb_syntax.specs.declared.expressions.Operator.{Operator}
 use Rattle.tb_syntax.specs.Source.{Expression, Variable, Binary}
 use Rattle.tb_grammar.specs.Grammar.{IsDigit, Part, Whole, Term, Factor, operator, Reads, number, variable, random, parentheses, factor, product, term, plus, minus, sum}
-use Rattle.tb_grammar.specs.Reading.{◌>>=◌, Found, is_digit, literal_at, behind, behind_word, letter_at, closed, randomly, negated, joined, variable_at}
+use Rattle.tb_grammar.specs.Reading.{◌>>=◌, Found, literal_at, behind, behind_word, letter_at, closed, randomly, negated, joined, variable_at}
+use Rattle.tb_grammar.specs.Grammar.{is_digit}
 use Rattle.tb_grammar.specs.Reading.{group_by, starts_digit, factor_by, operator_at, more, term_by, signed_by, whole_by, whole_at, front_of}
 use Rattle.tb_grammar.proofs.Steps.{some_is, bind_some, when_cases, chosen, behind_is, behind_word_is, digit_is, letter_found, digits_found}
 

@@ -4,8 +4,8 @@ use Rattle.std.proofs.Common.{Some, None, refl, sym, ap, ◌∙◌, nat_le, ◌=
 use Rattle.std.specs.Prelude.{All}
 use Rattle.std.proofs.lemmas.List.Elements.{All-nil, All-cons}
 use Rattle.std.proofs.lemmas.Bool.{eqb-true, leb-true, cases_Bool, and_parts}
-use Rattle.tb_grammar.specs.Grammar.{IsDigit, IsLetter, value_after}
-use Rattle.tb_grammar.specs.Reading.{◌>>=◌, is_digit, is_letter, digits_at, behind, behind_word, letter_at, when}
+use Rattle.tb_grammar.specs.Grammar.{IsDigit, IsLetter, value_after, is_digit, is_letter}
+use Rattle.tb_grammar.specs.Reading.{◌>>=◌, digits_at, behind, behind_word, letter_at, when}
 
 -- `Some` has one value
 pub some_is : {A : Type 0} (x y : A) → Some x ≡ Some y → x ≡ y

@@ -1,5 +1,5 @@
 -- The grammar of expressions over squeezed text: no spaces outside texts and remarks, letters in upper case.
-use Rattle.std.specs.Prelude.{All, ◌≡◌, ℕ, ◌+◌, ◌-◌, ◌*◌, ◌≤◌, List, [], ◌∷◌, ◌++◌, length, Option, Some, None, nat_le, ◌==◌, if◌then◌else◌, codes}
+use Rattle.std.specs.Prelude.{All, ◌≡◌, ℕ, ◌+◌, ◌-◌, ◌*◌, ◌≤◌, List, [], ◌∷◌, ◌++◌, length, Option, Some, None, Bool, nat_le, ◌==◌, ◌&&◌, if◌then◌else◌, codes}
 use Rattle.std.specs.Option.{option_or}
 use Rattle.tb_syntax.specs.declared.expressions.Operator.{Operator}
 use Rattle.tb_syntax.specs.declared.expressions.Operator.TheVariants.{Add, Subtract, Multiply, Divide}
@@ -12,6 +12,14 @@ IsDigit b = (48 ≤ b) × (b ≤ 57)
 -- the byte of a letter, A to Z
 abbrev pub IsLetter : ℕ → Type 0
 IsLetter b = (65 ≤ b) × (b ≤ 90)
+
+-- whether a byte is from 0 to 9
+abbrev pub is_digit : ℕ → Bool
+is_digit b = nat_le 48 b && nat_le b 57
+
+-- whether a byte is from A to Z
+abbrev pub is_letter : ℕ → Bool
+is_letter b = nat_le 65 b && nat_le b 90
 
 -- the value of digits after a number that the digits before them spell
 abbrev pub value_after : ℕ → List ℕ → ℕ

@@ -1,10 +1,10 @@
 -- Reading expressions from left to right, as functions of lists. The program does this; Grammar alone says what a text means.
-use Rattle.std.specs.Prelude.{ℕ, zero, suc, ◌+◌, ◌-◌, ◌*◌, List, [], ◌∷◌, length, Bool, false, Option, Some, None, option_and_then, nat_le}
-use Rattle.std.specs.Prelude.{◌==◌, ◌&&◌, if◌then◌else◌, codes}
+use Rattle.std.specs.Prelude.{ℕ, zero, suc, ◌+◌, ◌-◌, ◌*◌, List, [], ◌∷◌, length, Bool, false, Option, Some, None, option_and_then}
+use Rattle.std.specs.Prelude.{◌==◌, if◌then◌else◌, codes}
 use Rattle.std.specs.Option.{option_or}
 use Rattle.tb_syntax.specs.declared.expressions.Operator.{Operator}
 use Rattle.tb_syntax.specs.Source.{Expression, Number, Variable, Negate, Binary, Random}
-use Rattle.tb_grammar.specs.Grammar.{word_of, large_at, Part, Whole, Term, operator}
+use Rattle.tb_grammar.specs.Grammar.{is_digit, is_letter, word_of, large_at, Part, Whole, Term, operator}
 
 -- what was read, where its first literal above 65,535 begins, and what is left
 pub record Found : Type 0 where
@@ -21,14 +21,6 @@ o >>= f = option_and_then f o
 abbrev pub when : {A B : Type 0} → Option A → B → (A → B) → B
 when None otherwise f = otherwise
 when (Some x) otherwise f = f x
-
--- whether a byte is from 0 to 9
-abbrev pub is_digit : ℕ → Bool
-is_digit b = nat_le 48 b && nat_le b 57
-
--- whether a byte is from A to Z
-abbrev pub is_letter : ℕ → Bool
-is_letter b = nat_le 65 b && nat_le b 90
 
 -- what is left after a byte
 abbrev pub behind : ℕ → List ℕ → Option (List ℕ)

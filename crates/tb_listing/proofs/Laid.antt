@@ -9,7 +9,6 @@ use Rattle.tb_asm.proofs.Settled.{settled_reaches}
 use Rattle.tb_syntax.specs.Source.{Numbered, Program, numbers, Rises}
 use Rattle.tb_syntax.specs.PlainData.{lines_of}
 use Rattle.tb_syntax.specs.declared.statements.Statement.{Statement}
-use Rattle.tb_meaning.specs.Cost.{cost}
 use Rattle.tb_lower.specs.Lowered as lowered
 use Rattle.tb_lower.specs.Slots.{Instr}
 use Rattle.tb_lower.proofs.Ranged.{in_range}
@@ -26,8 +25,9 @@ use Rattle.tb_templates.proofs.Settled.{Sections, last_broken, sections, labels_
 use Rattle.tb_codegen.proofs.Stretches.{asking_on, stretch, stretch_at, stretch_some, stretched}
 use Rattle.tb_templates.proofs.Taken.{block_size}
 use Rattle.tb_codegen.specs.declared.compiled.Compiled.{Compiled}
-use Rattle.tb_codegen.specs.Compiled.{IsCompiled, AddressesRise, prg_of, starts_of, table_of, starts_in, stands_at, most_cost}
-use Rattle.tb_codegen.proofs.Sized.{IsSettling, settling}
+use Rattle.tb_codegen.specs.Coded.{IsListed}
+use Rattle.tb_codegen.specs.Compiled.{IsCompiled, AddressesRise, prg_of, starts_of, table_of, starts_in, stands_at}
+use Rattle.tb_codegen.proofs.Sized.{listed}
 use Rattle.tb_codegen.proofs.Placed.{starts_low}
 
 -- lines that begin one after another from $0C00 on, and a line table after them in an image with this many bytes
@@ -74,14 +74,14 @@ lines_rise labels ns seed a asking (line ∷ lines) fs end h l le =
 
 -- the parts of a compiled program are laid in this way
 pub are_laid : (seed : ℕ) (ls : List (ℕ × Statement)) (c : Compiled) → AreStated (lines_of ls) → Rises 1 32768 (numbers (lines_of ls))
-    → cost (lines_of ls) ≤ most_cost → IsCompiled seed (lines_of ls) c → AreLaid (starts_of c) (table_of c) (length (prg_of c) - 14)
-are_laid seed ls c stated rises small h =
+    → IsCompiled seed (lines_of ls) c → AreLaid (starts_of c) (table_of c) (length (prg_of c) - 14)
+are_laid seed ls c stated rises h =
     let p = lines_of ls in
     let code = lowered.program_code p in
     let ns = numbers code in
-    let s : IsSettling seed code = settling seed p refl stated rises (in_range ls code h.shallow refl) small refl in
+    let s : IsListed code = listed p refl stated rises (in_range ls code h.shallow refl) in
     let labels = labels_from PROLOGUE_AT h.items in
-    let g : Sections seed code h.items labels = sections seed code s.listed.lists s.listed.rising h.items
+    let g : Sections seed code h.items labels = sections seed code s.lists s.rising h.items
     (settled_by PROLOGUE_AT (program_code seed code) h.items h.settled (settled_reaches PROLOGUE_AT (program_code seed code) h.items h.settled)) in
     let own = items_from LINES_AT g.lines in
     let past = past_code ns in let last = last_broken code in let find = find_code ns in let rows = table_code ns in

@@ -1,6 +1,8 @@
 pub mod Appending
 pub mod Commented
+pub mod Kept
 pub mod Laid
+pub mod Named
 pub mod Parts
 pub mod Short
 pub mod Sorted

@@ -1,5 +1,5 @@
 -- What a build makes of a source.
-use Rattle.std.specs.Prelude.{◌≡◌, ℕ, ◌-◌, ◌≤◌, List, Ok, drop, length, sum_by}
+use Rattle.std.specs.Prelude.{◌≡◌, ℕ, ◌-◌, ◌<◌, ◌≤◌, List, Ok, drop, length, sum_by}
 use Rattle.tb_streams.specs.Streams.{most_input}
 use Rattle.tb_syntax.specs.Source.{Program}
 use Rattle.tb_meaning.specs.Cost.{cost}
@@ -8,34 +8,41 @@ use Rattle.tb_runtime16.specs.Addresses.{PROLOGUE_AT}
 use Rattle.tb_codegen.specs.declared.compiled.Compiled.{Compiled}
 use Rattle.tb_codegen.specs.Answers.{LinesMake, OutcomeAnswer}
 use Rattle.tb_codegen.specs.Compiled.{AddressesRise, prg_of, starts_of, table_of}
+use Rattle.tb_codegen.specs.Theorem.{KeepsItsSource}
 use Rattle.tb_disasm.specs.Back.{GivesBack}
 use Rattle.tb_listing.specs.declared.build.Made.{Made}
 use Rattle.tb_listing.specs.Labels.{all_labels, labels_text}
 use Rattle.tb_listing.specs.Map.{parts, map_text}
-use Rattle.tb_listing.specs.Comments.{ShowsLines}
+use Rattle.tb_listing.specs.Places.{ShowsProgram}
 
 -- how many bytes the image of a compiled program has, which follow the load address and the BASIC line in its file
 abbrev pub image_size : Compiled → ℕ
 image_size c = length (prg_of c) - 14
 
--- the compiler answered this program for the source: for whatever the source's lines make
-abbrev pub IsProgramOf : List ℕ → Compiled → Type 0
-IsProgramOf source compiled = (seed : ℕ) × ((outcome : Outcome) → LinesMake source outcome → OutcomeAnswer seed outcome (Ok compiled))
+-- the compiler answered this program for the source with a seed: for whatever the source's lines make
+abbrev pub IsAnsweredWith : ℕ → List ℕ → Compiled → Type 0
+IsAnsweredWith seed source compiled = (outcome : Outcome) → LinesMake source outcome → OutcomeAnswer seed outcome (Ok compiled)
 
--- the labels of a compiled program's places, a listing that gives its image back and shows the lines of the source, and
--- the map of its parts
+-- the compiler answered this program for the source
+abbrev pub IsProgramOf : List ℕ → Compiled → Type 0
+IsProgramOf source compiled = (seed : ℕ) × IsAnsweredWith seed source compiled
+
+-- the labels of a compiled program's places, a listing that gives its image back and shows the lines of the source and
+-- the names of its places, and the map of its parts
 pub record Tells (source : List ℕ) (compiled : Compiled) (program : Program) (made : Made) : Type 0 where
   pub labels : made.labels.items ≡ labels_text (all_labels (starts_of compiled) (table_of compiled))
   pub listing : GivesBack PROLOGUE_AT made.listing.items (drop 14 (prg_of compiled))
   pub readable : length made.listing.items ≤ most_input
-  pub shows : ShowsLines source (starts_of compiled) (drop 14 (prg_of compiled)) made.listing.items
+  pub shows : ShowsProgram source (starts_of compiled) (table_of compiled) (drop 14 (prg_of compiled)) made.listing.items
   pub map : made.map.items ≡ map_text (starts_of compiled) (table_of compiled) (image_size compiled) program
 
--- what tells of a source's compilation, with the program that the source's lines make
+-- what tells of a source's compilation, with the program that the source's lines make; the file keeps its source, for
+-- each seed with which it was compiled
 pub record IsMade (source : List ℕ) (compiled : Compiled) (made : Made) : Type 0 where
   pub sorted : AddressesRise 0 (all_labels (starts_of compiled) (table_of compiled))
   pub program : Program
   pub makes : LinesMake source (Ok program)
+  pub keeps : (seed : ℕ) → seed < 65536 → IsAnsweredWith seed source compiled → KeepsItsSource seed source compiled
   pub tells : Tells source compiled program made
   pub bytes : sum_by (λ p. p.bytes) (parts (starts_of compiled) (table_of compiled) (image_size compiled) program) ≡ image_size compiled
   pub prices : sum_by (λ p. p.price) (parts (starts_of compiled) (table_of compiled) (image_size compiled) program) ≡ cost program

@@ -2,12 +2,12 @@
 ghost use Rattle.std.specs.Prelude.{◌≡◌, ◌≤◌, ◌∷◌, ◌++◌, [], IfOk, OnOk, length, map};
 ghost use Rattle.tb_words.specs.Texts.{AppendsBytes};
 ghost use Rattle.tb_codegen.specs.Compiled.{pair_of as start_pair};
-ghost use Rattle.tb_listing.specs.Comments.{KeepsComments, comment_on, comment_row, comments};
+ghost use Rattle.tb_listing.specs.Comments.{KeepsHeadings, comment_row, heading_on, headings, label_row};
 ghost use Rattle.tb_source_text.specs.Lines.{pair_of};
 ghost use Rattle.tb_source_text.specs.ShownBytes.{shown};
 
 use crate::marks::Marks;
-use crate::names::{has_label, name_of, push_outside};
+use crate::names::{has_label, is_line, line_name, name_of, push_outside};
 use crate::pieces::{Kind, Named, Piece, Program};
 use std::alloc::{AllocError, Global};
 use tb_asm::name;
@@ -24,10 +24,10 @@ pub struct View<'a> {
     pub sources: &'a [Numbered<'a>],
 }
 
-/// The text of a listing: a row for each piece, below its label, and above the first piece of a line the source's text of
-/// it. Each row is ended by 10. Fails if memory runs out.
+/// The text of a listing: a row for each piece, below its label; above the first piece of a line are the source's text of
+/// it and its label. Each row is ended by 10. Fails if memory runs out.
 pub fn labelled(alloc: Global, view: &View<'_>) -> Result<Vec<u8>, AllocError>
-    ensures { IfOk result (λ text. comments text.items ≡ map (comment_on (map pair_of view.now.sources.now))
+    ensures { IfOk result (λ text. headings text.items ≡ map (heading_on (map pair_of view.now.sources.now))
         (map start_pair view.now.program.starts.now)) }
 {
     let mut text = Vec::new(alloc);
@@ -36,6 +36,7 @@ pub fn labelled(alloc: Global, view: &View<'_>) -> Result<Vec<u8>, AllocError>
         let next = done + count_before(&view.pieces[done..], start.at);
         push_pieces(alloc, &mut text, view, &view.pieces[done..next])?;
         push_comment(&mut text, text_of(view.sources, start.number))?;
+        push_line_label(alloc, &mut text, start.number)?;
         done = next;
     }
     push_pieces(alloc, &mut text, view, &view.pieces[done..])?;
@@ -70,13 +71,20 @@ fn push_comment(text: &mut Vec<u8>, line: &[u8]) -> Result<(), AllocError>
     push_row(text, b"; ", cut(line))
 }
 
+// Appends the label of a line.
+fn push_line_label(alloc: Global, text: &mut Vec<u8>, number: u16) -> Result<(), AllocError>
+    ensures { AppendsBytes result text.old text.new (label_row number) }
+{
+    push_row(text, &line_name(alloc, number)?, b":")
+}
+
 fn push_pieces(
     alloc: Global,
     text: &mut Vec<u8>,
     view: &View<'_>,
     pieces: &[Piece<'_>],
 ) -> Result<(), AllocError>
-    ensures { OnOk result (KeepsComments text.old.items text.new.items) }
+    ensures { OnOk result (KeepsHeadings text.old.items text.new.items) }
 {
     for piece in pieces {
         push_label(alloc, text, view, piece.at)?;
@@ -85,11 +93,11 @@ fn push_pieces(
     Ok(())
 }
 
-// Appends the label of an address, if it has one.
+// Appends the label of an address, if it has one. That of a line is below its comment.
 fn push_label(alloc: Global, text: &mut Vec<u8>, view: &View<'_>, at: u16) -> Result<(), AllocError>
-    ensures { OnOk result (KeepsComments text.old.items text.new.items) }
+    ensures { OnOk result (KeepsHeadings text.old.items text.new.items) }
 {
-    if !has_label(&view.program, view.marks, at) {
+    if is_line(&view.program, at) || !has_label(&view.program, view.marks, at) {
         return Ok(());
     }
     push_row(text, &name_of(alloc, &view.program, view.marks, at)?, b":")
@@ -102,7 +110,7 @@ fn push_piece(
     view: &View<'_>,
     piece: &Piece<'_>,
 ) -> Result<(), AllocError>
-    ensures { OnOk result (KeepsComments text.old.items text.new.items) }
+    ensures { OnOk result (KeepsHeadings text.old.items text.new.items) }
 {
     push_row(text, b"  ", &row_of(alloc, view, piece)?)
 }

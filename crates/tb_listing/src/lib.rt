@@ -9,8 +9,11 @@ mod map;
 mod marks;
 mod names;
 mod pieces;
+mod places;
+mod sizes;
 
 pub use build::{Made, make};
 pub use label_file::labels;
 pub use listing::list;
 pub use map::chart;
+pub use sizes::sizes_are_those_of_code;

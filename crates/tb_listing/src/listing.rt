@@ -1,17 +1,19 @@
 //! The listing of a program: assembler text that gives its image back.
 ghost use Rattle.std.specs.Prelude.{◌≡◌, ◌⊎◌, ◌+◌, ◌-◌, ◌≤◌, true, false, None, length, drop, map, IfOk};
-ghost use Rattle.tb_asm.specs.Layout.{entry_of, image_of};
+ghost use Rattle.tb_asm.specs.Layout.{entry_of, image_of, labels_from};
 ghost use Rattle.tb_asm.specs.Assembled.{refusal};
 ghost use Rattle.tb_runtime16.specs.Addresses.{PROLOGUE_AT};
-ghost use Rattle.tb_codegen.specs.Compiled.{prg_of, starts_of};
+ghost use Rattle.tb_codegen.specs.Compiled.{pair_of, prg_of, starts_of, table_of};
 ghost use Rattle.tb_disasm.specs.Back.{GivesBack};
-ghost use Rattle.tb_listing.specs.Comments.{ShowsLines, comment_on, comments, plain};
+ghost use Rattle.tb_listing.specs.Comments.{heading_on, headings, plain};
+ghost use Rattle.tb_listing.specs.Places.{AreNamed, Names, NamesItems, ShowsProgram, image_labels};
 ghost use Rattle.tb_source_text.specs.Lines.{numbered};
 ghost use Rattle.tb_streams.specs.Streams.{most_input};
 
 use crate::labelled::{View, labelled};
 use crate::marks::marks_of;
 use crate::pieces::{Program, behind, pieces};
+use crate::places::has_places;
 use std::alloc::{AllocError, Global};
 use tb_asm::{AsmErrorKind, Item, TextError, assemble, read_text};
 use tb_codegen::Compiled;
@@ -31,35 +33,30 @@ pub fn list(alloc: Global, compiled: &Compiled, source: &[u8]) -> Result<Vec<u8>
     requires ends { PROLOGUE_AT + (length (prg_of compiled.now) - 14) ≤ 0xA000 }
     ensures back { IfOk result (λ text. GivesBack PROLOGUE_AT text.items (drop 14 (prg_of compiled.now))) }
     ensures readable { IfOk result (λ text. length text.items ≤ most_input) }
-    // The lines of the source are in it as comments, unless it is the listing without names.
-    ensures shows { IfOk result (λ text. ShowsLines source.now (starts_of compiled.now) (drop 14 (prg_of compiled.now)) text.items) }
-{
-    let image = behind(compiled.prg(), HEADER);
-    let text = with_names(alloc, compiled, image, source)?;
-    checked(alloc, text, image)
-}
-
-// The listing with names.
-fn with_names(
-    alloc: Global,
-    compiled: &Compiled,
-    image: &[u8],
-    source: &[u8],
-) -> Result<Vec<u8>, AllocError>
-    ensures { IfOk result (λ text. comments text.items ≡ map (comment_on (numbered source.now)) (starts_of compiled.now)) }
+    // The lines of the source are in it as comments, and each place has its name, unless it is the listing without names.
+    ensures shows { IfOk result (λ text. ShowsProgram source.now (starts_of compiled.now) (table_of compiled.now)
+        (drop 14 (prg_of compiled.now)) text.items) }
 {
     let program = Program {
-        image,
+        image: behind(compiled.prg(), HEADER),
         starts: compiled.starts(),
         table: compiled.table(),
     };
-    let pieces = pieces(alloc, &program)?;
-    let marks = marks_of(alloc, image.len(), pieces.as_slice())?;
+    let text = with_names(alloc, &program, source)?;
+    checked(alloc, text, &program)
+}
+
+// The listing with names.
+fn with_names(alloc: Global, program: &Program<'_>, source: &[u8]) -> Result<Vec<u8>, AllocError>
+    ensures { IfOk result (λ text. headings text.items ≡ map (heading_on (numbered source.now)) (map pair_of program.now.starts.now)) }
+{
+    let pieces = pieces(alloc, program)?;
+    let marks = marks_of(alloc, program.image.len(), pieces.as_slice())?;
     let sources = numbered_lines(alloc, source)?;
     labelled(
         alloc,
         &View {
-            program,
+            program: *program,
             pieces: pieces.as_slice(),
             marks: &marks,
             sources: sources.as_slice(),
@@ -67,37 +64,46 @@ fn with_names(
     )
 }
 
-// A text that gives the image back: this one, or, if it doesn't, one without names. No program is known for which it
-// doesn't.
-fn checked(alloc: Global, text: Vec<u8>, image: &[u8]) -> Result<Vec<u8>, AllocError>
-    requires { PROLOGUE_AT + length image.now ≤ 0xA000 }
-    ensures back { IfOk result (λ text. GivesBack PROLOGUE_AT text.items image.now) }
+// A text that gives the image back and names its places: this one, or, if it doesn't, one without names. No program is
+// known for which it doesn't.
+fn checked(alloc: Global, text: Vec<u8>, program: &Program<'_>) -> Result<Vec<u8>, AllocError>
+    requires { PROLOGUE_AT + length program.now.image.now ≤ 0xA000 }
+    ensures back { IfOk result (λ text. GivesBack PROLOGUE_AT text.items program.now.image.now) }
     ensures readable { IfOk result (λ text. length text.items ≤ most_input) }
-    ensures either { IfOk result (λ shown. (shown.items ≡ text.items) ⊎ (shown.items ≡ plain image.now)) }
+    ensures either { IfOk result (λ shown. ((shown.items ≡ text.items)
+        × Names program.now.image.now (image_labels (map pair_of program.now.starts.now) program.now.table) text.items)
+        ⊎ (shown.items ≡ plain program.now.image.now)) }
 {
-    if text.len() <= MOST_INPUT && gives_back(alloc, &text, image)? {
+    if text.len() <= MOST_INPUT && names_program(alloc, &text, program)? {
         return Ok(text);
     }
-    without_names(alloc, image)
+    without_names(alloc, program.image)
 }
 
-// Whether a text reads as items that assemble to an image.
-fn gives_back(alloc: Global, text: &[u8], image: &[u8]) -> Result<bool, AllocError>
-    ensures { IfOk result (λ same. same ≡ true → GivesBack PROLOGUE_AT text.now image.now) }
+// Whether a text reads as items that assemble to a program's image, with its places among their labels.
+fn names_program(alloc: Global, text: &[u8], program: &Program<'_>) -> Result<bool, AllocError>
+    ensures { IfOk result (λ does. does ≡ true
+        → Names program.now.image.now (image_labels (map pair_of program.now.starts.now) program.now.table) text.now) }
 {
     match read_text(alloc, text) {
-        Ok(items) => assembles_to(alloc, items.as_slice(), image),
+        Ok(items) => assembles_to(alloc, items.as_slice(), program),
         Err(TextError::NoMemory) => Err(AllocError),
         Err(TextError::Line(_)) => Ok(false),
     }
 }
 
-fn assembles_to(alloc: Global, items: &[Item], image: &[u8]) -> Result<bool, AllocError>
-    ensures { IfOk result (λ same. same ≡ true → (refusal PROLOGUE_AT (map entry_of items.now) ≡ None)
-        × (image_of PROLOGUE_AT (map entry_of items.now) ≡ image.now)) }
+fn assembles_to(alloc: Global, items: &[Item], program: &Program<'_>) -> Result<bool, AllocError>
+    ensures { IfOk result (λ does. does ≡ true
+        → NamesItems program.now.image.now (image_labels (map pair_of program.now.starts.now) program.now.table)
+        (map entry_of items.now)) }
 {
     match assemble(alloc, BLOCK_AT, items) {
-        Ok(made) => Ok(made.bytes.as_slice() == image),
+        Ok(made) => {
+            Ok(
+                made.bytes.as_slice() == program.image
+                    && has_places(alloc, &made, program.starts, program.table)?,
+            )
+        }
         Err(error) => no_image(error.kind),
     }
 }

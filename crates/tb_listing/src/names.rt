@@ -1,5 +1,5 @@
 //! The names of addresses.
-ghost use Rattle.std.specs.Prelude.{◌≡◌, ◌++◌, false, true, IfOk};
+ghost use Rattle.std.specs.Prelude.{◌≡◌, ◌++◌, false, true, codes, IfOk};
 ghost use Rattle.std.specs.Fmt.{decimal};
 ghost use Rattle.tb_words.specs.Texts.{AppendsBytes};
 ghost use Rattle.tb_listing.specs.Comments.{begins_plainly, is_comment};
@@ -33,11 +33,23 @@ pub fn line_at(starts: &[LineStart], at: u16) -> Option<u16> {
     None
 }
 
+/// Whether a line begins at an address, which has no name of its own then.
+pub fn is_line(program: &Program<'_>, at: u16) -> bool {
+    own_name(program, at).is_empty() && line_at(program.starts, at).is_some()
+}
+
 /// Whether the piece at an address has a label above it: the address has a name of its own, or is named by a piece.
 pub fn has_label(program: &Program<'_>, marks: &Marks, at: u16) -> bool {
-    marks.at(at).is_named
-        || !own_name(program, at).is_empty()
-        || line_at(program.starts, at).is_some()
+    marks.at(at).is_named || !own_name(program, at).is_empty()
+}
+
+/// The name of a line.
+pub fn line_name(alloc: Global, number: u16) -> Result<Vec<u8>, AllocError>
+    ensures { IfOk result (λ name. name.items ≡ codes "line" ++ decimal number) }
+{
+    let mut name = Vec::new(alloc);
+    push_number(alloc, &mut name, b"line", number)?;
+    Ok(name)
 }
 
 /// The name of an address of the image.
@@ -72,12 +84,14 @@ fn name_of_start(
     requires { begins_plainly inner.now ≡ true }
     ensures { IfOk result (λ name. is_comment name.items ≡ false) }
 {
-    let mut name = Vec::new(alloc);
     match line {
-        Some(number) => push_number(alloc, &mut name, b"line", number)?,
-        None => write_word(&mut name, inner, at, b"")?,
+        Some(number) => line_name(alloc, number),
+        None => {
+            let mut name = Vec::new(alloc);
+            write_word(&mut name, inner, at, b"")?;
+            Ok(name)
+        }
     }
-    Ok(name)
 }
 
 // The prefix of a name that is built from an address: in the code, or in the data of routines or lines.

@@ -1,30 +1,13 @@
 //! An image in pieces: the bytes of each row of a listing, and the addresses that they name.
 ghost use Rattle.std.specs.Prelude.{◌≡◌, ◌≤◌, length, drop};
 
+use crate::sizes::{BREAK, FAULT_NUMBER, FAULT_SIZE, POWERS_SIZE, ROW_SIZE, SEARCH_SIZE, WORD};
 use std::alloc::{AllocError, Global};
 use tb_asm::Operand;
 use tb_codegen::LineStart;
 use tb_disasm::{Content, first_line};
-use tb_opcodes::{Mnemonic, Mode};
+use tb_opcodes::{Mnemonic, Mode, length};
 use tb_runtime16::{BLOCK_AT, LINES_AT, RETURN_LOW, Routine, block, entry};
-
-/// How many bytes the low bytes of Number's powers of ten take, and also the high ones. They follow its code.
-const POWERS: u16 = 4;
-
-/// How many bytes the search for a line takes, which lies before the line table.
-const SEARCH: u16 = 21;
-
-/// How many bytes the code of a fault takes that a line finds by itself, such as fault 7 after the last line.
-const FAULT: u16 = 9;
-
-/// The offset of the fault's number in these bytes.
-const FAULT_NUMBER: usize = 5;
-
-/// The fault of the STOP key.
-const BREAK: u8 = 0;
-
-/// How many bytes a word of the line table takes.
-const WORD: usize = 2;
 
 /// A compiled program: the bytes after its BASIC line, where its lines begin, and where its line table does.
 #[derive(Clone, Copy, Drop)]
@@ -37,17 +20,17 @@ pub struct Program<'a> {
 impl Program<'_> {
     /// The address of the search for a line in the line table.
     pub fn search(&self) -> u16 {
-        self.table.wrapping_sub(SEARCH)
+        self.table.wrapping_sub(SEARCH_SIZE)
     }
 
     /// The address of fault 7, after the last line: before the search, or before the STOP key's code of the last lines.
     pub fn past(&self) -> u16 {
-        let mut past = self.search().wrapping_sub(FAULT);
+        let mut past = self.search().wrapping_sub(FAULT_SIZE);
         for _ in self.starts {
             if self.number_of_fault(past) != Some(BREAK) {
                 break;
             }
-            past = past.wrapping_sub(FAULT);
+            past = past.wrapping_sub(FAULT_SIZE);
         }
         past
     }
@@ -214,7 +197,7 @@ fn first_kind(program: &Program<'_>, text: Span, at: u16, rest: &[u8]) -> (Kind,
         (Kind::Data, data)
     } else if at < program.table {
         (Kind::Code, first_line(at, rest).1)
-    } else if (at - program.table) % 4 == 0 {
+    } else if (at - program.table) % ROW_SIZE == 0 {
         (Kind::Number, WORD)
     } else {
         (Kind::Address, WORD)
@@ -228,8 +211,8 @@ fn data_size(text: Span, at: u16) -> usize {
     let behind_number = entry(Routine::Text);
     usize::from(if at == text.from {
         text.to.saturating_sub(text.from)
-    } else if at == behind_number - 2 * POWERS || at == behind_number - POWERS {
-        POWERS
+    } else if at == behind_number - 2 * POWERS_SIZE || at == behind_number - POWERS_SIZE {
+        POWERS_SIZE
     } else if at == block_end {
         LINES_AT.saturating_sub(block_end)
     } else {
@@ -271,7 +254,8 @@ fn loaded(program: &Program<'_>, at: u16, rest: &[u8]) -> Named {
     if let Some(load) = first_load(program, at, rest) {
         return Named::Low(load.address);
     }
-    for apart in [4u16, 5] {
+    for store in [Mode::ZeroPage, Mode::AbsoluteX] {
+        let apart = u16::from(length(Mode::Immediate)) + u16::from(length(store));
         let before = last(program.image, rest.len().saturating_add(usize::from(apart)));
         if let Some(load) = first_load(program, at.wrapping_sub(apart), before) {
             if load.apart == usize::from(apart) {

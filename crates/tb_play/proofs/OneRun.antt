@@ -19,36 +19,37 @@ use Rattle.tb_engines.specs.Programs.{start, end_of, RunsContent}
 use Rattle.tb_engines.specs.declared.outcome.Outcome.{Outcome}
 use Rattle.tb_engines.specs.declared.outcome.Outcome.TheVariants.{Ended, Refused, ReadFault, WriteFault, NoMemory}
 use Rattle.tb_streams.specs.Lines.{without_return, IsLine}
+use Rattle.tb_streams.specs.Uses.{Use}
 use Rattle.tb_play.specs.Lines.{keys_of, typed_of, TakesLines}
 use Rattle.tb_play.specs.Talks.{gives_quiet, Talked, Comes, Plays}
-use Rattle.tb_play.specs.Plays.{IsStart, RunsTyped, Shows}
+use Rattle.tb_play.specs.Plays.{IsStart, RunsTyped, Shows, quietly}
 use Rattle.tb_opcodes.specs.Bytes.{AreBytes}
 
 abbrev GaveQuiet : Content → List Event → Content → Type 0
 GaveQuiet m es n = Gave gives_quiet (record {}) m es (record {}) n
 
--- a machine with more text after what is left of its own
-abbrev behind : Content → List ℕ → Content
-behind m more = record m { all_text = text_left m ++ more; text_taken = 0 }
+-- a machine with later text after what is left of its own
+abbrev with_later : Content → List ℕ → Content
+with_later m more = record m { all_text = text_left m ++ more; text_taken = 0 }
 
 runs_not_waits : (t : Status) → t ≡ Running → t ≢ Waits
 runs_not_waits t r w = let no : Running ≡ Waits = sym r ∙ w in absurd (cc)
 
 -- the same events are given if more text comes after
-gave_behind : (es : List Event) (m n : Content) (more : List ℕ) → GaveQuiet m es n → GaveQuiet (behind m more) es (behind n more)
-gave_behind [] m n more (p, same) = (p, ap (with_more more) same)
-gave_behind (e ∷ es) m n more (runs, (o, ready, after, same, given, done, rest)) =
+gave_with_later : (es : List Event) (m n : Content) (more : List ℕ) → GaveQuiet m es n → GaveQuiet (with_later m more) es (with_later n more)
+gave_with_later [] m n more (p, same) = (p, ap (with_more more) same)
+gave_with_later (e ∷ es) m n more (runs, (o, ready, after, same, given, done, rest)) =
     let here = runs_not_waits _ runs in
     let there : status (state_of ready) ≢ Waits = runs_not_waits _ (ap status same ∙ runs) in (
       status_kept (state_of m) more here ∙ runs,
       (
         o,
-        behind ready more,
-        behind after more,
+        with_later ready more,
+        with_later after more,
         ap (with_more more) same,
         given,
         ap (with_more more) done ∙ sym (happens_kept e (state_of ready) more there),
-        gave_behind es after n more rest,
+        gave_with_later es after n more rest,
       ),
     )
 
@@ -65,39 +66,39 @@ gave_append (e ∷ es) fs m n r (runs, (o, ready, after, same, given, done, rest
 
 -- a talk whose lines are all in the text from the start
 talk_gave : (limit : ℕ) (lines : List (List ℕ)) (m n : Content) → Talked limit m lines n
-    → (es : List Event) × GaveQuiet (behind m (typed_of lines)) es n
+    → (es : List Event) × GaveQuiet (with_later m (typed_of lines)) es n
 talk_gave limit [] m n same =
     ([], (refl, ap state_of same ∙ ap (λ x. record (state_of m) { text = x }) (sym (append-nil (text_left m)))))
 talk_gave limit (line ∷ lines) m n (w, typed, (p, ran), more, rest) =
     let later = talk_gave limit lines typed n rest in
     let all = keys_of line ++ typed_of lines in
-    let now : GaveQuiet (behind m all) ran.events (behind w all) = gave_behind ran.events m w all ran.gave in
-    let joined : state_of (behind w all) ≡ state_of (behind typed (typed_of lines)) =
+    let now : GaveQuiet (with_later m all) ran.events (with_later w all) = gave_with_later ran.events m w all ran.gave in
+    let joined : state_of (with_later w all) ≡ state_of (with_later typed (typed_of lines)) =
     ap (λ x. record (state_of w) { text = x }) (sym (append_assoc (text_left w) (keys_of line) (typed_of lines)))
     ∙ ap (with_more (typed_of lines)) (sym more) in (
       ran.events ++ later.0,
-      gave_append ran.events later.0 (behind m all) (behind w all) n now
-          (gave_from later.0 (behind typed (typed_of lines)) (behind w all) n joined later.1),
+      gave_append ran.events later.0 (with_later m all) (with_later w all) n now
+          (gave_from later.0 (with_later typed (typed_of lines)) (with_later w all) n joined later.1),
     )
 
 -- what was given is a run, which needs no higher limit
-gave_runs : (es : List Event) (address : ℕ) (bytes text : List ℕ) (n : Content) → GaveQuiet (behind (start address bytes [] []) text) es n
+gave_runs : (es : List Event) (address : ℕ) (bytes text : List ℕ) (n : Content) → GaveQuiet (with_later (start address bytes [] []) text) es n
     → RanOver gives_quiet (record {}) (start address bytes text []) (length es) (Ok (status (state_of n))) (record {}) n
 gave_runs es address bytes text n gave =
     ran_over gives_quiet (λ o m e p h. quiet_is_lawful m e h) es (record {}) (start address bytes text []) (length es) (Ok (status (state_of n))) (record {}) n
-    (gave_from es (behind (start address bytes [] []) text) (start address bytes text []) n refl gave) (omega arith) (refl, λ h. refl)
+    (gave_from es (with_later (start address bytes [] []) text) (start address bytes text []) n refl gave) (omega arith) (refl, λ h. refl)
 
 module _ (file : List ℕ) (m : Content) (begun : IsStart file m) where
   -- what a machine shows after these events
-  shows : (es : List Event) (text : List ℕ) (n : Content) → AreBytes text → GaveQuiet (behind m text) es n
+  shows : (es : List Event) (text : List ℕ) (n : Content) → AreBytes text → GaveQuiet (with_later m text) es n
       → RunsTyped file text (Ok (host_form_of n.sent, end_of (status (state_of n)) n.regs.pc))
   shows es text n bytes gave =
-      let here = subst (λ x. GaveQuiet (behind x text) es n) begun.machine gave in
+      let here = subst (λ x. GaveQuiet (with_later x text) es n) begun.machine gave in
       let product : Product = Ok (host_form_of n.sent, end_of (status (state_of n)) n.regs.pc) in (
         bytes,
         (
           length es,
-          subst (λ c. RunsContent gives_quiet (record {}) c text [] (length es) product) (sym begun.content)
+          subst (λ c. RunsContent (quietly text [] (length es)) c product) (sym begun.content)
               (begun.in_ram, (status (state_of n), record {}, n, gave_runs es begun.address begun.bytes text n here, refl)),
         ),
       )
@@ -154,21 +155,21 @@ typed_bytes (line ∷ lines) had left (mid, first, rest) =
 -- ---- what playing wrote is what one run shows
 
 -- what playing wrote is what one run on the typed text shows, for the contract of `play_file`
-pub one_run : (limit : ℕ) (file : List ℕ) (m : Content) (outcome : Outcome) (typed : List ℕ) (had left : Option (List ℕ)) (read read' : ℕ)
-    (old new : Option (List ℕ)) → IsStart file m → Plays limit m outcome typed had left read read' old new → Shows (RunsTyped file) outcome typed old new
-one_run limit file m (Ended end) typed had left read read' old new begun (lines, t, n, mid, came, stops, all, how, written) =
-    let shown = come_shows file m begun limit lines t n had mid (typed_bytes lines had mid came.taken) came in (
+pub one_run : (limit : ℕ) (file : List ℕ) (m : Content) (outcome : Outcome) (typed : List ℕ) (keys writer : Use)
+    → IsStart file m → Plays limit m outcome typed keys writer → Shows (RunsTyped file) outcome typed writer
+one_run limit file m (Ended end) typed keys writer begun (lines, t, n, mid, came, stops, all, how, written) =
+    let shown = come_shows file m begun limit lines t n keys.old mid (typed_bytes lines keys.old mid came.taken) came in (
       host_form_of n.sent,
       subst (λ x. RunsTyped file x (Ok (host_form_of n.sent, end))) (sym all)
           (subst (λ e. RunsTyped file (typed_of lines) (Ok (host_form_of n.sent, e))) (sym how) shown),
       written,
     )
-one_run limit file m (Refused e) typed had left read read' old new begun h = absurd h
-one_run limit file m ReadFault typed had left read read' old new begun (lines, n, mid, line, came, took, why, written) =
-    (typed_of lines, host_form_of n.sent, come_shows file m begun limit lines Waits n had mid (typed_bytes lines had mid came.taken) came, written)
-one_run limit file m WriteFault typed had left read read' old new begun (lines, t, n, came, written) =
-    (typed_of lines, host_form_of n.sent, _, come_shows file m begun limit lines t n had left (typed_bytes lines had left came.taken) came, written)
-one_run limit file m NoMemory typed had left read read' old new begun (inl (lines, n, b)) =
-    inr (typed_of lines, host_form_of n.sent, _, talk_shows file m begun limit lines n (typed_bytes lines had left b.taken) b.talked, b.written)
-one_run limit file m NoMemory typed had left read read' old new begun (inr (lines, n, mid, line, came, took, written)) =
-    inr (typed_of lines, host_form_of n.sent, _, come_shows file m begun limit lines Waits n had mid (typed_bytes lines had mid came.taken) came, written)
+one_run limit file m (Refused e) typed keys writer begun h = absurd h
+one_run limit file m ReadFault typed keys writer begun (lines, n, mid, line, came, took, why, written) =
+    (typed_of lines, host_form_of n.sent, come_shows file m begun limit lines Waits n keys.old mid (typed_bytes lines keys.old mid came.taken) came, written)
+one_run limit file m WriteFault typed keys writer begun (lines, t, n, came, written) =
+    (typed_of lines, host_form_of n.sent, _, come_shows file m begun limit lines t n keys.old keys.new (typed_bytes lines keys.old keys.new came.taken) came, written)
+one_run limit file m NoMemory typed keys writer begun (inl (lines, n, b)) =
+    inr (typed_of lines, host_form_of n.sent, _, talk_shows file m begun limit lines n (typed_bytes lines keys.old keys.new b.taken) b.talked, b.written)
+one_run limit file m NoMemory typed keys writer begun (inr (lines, n, mid, line, came, took, written)) =
+    inr (typed_of lines, host_form_of n.sent, _, come_shows file m begun limit lines Waits n keys.old mid (typed_bytes lines keys.old mid came.taken) came, written)

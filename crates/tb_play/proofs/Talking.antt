@@ -1,7 +1,7 @@
 -- One more line of a talk.
 use Rattle.std.proofs.Common.{◌≡◌, ◌≢◌, ℕ, true, false, inl, inr, ◌⊎◌, ◌<◌, Err, ◌+◌, List, [], ◌∷◌, ◌++◌, Option, length}
 use Rattle.std.proofs.Common.{take, refl, sym, ap, subst, ◌∙◌, append-nil, append_assoc}
-use Rattle.std.proofs.KnownBytes.{Appends-trans, Appends-kept}
+use Rattle.std.proofs.KnownBytes.{Appends-trans, Appends-kept, Appends-nil}
 use Rattle.std.proofs.Math.Seq.{take-append-add}
 use Rattle.std.specs.Prelude.{flat_map}
 use Rattle.std.specs.Io.KnownBytes.{Appends}
@@ -13,10 +13,15 @@ use Rattle.tb_kernal.specs.Machine.{Content, state_of}
 use Rattle.tb_kernal.specs.Typing.{with_more}
 use Rattle.tb_streams.specs.HostForm.{host_byte, host_form_of}
 use Rattle.tb_streams.specs.Streams.{AppendsPrefix}
-use Rattle.tb_streams.specs.Lines.{TakesLine}
+use Rattle.tb_streams.specs.Uses.{Use}
+use Rattle.tb_streams.specs.Lines.{TakesLine, TakesNothing, TakesPart}
 use Rattle.tb_play.specs.Lines.{most_typed, keys_of, typed_of, TakesLines, TakesSome}
-use Rattle.tb_play.specs.Talks.{Stretch, Talked, IsBehind, Comes, Stops, Plays, GoesOn, Hears, is_waiting, sent_since}
+use Rattle.tb_play.specs.Talks.{Stretch, Talked, IsAfterLines, Comes, Stops, Plays, Writes, WritesBeforeReading, GoesOn, Hears, is_waiting, sent_since}
 use Rattle.tb_play.proofs.Sending.{stretch_sends}
+
+-- a stream's use
+abbrev used : Option (List ℕ) → Option (List ℕ) → ℕ → ℕ → Use
+used old new old_failures new_failures = record { old = old; new = new; old_failures = old_failures; new_failures = new_failures }
 
 flat_map_append : (f : ℕ → List ℕ) (xs ys : List ℕ) → flat_map f (xs ++ ys) ≡ flat_map f xs ++ flat_map f ys
 flat_map_append f [] ys = refl
@@ -56,21 +61,22 @@ written_part limit m n t a b c ran before (k, since) =
     (length shown + k, subst (Appends a c) (sym cut) (Appends-trans a b c _ _ before since))
 
 -- a talk goes on by a stretch
-pub comes : (limit : ℕ) (m : Content) (lines : List (List ℕ)) (n w : Content) (t : Status) (had left old new : Option (List ℕ))
-    → IsBehind limit m lines n had left old new → Stretch limit n t w → Comes limit m lines t w had left
-comes limit m lines n w t had left old new behind ran = record { typed = n; talked = behind.talked; stretch = ran; taken = behind.taken }
+pub comes : (limit : ℕ) (m : Content) (lines : List (List ℕ)) (n w : Content) (t : Status) (keys writer : Use)
+    → IsAfterLines limit m lines n keys writer → Stretch limit n t w → Comes limit m lines t w keys.old keys.new
+comes limit m lines n w t keys writer after ran = record { typed = n; talked = after.talked; stretch = ran; taken = after.taken }
 
 -- and by a line that is read and typed
-pub behind_more : (limit : ℕ) (m : Content) (lines : List (List ℕ)) (line : List ℕ) (n w typed : Content) (had mid left old now new : Option (List ℕ))
-    → IsBehind limit m lines n had mid old now → Stretch limit n Waits w → Appends now new (host_form_of (sent_since n w))
-    → TakesLine mid line left → state_of typed ≡ with_more (keys_of line) (state_of w)
-    → IsBehind limit m (lines ++ line ∷ []) typed had left old new
-behind_more limit m lines line n w typed had mid left old now new behind ran since took more =
+pub after_more : (limit : ℕ) (m : Content) (lines : List (List ℕ)) (line : List ℕ) (n w typed : Content) (had mid left old now new : Option (List ℕ))
+    (read read' read'' wrote wrote' wrote'' : ℕ)
+    → IsAfterLines limit m lines n (used had mid read read') (used old now wrote wrote') → Stretch limit n Waits w
+    → Appends now new (host_form_of (sent_since n w)) → TakesLine mid line left → state_of typed ≡ with_more (keys_of line) (state_of w)
+    → IsAfterLines limit m (lines ++ line ∷ []) typed (used had left read read'') (used old new wrote wrote'')
+after_more limit m lines line n w typed had mid left old now new read read' read'' wrote wrote' wrote'' after ran since took more =
     let same : typed.sent ≡ w.sent = ap (λ s. s.sent) more in
     record {
-      talked = talked_more limit lines m n w typed line behind.talked ran more;
-      taken = taken_more lines line had mid left behind.taken took;
-      written = subst (λ x. Appends old new (host_form_of x)) (sym same) (written_more limit n w Waits old now new ran behind.written since);
+      talked = talked_more limit lines m n w typed line after.talked ran more;
+      taken = taken_more lines line had mid left after.taken took;
+      written = subst (λ x. Appends old new (host_form_of x)) (sym same) (written_more limit n w Waits old now new ran after.written since);
     }
 
 -- a machine that doesn't wait reads no more lines
@@ -88,26 +94,81 @@ waits Returned h = absurd (cc)
 waits (Wrong w) h = absurd (cc)
 
 -- a talk that ends while the machine runs on or its output is written
-pub went_wrong : (limit : ℕ) (m n w : Content) (lines : List (List ℕ)) (outcome : Outcome) (wrote wrote' read read' : ℕ) (typed : List ℕ)
-    (had left old now new : Option (List ℕ)) → IsBehind limit m lines n had left old now → GoesOn limit n (Err outcome) w wrote wrote' now new
-    → Plays limit m outcome typed had left read read' old new
-went_wrong limit m n w lines WriteFault wrote wrote' read read' typed had left old now new behind (t, ran, part, same) =
-    (lines, t, w, comes limit m lines n w t had left old now behind ran, written_part limit n w t old now new ran behind.written part)
-went_wrong limit m n w lines NoMemory wrote wrote' read read' typed had left old now new behind (kept, same) =
-    inl (lines, n, record { talked = behind.talked; taken = behind.taken; written = Appends-kept old now new (host_form_of n.sent) behind.written kept })
-went_wrong limit m n w lines (Ended end) wrote wrote' read read' typed had left old now new behind h = absurd h
-went_wrong limit m n w lines (Refused e) wrote wrote' read read' typed had left old now new behind h = absurd h
-went_wrong limit m n w lines ReadFault wrote wrote' read read' typed had left old now new behind h = absurd h
+pub went_wrong : (limit : ℕ) (m n w : Content) (lines : List (List ℕ)) (outcome : Outcome) (first wrote wrote' : ℕ) (typed : List ℕ)
+    (old now new : Option (List ℕ)) (keys : Use) → IsAfterLines limit m lines n keys (used old now first wrote)
+    → GoesOn limit n (Err outcome) w (used now new wrote wrote') → Plays limit m outcome typed keys (used old new first wrote')
+went_wrong limit m n w lines WriteFault first wrote wrote' typed old now new keys after (t, ran, part, same) =
+    (lines, t, w, comes limit m lines n w t keys (used old now first wrote) after ran, written_part limit n w t old now new ran after.written part)
+went_wrong limit m n w lines NoMemory first wrote wrote' typed old now new keys after (kept, same) =
+    inl (lines, n, record { talked = after.talked; taken = after.taken; written = Appends-kept old now new (host_form_of n.sent) after.written kept })
+went_wrong limit m n w lines (Ended end) first wrote wrote' typed old now new keys after h = absurd h
+went_wrong limit m n w lines (Refused e) first wrote wrote' typed old now new keys after h = absurd h
+went_wrong limit m n w lines ReadFault first wrote wrote' typed old now new keys after h = absurd h
 
 -- a talk that ends while a line is read
 pub heard_wrong : (limit : ℕ) (m w n : Content) (lines : List (List ℕ)) (outcome : Outcome) (first read read' : ℕ) (typed typed' : List ℕ)
-    (had mid left old new : Option (List ℕ)) → Comes limit m lines Waits w had mid → Appends old new (host_form_of w.sent) → typed ≡ typed_of lines
-    → read ≡ first → Hears w typed (Err outcome) n typed' mid left read read' → Plays limit m outcome typed' had left first read' old new
-heard_wrong limit m w n lines ReadFault first read read' typed typed' had mid left old new came written same sound (line, took, why, _) =
+    (had mid left : Option (List ℕ)) (writer : Use) → Comes limit m lines Waits w had mid → Appends writer.old writer.new (host_form_of w.sent)
+    → typed ≡ typed_of lines → read ≡ first → Hears w typed (Err outcome) n typed' (used mid left read read')
+    → Plays limit m outcome typed' (used had left first read') writer
+heard_wrong limit m w n lines ReadFault first read read' typed typed' had mid left writer came written same sound (line, took, why, _) =
     let P : ℕ → List ℕ → Type 0 = λ x y. (read' ≢ x) ⊎ ((most_typed < length y + length (keys_of line)) × TakesSome mid line left) in
     (lines, w, mid, line, came, took, subst (λ y. P first y) same (subst (λ x. P x typed) sound why), written)
-heard_wrong limit m w n lines NoMemory first read read' typed typed' had mid left old new came written same sound (line, took, _, _) =
+heard_wrong limit m w n lines NoMemory first read read' typed typed' had mid left writer came written same sound (line, took, _, _) =
     inr (lines, w, mid, line, came, took, written)
-heard_wrong limit m w n lines (Ended end) first read read' typed typed' had mid left old new came written same sound h = absurd h
-heard_wrong limit m w n lines (Refused e) first read read' typed typed' had mid left old new came written same sound h = absurd h
-heard_wrong limit m w n lines WriteFault first read read' typed typed' had mid left old new came written same sound h = absurd h
+heard_wrong limit m w n lines (Ended end) first read read' typed typed' had mid left writer came written same sound h = absurd h
+heard_wrong limit m w n lines (Refused e) first read read' typed typed' had mid left writer came written same sound h = absurd h
+heard_wrong limit m w n lines WriteFault first read read' typed typed' had mid left writer came written same sound h = absurd h
+
+-- ---- written before the next line is read
+
+-- a line of which some is taken is taken after all that was sent by then is written
+pub reads_after : (limit : ℕ) (m n : Content) (lines : List (List ℕ)) (line : List ℕ) (had mid left old new : Option (List ℕ))
+    → Comes limit m lines Waits n had mid → TakesPart mid line left → Appends old new (host_form_of n.sent)
+    → WritesBeforeReading limit m (used had left 0 0) (used old new 0 0)
+reads_after limit m n lines line had mid left old new came took written =
+    inr (lines, n, mid, line, came, took, ([], subst (Appends old new) (sym (append-nil (host_form_of n.sent))) written))
+
+-- what was written stays written if more is
+pub still_written : (limit : ℕ) (m : Content) (had left old now new : Option (List ℕ)) (text : List ℕ)
+    → WritesBeforeReading limit m (used had left 0 0) (used old now 0 0) → Appends now new text
+    → WritesBeforeReading limit m (used had left 0 0) (used old new 0 0)
+still_written limit m had left old now new text (inl same) more = inl same
+still_written limit m had left old now new text (inr (lines, n, mid, line, came, took, (before, written))) more =
+    inr (
+      lines,
+      n,
+      mid,
+      line,
+      came,
+      took,
+      (before ++ text, subst (Appends old new) (append_assoc (host_form_of n.sent) before text) (Appends-trans old now new _ text written more)),
+    )
+
+-- and so if the machine could not run on, or what it sent was not written whole
+pub still_written_wrong : (limit : ℕ) (m n w : Content) (outcome : Outcome) (had left old now new : Option (List ℕ)) (wrote wrote' : ℕ)
+    → WritesBeforeReading limit m (used had left 0 0) (used old now 0 0)
+    → GoesOn limit n (Err outcome) w (used now new wrote wrote') → WritesBeforeReading limit m (used had left 0 0) (used old new 0 0)
+still_written_wrong limit m n w WriteFault had left old now new wrote wrote' first (t, ran, (k, part), same) =
+    still_written limit m had left old now new (take k (host_form_of (sent_since n w))) first part
+still_written_wrong limit m n w NoMemory had left old now new wrote wrote' first (kept, same) =
+    still_written limit m had left old now new [] first (Appends-kept now now new [] (Appends-nil now) kept)
+still_written_wrong limit m n w (Ended end) had left old now new wrote wrote' first h = absurd h
+still_written_wrong limit m n w (Refused e) had left old now new wrote wrote' first h = absurd h
+still_written_wrong limit m n w ReadFault had left old now new wrote wrote' first h = absurd h
+
+-- a line that is taken whole, and one that is wanting
+pub part_of_line : (line : List ℕ) (had left : Option (List ℕ)) → TakesLine had line left → TakesPart had line left
+part_of_line line had left (is, inl whole) = (is, inr whole)
+part_of_line line had left (is, inr (some, rest, end)) = (is, inl rest)
+
+pub part_of_nothing : (had left : Option (List ℕ)) → TakesNothing had left → TakesPart had [] left
+part_of_nothing had left (none, end) = (tt, inl none)
+
+-- what of a line was taken that could not be typed
+pub part_of_wrong : (m n : Content) (outcome : Outcome) (typed typed' : List ℕ) (keys : Use) → Hears m typed (Err outcome) n typed' keys
+    → (line : List ℕ) × TakesPart keys.old line keys.new
+part_of_wrong m n ReadFault typed typed' keys (line, took, why, same) = (line, took)
+part_of_wrong m n NoMemory typed typed' keys (line, took, same, sound) = (line, took)
+part_of_wrong m n (Ended end) typed typed' keys h = absurd h
+part_of_wrong m n (Refused e) typed typed' keys h = absurd h
+part_of_wrong m n WriteFault typed typed' keys h = absurd h

@@ -1,5 +1,5 @@
 -- Talks: a machine runs, waits, has a line typed to it, and runs on.
-use Rattle.std.specs.Prelude.{ℕ, Bool, true, false, ◌++◌, ◌≡◌, ◌≢◌, ◌⊎◌, ◌+◌, ◌<◌, ◌≤◌, List, [], ◌∷◌, length, drop, Option, Result, Ok, Err}
+use Rattle.std.specs.Prelude.{ℕ, Bool, true, false, ◌++◌, ◌≡◌, ◌⊎◌, ◌+◌, ◌<◌, ◌≤◌, List, [], ◌∷◌, length, drop, Option, Result, Ok, Err}
 use Rattle.std.specs.Io.KnownBytes.{Appends, Keeps}
 use Rattle.tb_kernal.specs.declared.outside.Quiet.{Quiet}
 use Rattle.tb_kernal.specs.declared.events.Event.{Event}
@@ -10,6 +10,7 @@ use Rattle.tb_kernal.specs.Runs.{RanOver, is_quiet}
 use Rattle.tb_kernal.specs.Typing.{with_more}
 use Rattle.tb_streams.specs.HostForm.{host_form_of}
 use Rattle.tb_streams.specs.Streams.{AppendsPrefix}
+use Rattle.tb_streams.specs.Uses.{Use, Fails, NeverFails}
 use Rattle.tb_engines.specs.Programs.{end_of}
 use Rattle.tb_engines.specs.declared.outcome.Outcome.{Outcome}
 use Rattle.tb_engines.specs.declared.outcome.Outcome.TheVariants.{Ended, Refused, ReadFault, WriteFault, NoMemory}
@@ -31,11 +32,11 @@ Talked limit m (line ∷ lines) n =
     (w : Content) × (typed : Content) × Stretch limit m Waits w × (state_of typed ≡ with_more (keys_of line) (state_of w))
     × Talked limit typed lines n
 
--- a talk up to a typed line: these lines were taken of the reader, and all that was sent is written
-pub record IsBehind (limit : ℕ) (m : Content) (lines : List (List ℕ)) (n : Content) (had left old new : Option (List ℕ)) : Type 0 where
+-- a talk after these lines: they were taken of the reader and typed, and all that was sent is written
+pub record IsAfterLines (limit : ℕ) (m : Content) (lines : List (List ℕ)) (n : Content) (keys writer : Use) : Type 0 where
   pub talked : Talked limit m lines n
-  pub taken : TakesLines had lines left
-  pub written : Appends old new (host_form_of n.sent)
+  pub taken : TakesLines keys.old lines keys.new
+  pub written : Appends writer.old writer.new (host_form_of n.sent)
 
 -- a talk and a stretch after it: these lines were taken of the reader, and nothing more
 pub record Comes (limit : ℕ) (m : Content) (lines : List (List ℕ)) (t : Status) (n : Content) (had left : Option (List ℕ)) : Type 0 where
@@ -56,56 +57,67 @@ abbrev pub is_waiting : Status → Bool
 is_waiting Waits = true
 is_waiting _ = false
 
--- What playing a machine came to: how it ended, all that was typed, the keyboard's reader before and after with its
--- count of failures, and what was written. A line is taken only when the machine waits and all that it sent is written.
-abbrev pub Plays : ℕ → Content → Outcome → List ℕ → Option (List ℕ) → Option (List ℕ) → ℕ → ℕ → Option (List ℕ) → Option (List ℕ) → Type 0
-Plays limit m (Ended end) typed had left read read' old new =
+-- What playing a machine came to: how it ended, all that was typed, and the uses of the keyboard's reader and of the
+-- writer. A line is taken only when the machine waits.
+abbrev pub Plays : ℕ → Content → Outcome → List ℕ → Use → Use → Type 0
+Plays limit m (Ended end) typed keys writer =
     (lines : List (List ℕ)) × (t : Status) × (n : Content) × (mid : Option (List ℕ))
-    × Comes limit m lines t n had mid × Stops t mid left
-    × (typed ≡ typed_of lines) × (end ≡ end_of t n.regs.pc) × Appends old new (host_form_of n.sent)
-Plays limit m (Refused e) typed had left read read' old new = ⊥
-Plays limit m ReadFault typed had left read read' old new =
+    × Comes limit m lines t n keys.old mid × Stops t mid keys.new
+    × (typed ≡ typed_of lines) × (end ≡ end_of t n.regs.pc) × Appends writer.old writer.new (host_form_of n.sent)
+Plays limit m (Refused e) typed keys writer = ⊥
+Plays limit m ReadFault typed keys writer =
     (lines : List (List ℕ)) × (n : Content) × (mid : Option (List ℕ)) × (line : List ℕ)
-    × Comes limit m lines Waits n had mid × TakesPart mid line left
-    × ((read' ≢ read) ⊎ ((most_typed < length (typed_of lines) + length (keys_of line)) × TakesSome mid line left))
-    × Appends old new (host_form_of n.sent)
-Plays limit m WriteFault typed had left read read' old new =
+    × Comes limit m lines Waits n keys.old mid × TakesPart mid line keys.new
+    × (Fails keys ⊎ ((most_typed < length (typed_of lines) + length (keys_of line)) × TakesSome mid line keys.new))
+    × Appends writer.old writer.new (host_form_of n.sent)
+Plays limit m WriteFault typed keys writer =
     (lines : List (List ℕ)) × (t : Status) × (n : Content)
-    × Comes limit m lines t n had left × AppendsPrefix old new (host_form_of n.sent)
-Plays limit m NoMemory typed had left read read' old new =
-    ((lines : List (List ℕ)) × (n : Content) × IsBehind limit m lines n had left old new)
+    × Comes limit m lines t n keys.old keys.new × AppendsPrefix writer.old writer.new (host_form_of n.sent)
+Plays limit m NoMemory typed keys writer =
+    ((lines : List (List ℕ)) × (n : Content) × IsAfterLines limit m lines n keys writer)
     ⊎ ((lines : List (List ℕ)) × (n : Content) × (mid : Option (List ℕ)) × (line : List ℕ)
-    × Comes limit m lines Waits n had mid × TakesPart mid line left × Appends old new (host_form_of n.sent))
+    × Comes limit m lines Waits n keys.old mid × TakesPart mid line keys.new × Appends writer.old writer.new (host_form_of n.sent))
+
+-- a text was written, and perhaps more after it
+abbrev pub Writes : Use → List ℕ → Type 0
+Writes writer text = (more : List ℕ) × Appends writer.old writer.new (text ++ more)
+
+-- Written before the next line is read, however playing ended: nothing was taken of the reader, or some of a line last,
+-- for which the machine waited after the lines before it; and all that the machine had sent by then is written.
+abbrev pub WritesBeforeReading : ℕ → Content → Use → Use → Type 0
+WritesBeforeReading limit m keys writer =
+    (keys.new ≡ keys.old)
+    ⊎ ((lines : List (List ℕ)) × (n : Content) × (mid : Option (List ℕ)) × (line : List ℕ)
+    × Comes limit m lines Waits n keys.old mid × TakesPart mid line keys.new × Writes writer (host_form_of n.sent))
 
 -- what a machine sent in a stretch, without what it had sent before
 abbrev pub sent_since : Content → Content → List ℕ
 sent_since m n = drop (length m.sent) n.sent
 
--- what running a stretch and writing what it sent answers, with the machine after it, and the writer's count of
--- failures
-abbrev pub GoesOn : ℕ → Content → Result Status Outcome → Content → ℕ → ℕ → Option (List ℕ) → Option (List ℕ) → Type 0
-GoesOn limit m (Ok t) n wrote wrote' old new =
-    Stretch limit m t n × Appends old new (host_form_of (sent_since m n)) × (wrote' ≡ wrote)
-GoesOn limit m (Err WriteFault) n wrote wrote' old new =
-    (t : Status) × Stretch limit m t n × AppendsPrefix old new (host_form_of (sent_since m n)) × (wrote' ≢ wrote)
-GoesOn limit m (Err NoMemory) n wrote wrote' old new = Keeps old new × (wrote' ≡ wrote)
-GoesOn limit m (Err (Ended end)) n wrote wrote' old new = ⊥
-GoesOn limit m (Err (Refused e)) n wrote wrote' old new = ⊥
-GoesOn limit m (Err ReadFault) n wrote wrote' old new = ⊥
+-- what running a stretch and writing what it sent answers, with the machine after it
+abbrev pub GoesOn : ℕ → Content → Result Status Outcome → Content → Use → Type 0
+GoesOn limit m (Ok t) n writer =
+    Stretch limit m t n × Appends writer.old writer.new (host_form_of (sent_since m n)) × NeverFails writer
+GoesOn limit m (Err WriteFault) n writer =
+    (t : Status) × Stretch limit m t n × AppendsPrefix writer.old writer.new (host_form_of (sent_since m n)) × Fails writer
+GoesOn limit m (Err NoMemory) n writer = Keeps writer.old writer.new × NeverFails writer
+GoesOn limit m (Err (Ended end)) n writer = ⊥
+GoesOn limit m (Err (Refused e)) n writer = ⊥
+GoesOn limit m (Err ReadFault) n writer = ⊥
 
 -- what reading a line and typing it answers: whether there was one; with the machine and the typed text before and
 -- after
-abbrev pub Hears : Content → List ℕ → Result Bool Outcome → Content → List ℕ → Option (List ℕ) → Option (List ℕ) → ℕ → ℕ → Type 0
-Hears m typed (Ok true) n typed' had left read read' =
-    (line : List ℕ) × TakesLine had line left × (state_of n ≡ with_more (keys_of line) (state_of m))
-    × (typed' ≡ typed ++ keys_of line) × (length typed' ≤ most_typed) × (read' ≡ read)
-Hears m typed (Ok false) n typed' had left read read' =
-    TakesNothing had left × (n ≡ m) × (typed' ≡ typed) × (read' ≡ read)
-Hears m typed (Err ReadFault) n typed' had left read read' =
-    (line : List ℕ) × TakesPart had line left
-    × ((read' ≢ read) ⊎ ((most_typed < length typed + length (keys_of line)) × TakesSome had line left)) × (typed' ≡ typed)
-Hears m typed (Err NoMemory) n typed' had left read read' =
-    (line : List ℕ) × TakesPart had line left × (typed' ≡ typed) × (read' ≡ read)
-Hears m typed (Err (Ended end)) n typed' had left read read' = ⊥
-Hears m typed (Err (Refused e)) n typed' had left read read' = ⊥
-Hears m typed (Err WriteFault) n typed' had left read read' = ⊥
+abbrev pub Hears : Content → List ℕ → Result Bool Outcome → Content → List ℕ → Use → Type 0
+Hears m typed (Ok true) n typed' keys =
+    (line : List ℕ) × TakesLine keys.old line keys.new × (state_of n ≡ with_more (keys_of line) (state_of m))
+    × (typed' ≡ typed ++ keys_of line) × (length typed' ≤ most_typed) × NeverFails keys
+Hears m typed (Ok false) n typed' keys =
+    TakesNothing keys.old keys.new × (n ≡ m) × (typed' ≡ typed) × NeverFails keys
+Hears m typed (Err ReadFault) n typed' keys =
+    (line : List ℕ) × TakesPart keys.old line keys.new
+    × (Fails keys ⊎ ((most_typed < length typed + length (keys_of line)) × TakesSome keys.old line keys.new)) × (typed' ≡ typed)
+Hears m typed (Err NoMemory) n typed' keys =
+    (line : List ℕ) × TakesPart keys.old line keys.new × (typed' ≡ typed) × NeverFails keys
+Hears m typed (Err (Ended end)) n typed' keys = ⊥
+Hears m typed (Err (Refused e)) n typed' keys = ⊥
+Hears m typed (Err WriteFault) n typed' keys = ⊥

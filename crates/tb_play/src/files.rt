@@ -1,7 +1,7 @@
 //! Playing a PRG file.
 ghost use Rattle.std.specs.Prelude.{◌≡◌, ◌≤◌, [], vec_len};
-ghost use Rattle.tb_streams.specs.Failures.{failures_of};
-ghost use Rattle.tb_play.specs.Plays.{IsStarted, PlaysFile, PlayFaults, RunsTyped, Shows};
+ghost use Rattle.tb_streams.specs.Uses.{use_of};
+ghost use Rattle.tb_play.specs.Plays.{IsStarted, PlaysFile, PlayFaults, RunsTyped, Shows, WritesFileBeforeReading};
 ghost use Rattle.tb_play.specs.Lines.{most_typed};
 
 use crate::talk::{Played, play};
@@ -35,13 +35,12 @@ pub fn play_file<R: Read, W: Write>(
     limit: u64,
 ) -> Played
     ensures dialogue { PlaysFile limit file.now result.outcome result.typed.items
-        (R.remaining keys.old.stream) (R.remaining keys.new.stream) (failures_of keys.old) (failures_of keys.new)
-        (W.contents writer.old.stream) (W.contents writer.new.stream) }
-    ensures whole { Shows (RunsTyped file.now) result.outcome result.typed.items
-        (W.contents writer.old.stream) (W.contents writer.new.stream) }
+        (use_of R.remaining keys.old keys.new) (use_of W.contents writer.old writer.new) }
+    ensures written_first { WritesFileBeforeReading limit file.now
+        (use_of R.remaining keys.old keys.new) (use_of W.contents writer.old writer.new) }
+    ensures whole { Shows (RunsTyped file.now) result.outcome result.typed.items (use_of W.contents writer.old writer.new) }
     ensures within { vec_len result.typed ≤ most_typed }
-    ensures faults { PlayFaults result.outcome (failures_of keys.old) (failures_of keys.new)
-        (failures_of writer.old) (failures_of writer.new) }
+    ensures faults { PlayFaults result.outcome (use_of R.remaining keys.old keys.new) (use_of W.contents writer.old writer.new) }
 {
     match start(alloc, file) {
         Ok(mut machine) => play(alloc, &mut machine, keys, writer, limit),

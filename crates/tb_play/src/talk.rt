@@ -1,16 +1,16 @@
 //! A machine that is talked to.
-ghost use Rattle.std.specs.Prelude.{◌≡◌, ◌≤◌, [], drop, length, vec_len};
-ghost use Rattle.tb_streams.specs.Failures.{failures_of};
-ghost use Rattle.tb_play.specs.Talks.{is_waiting, GoesOn, Hears, Plays};
-ghost use Rattle.tb_play.specs.Plays.{PlayFaults};
+ghost use Rattle.std.specs.Prelude.{◌≡◌, ◌≤◌, [], IfOk, drop, length, vec_len};
+ghost use Rattle.tb_streams.specs.Uses.{use_of};
+ghost use Rattle.tb_play.specs.Talks.{is_waiting, GoesOn, Hears, Plays, WritesBeforeReading};
+ghost use Rattle.tb_play.specs.Plays.{PlayFaults, Records};
 ghost use Rattle.tb_play.specs.Lines.{most_typed};
 
 use crate::lines::{MOST_TYPED, read_keys};
-use std::alloc::Global;
+use std::alloc::{AllocError, Global};
 use std::io::{Read, Write};
 use tb_engines::{End, Outcome, end_of, without_input};
 use tb_kernal::{Machine, Quiet, Status, run};
-use tb_streams::{Tracked, host_form, write_output};
+use tb_streams::{Tracked, host_form, key_file, write_output};
 
 /// How playing ended, and all that was typed.
 #[derive(Debug, Drop)]
@@ -18,6 +18,21 @@ pub struct Played {
     pub outcome: Outcome,
     /// The bytes that were handed to the keyboard, in order.
     pub typed: Vec<u8>,
+}
+
+impl Played {
+    /// The text of the key file that records what was typed. There is one only if playing ended: no stream failed, and
+    /// memory was found.
+    pub fn recorded(&self, alloc: Global) -> Result<Option<Vec<u8>>, AllocError>
+        ensures { IfOk result (Records self.now.outcome self.now.typed.items) }
+    {
+        match self.outcome {
+            Outcome::Ended(_) => Ok(Some(key_file(alloc, self.typed.as_slice())?)),
+            Outcome::Refused(_) | Outcome::ReadFault | Outcome::WriteFault | Outcome::NoMemory => {
+                Ok(None)
+            }
+        }
+    }
 }
 
 // Whether the machine waits for a key.
@@ -28,7 +43,7 @@ fn is_waiting(status: Status) -> bool
 }
 
 // What a machine sent after the first `written` bytes.
-fn sent_behind(machine: &Machine, written: usize) -> &[u8]
+fn sent_after(machine: &Machine, written: usize) -> &[u8]
     requires { written ≤ length machine.now.sent }
     ensures { result.now ≡ drop written machine.now.sent }
 {
@@ -42,14 +57,13 @@ fn go_on<W: Write>(
     writer: &mut Tracked<W>,
     limit: u64,
 ) -> Result<Status, Outcome>
-    ensures { GoesOn limit machine.old result machine.new (failures_of writer.old) (failures_of writer.new)
-        (W.contents writer.old.stream) (W.contents writer.new.stream) }
+    ensures { GoesOn limit machine.old result machine.new (use_of W.contents writer.old writer.new) }
 {
     let written = machine.sent().len();
     let Ok(status) = run(machine, &mut Quiet, limit) else {
         return Err(Outcome::NoMemory);
     };
-    let Ok(text) = host_form(alloc, sent_behind(machine, written)) else {
+    let Ok(text) = host_form(alloc, sent_after(machine, written)) else {
         return Err(Outcome::NoMemory);
     };
     match write_output(writer, text.as_slice()) {
@@ -66,9 +80,7 @@ fn hear<R: Read>(
     typed: &mut Vec<u8>,
 ) -> Result<bool, Outcome>
     requires { vec_len typed.old ≤ most_typed }
-    ensures { Hears machine.old typed.old.items result machine.new typed.new.items
-        (R.remaining keys.old.stream) (R.remaining keys.new.stream)
-        (failures_of keys.old) (failures_of keys.new) }
+    ensures { Hears machine.old typed.old.items result machine.new typed.new.items (use_of R.remaining keys.old keys.new) }
 {
     let line = match read_keys(alloc, keys, MOST_TYPED - typed.len()) {
         Ok(Some(line)) => line,
@@ -96,11 +108,11 @@ fn talk<R: Read, W: Write>(
     requires nothing_typed { typed.old.items ≡ [] }
     requires nothing_sent { machine.old.sent ≡ [] }
     ensures dialogue { Plays limit machine.old result typed.new.items
-        (R.remaining keys.old.stream) (R.remaining keys.new.stream) (failures_of keys.old) (failures_of keys.new)
-        (W.contents writer.old.stream) (W.contents writer.new.stream) }
+        (use_of R.remaining keys.old keys.new) (use_of W.contents writer.old writer.new) }
+    ensures written_first { WritesBeforeReading limit machine.old
+        (use_of R.remaining keys.old keys.new) (use_of W.contents writer.old writer.new) }
     ensures within { vec_len typed.new ≤ most_typed }
-    ensures faults { PlayFaults result (failures_of keys.old) (failures_of keys.new)
-        (failures_of writer.old) (failures_of writer.new) }
+    ensures faults { PlayFaults result (use_of R.remaining keys.old keys.new) (use_of W.contents writer.old writer.new) }
 {
     'talking: while typed.len() <= MOST_TYPED {
         let status = match go_on(alloc, machine, writer, limit) {
@@ -122,6 +134,8 @@ fn talk<R: Read, W: Write>(
 /// Plays a machine to which nothing is typed yet and which has sent nothing. It runs until it waits for a key, stops or
 /// has taken `limit` events; what it sent since the last time is written in the host form, and flushed. If it waits, a
 /// line is read and typed (its letters as capitals, then a return), and it runs on, until no line is left.
+///
+/// No byte of a line is taken before all that the machine had sent by then is written, however playing ends.
 pub fn play<R: Read, W: Write>(
     alloc: Global,
     machine: &mut Machine,
@@ -131,11 +145,11 @@ pub fn play<R: Read, W: Write>(
 ) -> Played
     requires { machine.old.sent ≡ [] }
     ensures dialogue { Plays limit machine.old result.outcome result.typed.items
-        (R.remaining keys.old.stream) (R.remaining keys.new.stream) (failures_of keys.old) (failures_of keys.new)
-        (W.contents writer.old.stream) (W.contents writer.new.stream) }
+        (use_of R.remaining keys.old keys.new) (use_of W.contents writer.old writer.new) }
+    ensures written_first { WritesBeforeReading limit machine.old
+        (use_of R.remaining keys.old keys.new) (use_of W.contents writer.old writer.new) }
     ensures within { vec_len result.typed ≤ most_typed }
-    ensures faults { PlayFaults result.outcome (failures_of keys.old) (failures_of keys.new)
-        (failures_of writer.old) (failures_of writer.new) }
+    ensures faults { PlayFaults result.outcome (use_of R.remaining keys.old keys.new) (use_of W.contents writer.old writer.new) }
 {
     let mut typed = Vec::new(alloc);
     let outcome = talk(alloc, machine, keys, writer, limit, &mut typed);

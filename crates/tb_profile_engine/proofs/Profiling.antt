@@ -2,7 +2,6 @@
 use Rattle.std.proofs.Common.{◌≡◌, ℕ, ◌+◌, ◌<◌, ◌≤◌, false, ◌||◌, List, [], ◌∷◌, Result, Ok, Err, map, refl, subst, sym, ap, ◌∙◌, arith}
 use Rattle.std.specs.Prelude.{◌==◌}
 use Rattle.std.proofs.lemmas.Bool.Decides.{nat_tests}
-use Rattle.tb_kernal.specs.declared.events.Event.{Event}
 use Rattle.tb_kernal.specs.Machine.{Content}
 use Rattle.tb_memmap.specs.Regions.{BASIC_START}
 use Rattle.tb_syntax.specs.Source.{Program}
@@ -11,7 +10,7 @@ use Rattle.tb_runtime16.specs.Addresses.{LINES_AT}
 use Rattle.tb_codegen.specs.Answers.{HasOutcome, OutcomeAnswer, LinesMake}
 use Rattle.tb_codegen.specs.Compiled.{loaded_of, starts_of, IsCompiled, AddressesRise}
 use Rattle.tb_codegen.specs.declared.compiled.Compiled.{Compiled}
-use Rattle.tb_engines.specs.Programs.{start}
+use Rattle.tb_engines.specs.Programs.{start, Settings}
 use Rattle.tb_engines.specs.Outcomes.{Product}
 use Rattle.tb_engines.specs.declared.delivery.NoText.{NoText}
 use Rattle.tb_engines.specs.declared.delivery.NoText.TheVariants.{Refused, NoMemory}
@@ -31,16 +30,16 @@ use Rattle.tb_profile_engine.specs.Profiles.{IsProfileOf, Profiles, MakesTexts, 
 -- ---- the machine
 
 -- a run of the machine that was started is a profile
-pub started : {O : Type 0} (gives : O → Content → Event → O → Type 0) (o : O) (text answers : List ℕ) (limit : ℕ) (program : Compiled)
-    (m : Content) (result : Result Ran NoText) → m ≡ start BASIC_START (loaded_of program) text answers
-    → ComesTo (RunsFrom gives o limit program m) result → ComesTo (IsProfile gives o text answers limit program) result
-started gives o text answers limit program m result machine ran = subst (λ s. ComesTo (RunsFrom gives o limit program s) result) machine ran
+pub started : {O : Type 0} (s : Settings O) (program : Compiled) (m : Content) (result : Result Ran NoText)
+    → m ≡ start BASIC_START (loaded_of program) s.text s.answers
+    → ComesTo (RunsFrom s.gives s.outside s.limit program m) result → ComesTo (IsProfile s program) result
+started s program m result machine ran = subst (λ x. ComesTo (RunsFrom s.gives s.outside s.limit program x) result) machine ran
 
 -- where the machine of a loadable program is not started, memory is wanting
-pub not_started : {O : Type 0} (gives : O → Content → Event → O → Type 0) (o : O) (text answers : List ℕ) (limit : ℕ) (program : Compiled) (stop : NoText)
-    → StartsLoadable text answers program (Err stop) → ComesTo (IsProfile gives o text answers limit program) (Err stop)
-not_started gives o text answers limit program (Refused e) none = absurd none
-not_started gives o text answers limit program NoMemory none = tt
+pub not_started : {O : Type 0} (s : Settings O) (program : Compiled) (stop : NoText)
+    → StartsLoadable s.text s.answers program (Err stop) → ComesTo (IsProfile s program) (Err stop)
+not_started s program (Refused e) none = absurd none
+not_started s program NoMemory none = tt
 
 -- ---- lines begin at addresses of their own
 
@@ -64,10 +63,10 @@ row_lines : (ts : List Step) (starts : List (ℕ × ℕ)) → map (λ r. r.line)
 row_lines ts [] = refl
 row_lines ts (s ∷ starts) = ap (λ ns. s.0 ∷ ns) (row_lines ts starts)
 
-module _ {O : Type 0} (gives : O → Content → Event → O → Type 0) (o : O) (text answers : List ℕ) (limit : ℕ) (source : List ℕ) (c : Compiled) where
+module _ {O : Type 0} (s : Settings O) (source : List ℕ) (c : Compiled) where
   of_program : (seed : ℕ) (program : Program) (ran : Ran) (texts : Texts) → LinesMake source (Ok program) → IsCompiled seed program c
-      → IsProfile gives o text answers limit c ran → Shows source ran.table texts
-      → IsProfileOf gives o text answers limit source c texts.page.items texts.table.items ran
+      → IsProfile s c ran → Shows source ran.table texts
+      → IsProfileOf s source c texts.page.items texts.table.items ran
   of_program seed program ran texts made compiled is shows =
       record {
         program = program;
@@ -80,15 +79,15 @@ module _ {O : Type 0} (gives : O → Content → Event → O → Type 0) (o : O)
       }
 
   of_outcome : (seed : ℕ) (outcome : FileOutcome) (ran : Ran) (texts : Texts) → LinesMake source outcome → OutcomeAnswer seed outcome (Ok c)
-      → IsProfile gives o text answers limit c ran → Shows source ran.table texts
-      → IsProfileOf gives o text answers limit source c texts.page.items texts.table.items ran
+      → IsProfile s c ran → Shows source ran.table texts
+      → IsProfileOf s source c texts.page.items texts.table.items ran
   of_outcome seed (Ok program) ran texts made answer is shows = of_program seed program ran texts made answer.1 is shows
   of_outcome seed (Err r) ran texts made answer is shows = absurd answer
 
   -- the texts of a profiled run are the profile of the source that makes the program
-  pub profiles : (seed : ℕ) (ran : Ran) (made : Made) → HasOutcome seed source (Ok c) → IsProfile gives o text answers limit c ran
+  pub profiles : (seed : ℕ) (ran : Ran) (made : Made) → HasOutcome seed source (Ok c) → IsProfile s c ran
       → Shows source ran.table made.texts → made.end ≡ ran.end
-      → MakesTexts (Profiles gives o text answers limit source c) (Ok made)
+      → MakesTexts (Profiles s source c) (Ok made)
   profiles seed ran made found is shows ends = (ran, of_outcome seed found.outcome ran made.texts found.made found.answer is shows, ends)
 
 -- ---- what is prepared

@@ -1,13 +1,12 @@
 -- What comes of profiling a source.
 use Rattle.std.specs.Prelude.{ℕ, ◌≡◌, List, map, Result, Ok, Err}
-use Rattle.tb_kernal.specs.declared.events.Event.{Event}
-use Rattle.tb_kernal.specs.Machine.{Content}
 use Rattle.tb_syntax.specs.Source.{Program, numbers}
 use Rattle.tb_codegen.specs.declared.compiled.Compiled.{Compiled}
 use Rattle.tb_codegen.specs.Answers.{HasOutcome, LinesMake}
 use Rattle.tb_driver.specs.Sources.{FromSource}
 use Rattle.tb_meaning.specs.declared.missing.Warning.{Warning}
 use Rattle.tb_engines.specs.Outcomes.{Product}
+use Rattle.tb_engines.specs.Programs.{Settings}
 use Rattle.tb_engines.specs.declared.delivery.NoText.{NoText}
 use Rattle.tb_engines.specs.declared.delivery.NoText.TheVariants.{Refused, NoMemory}
 use Rattle.tb_profile_table.specs.Rows.{AddsUp}
@@ -21,21 +20,19 @@ use Rattle.tb_profile_engine.specs.Running.{IsProfile}
 
 -- A profile of the program that a source makes: a row for each of its lines in order, rows that add up to the whole
 -- run, and the table and the page of these rows with the statements of the source.
-pub record IsProfileOf {O : Type 0} (gives : O → Content → Event → O → Type 0) (o : O) (text answers : List ℕ) (limit : ℕ) (source : List ℕ)
-    (compiled : Compiled) (html shown : List ℕ) (ran : Ran) : Type 0 where
+pub record IsProfileOf {O : Type 0} (s : Settings O) (source : List ℕ) (c : Compiled) (html shown : List ℕ) (ran : Ran) : Type 0 where
   pub program : Program
   pub made : LinesMake source (Ok program)
-  pub is : IsProfile gives o text answers limit compiled ran
+  pub is : IsProfile s c ran
   pub lines : map (λ r. r.line) ran.table.rows.items ≡ numbers program
   pub adds_up : AddsUp ran.table
   pub table : shown ≡ table_of ran.table.whole (stated source ran.table.rows.items)
   pub page : html ≡ page_of ran.table.whole (stated source ran.table.rows.items)
 
 -- the table and the page of a profile, and how its run ended
-abbrev pub Profiles : {O : Type 0} → (O → Content → Event → O → Type 0) → O → List ℕ → List ℕ → ℕ → List ℕ → Compiled → List ℕ → Product → Type 0
-Profiles gives o text answers limit source compiled page (Ok shown) =
-    (ran : Ran) × IsProfileOf gives o text answers limit source compiled page shown.0 ran × (shown.1 ≡ ran.end)
-Profiles gives o text answers limit source compiled page (Err e) = ⊥
+abbrev pub Profiles : {O : Type 0} → Settings O → List ℕ → Compiled → List ℕ → Product → Type 0
+Profiles s source compiled page (Ok shown) = (ran : Ran) × IsProfileOf s source compiled page shown.0 ran × (shown.1 ≡ ran.end)
+Profiles s source compiled page (Err e) = ⊥
 
 -- the compiler answered this program for the source
 abbrev pub IsProgramOf : List ℕ → Compiled → Type 0
@@ -48,10 +45,9 @@ MakesTexts makes (Err (Refused e)) = ⊥
 MakesTexts makes (Err NoMemory) = Unit {0}
 
 -- what comes of profiling a source: a table with its page, or the compiler's refusal
-abbrev pub ProfilesSource : {O : Type 0} → (O → Content → Event → O → Type 0) → O → ℕ → List ℕ → List ℕ → ℕ → List Warning → List ℕ → List ℕ
-    → Product → Type 0
-ProfilesSource gives o seed text answers limit warnings page source product =
-    FromSource seed (λ compiled. Profiles gives o text answers limit source compiled page) warnings source product
+abbrev pub ProfilesSource : {O : Type 0} → Settings O → ℕ → List Warning → List ℕ → List ℕ → Product → Type 0
+ProfilesSource s seed warnings page source product =
+    FromSource seed (λ compiled. Profiles s source compiled page) warnings source product
 
 -- ---- steps of the engine
 

@@ -1,11 +1,11 @@
 -- The run of a compiled program from its start, with the table of its lines.
-use Rattle.std.specs.Prelude.{ℕ, ◌≡◌, List, Result, Ok, Err}
+use Rattle.std.specs.Prelude.{ℕ, ◌≡◌, Result, Ok, Err}
 use Rattle.tb_memmap.specs.Regions.{BASIC_START}
 use Rattle.tb_kernal.specs.declared.events.Event.{Event}
 use Rattle.tb_kernal.specs.Machine.{Content}
 use Rattle.tb_codegen.specs.Compiled.{starts_of, loaded_of}
 use Rattle.tb_codegen.specs.declared.compiled.Compiled.{Compiled}
-use Rattle.tb_engines.specs.Programs.{start, end_of}
+use Rattle.tb_engines.specs.Programs.{start, end_of, Settings}
 use Rattle.tb_engines.specs.declared.delivery.NoText.{NoText}
 use Rattle.tb_engines.specs.declared.delivery.NoText.TheVariants.{Refused, NoMemory}
 use Rattle.tb_profile_table.specs.Rows.{Tabled}
@@ -20,8 +20,8 @@ pub record RunsFrom {O : Type 0} (gives : O → Content → Event → O → Type
   pub end : ran.end ≡ end_of ran.table.status machine.regs.pc
 
 -- the same from a program's start machine
-abbrev pub IsProfile : {O : Type 0} → (O → Content → Event → O → Type 0) → O → List ℕ → List ℕ → ℕ → Compiled → Ran → Type 0
-IsProfile gives o text answers limit program ran = RunsFrom gives o limit program (start BASIC_START (loaded_of program) text answers) ran
+abbrev pub IsProfile : {O : Type 0} → Settings O → Compiled → Ran → Type 0
+IsProfile s program ran = RunsFrom s.gives s.outside s.limit program (start BASIC_START (loaded_of program) s.text s.answers) ran
 
 -- a run, unless memory ran out
 abbrev pub ComesTo : (Ran → Type 0) → Result Ran NoText → Type 0

@@ -1,8 +1,7 @@
 //! Profiling a source.
-ghost use Rattle.std.specs.Prelude.{◌+◌};
-ghost use Rattle.tb_streams.specs.Streams.{most_input, ConsumesAtMost};
-ghost use Rattle.tb_streams.specs.Failures.{failures_of};
-ghost use Rattle.tb_engines.specs.Outcomes.{Answers, Faults, MadeFrom};
+ghost use Rattle.tb_streams.specs.Uses.{use_of, TakesInput};
+ghost use Rattle.tb_engines.specs.Outcomes.{AnswersInput, Faults};
+ghost use Rattle.tb_engines.specs.Programs.{settings_of};
 ghost use Rattle.tb_driver.specs.Sources.{WarnsOfRead};
 ghost use Rattle.tb_profile_engine.specs.Profiles.{IsPrepared, IsProgramOf, MakesTexts, Profiles, ProfilesSource};
 
@@ -45,7 +44,7 @@ fn make_texts<O: Outside>(
     outside: &mut O,
 ) -> Result<Made, NoText>
     requires { IsProgramOf source.now.text.items source.now.program }
-    ensures { MakesTexts (Profiles O.gives outside.old keyboard.text.items keyboard.answers.items limit
+    ensures { MakesTexts (Profiles (settings_of O.gives outside.old keyboard limit)
         source.now.text.items source.now.program) result }
 {
     let ran = profile_program(alloc, &source.program, keyboard, limit, outside)?;
@@ -88,15 +87,12 @@ pub fn profile_text<R: Read, W: Write, O: Outside>(
     limit: u32,
     outside: &mut O,
 ) -> Profiled
-    ensures answers { Answers (MadeFrom (R.remaining reader.old.stream) (ProfilesSource O.gives outside.old seed
-        keyboard.text.items keyboard.answers.items limit result.report.warnings.items result.page.items))
-        result.report.outcome (W.contents writer.old.stream) (W.contents writer.new.stream) }
+    ensures answers { AnswersInput
+        (ProfilesSource (settings_of O.gives outside.old keyboard limit) seed result.report.warnings.items result.page.items)
+        result.report.outcome (use_of R.remaining reader.old reader.new) (use_of W.contents writer.old writer.new) }
     ensures warned { WarnsOfRead result.report.outcome result.report.warnings.items }
-    ensures faults { Faults result.report.outcome (R.remaining reader.old.stream)
-        (failures_of reader.old) (failures_of reader.new)
-        (failures_of writer.old) (failures_of writer.new) }
-    ensures taken { ConsumesAtMost (R.remaining reader.old.stream) (R.remaining reader.new.stream)
-        (most_input + 1) }
+    ensures faults { Faults result.report.outcome (use_of R.remaining reader.old reader.new) (use_of W.contents writer.old writer.new) }
+    ensures taken { TakesInput (use_of R.remaining reader.old reader.new) }
 {
     let source = match read_source(alloc, reader, seed) {
         Ok(source) => source,

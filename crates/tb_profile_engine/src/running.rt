@@ -1,6 +1,7 @@
 //! Runs of programs that are counted.
 ghost use Rattle.std.specs.Prelude.{◌≡◌, IfOk, map};
 ghost use Rattle.tb_codegen.specs.Compiled.{starts_of};
+ghost use Rattle.tb_engines.specs.Programs.{settings_of};
 ghost use Rattle.tb_driver.specs.Starting.{IsLoadable};
 ghost use Rattle.tb_profile_table.specs.Rows.{start_pair};
 ghost use Rattle.tb_profile_engine.specs.Running.{ComesTo, IsProfile, RunsFrom};
@@ -65,7 +66,7 @@ pub fn profile_program<O: Outside>(
     outside: &mut O,
 ) -> Result<Ran, NoText>
     requires { IsLoadable program.now }
-    ensures { ComesTo (IsProfile O.gives outside.old keyboard.text.items keyboard.answers.items limit program.now) result }
+    ensures { ComesTo (IsProfile (settings_of O.gives outside.old keyboard limit) program.now) result }
 {
     let mut machine = start_program(alloc, program, keyboard)?;
     profile_machine(alloc, &mut machine, program, limit, outside)

@@ -2,7 +2,7 @@
 use Rattle.std.specs.Prelude.{ℕ, ◌+◌, ◌-◌, ◌*◌, min, ◌||◌, List, [], ◌∷◌, map, ◌==◌, if◌then◌else◌}
 use Rattle.tb_parser.specs.Lines.{lines_of_file}
 use Rattle.tb_source_text.specs.declared.lines.Numbered.{Numbered}
-use Rattle.tb_grammar.specs.Reading.{is_digit}
+use Rattle.tb_grammar.specs.Grammar.{is_digit}
 
 -- a number with one more digit; numbers above 65,535 are all the same, since no line has one
 abbrev pub longer : ℕ → ℕ → ℕ

@@ -7,12 +7,13 @@ use Rattle.std.specs.declared.vec.Vec.{Vec}
 use Rattle.hex.specs.Hex.{decode_of, encode_lower}
 use Rattle.hex.specs.declared.error.FromHexError.{FromHexError}
 use Rattle.tb_streams.specs.Streams.{MayPass, Reads}
+use Rattle.tb_streams.specs.declared.key_files.TheConstants.{MOST_KEY_FILE}
 use Rattle.tb_streams.specs.declared.key_files.KeyFileError.{KeyFileError}
 use Rattle.tb_streams.specs.declared.key_files.KeyFileError.TheVariants.{BadKeys, Fault, NoMemory}
 
 -- the most bytes of a key file
 abbrev pub most_key_file : ℕ
-most_key_file = 2097154
+most_key_file = MOST_KEY_FILE
 
 -- the last byte of a text
 abbrev pub last_of : List ℕ → ℕ

@@ -1,9 +1,10 @@
 //! A whole input, and a whole output.
-ghost use Rattle.std.specs.Prelude.{◌≡◌, ◌<◌, ◌≤◌, ◌+◌, IfOk, OnOk, OnErr, is_err, vec_len};
+ghost use Rattle.std.specs.Prelude.{◌≡◌, ◌<◌, ◌≤◌, IfOk, OnOk, OnErr, is_err, vec_len};
 ghost use Rattle.std.specs.Io.KnownBytes.{Appends, Consumes};
-ghost use Rattle.tb_streams.specs.Streams.{most_input, counted, Reads, ConsumesAtMost, AppendsPrefix};
+ghost use Rattle.tb_streams.specs.Streams.{most_input, counted, Reads, AppendsPrefix};
 ghost use Rattle.tb_streams.specs.Inputs.{InputFaults, ReadsUpTo};
 ghost use Rattle.tb_streams.specs.Failures.{failures_of};
+ghost use Rattle.tb_streams.specs.Uses.{use_of, TakesInput};
 
 use crate::tracked::{StreamFailure, Tracked};
 use std::alloc::Global;
@@ -58,8 +59,7 @@ pub fn read_input<R: Read>(alloc: Global, reader: &mut Tracked<R>) -> Result<Vec
     ensures within { IfOk result (λ input. vec_len input ≤ most_input) }
     ensures fault { InputFaults result (R.remaining reader.old.stream)
         (failures_of reader.old) (failures_of reader.new) }
-    ensures taken { ConsumesAtMost (R.remaining reader.old.stream) (R.remaining reader.new.stream)
-        (most_input + 1) }
+    ensures taken { TakesInput (use_of R.remaining reader.old reader.new) }
     ensures consumed { IfOk result (λ input. Consumes (R.remaining reader.old.stream)
         (R.remaining reader.new.stream) input.items) }
 {

@@ -1,3 +1,4 @@
 //! Listings, labels and maps of whole programs.
 mod back;
+mod builds;
 mod texts;

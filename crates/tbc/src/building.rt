@@ -1,13 +1,13 @@
-//! Building: a PRG file, and the files of the texts that tell of it. All is made before a file is opened for writing.
-use crate::files::{open, save, write_file};
+//! Building: a PRG file, and the files of the texts that tell of it. Each file is opened when it is written.
+use crate::files::{LateFile, open};
 use std::alloc::{AllocError, Global};
 use std::rt::Files;
+use tb_build_engine::{BuildFiles, build_files};
 use tb_command_line::{BuildExtras, Failure};
-use tb_driver::{CompiledSource, End, Outcome, Report, Tracked, build, read_source};
-use tb_listing::{Made, make};
+use tb_driver::{Outcome, Report, Tracked, build};
 
-/// Compiles a source, and writes its PRG file and what is wanted extras it. No name of a file may come twice then.
-pub fn build_files<R: Files + AllocGlobal>(
+/// Compiles a source, and writes its PRG file and what is wanted beside it. No name of a file may come twice then.
+pub fn build_wanted<R: Files + AllocGlobal>(
     rt: &R,
     source: &str,
     out: &str,
@@ -15,19 +15,61 @@ pub fn build_files<R: Files + AllocGlobal>(
     extras: &BuildExtras,
 ) -> Result<Report, Failure> {
     let names = names_of(rt.alloc(), extras)?;
-    if names.is_empty() {
-        return Ok(build_file(rt, source, out, seed));
-    }
-    if comes_twice(source, out, names.as_slice()) {
+    if !names.is_empty() && comes_twice(source, out, names.as_slice()) {
         return Err(Failure::SameFile);
     }
-    Ok(match made_of(rt, source, seed) {
-        Ok((source, made)) => Report {
-            outcome: write_all(rt, out, extras, source.program.prg(), &made),
-            warnings: source.program.into_warnings(),
-        },
-        Err(outcome) => Report::new(rt.alloc(), outcome),
+    let mut reader = match open(rt, source) {
+        Ok(reader) => reader,
+        Err(outcome) => return Ok(Report::new(rt.alloc(), outcome)),
+    };
+    Ok(if names.is_empty() {
+        let mut file = LateFile::new(rt, out);
+        let report = build(rt.alloc(), &mut reader, &mut file, seed);
+        opened(report, file.stream.wants_memory)
+    } else {
+        let mut files = BuildFiles {
+            out: LateFile::new(rt, out),
+            labels: late(rt, &extras.labels),
+            listing: late(rt, &extras.listing),
+            map: late(rt, &extras.map),
+        };
+        let report = build_files(rt.alloc(), &mut reader, &mut files, seed);
+        opened(report, some_want_memory(&files))
     })
+}
+
+// A report of files, one of which may not have been opened for want of memory.
+fn opened(report: Report, wants_memory: bool) -> Report {
+    let outcome = match report.outcome {
+        Outcome::WriteFault if wants_memory => Outcome::NoMemory,
+        outcome => outcome,
+    };
+    Report {
+        outcome,
+        warnings: report.warnings,
+    }
+}
+
+fn some_want_memory<R: Files>(files: &BuildFiles<LateFile<'_, R>>) -> bool {
+    files.out.stream.wants_memory
+        || wants_memory(&files.labels)
+        || wants_memory(&files.listing)
+        || wants_memory(&files.map)
+}
+
+fn wants_memory<R: Files>(file: &Option<Tracked<LateFile<'_, R>>>) -> bool {
+    match file {
+        Some(file) => file.stream.wants_memory,
+        None => false,
+    }
+}
+
+// A file that is opened when it is written, if it is wanted.
+fn late<'a, R: Files>(rt: &'a R, name: &'a Option<String>) -> Option<Tracked<LateFile<'a, R>>> {
+    match name {
+        Some(name) => Some(LateFile::new(rt, name.as_str())),
+        None => None,
+    }
 }
 
 // The names of the files that are wanted.
@@ -57,65 +99,4 @@ fn comes_twice(source: &str, out: &str, names: &[&str]) -> bool {
         }
     }
     false
-}
-
-// A compiled source, and the texts that tell of it.
-fn made_of<R: Files + AllocGlobal>(
-    rt: &R,
-    path: &str,
-    seed: u16,
-) -> Result<(CompiledSource, Made), Outcome> {
-    let mut file = open(rt, path)?;
-    let source = read_source(rt.alloc(), &mut file, seed)?;
-    match make(rt.alloc(), source.text.as_slice(), &source.program) {
-        Ok(made) => Ok((source, made)),
-        Err(_) => Err(Outcome::NoMemory),
-    }
-}
-
-// Each file is written whole before the next one is opened.
-fn write_all<R: Files>(
-    rt: &R,
-    out: &str,
-    extras: &BuildExtras,
-    prg: &[u8],
-    made: &Made,
-) -> Outcome {
-    match write_each(rt, out, extras, prg, made) {
-        Ok(()) => Outcome::Ended(End::Done),
-        Err(outcome) => outcome,
-    }
-}
-
-fn write_each<R: Files>(
-    rt: &R,
-    out: &str,
-    extras: &BuildExtras,
-    prg: &[u8],
-    made: &Made,
-) -> Result<(), Outcome> {
-    write_file(rt, out, prg)?;
-    write_wanted(rt, &extras.labels, made.labels.as_slice())?;
-    write_wanted(rt, &extras.listing, made.listing.as_slice())?;
-    write_wanted(rt, &extras.map, made.map.as_slice())
-}
-
-fn write_wanted<R: Files>(rt: &R, name: &Option<String>, bytes: &[u8]) -> Result<(), Outcome> {
-    match name {
-        Some(name) => write_file(rt, name.as_str(), bytes),
-        None => Ok(()),
-    }
-}
-
-fn build_file<R: Files + AllocGlobal>(rt: &R, source: &str, out: &str, seed: u16) -> Report {
-    let mut file = match open(rt, source) {
-        Ok(file) => file,
-        Err(outcome) => return Report::new(rt.alloc(), outcome),
-    };
-    let mut made = Tracked::new(Vec::new(rt.alloc()));
-    let report = build(rt.alloc(), &mut file, &mut made, seed);
-    Report {
-        outcome: save(rt, out, report.outcome, made.stream.as_slice()),
-        warnings: report.warnings,
-    }
 }

@@ -4,12 +4,9 @@ use crate::reading::read_warned;
 use std::io;
 use std::rt::Files;
 use tb_command_line::Runnable;
-use tb_driver::{
-    Outcome, Played, Tracked, key_file, play_compiled, play_file, read_input, without_input,
-};
+use tb_driver::{Outcome, Played, Tracked, play_compiled, play_file, read_input, without_input};
 
-/// Plays a source or a PRG file. All that was typed is recorded in a key file, where that is wanted, no stream failed
-/// and memory was found.
+/// Plays a source or a PRG file, and records what was typed in a key file, where that is wanted.
 pub fn play<R: Files + Print + Eprint + Input + AllocGlobal>(
     rt: &R,
     what: &Runnable,
@@ -23,10 +20,8 @@ pub fn play<R: Files + Print + Eprint + Input + AllocGlobal>(
     };
     match (played, record) {
         (Err(outcome), _) => outcome,
-        (Ok(Played { outcome, typed }), Some(path)) if matches!(outcome, Outcome::Ended(_)) => {
-            write_record(rt, path, typed.as_slice(), outcome)
-        }
-        (Ok(Played { outcome, .. }), _) => outcome,
+        (Ok(played), Some(path)) => write_record(rt, path, &played),
+        (Ok(played), None) => played.outcome,
     }
 }
 
@@ -63,17 +58,15 @@ fn play_prg<R: Files + Print + Input + AllocGlobal>(
     Ok(play_file(rt.alloc(), prg.as_slice(), &mut keys, &mut screen, limit))
 }
 
-fn write_record<R: Files + AllocGlobal>(
-    rt: &R,
-    path: &str,
-    typed: &[u8],
-    ended: Outcome,
-) -> Outcome {
-    let Ok(text) = key_file(rt.alloc(), typed) else {
-        return Outcome::NoMemory;
+// Where there is nothing to record, the file is not opened.
+fn write_record<R: Files + AllocGlobal>(rt: &R, path: &str, played: &Played) -> Outcome {
+    let text = match played.recorded(rt.alloc()) {
+        Ok(Some(text)) => text,
+        Ok(None) => return played.outcome,
+        Err(_) => return Outcome::NoMemory,
     };
     match write_file(rt, path, text.as_slice()) {
-        Ok(()) => ended,
+        Ok(()) => played.outcome,
         Err(outcome) => outcome,
     }
 }

@@ -1,5 +1,5 @@
 //! The commands. Key lists, key files and addresses are looked at before any other file is opened.
-use crate::building::build_files;
+use crate::building::build_wanted;
 use crate::checking::check_files;
 use crate::debugging::debug_file;
 use crate::disks::make_disk;
@@ -29,7 +29,7 @@ pub fn perform<R: Files + Print + Eprint + Input + AllocGlobal>(
             out,
             seed,
             beside,
-        } => Ok(Ending::Report(build_files(rt, source.as_str(), out.as_str(), *seed, beside)?)),
+        } => Ok(Ending::Report(build_wanted(rt, source.as_str(), out.as_str(), *seed, beside)?)),
         Job::Run {
             what,
             settings,

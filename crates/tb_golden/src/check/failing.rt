@@ -55,7 +55,7 @@ fn put_failing_readers(page: &mut Page, files: &[File], whole: &Ending) {
     for until_fault in 0..=FIRST.len() {
         for most in [1, 7, 4096] {
             if !reader_fails(page.alloc(), files, whole, until_fault, most) {
-                page.put("=> another answer behind ");
+                page.put("=> another answer after ");
                 page.put_fault(until_fault, most);
                 page.put("\n");
                 return;
@@ -97,7 +97,7 @@ fn put_failing_writers(page: &mut Page, checked: &Checked, whole: &Ending) {
     for until_fault in 0..=length {
         for most in [1, 2, 4096] {
             if !is_prefix(page.alloc(), checked, whole, until_fault, most) {
-                page.put("=> no prefix behind ");
+                page.put("=> no prefix after ");
                 page.put_fault(until_fault, most);
                 page.put("\n");
                 return;

@@ -35,12 +35,12 @@ fn items_of(page: &mut Page, escaped: &str) -> Option<Vec<Item>> {
     let (before, rest) = escaped.split_once('[').unwrap_or((escaped, ""));
     let mut text = Page::new(page.alloc());
     text.put(before);
-    if let Some((count, behind)) = rest.split_once(']') {
+    if let Some((count, after)) = rest.split_once(']') {
         text.put(".byte $00");
         for _ in 1..number(page, count) {
             text.put(",$00");
         }
-        text.put(behind);
+        text.put(after);
     }
     let text = decoded(page, text.text());
     items_in(page, &text)

@@ -45,7 +45,7 @@ pub fn put_failing_readers(page: &mut Page, engine: Engine, input: &[u8]) {
     for until_fault in 0..=input.len() {
         for most in [1, 7, 4096] {
             if !reader_fails(page.alloc(), engine, input, until_fault, most) {
-                page.put("no fault behind ");
+                page.put("no fault after ");
                 page.put_fault(until_fault, most);
                 return;
             }
@@ -84,7 +84,7 @@ pub fn put_failing_writers(page: &mut Page, engine: Engine, input: &[u8]) {
     for until_fault in 0..=whole.wrote.len() {
         for most in [1, 2, 4096] {
             if !writer_fails(page.alloc(), engine, input, &whole.wrote, until_fault, most) {
-                page.put(", and no prefix behind ");
+                page.put(", and no prefix after ");
                 page.put_fault(until_fault, most);
                 return;
             }

@@ -60,13 +60,13 @@ fn answers_one_more(
     text: &mut Vec<u8>,
 ) -> Result<bool, Fail> {
     let (command, prefixes) = row;
-    let behind = text.len();
+    let after = text.len();
     if !answers(alloc, commands, text)? {
         return Ok(false);
     }
     for (byte, answer) in command.bytes().zip(prefixes.split('|')) {
         commands.push(byte)?;
-        text.truncate(behind);
+        text.truncate(after);
         append_answer(text, answer)?;
         if !answers(alloc, commands, text)? {
             return Ok(false);

@@ -47,8 +47,8 @@ impl AwaitingReader<'_> {
     // Goes on to the next command, or to the end.
     fn next_command(&mut self) {
         for _ in 0..self.dialogue.len() {
-            let (line, behind) = first_line(self.dialogue);
-            self.dialogue = behind;
+            let (line, after) = first_line(self.dialogue);
+            self.dialogue = after;
             if let Some(command) = line.strip_prefix(b"> ") {
                 self.command = command;
                 return;

@@ -28,7 +28,7 @@ line20:
 ";
 
 /// What belongs to no line.
-const BEHIND: &str = "past:
+const AFTER_LINES: &str = "past:
   LDX #$08 ; 0CD3  A2 08
   LDY #$0C ; 0CD5  A0 0C
   LDA #$07 ; 0CD7  A9 07
@@ -89,7 +89,7 @@ fn listings_labels_and_maps_have_their_names(rt: HostRuntime) -> Result<(), Fail
     let program = compile(rt.alloc(), source, Options { seed: 1 })?;
     let made = make(rt.alloc(), source, &program)?;
     assert!(rt; contains(&made.listing, PRINTED.as_bytes()));
-    assert!(rt; made.listing.ends_with(BEHIND.as_bytes()));
+    assert!(rt; made.listing.ends_with(AFTER_LINES.as_bytes()));
     assert!(rt; contains(&made.labels, LABELS.as_bytes()));
     assert!(rt; made.map.as_slice() == MAP.as_bytes());
     Ok(())

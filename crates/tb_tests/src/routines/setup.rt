@@ -221,7 +221,7 @@ fn is_fault(text: &[u8], fault: u8, line: u16) -> bool {
     let mut rest = text;
     for part in [b"\r!".as_slice(), &number, b" AT ", &digits, b"\r"] {
         match rest.strip_prefix(part) {
-            Some(behind) => rest = behind,
+            Some(after) => rest = after,
             None => return false,
         }
     }

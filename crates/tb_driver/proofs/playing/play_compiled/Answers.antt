@@ -4,5 +4,5 @@ use Rattle.tb_driver.proofs.PlayedSources.{shows_source}
 use Rattle.tb_driver.proofs.playing.play_compiled.Goals as goal
 
 pub returns-clause-output : goal.returns-clause-output
-returns-clause-output g c seed source kept =
-    shows_source seed source c.args.file.now kept (all_bytes c.args.file.now (λ k. (c.type_inv.file k).fits)) _ _ _ _ c.play_file.ensures.whole
+returns-clause-output g c =
+    shows_source c.args.file.now (all_bytes c.args.file.now (λ k. (c.type_inv.file k).fits)) _ _ _ c.play_file.ensures.whole

@@ -1,5 +1,7 @@
 -- The goals of `step_text` in src/stepping.rt.
 use Rattle.std.proofs.Common.{rules}
+use Rattle.tb_streams.specs.Uses.{use_of}
+use Rattle.tb_play.specs.Plays.{quietly}
 use Rattle.tb_driver.specs.Stepping.{StepsThrough, MadeFromTaken}
 use Rattle.tb_driver.proofs.Delivered.{delivered, refusal_delivered}
 use Rattle.tb_driver.proofs.Loadable.{answer_loads}
@@ -12,28 +14,24 @@ step_program-requires g c =
 
 pub returns-clause-answers : goal.returns-clause-answers
 returns-clause-answers g c =
-    let text = c.args.keyboard.text.items in
-    let answers = c.args.keyboard.answers.items in
-    let had = g.C.Read.remaining c.args.commands.now.stream in
-    let left = g.C.Read.remaining c.read_input-2.new.reader.stream in
+    let s = quietly c.args.keyboard.text.items c.args.keyboard.answers.items c.args.limit in
+    let reader = use_of g.C.Read.remaining c.args.commands.now c.read_input-2.new.reader in
     let source = c.in-Ok-compile_source.source in
     let warnings = c.into_warnings.result.items in
     let (same, is) = c.in-Ok-compile_source.ensures in
-    delivered (λ s. MadeFromTaken had left (StepsThrough c.args.seed text answers c.args.limit warnings s)) _ _ source.text.items c.step_program.result _ _ _
+    delivered (λ text. MadeFromTaken reader (StepsThrough s c.args.seed warnings text)) _ _ source.text.items c.step_program.result _ _ _
     c.in-Ok.ensures.whole same
-    (steps_made text answers c.args.limit c.args.seed had left source.text.items _ _ source.program warnings c.step_program.result
+    (steps_made s c.args.seed reader source.text.items _ _ source.program warnings c.step_program.result
     c.in-Ok-read_input.ensures.whole c.in-Ok-read_input.ensures.consumed c.as_slice.ensures.value is.answer c.into_warnings.ensures c.step_program.ensures)
     c.deliver-2.ensures.answers
 
 pub returns-in-Err-compile_source-clause-answers : goal.returns-in-Err-compile_source-clause-answers
 returns-in-Err-compile_source-clause-answers g c =
-    let text = c.args.keyboard.text.items in
-    let answers = c.args.keyboard.answers.items in
-    let had = g.C.Read.remaining c.args.commands.now.stream in
-    let left = g.C.Read.remaining c.read_input-2.new.reader.stream in
+    let s = quietly c.args.keyboard.text.items c.args.keyboard.answers.items c.args.limit in
+    let reader = use_of g.C.Read.remaining c.args.commands.now c.read_input-2.new.reader in
     let stop = c.in-Err-compile_source.stop in
-    refusal_delivered (λ w s. MadeFromTaken had left (StepsThrough c.args.seed text answers c.args.limit w s)) _ _ stop
+    refusal_delivered (λ w text. MadeFromTaken reader (StepsThrough s c.args.seed w text)) _ _ stop
     c.deliver.result c.new-in-Err-compile_source.result _ _ c.in-Ok.ensures.whole
-    (steps_refused text answers c.args.limit c.args.seed had left _ _ stop c.in-Ok-read_input.ensures.whole c.in-Ok-read_input.ensures.consumed
+    (steps_refused s c.args.seed reader _ _ stop c.in-Ok-read_input.ensures.whole c.in-Ok-read_input.ensures.consumed
     c.in-Err-compile_source.ensures)
     c.deliver.ensures.answers c.new-in-Err-compile_source.ensures.outcome c.new-in-Err-compile_source.ensures.warnings

@@ -4,6 +4,7 @@ use Rattle.std.proofs.lemmas.Result.{IfOk-weaker}
 use Rattle.tb_syntax.specs.PlainData.{lines_of}
 use Rattle.tb_codegen.specs.Compiled.{IsCompiled, starts_of, table_of}
 use Rattle.tb_listing.specs.Builds.{IsMade, Tells, image_size}
+use Rattle.tb_listing.proofs.Kept.{program_keeps}
 use Rattle.tb_listing.proofs.Laid.{are_laid}
 use Rattle.tb_listing.proofs.Sorted.{labels_rise}
 use Rattle.tb_listing.proofs.Sums.{bytes_add_up, prices_add_up}
@@ -19,7 +20,6 @@ all_of-requires-clause-headed c =
 
 pub all_of-requires-clause-ends : goal.all_of-requires-clause-ends
 all_of-requires-clause-ends c = (are_laid c.requires.0 c.in-Ok.program c.args.compiled.now c.in-Ok.ensures.stated c.in-Ok.ensures.rising
-    (c.requires.1 (Ok (lines_of c.in-Ok.program)) c.in-Ok.ensures.found).0
     (c.requires.1 (Ok (lines_of c.in-Ok.program)) c.in-Ok.ensures.found).1).ends
 
 pub returns : goal.returns
@@ -29,12 +29,14 @@ returns c =
     let program = lines_of c.in-Ok.program in
     let answer = c.requires.1 (Ok program) c.in-Ok.ensures.found in
     let is : IsCompiled c.requires.0 program compiled = answer.1 in
-    let laid = are_laid c.requires.0 c.in-Ok.program compiled c.in-Ok.ensures.stated c.in-Ok.ensures.rising answer.0 is in
+    let laid = are_laid c.requires.0 c.in-Ok.program compiled c.in-Ok.ensures.stated c.in-Ok.ensures.rising is in
     IfOk-weaker c.all_of.result (Tells source compiled program) (IsMade source compiled)
     (λ made tells. record {
       sorted = labels_rise (starts_of compiled) (table_of compiled) (image_size compiled) laid;
       program = program;
       makes = c.in-Ok.ensures.found;
+      keeps = λ seed small answered. program_keeps seed source c.in-Ok.program compiled small c.in-Ok.ensures.found c.in-Ok.ensures.stated
+          c.in-Ok.ensures.rising (answered (Ok program) c.in-Ok.ensures.found).1;
       tells = tells;
       bytes = bytes_add_up (starts_of compiled) (table_of compiled) (image_size compiled) program laid is.lines;
       prices = prices_add_up (starts_of compiled) (table_of compiled) (image_size compiled) program is.lines;

@@ -2,11 +2,11 @@
 use Rattle.std.proofs.Common.{◌≤◌, length, map, take}
 use Rattle.tb_codegen.specs.Compiled.{pair_of as start_pair}
 use Rattle.tb_source_text.specs.Lines.{pair_of}
-use Rattle.tb_listing.specs.Comments.{HasComments, comment_on}
+use Rattle.tb_listing.specs.Comments.{HasHeadings, heading_on}
 use Rattle.tb_listing.proofs.labelled.labelled.Given as goal
 
 abbrev pub invariant-loop-start : goal.invariant-loop-start
 invariant-loop-start l = record {
-  shown : HasComments l.text.items (map (comment_on (map pair_of l.view.sources.now)) (map start_pair (take l.start-index l.view.program.starts.now)));
+  shown : HasHeadings l.text.items (map (heading_on (map pair_of l.view.sources.now)) (map start_pair (take l.start-index l.view.program.starts.now)));
   within : l.done ≤ length l.view.pieces.now;
 }

@@ -2,7 +2,7 @@
 use Rattle.tb_play.proofs.Sending.{stretch_longer}
 use Rattle.tb_play.proofs.talk.go_on.Goals as goal
 
-pub sent_behind-requires : goal.sent_behind-requires
-sent_behind-requires g c =
+pub sent_after-requires : goal.sent_after-requires
+sent_after-requires g c =
     let longer = stretch_longer _ _ _ _ (c.run.new.outside, rw c.in-Ok.is at c.run.ensures) in
     rw c.sent-written.ensures longer

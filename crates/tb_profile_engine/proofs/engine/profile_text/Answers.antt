@@ -1,6 +1,8 @@
 -- The goals of `profile_text` in src/engine.rt.
 use Rattle.std.proofs.Common.{ℕ, List}
 use Rattle.tb_codegen.specs.declared.compiled.Compiled.{Compiled}
+use Rattle.tb_streams.specs.Uses.{use_of}
+use Rattle.tb_engines.specs.Programs.{settings_of}
 use Rattle.tb_driver.proofs.ReadSources.{nothing_made, product_made}
 use Rattle.tb_profile_engine.specs.Profiles.{Profiles}
 use Rattle.tb_profile_engine.proofs.Profiling.{prepared}
@@ -11,14 +13,16 @@ make_texts-requires g c = (c.args.seed, c.in-Ok.ensures.answers.1.answer.found)
 
 pub returns-in-Err-clause-answers : goal.returns-in-Err-clause-answers
 returns-in-Err-clause-answers g c =
-    nothing_made c.args.seed c.in-Err.outcome c.new.result _ _ _ _ c.in-Err.ensures.answers c.new.ensures.outcome c.new.ensures.warnings
-    (λ source p. Profiles g.O.Outside.gives c.args.outside.now c.args.keyboard.text.items c.args.keyboard.answers.items c.args.limit source p c.new-in-Err.result.items)
+    nothing_made c.args.seed c.in-Err.outcome c.new.result _ _ c.in-Err.ensures.answers c.new.ensures.outcome c.new.ensures.warnings
+    (λ source p. Profiles (settings_of g.O.Outside.gives c.args.outside.now c.args.keyboard c.args.limit) source p c.new-in-Err.result.items)
 
 pub returns-clause-answers : goal.returns-clause-answers
 returns-clause-answers g c =
-    let profiles = λ (source : List ℕ) (p : Compiled). Profiles g.O.Outside.gives c.args.outside.now c.args.keyboard.text.items c.args.keyboard.answers.items c.args.limit source p in
+    let profiles = λ (source : List ℕ) (p : Compiled). Profiles (settings_of g.O.Outside.gives c.args.outside.now c.args.keyboard c.args.limit) source p in
     let source = c.in-Ok.source in
-    product_made c.args.seed _ source _ _ c.in-Ok.ensures.answers _ _ _ (λ text p. profiles text p c.prepare-text.result.page.items) c.into_warnings.result.items
+    let reader = use_of g.R.Read.remaining c.args.reader.now c.read_source.new.reader in
+    let writer = use_of g.W.Write.contents c.args.writer.now c.deliver.new.writer in
+    product_made c.args.seed reader source c.in-Ok.ensures.answers c.deliver.result writer (λ text p. profiles text p c.prepare-text.result.page.items) c.into_warnings.result.items
     c.prepare-text.result.text c.into_warnings.ensures
     (prepared (profiles source.text.items source.program) c.make_texts.result c.prepare-text.result c.make_texts.ensures c.prepare-text.ensures)
     c.deliver.ensures.answers

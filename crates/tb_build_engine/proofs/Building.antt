@@ -1,0 +1,75 @@
+-- What becomes of files that are not written, and what is built of a source that was read.
+use Rattle.std.proofs.Common.{◌≡◌, ℕ, List, [], ◌∷◌, Option, Some, None, Ok, Err, refl, subst, sym}
+use Rattle.std.specs.Io.KnownBytes.{Keeps}
+use Rattle.tb_streams.specs.Uses.{Use}
+use Rattle.tb_streams.specs.declared.tracked.Tracked.{Tracked}
+use Rattle.tb_meaning.specs.declared.missing.Warning.{Warning}
+use Rattle.tb_codegen.specs.Compiled.{prg_of, warnings_of}
+use Rattle.tb_engines.specs.declared.outcome.End.TheVariants.{Done, StepLimit, WaitsForKey, WentWrong}
+use Rattle.tb_engines.specs.declared.outcome.Outcome.{Outcome}
+use Rattle.tb_engines.specs.declared.outcome.Outcome.TheVariants.{Ended, Refused, ReadFault, WriteFault, NoMemory}
+use Rattle.tb_driver.specs.Reading.{ReadsSource}
+use Rattle.tb_driver.specs.declared.reading.CompiledSource.{CompiledSource}
+use Rattle.tb_listing.specs.Builds.{IsMade}
+use Rattle.tb_listing.specs.declared.build.Made.{Made}
+use Rattle.tb_build_engine.specs.Builds.{AreTexts, Builds, Writes}
+use Rattle.tb_build_engine.specs.Files.{AreLeft, IsLeft, texts_of}
+
+kept : (bytes : Option (List ℕ)) → Keeps bytes bytes
+kept None = tt
+kept (Some xs) = refl
+
+-- a file that was not written is left as it was
+pub one_left : {W : Type 0} (contents : W → Option (List ℕ)) (file : Option (Tracked W)) → IsLeft contents file file
+one_left contents None = tt
+one_left contents (Some w) = (kept (contents w.stream), refl)
+
+-- and so are all
+pub all_left : {W : Type 0} (contents : W → Option (List ℕ)) (files : List (Option (Tracked W))) → AreLeft contents files files
+all_left contents [] = tt
+all_left contents (file ∷ files) = (one_left contents file, all_left contents files)
+
+-- nothing is built if there is no program
+pub not_built : {W : Type 0} (contents : W → Option (List ℕ)) (seed : ℕ) (outcome : Outcome) (reader : Use) (files : List (Option (Tracked W)))
+    → ReadsSource seed (Err outcome) reader → Builds contents seed outcome [] reader.old files files
+not_built contents seed (Refused why) reader files (source, e, reads, refused, is, same) =
+    subst (λ w. Builds contents seed (Refused w) [] reader.old files files) (sym is)
+    (record { source = source; reads = reads; refused = refused }, refl, all_left contents files)
+not_built contents seed ReadFault reader files fault = (refl, all_left contents files)
+not_built contents seed NoMemory reader files same = (refl, all_left contents files)
+not_built contents seed (Ended end) reader files none = absurd none
+not_built contents seed WriteFault reader files none = absurd none
+
+-- the same for the report, which has no warnings
+pub report_not_built : {W : Type 0} (contents : W → Option (List ℕ)) (seed : ℕ) (outcome ended : Outcome) (warnings : List Warning) (reader : Use)
+    (files : List (Option (Tracked W))) → ReadsSource seed (Err outcome) reader → ended ≡ outcome → warnings ≡ []
+    → Builds contents seed ended warnings reader.old files files
+report_not_built contents seed outcome ended warnings reader files is ends none =
+    subst (λ w. Builds contents seed ended w reader.old files files) (sym none)
+    (subst (λ o. Builds contents seed o [] reader.old files files) (sym ends) (not_built contents seed outcome reader files is))
+
+module _ {W : Type 0} (contents : W → Option (List ℕ)) (seed : ℕ) (s : CompiledSource) (reader : Use) (made : Made) (prg : List ℕ)
+    (warnings : List Warning) (is : ReadsSource seed (Ok s) reader) (tells : IsMade s.text.items s.program made)
+    (file : prg ≡ prg_of s.program) (warned : warnings ≡ warnings_of s.program) where
+  texts : AreTexts seed reader.old warnings (texts_of prg made)
+  texts = record {
+    source = s.text.items;
+    program = s.program;
+    made = made;
+    reads = is.0;
+    built = record { compiled = is.1.answer; keeps = is.1.keeps; tells = tells };
+    warned = warned;
+    are = λ i. texts_of (file i) made;
+  }
+
+  -- what is written of a source that was read is what was built
+  pub built : (outcome : Outcome) (olds news : List (Option (Tracked W))) → Writes contents (texts_of prg made) outcome olds news
+      → Builds contents seed outcome warnings reader.old olds news
+  built (Ended Done) olds news w = (texts_of prg made, texts, w)
+  built (Ended StepLimit) olds news none = absurd none
+  built (Ended WaitsForKey) olds news none = absurd none
+  built (Ended (WentWrong wrong pc)) olds news none = absurd none
+  built WriteFault olds news w = (texts_of prg made, texts, w)
+  built (Refused why) olds news none = absurd none
+  built ReadFault olds news none = absurd none
+  built NoMemory olds news none = absurd none

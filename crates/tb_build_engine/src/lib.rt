@@ -1,0 +1,8 @@
+//! Building a source with the files that tell of its program, over any reader and writers.
+#![tactic(auto)]
+
+mod build;
+mod files;
+
+pub use build::build_files;
+pub use files::BuildFiles;

@@ -1,0 +1,45 @@
+-- The file of a compiled program keeps its source.
+use Rattle.std.proofs.Common.{ℕ, ◌<◌, ◌≤◌, List, Ok, ap, drop, length, refl, subst, sym, arith}
+use Rattle.tb_memmap.specs.Regions.{BASIC_START}
+use Rattle.tb_asm.proofs.Settled.{settled_reaches}
+use Rattle.tb_syntax.specs.Source.{numbers, Rises}
+use Rattle.tb_syntax.specs.PlainData.{lines_of}
+use Rattle.tb_syntax.specs.declared.statements.Statement.{Statement}
+use Rattle.tb_lower.specs.Lowered as slots
+use Rattle.tb_lower.proofs.Lists.{lowered}
+use Rattle.tb_lower.proofs.Ranged.{in_range}
+use Rattle.tb_parser.specs.Files.{AreStated}
+use Rattle.tb_prg.specs.Prg.{header}
+use Rattle.tb_runtime16.specs.Addresses.{PROLOGUE_AT}
+use Rattle.tb_selection.proofs.Closed.{all_closed}
+use Rattle.tb_settling.specs.Settled.{IsSettled}
+use Rattle.tb_settling.proofs.Forms.{settled_by}
+use Rattle.tb_templates.specs.Program.{program_code}
+use Rattle.tb_simulation.specs.Theorem.{Keeps}
+use Rattle.tb_correctness.proofs.Whole.Compiled.{image_keeps}
+use Rattle.tb_codegen.specs.declared.compiled.Compiled.{Compiled}
+use Rattle.tb_codegen.specs.Answers.{LinesMake}
+use Rattle.tb_codegen.specs.Compiled.{IsCompiled}
+use Rattle.tb_codegen.specs.Theorem.{KeepsItsSource}
+use Rattle.tb_codegen.proofs.Kept.{all_polled, made_some}
+use Rattle.tb_codegen.specs.Coded.{IsListed}
+use Rattle.tb_codegen.proofs.Sized.{listed, same_numbers}
+use Rattle.tb_codegen.proofs.SmallPrograms.{count_numbers}
+
+-- the headline, of a program that meets the compiler's promise: `make` has its file by it
+pub program_keeps : (seed : ℕ) (source : List ℕ) (ls : List (ℕ × Statement)) (c : Compiled) → seed < 65536 → LinesMake source (Ok (lines_of ls))
+    → AreStated (lines_of ls) → Rises 1 32768 (numbers (lines_of ls)) → IsCompiled seed (lines_of ls) c → KeepsItsSource seed source c
+program_keeps seed source ls c small made stated rises is =
+    let p = lines_of ls in
+    let code = slots.program_code p in
+    let s : IsListed code = listed p refl stated rises (in_range ls code is.shallow refl) in
+    let settled : IsSettled PROLOGUE_AT (program_code seed code) is.items = settled_by PROLOGUE_AT (program_code seed code) is.items is.settled
+    (settled_reaches PROLOGUE_AT (program_code seed code) is.items is.settled) in
+    let some : 1 ≤ length p = made_some _ _ _ _ made p refl in
+    let some_numbers : 1 ≤ length (numbers code) = (let a = ap length (same_numbers p) in let b = count_numbers p in omega (arith, a, b, some)) in (
+      p,
+      made,
+      subst (λ f. Keeps BASIC_START (drop 2 f) p seed) (sym is.prg)
+          (image_keeps seed p code small (lowered p code is.shallow refl) s.rising s.lists (all_polled p) (all_closed p) some_numbers s.lines is.items settled is.ends
+          (drop 2 header) refl),
+    )
