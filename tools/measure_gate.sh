@@ -43,6 +43,6 @@ END {
 }' times | sort -rn
 echo "$before $(used_and_stolen)" |
     awk '{ used = $3 - $1; stolen = $4 - $2; printf "%.0f %% of the time was given to other machines\n", 100 * stolen / (used + stolen) }'
-echo "a processor did $quiet additions at once before it and $(at_once) behind it"
+echo "a processor did $quiet additions at once before it and $(at_once) after it"
 echo "the gate took $(((SECONDS - began) / 60)) min $(((SECONDS - began) % 60)) s"
 exit "$status"

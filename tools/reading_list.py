@@ -1,20 +1,23 @@
 #!/usr/bin/env python3
-"""What one has to read to believe the headline: `compile`'s clause `keeps`.
+"""What one has to read to believe the headline: `compile`'s clauses `keeps` and `marks`, and `output` of `run_text`.
 
-From the names that the clause cites, ROOTS, each definition of a specs/ folder that is reached by names is read. What
-comes from the toolchain (`std`) or from a library is left out, and Rust types are listed apart.
+From the name that a clause cites, each definition of a specs/ folder that is reached by names is read. What comes from
+the toolchain (`std`) or from a library is left out, and Rust types are listed apart. A file's sentence is the comment at
+its head.
 
   tools/reading_list.py            prints each file with its lines to read, its definitions, and the Rust types
-  tools/reading_list.py --table    prints the table of docs/MAP.md
-  tools/reading_list.py --check    compares that table with docs/MAP.md; if they differ, ends with status 1
+  tools/reading_list.py --write    writes the tables of docs/BELIEVE.md anew, between their marks
+  tools/reading_list.py --check    compares them with what is written there; if they differ, ends with status 1
 """
 import difflib, pathlib, re, sys
 
 TOP = pathlib.Path(__file__).resolve().parent.parent
-ROOTS = [
-    ("tb_simulation", "Kept", "Keeps"),
-    ("tb_codegen", "Answers", "LinesMake"),
-    ("tb_codegen", "Compiled", "loaded_of"),
+PAGE = TOP / "docs" / "BELIEVE.md"
+# Each clause with the definition that it cites; its table shows what it adds to those before.
+CLAUSES = [
+    ("keeps", ("tb_codegen", "Theorem", "KeepsItsSource")),
+    ("marks", ("tb_codegen", "Theorem", "MarksItsLines")),
+    ("output", ("tb_driver", "Output", "RunsSource")),
 ]
 NAME = r"[^\W\d][\w'-]*"
 USE = re.compile(r"(?:pub )?use Rattle\.([\w.]+?)(?:\.\{(.*)\}| as (\S+))?$")
@@ -86,10 +89,10 @@ class Module:
                     yield name, None
 
 
-def walk():
+def walk(root):
     """The files that are reached, with the numbers of their definitions that are, and the Rust types."""
     modules, reached, types = {}, {}, set()
-    todo = [(f"{crate}.specs.{module}", name) for crate, module, name in ROOTS]
+    todo = [(f"{root[0]}.specs.{root[1]}", root[2])]
     while todo:
         path, name = todo.pop()
         crate, _, module = path.partition(".specs.")
@@ -119,50 +122,102 @@ def walk():
             todo.append((there, original or name))
         else:
             sys.exit(f"{path} has no definition of {name}")
-    return {key: (modules[key], sorted(reached[key])) for key in reached}, types
+    return {(modules[key], number) for key in reached for number in reached[key]}, types
+
+
+def in_reading_order(places, modules):
+    """Files of one crate, each after those of them that it imports from."""
+    ordered = []
+
+    def visit(place):
+        if place in ordered:
+            return
+        for path, _ in modules[place].imports.values():
+            crate, _, name = path.partition(".specs.")
+            if (crate, name) in places and (crate, name) != place:
+                visit((crate, name))
+        ordered.append(place)
+
+    for place in sorted(places):
+        visit(place)
+    return ordered
 
 
 def reading():
-    """The files in the order of crates.txt, as (path, lines to read, all lines, names of definitions); the Rust types."""
+    """For each clause its name, the files that it adds in the order to read them, and the Rust types that it adds."""
     order = [line.split(":")[0] for line in (TOP / "crates.txt").read_text().split("\n")]
-    reached, types = walk()
-    files = []
-    for crate, name in sorted(reached, key=lambda it: (order.index(it[0]), it[1])):
-        module, numbers = reached[crate, name]
-        chosen = [module.definitions[number] for number in numbers]
-        lines = sum(len(lines) for _, _, lines in chosen)
-        files.append((f"{crate}/specs/{name}", lines, len(module.lines), [it[0] for it in chosen]))
-    return files, sorted(f"{crate} {kind}" for crate, kind in types)
+    known, known_types = set(), set()
+    for clause, root in CLAUSES:
+        reached, types = walk(root)
+        key = lambda it: (it.crate, it.name)
+        new = {(key(module), number): module for module, number in reached if (key(module), number) not in known}
+        modules = {place: module for (place, _), module in new.items()}
+        crates = sorted({crate for crate, _ in modules}, key=order.index)
+        files = []
+        for crate, name in (
+            place for crate in crates for place in in_reading_order({it for it in modules if it[0] == crate}, modules)
+        ):
+            numbers = sorted(number for place, number in new if place == (crate, name))
+            module = new[(crate, name), numbers[0]]
+            files.append((module, [module.definitions[number] for number in numbers]))
+        yield clause, files, sorted(f"{crate} {kind}" for crate, kind in types - known_types)
+        known |= set(new)
+        known_types |= types
 
 
-def table():
-    files, types = reading()
-    yield "| File | Lines to read | of | Definitions |"
+def sentence(module):
+    """What the head of a file says."""
+    head = []
+    for line in module.lines:
+        if not line.startswith("-- "):
+            break
+        head.append(line[3:])
+    return " ".join(head)
+
+
+def table(files, types):
+    yield "| File | What it says | Lines | Definitions |"
     yield "|---|---|---|---|"
-    for path, lines, all_lines, names in files:
-        yield f"| `{path}` | {lines} | {all_lines} | {', '.join(names)} |"
-    _, lines, all_lines, names = zip(*files)
-    yield f"| {len(files)} files | {sum(lines)} | {sum(all_lines)} | {sum(map(len, names))} definitions |"
-    yield f"| {len(types)} Rust types | | | {', '.join(types)} |"
+    for module, chosen in files:
+        path = f"{module.crate}/specs/{module.name}"
+        count = sum(len(lines) for _, _, lines in chosen)
+        names = ", ".join(name for name, _, _ in chosen)
+        yield f"| [{path}](../crates/{path.replace('.', '/')}.antt) | {sentence(module)} | {count} of {len(module.lines)} | {names} |"
+    lines = sum(len(lines) for _, chosen in files for _, _, lines in chosen)
+    yield f"| {len(files)} files | | {lines} | {sum(len(chosen) for _, chosen in files)} definitions |"
+    if types:
+        yield f"| Rust types: {len(types)} | | | {', '.join(types)} |"
+
+
+def written(page):
+    """The page with its tables made anew."""
+    for clause, files, types in reading():
+        first, last = f"<!-- {clause} -->\n", f"<!-- end of {clause} -->\n"
+        if page.count(first) != 1 or page.count(last) != 1:
+            sys.exit(f"{PAGE} has no place for the table of {clause}")
+        before, _, rest = page.partition(first)
+        page = before + first + "\n".join(table(files, types)) + "\n" + last + rest.partition(last)[2]
+    return page
 
 
 def main():
-    if sys.argv[1:] == ["--table"]:
-        print("\n".join(table()))
-    elif sys.argv[1:] == ["--check"]:
-        wanted = list(table())
-        lines = (TOP / "docs" / "MAP.md").read_text().split("\n")
-        found = []
-        if wanted[0] in lines:
-            found = lines[lines.index(wanted[0]) :][: len(wanted)]
-        if wanted != found:
-            print("\n".join(difflib.unified_diff(found, wanted, "docs/MAP.md", "what is computed", lineterm="")))
-            sys.exit("docs/MAP.md has another reading list: tools/reading_list.py --table prints it")
+    if sys.argv[1:] in (["--write"], ["--check"]):
+        page = PAGE.read_text()
+        wanted = written(page)
+        if sys.argv[1] == "--write":
+            PAGE.write_text(wanted)
+        elif wanted != page:
+            found, wanted = page.split("\n"), wanted.split("\n")
+            print("\n".join(difflib.unified_diff(found, wanted, "docs/BELIEVE.md", "what is computed", lineterm="")))
+            sys.exit("docs/BELIEVE.md has another reading list: tools/reading_list.py --write makes it anew")
     else:
-        files, types = reading()
-        for path, lines, all_lines, names in files:
-            print(f"{path}: {lines} of {all_lines} lines, {len(names)} definitions\n    {', '.join(names)}")
-        print(f"{len(types)} Rust types\n    {', '.join(types)}")
+        for clause, files, types in reading():
+            print(f"== {clause}")
+            for module, chosen in files:
+                lines = sum(len(lines) for _, _, lines in chosen)
+                print(f"{module.crate}/specs/{module.name}: {lines} of {len(module.lines)} lines")
+                print(f"    {', '.join(name for name, _, _ in chosen)}")
+            print(f"{len(types)} Rust types\n    {', '.join(types)}")
 
 
 main()

@@ -46,8 +46,6 @@ copy() { # NAME
 }
 copy unbuilt
 copy built
-mkdir -p built/crates/tbc/out
-cp "$tbc" built/crates/tbc/out/tbc
 
 # The other rt: it writes down its words and its input, and then does what $AS says.
 mkdir stub
@@ -78,6 +76,7 @@ chmod +x stub/rt
 export STUB=$work/stub TBC=$tbc
 printf '10 PRINT "HELLO"\n20 END\n' >hello.bas
 printf '10 INPUT A\n' >wait.bas
+PATH=$work/stub:$real_path AS=good built/tbc --build >/dev/null 2>&1
 
 # A copy that is built: the program's own answers, whatever folder it is called from, and no slower than it may be.
 PATH=/usr/bin:/bin
@@ -172,15 +171,28 @@ row 3 "tbc: a run of up to 1000000000 events $beyond" '' unbuilt/tbc run --limit
 row 3 '' "tbc: play at a keyboard $beyond"* at_terminal unbuilt/tbc play hello.bas
 row 3 '' "tbc: step at a keyboard $beyond"* at_terminal unbuilt/tbc step hello.bas
 
-# What is stale: sources, definitions and the list of crates of what the program is made of, and nothing else
+# What is stale: other sources, definitions and lists of crates of what the program is made of, older or newer, and
+# files that are gone or new; and nothing else
 mkdir -p built/crates/tb_words/proofs
-touch built/crates/tb_words/proofs/Lib.antt built/crates/tb_golden/src/main.rt
+echo >>built/crates/tb_words/proofs/Lib.antt
+echo >>built/crates/tb_golden/src/main.rt
+touch built/crates/tb_words/src/lib.rt
 row 0 '' HELLO built/tbc run hello.bas
+stale() { row 5 "tbc: the proved program was made from another $1 (./tbc --build): *" SHOWN built/tbc run hello.bas; } # FILE
 for file in crates/tb_words/src/lib.rt crates/tb_memmap/specs/Lib.antt crates.txt; do
-    touch -d '1 minute' "built/$file"
-    row 5 "tbc: the proved program is older than $file (./tbc --build): *" SHOWN built/tbc run hello.bas
-    touch -d '1 hour ago' "built/$file"
+    cp -p "built/$file" was
+    echo >>"built/$file"
+    touch -d '1 year ago' "built/$file"
+    stale "$file"
+    mv was "built/$file"
 done
+row 0 '' HELLO built/tbc run hello.bas
+mv built/crates/tb_words/src/lib.rt was
+stale crates/tb_words/src/lib.rt
+mv was built/crates/tb_words/src/lib.rt
+touch built/crates/tb_words/src/new.rt
+stale crates/tb_words/src/new.rt
+rm built/crates/tb_words/src/new.rt
 
 # Building: how far it is, what it took, the first crate that fails, and no prover still running
 AS=good row 0 'tbc: proving the * crates of the program, * side by side
