@@ -12,7 +12,6 @@ use Rattle.tb_runtime16.specs.Block.{block_bytes}
 use Rattle.tb_settling.specs.Settled.{AreFormsOf}
 use Rattle.tb_templates.specs.declared.labels.Target.TheVariants as target
 use Rattle.tb_templates.specs.Templates.{next_line}
-use Rattle.tb_templates.specs.Breaks.{broken, ends_away}
 use Rattle.tb_templates.specs.Program.{line_code, past_code, find_code, table_code}
 use Rattle.tb_reaching.specs.View.{Part, Bytes}
 use Rattle.tb_simulation.specs.Layout.{Lies, label_address, place_address, layout_of}
@@ -27,15 +26,15 @@ abbrev pub IsClear : List (Name × ℕ) → List ℕ → ℕ → List Entry → 
 IsClear labels ns at es =
     (n : ℕ) → has_line ns n ≡ true → (label_address labels (target.Line n) < at) ⊎ (at + size es ≤ label_address labels (target.Line n))
 
--- a line's settled code, which has bytes, lies at its label; its branches reach; the next line's code or fault 7 follows it
--- unless it ends away; and no line begins inside it but itself
+-- a line's settled code, which has bytes, lies at its label; its branches reach; the next line's code or fault 7 follows
+-- it; and no line begins inside it but itself
 pub record LineLies (labels : List (Name × ℕ)) (code : Part) (ns : List ℕ) (seed n : ℕ) (is : List Instr) : Type 0 where
   pub forms : List Form
   pub of : AreFormsOf (line_code ns seed (record { number = n; content = is })) forms
   pub some : 1 ≤ size (items_from (label_address labels (target.Line n)) forms)
   pub lies : Lies code labels (label_address labels (target.Line n)) (items_from (label_address labels (target.Line n)) forms)
   pub near : some_branch_far labels (label_address labels (target.Line n)) (items_from (label_address labels (target.Line n)) forms) ≡ false
-  pub next : ends_away is ≡ false → label_address labels (target.Line n) + size (items_from (label_address labels (target.Line n)) forms) ≡ label_address labels (next_line ns n)
+  pub next : label_address labels (target.Line n) + size (items_from (label_address labels (target.Line n)) forms) ≡ label_address labels (next_line ns n)
   pub clear : (m : ℕ) → has_line ns m ≡ true → (label_address labels (target.Line m) ≤ label_address labels (target.Line n)) ⊎ (label_address labels (target.Line n)
       + size (items_from (label_address labels (target.Line n)) forms) ≤ label_address labels (target.Line m))
   pub ranged : AreInRange 256 is
@@ -46,9 +45,6 @@ pub record LineLies (labels : List (Name × ℕ)) (code : Part) (ns : List ℕ) 
 pub record Laid (labels : List (Name × ℕ)) (seed : ℕ) (code : Part) (program : SlotCode) : Type 0 where
   pub block : Bytes code PROLOGUE_AT block_bytes
   pub lines : (n : ℕ) (is : List Instr) → content_at program n ≡ Some is → LineLies labels code (numbers program) seed n is
-  -- what is done for the STOP key in each line
-  pub breaks : (n : ℕ) → has_line (numbers program) n ≡ true → Lies code labels (label_address labels (target.Break n)) (broken n)
-  pub breaks_clear : (n : ℕ) → has_line (numbers program) n ≡ true → IsClear labels (numbers program) (label_address labels (target.Break n)) (broken n)
   pub past : Lies code labels (label_address labels target.Past) (past_code (numbers program))
   pub past_clear : IsClear labels (numbers program) (label_address labels target.Past) (past_code (numbers program))
   pub find : Lies code labels (label_address labels target.Find) (find_code (numbers program))

@@ -172,16 +172,61 @@ prints_if_zero = compiled_keeps program.prints_if_zero (more (omega arith) (more
 pub prints_negative_quotient : IsKept prints_negative_quotient_image program.prints_negative_quotient
 unfolding encoded
 prints_negative_quotient = compiled_keeps program.prints_negative_quotient (more (omega arith) none)
-    (omega arith, omega arith, tt)
-    ((tt, ((omega arith, omega arith), ((omega arith, omega arith), (omega arith, ((omega arith, omega arith), ((omega arith, omega arith), (omega arith, (omega arith, (tt, tt))))))))), omega arith, tt)
+    (omega arith, omega arith, tt) (
+      (
+        tt,
+        (
+          (omega arith, omega arith),
+          (
+            (omega arith, omega arith),
+            (
+              omega arith,
+              (
+                (omega arith, omega arith),
+                (
+                  (omega arith, omega arith),
+                  (omega arith, (omega arith, (tt, tt))),
+                ),
+              ),
+            ),
+          ),
+        ),
+      ),
+      omega arith,
+      tt,
+    )
     (omega arith) (omega arith) (omega arith) refl prints_negative_quotient_image refl
 
 -- 10 IF A-20000<A+20000 THEN PRINT "A";, 20 END
 pub compares_far : IsKept compares_far_image program.compares_far
 unfolding encoded
 compares_far = compiled_keeps program.compares_far (more (omega arith) (more (omega arith) none))
-    (omega arith, omega arith, (omega arith, omega arith, tt))
-    ((tt, ((omega arith, omega arith), ((omega arith, omega arith), (omega arith, (tt, ((omega arith, omega arith), ((omega arith, omega arith), (omega arith, (tt, (omega arith, tt)))))))))), omega arith, ((tt, (tt, tt)), omega arith, tt))
+    (omega arith, omega arith, (omega arith, omega arith, tt)) (
+      (
+        tt,
+        (
+          (omega arith, omega arith),
+          (
+            (omega arith, omega arith),
+            (
+              omega arith,
+              (
+                tt,
+                (
+                  (omega arith, omega arith),
+                  (
+                    (omega arith, omega arith),
+                    (omega arith, (tt, (omega arith, tt))),
+                  ),
+                ),
+              ),
+            ),
+          ),
+        ),
+      ),
+      omega arith,
+      ((tt, (tt, tt)), omega arith, tt),
+    )
     (omega arith) (omega arith) (omega arith) refl compares_far_image refl
 
 first_true : (b : Bool) → b || false ≡ true → b ≡ true

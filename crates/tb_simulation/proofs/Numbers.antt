@@ -19,8 +19,8 @@ use Rattle.tb_templates.specs.declared.labels.Target.TheVariants as target
 use Rattle.tb_templates.specs.Labels.{label_of}
 use Rattle.tb_templates.specs.Templates as product
 use Rattle.tb_templates.specs.Templates.{target_of, next_line}
-use Rattle.tb_simulation.specs.Layout.{Layout, label_address, layout_of, place_address, next_at}
-use Rattle.tb_simulation.proofs.Resolved.{lda_at, sta_at, copied, constant, pointed, faulting, jump}
+use Rattle.tb_simulation.specs.Layout.{Layout, label_address, layout_of, place_address}
+use Rattle.tb_simulation.proofs.Resolved.{lda_at, sta_at, copied, constant, pointed, faulting, jump, next_at}
 
 -- ---- labels
 -- the bytes of a word are bytes

@@ -4,13 +4,17 @@ use Rattle.tb_reaching.specs.View.{Part}
 use Rattle.tb_reaching.specs.View.{Bytes}
 use Rattle.tb_reaching.proofs.Instr.{Instr, ins, Stands, instr_bytes}
 use Rattle.tb_words.specs.Words.{word}
-use Rattle.tb_meaning.specs.Control.{has_line, highest}
+use Rattle.tb_meaning.specs.Control.{has_line, highest, next_after}
 use Rattle.tb_lower.specs.Slots as slots
 use Rattle.tb_kernal.specs.declared.rom.TheConstants.{CHROUT}
 use Rattle.tb_runtime16.specs.Addresses.{POINTER, RESULT, TABLE, COUNT, LENGTH, COLUMN, TEXT_AT, ZONE_AT, INPUT_AT, SEARCH_AT, FAULT_LINE_AT, POLL_AT}
 use Rattle.tb_templates.specs.Templates.{var_at, slot_at}
 use Rattle.tb_opcodes.specs.Bytes.{AreBytes}
-use Rattle.tb_simulation.specs.Layout.{Layout}
+use Rattle.tb_simulation.specs.Layout.{Layout, place_address}
+
+-- where the first line above n begins, or fault 7 if there is none
+abbrev pub next_at : Layout → ℕ → ℕ
+next_at ly n = place_address ly (next_after ly.numbers n)
 
 -- ---- pieces of code
 abbrev pub size : List Instr → ℕ

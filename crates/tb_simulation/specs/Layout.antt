@@ -3,7 +3,7 @@ use Rattle.std.specs.Prelude.{ℕ, ◌+◌, ◌≤◌, Bool, false, ◌||◌, na
 use Rattle.tb_asm.specs.declared.names.Name.{Name}
 use Rattle.tb_asm.specs.declared.items.Operand.TheVariants.{Label}
 use Rattle.tb_asm.specs.Layout.{Entry, number_in, bytes_from, size}
-use Rattle.tb_meaning.specs.Control.{Place, At, Past, next_after, has_line}
+use Rattle.tb_meaning.specs.Control.{Place, At, Past, has_line}
 use Rattle.tb_templates.specs.declared.labels.Target.{Target}
 use Rattle.tb_templates.specs.declared.labels.Target.TheVariants as target
 use Rattle.tb_templates.specs.Labels.{label_of}
@@ -54,10 +54,6 @@ layout_of labels ns seed = record {
 abbrev pub place_address : Layout → Place → ℕ
 place_address ly (At n) = ly.start n
 place_address ly Past = ly.past
-
--- where the first line above n begins, or fault 7 if there is none
-abbrev pub next_at : Layout → ℕ → ℕ
-next_at ly n = place_address ly (next_after ly.numbers n)
 
 -- whether a line begins at an address
 abbrev pub is_start : (ℕ → ℕ) → List ℕ → ℕ → Bool

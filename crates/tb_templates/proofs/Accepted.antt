@@ -33,8 +33,8 @@ use Rattle.tb_templates.specs.InPlace.{Change, Increment, Decrement, Raise, Lowe
 use Rattle.tb_templates.specs.Masks.{mask}
 use Rattle.tb_templates.proofs.Divided.{asked_rest_plain, left_over_plain}
 use Rattle.tb_templates.specs.Orders.{Side, Below, NotBelow, Order, BySign, ByConstant, ByDifference, lifted, ordered_by, signed, unless_carry, unless_negative, wanted_side, weighed}
-use Rattle.tb_templates.specs.Program.{rest_code, list_code, line_code, lines_code, past_code, find_code, rows_code, table_code, program_code, still_asking}
-use Rattle.tb_templates.specs.Breaks.{polled, broken, all_broken, ends_away, done_behind, left_behind}
+use Rattle.tb_templates.specs.Program.{rest_code, list_code, line_code, lines_code, past_code, find_code, rows_code, table_code, program_code}
+use Rattle.tb_templates.specs.Breaks.{polled, behind}
 use Rattle.tb_settling.specs.Settled.{may_move}
 use Rattle.tb_syntax.specs.Source.{numbers}
 use Rattle.tb_templates.proofs.Listed.{by_poll, tested_by}
@@ -266,26 +266,25 @@ rest_forms : (ns : List ℕ) (seed n i : ℕ) (gs : List Group) → list_all has
 rest_forms ns seed n i [] = refl
 rest_forms ns seed n i (g ∷ gs) = forms_append (group_template ns seed n i g) (rest_code ns seed n (i + 1) gs) (group_forms ns seed n i g) (rest_forms ns seed n (i + 1) gs)
 
+polled_forms : (away : Bool) (n : ℕ) → list_all has_form (polled away n) ≡ true
+polled_forms true n = refl
+polled_forms false n = refl
+
+behind_forms : (away : Bool) (n : ℕ) → list_all has_form (behind away n) ≡ true
+behind_forms true n = refl
+behind_forms false n = refl
+
 line_forms : (ns : List ℕ) (seed n : ℕ) (is : List Instr) → list_all has_form (list_code ns seed n is) ≡ true
 line_forms ns seed n is =
-    by_poll (λ es. list_all has_form es ≡ true) ns seed n is (λ js e. forms_append (polled n) (rest_code ns seed n 1 (select js)) refl
-    (rest_forms ns seed n 1 (select js))) (rest_forms ns seed n 1 (select is))
+    by_poll (λ es. list_all has_form es ≡ true) ns seed n is (λ js away e.
+    let code = rest_code ns seed n 1 (select js) in
+    forms_append (polled away n) (code ++ behind away n) (polled_forms away n)
+    (forms_append code (behind away n) (rest_forms ns seed n 1 (select js)) (behind_forms away n))) (rest_forms ns seed n 1 (select is))
 
-broken_forms : (ns : List ℕ) → list_all has_form (all_broken ns) ≡ true
-broken_forms [] = refl
-broken_forms (n ∷ ns) = forms_append (broken n) (all_broken ns) refl (broken_forms ns)
-
-done_forms : (t : Bool) (ns : List ℕ) → list_all has_form (done_behind t ns) ≡ true
-done_forms true ns = broken_forms ns
-done_forms false ns = refl
-
-lines_forms : (ns : List ℕ) (seed : ℕ) (asking : List ℕ) (lines : SlotCode) → list_all has_form (lines_code ns seed asking lines) ≡ true
-lines_forms ns seed asking [] = refl
-lines_forms ns seed asking (line ∷ lines) =
-    let all = asking ++ line.number ∷ [] in let away = ends_away line.content in
-    let more = lines_code ns seed (left_behind away all) lines in
-    forms_append (line_code ns seed line) (done_behind away all ++ more) (line_forms ns seed line.number line.content)
-    (forms_append (done_behind away all) more (done_forms away all) (lines_forms ns seed (left_behind away all) lines))
+lines_forms : (ns : List ℕ) (seed : ℕ) (lines : SlotCode) → list_all has_form (lines_code ns seed lines) ≡ true
+lines_forms ns seed [] = refl
+lines_forms ns seed (line ∷ lines) =
+    forms_append (line_code ns seed line) (lines_code ns seed lines) (line_forms ns seed line.number line.content) (lines_forms ns seed lines)
 
 rows_forms : (ns : List ℕ) → list_all has_form (rows_code ns) ≡ true
 rows_forms [] = refl
@@ -294,9 +293,7 @@ rows_forms (n ∷ ns) = rows_forms ns
 program_forms : (seed : ℕ) (code : SlotCode) → list_all has_form (program_code seed code) ≡ true
 program_forms seed code =
     let ns = numbers code in
-    let last = all_broken (still_asking [] code) in
-    forms_append (lines_code ns seed [] code) (past_code ns ++ (last ++ (find_code ns ++ table_code ns))) (lines_forms ns seed [] code)
-    (forms_append last (find_code ns ++ table_code ns) (broken_forms (still_asking [] code)) (rows_forms ns))
+    forms_append (lines_code ns seed code) (past_code ns ++ (find_code ns ++ table_code ns)) (lines_forms ns seed code) (rows_forms ns)
 
 -- each item of a program's code has a form that exists
 pub program_modes : (seed : ℕ) (code : SlotCode) → list_all has_mode (program_code seed code) ≡ true

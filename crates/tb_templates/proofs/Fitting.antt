@@ -39,7 +39,7 @@ use Rattle.tb_templates.specs.Masks.{mask}
 use Rattle.tb_templates.specs.Orders.{Side, Order, BySign, ByConstant, ByDifference, ordered_by}
 use Rattle.tb_templates.specs.Scaled.{at_zero, rounded, raised, halved, halvings, high_first, shifts, shifted, by_bit, by_bits, bits_size, is_factor, scaling, low_first, times}
 use Rattle.tb_templates.specs.InPlace.{Change, Increment, Decrement, Raise, Lower, Halve, Double, change_of, changed}
-use Rattle.tb_templates.specs.Breaks.{polled}
+use Rattle.tb_templates.specs.Breaks.{polled, behind}
 use Rattle.tb_templates.specs.Program.{rest_code, list_code}
 use Rattle.tb_settling.specs.Settled.{most_of, most}
 use Rattle.tb_settling.proofs.Forms.{most_append}
@@ -311,12 +311,17 @@ rest_fits ns seed n i (g ∷ gs) =
 selected_fits : (ns : List ℕ) (seed n i : ℕ) (is : List Instr) → most (rest_code ns seed n i (select is)) ≤ list_room is
 selected_fits ns seed n i is = subst (λ js. most (rest_code ns seed n i (select is)) ≤ list_room js) (brackets is) (rest_fits ns seed n i (select is))
 
--- a list's code takes no more than the room of its instructions
-pub list_fits : (ns : List ℕ) (seed n : ℕ) (is : List Instr) → most (list_code ns seed n is) ≤ list_room is
+polled_most : (away : Bool) (n : ℕ) → most (polled away n) + most (behind away n) ≡ 19
+polled_most true n = omega arith
+polled_most false n = omega arith
+
+-- a list's code takes no more than the room of its instructions and the STOP key's code
+pub list_fits : (ns : List ℕ) (seed n : ℕ) (is : List Instr) → most (list_code ns seed n is) ≤ 9 + list_room is
 list_fits ns seed n is =
-    by_poll (λ es. most es ≤ list_room is) ns seed n is
-    (λ js e. let p = ap list_room e in let q = most_append (polled n) (rest_code ns seed n 1 (select js)) in let r = selected_fits ns seed n 1 js in omega (arith, p, q, r))
-    (selected_fits ns seed n 1 is)
+    by_poll (λ es. most es ≤ 9 + list_room is) ns seed n is
+    (λ js away e. let code = rest_code ns seed n 1 (select js) in let p = ap list_room e in let q = most_append (polled away n) (code ++ behind away n) in
+    let r = most_append code (behind away n) in let s = selected_fits ns seed n 1 js in let t = polled_most away n in omega (arith, p, q, r, s, t))
+    (let s = selected_fits ns seed n 1 is in omega (arith, s))
 
 -- ── the code of a statement ──
 pub one_node : (e : Expression) → 1 ≤ nodes e

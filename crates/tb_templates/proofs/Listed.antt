@@ -1,9 +1,9 @@
 -- What holds of code that is chosen by cases.
-use Rattle.std.proofs.Common.{◌≡◌, ℕ, List, ◌∷◌, ◌++◌, refl}
+use Rattle.std.proofs.Common.{◌≡◌, ℕ, Bool, List, ◌∷◌, ◌++◌, refl}
 use Rattle.tb_asm.specs.Layout.{Entry}
 use Rattle.tb_lower.specs.Slots.{Instr, Poll}
 use Rattle.tb_selection.specs.Select.{select}
-use Rattle.tb_templates.specs.Breaks.{polled}
+use Rattle.tb_templates.specs.Breaks.{polled, behind, some_leaves}
 use Rattle.tb_words.specs.declared.Rel.{Rel}
 use Rattle.tb_words.specs.declared.Rel.TheVariants.{Eq, Lt, Gt, Le, Ge, Ne}
 use Rattle.tb_templates.specs.declared.labels.Target.{Target}
@@ -12,10 +12,11 @@ use Rattle.tb_templates.specs.Orders.{Side, Below, NotBelow, Order, order_of, or
 use Rattle.tb_templates.specs.GroupTemplates.{equal, unequal, tested}
 use Rattle.tb_templates.specs.Program.{rest_code, list_code}
 
--- what holds of a list's groups, and of those after a poll with its code before them, holds of the list's code
+-- what holds of a list's groups, and of those after a poll with the STOP key's code about them, holds of the list's code
 pub by_poll : (P : List Entry → Type 0) (ns : List ℕ) (seed n : ℕ) (is : List Instr)
-    → ((js : List Instr) → is ≡ Poll ∷ js → P (polled n ++ rest_code ns seed n 1 (select js))) → P (rest_code ns seed n 1 (select is)) → P (list_code ns seed n is)
-by_poll P ns seed n (Poll ∷ is) f g = f is refl
+    → ((js : List Instr) (away : Bool) → is ≡ Poll ∷ js → P (polled away n ++ (rest_code ns seed n 1 (select js) ++ behind away n)))
+    → P (rest_code ns seed n 1 (select is)) → P (list_code ns seed n is)
+by_poll P ns seed n (Poll ∷ is) f g = f is (some_leaves (select is)) refl
 by_poll P ns seed n is f g = g
 
 -- what holds of each way to test two words holds of every test of them

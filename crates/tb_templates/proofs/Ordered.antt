@@ -1,6 +1,6 @@
 -- The labels of a whole program rise.
 use Rattle.std.proofs.Common.{◌≡◌, ℕ, ◌+◌, ◌<◌, ◌≤◌, Bool, true, false, List, [], ◌∷◌, ◌++◌, length, refl, sym, ap, ◌∙◌}
-use Rattle.std.proofs.Common.{arith, subst, append_assoc, append-nil, inl, nat_lt, Option, Some, None}
+use Rattle.std.proofs.Common.{arith, subst, append_assoc, inl, inr, nat_lt, Option, Some, None}
 use Rattle.std.specs.Prelude.{if◌then◌else◌}
 use Rattle.std.proofs.lemmas.Bool.Decides.{nat_tests}
 use Rattle.tb_opcodes.specs.declared.Mnemonic.{Mnemonic}
@@ -20,7 +20,7 @@ use Rattle.tb_templates.specs.declared.labels.Inner.{Inner}
 use Rattle.tb_templates.specs.declared.labels.Inner.TheVariants as inner
 use Rattle.tb_templates.specs.Labels.{label_of, letter_of}
 use Rattle.tb_templates.specs.declared.labels.Target.{Target}
-use Rattle.tb_templates.specs.declared.labels.Target.TheVariants.{Line, Inside, Table, Past}
+use Rattle.tb_templates.specs.declared.labels.Target.TheVariants.{Line, Inside, Polled, Table}
 use Rattle.tb_templates.specs.Templates.{branch, var_at, template, faulted, called, jump_to, next_line, target_of, call, copied, constant}
 use Rattle.tb_templates.specs.Sources.{Source, FixedWord, AtAddress, source_of, tested_source, home_at, destination_at}
 use Rattle.tb_templates.specs.GroupTemplates.{brought, joined, handed, multiplied, divided, calculated, computed, changed_or, converted, used, equal, unequal}
@@ -32,13 +32,13 @@ use Rattle.tb_templates.specs.Masks.{mask}
 use Rattle.tb_templates.proofs.Divided.{asked_rest_plain, copied_plain, left_over_plain}
 use Rattle.tb_templates.specs.Orders.{Side, Order, BySign, ByConstant, ByDifference, lifted, ordered_by, signed, unless_carry, wanted_side, weighed}
 use Rattle.tb_templates.specs.Program.{rest_code, list_code, line_code, lines_code, past_code, find_code, rows_code, table_code, program_code, AreCodable}
-use Rattle.tb_templates.specs.Program.{first_of, AreInTurn, still_asking}
-use Rattle.tb_templates.specs.Breaks.{polled, all_broken, ends_away, done_behind, left_behind}
+use Rattle.tb_templates.specs.Program.{first_of, AreInTurn}
+use Rattle.tb_templates.specs.Breaks.{polled, behind}
 use Rattle.tb_templates.proofs.Listed.{tested_by, by_poll}
 use Rattle.tb_templates.proofs.Plain.{lifted_plain, plain_rises, times_plain, shifted_plain}
 use Rattle.tb_templates.proofs.Ranged.{selected_few}
-use Rattle.tb_templates.proofs.Rising.{key_of, base, break_base, line_key, inside_key, Rising, rising_append, rising_lower}
-use Rattle.tb_templates.proofs.Woven.{lowest, Woven, woven_lower, rising_woven, broken_woven}
+use Rattle.tb_templates.proofs.Rising.{key_of, base, polled_base, polled_key, line_key, inside_key, Rising, rising_append, rising_lower}
+use Rattle.tb_templates.proofs.Woven.{lowest, Woven, woven_lower, rising_woven}
 
 -- ── single instructions ──
 jump_rises : (ns : List ℕ) (n to low high : ℕ) (t : Bool) → has_line ns to ≡ t → low ≤ high → Rising low (jump_to ns n to) high
@@ -249,17 +249,41 @@ rest_rises ns seed n i (g ∷ gs) h k =
     (rest_rises ns seed n (i + 1) gs h (omega (arith, k)))
 
 -- ── lines ──
-polled_rises : (n : ℕ) → Rising (base n 0 + 1) (polled n) (base n 1)
-polled_rises n = omega arith
+groups_rise : (ns : List ℕ) (seed n : ℕ) (is : List Instr) → n < 65536 → length is < 65536 → Rising (base n 1) (rest_code ns seed n 1 (select is)) (base (n + 1) 0)
+groups_rise ns seed n is h l = rest_rises ns seed n 1 (select is) h (let f = selected_few is in omega (arith, f, l))
 
-list_rises : (ns : List ℕ) (seed n : ℕ) (is : List Instr) → n < 65536 → length is < 65536 → Rising (base n 0 + 1) (list_code ns seed n is) (base (n + 1) 0)
-list_rises ns seed n is h l =
-    by_poll (λ es. Rising (base n 0 + 1) es (base (n + 1) 0)) ns seed n is (λ js e. rising_append (base n 0 + 1) (base n 1) (base (n + 1) 0)
-    (polled n) (rest_code ns seed n 1 (select js)) (polled_rises n) (groups js (let s = ap length e in omega (arith, s, l))))
-    (rising_lower (base n 0 + 1) (base n 1) (base (n + 1) 0) (rest_code ns seed n 1 (select is)) (omega arith) (groups is l))
-  where
-    groups : (js : List Instr) → length js < 65536 → Rising (base n 1) (rest_code ns seed n 1 (select js)) (base (n + 1) 0)
-    groups js k = rest_rises ns seed n 1 (select js) h (let f = selected_few js in omega (arith, f, k))
+-- a line's groups with the STOP key's code about them, before other items
+polled_woven : (away : Bool) (n : ℕ) (code ys : List Entry) → n < 65536 → Rising (base n 1) code (base (n + 1) 0) → Woven (base (n + 1) 0) (polled_base (n + 1)) ys
+    → Woven (base n 0 + 1) (polled_base n) (polled away n ++ (code ++ (behind away n ++ ys)))
+polled_woven true n code ys h r w =
+    let k = polled_key n h in
+    woven_lower (base n 0 + 1) (base n 1) (polled_base n) (polled_base n) (code ++ (behind true n ++ ys)) (omega arith) (omega arith)
+    (rising_woven (base n 1) (base (n + 1) 0) (polled_base n) code (behind true n ++ ys) (omega arith) r
+    (inr (
+      omega (arith, k, h),
+      omega (arith, k),
+      woven_lower (base (n + 1) 0) (base (n + 1) 0) (key_of (label_of (Polled n)) + 1) (polled_base (n + 1)) ys (omega arith) (omega (arith, k)) w,
+    )))
+polled_woven false n code ys h r w =
+    let k = polled_key n h in
+    inr (
+      omega (arith, k, h),
+      omega (arith, k),
+      woven_lower (base n 0 + 1) (base n 1) (key_of (label_of (Polled n)) + 1) (polled_base (n + 1)) (code ++ ys) (omega arith) (omega (arith, k))
+          (rising_woven (base n 1) (base (n + 1) 0) (polled_base (n + 1)) code ys (omega arith) r w),
+    )
+
+-- a line's list before other items
+list_woven : (ns : List ℕ) (seed n : ℕ) (is : List Instr) (ys : List Entry) → n < 65536 → length is < 65536 → Woven (base (n + 1) 0) (polled_base (n + 1)) ys
+    → Woven (base n 0 + 1) (polled_base n) (list_code ns seed n is ++ ys)
+list_woven ns seed n is ys h l w =
+    by_poll (λ es. Woven (base n 0 + 1) (polled_base n) (es ++ ys)) ns seed n is
+    (λ js away e. let front = polled away n in let code = rest_code ns seed n 1 (select js) in let back = behind away n in
+    subst (Woven (base n 0 + 1) (polled_base n)) (sym (append_assoc front (code ++ back) ys ∙ ap (λ es. front ++ es) (append_assoc code back ys)))
+    (polled_woven away n code ys h (groups_rise ns seed n js h (let s = ap length e in omega (arith, s, l))) w))
+    (rising_woven (base n 0 + 1) (base (n + 1) 0) (polled_base n) (rest_code ns seed n 1 (select is)) ys (omega arith)
+    (rising_lower (base n 0 + 1) (base n 1) (base (n + 1) 0) (rest_code ns seed n 1 (select is)) (omega arith) (groups_rise ns seed n is h l))
+    (woven_lower (base (n + 1) 0) (base (n + 1) 0) (polled_base n) (polled_base (n + 1)) ys (omega arith) (omega arith) w))
 
 -- after a line comes the first of the lines that rise from it
 first_behind : (n : ℕ) (lines : SlotCode) → Rises (n + 1) 65536 (numbers lines) → first_of lines ≡ next_line (numbers lines) n
@@ -290,48 +314,37 @@ in_turn ns low (line ∷ lines) r same =
 pub lines_in_turn : (lines : SlotCode) → Rises 0 65536 (numbers lines) → AreInTurn (numbers lines) lines
 lines_in_turn lines r = in_turn (numbers lines) 0 lines r (λ n h. refl)
 
--- what is done for the STOP key after lines, before other items
-done_woven : (low from : ℕ) (t : Bool) (ns ms : List ℕ) (ys : List Entry) → Rises from 65536 (ns ++ ms)
-    → ((to : ℕ) → Rises to 65536 (left_behind t ns ++ ms) → Woven low (break_base to) ys) → Woven low (break_base from) (done_behind t ns ++ ys)
-done_woven low from true ns ms ys r f = broken_woven low from ns ms ys r f
-done_woven low from false ns ms ys r f = f from r
-
-lines_woven : (ns : List ℕ) (seed low from : ℕ) (asking : List ℕ) (lines : SlotCode) (ys : List Entry) → low ≤ 65536 → Rises low 65536 (numbers lines)
-    → AreCodable lines → Rises from 65536 (asking ++ numbers lines)
-    → ((to : ℕ) → Rises to 65536 (still_asking asking lines) → Woven (base 65536 0) (break_base to) ys) → Woven (base low 0) (break_base from) (lines_code ns seed asking lines ++ ys)
-lines_woven ns seed low from asking [] ys l r c a f = woven_lower (base low 0) (base 65536 0) (break_base from) (break_base from) ys
-    (omega (arith, l)) (omega arith) (f from (subst (Rises from 65536) (append-nil asking) a))
-lines_woven ns seed low from asking (line ∷ lines) ys l r c a f =
+-- lines before other items
+lines_woven : (ns : List ℕ) (seed low : ℕ) (lines : SlotCode) (ys : List Entry) → low ≤ 65536 → Rises low 65536 (numbers lines)
+    → AreCodable lines → Woven (base 65536 0) (polled_base 65536) ys → Woven (base low 0) (polled_base low) (lines_code ns seed lines ++ ys)
+lines_woven ns seed low [] ys l r c w = woven_lower (base low 0) (base 65536 0) (polled_base low) (polled_base 65536) ys (omega (arith, l)) (omega (arith, l)) w
+lines_woven ns seed low (line ∷ lines) ys l r c w =
     let n = line.number in
     let k = line_key n r.1 in
-    let all = asking ++ n ∷ [] in let away = ends_away line.content in
-    let code = line_code ns seed line in let done = done_behind away all in
-    let more = lines_code ns seed (left_behind away all) lines in
+    let more = lines_code ns seed lines ++ ys in
     let least = r.0 in let small = r.1 in
-    subst (Woven (base low 0) (break_base from)) (sym (append_assoc code (done ++ more) ys ∙ ap (λ es. code ++ es) (append_assoc done more ys)))
-    (rising_woven (base low 0) (base (n + 1) 0) (break_base from) code (done ++ (more ++ ys)) (omega arith)
-    (omega (arith, k, least), subst (λ x. Rising (x + 1) (list_code ns seed n line.content) (base (n + 1) 0)) (sym k) (list_rises ns seed n line.content r.1 c.1))
-    (done_woven (base (n + 1) 0) from away all (numbers lines) (more ++ ys) (subst (Rises from 65536) (sym (append_assoc asking (n ∷ []) (numbers lines))) a)
-    (λ to b. lines_woven ns seed (n + 1) to (left_behind away all) lines ys (omega (arith, small)) r.2 c.2 b f)))
+    subst (Woven (base low 0) (polled_base low)) (sym (append_assoc (line_code ns seed line) (lines_code ns seed lines) ys))
+    (inl (
+      omega (arith, k),
+      omega (arith, k, least),
+      subst (λ x. Woven (x + 1) (polled_base low) (list_code ns seed n line.content ++ more)) (sym k)
+          (woven_lower (base n 0 + 1) (base n 0 + 1) (polled_base low) (polled_base n) (list_code ns seed n line.content ++ more) (omega arith) (omega (arith, least))
+          (list_woven ns seed n line.content more r.1 c.1 (lines_woven ns seed (n + 1) lines ys (omega (arith, small)) r.2 c.2 w))),
+    ))
 
 rows_woven : (ns : List ℕ) (low breaks : ℕ) → Woven low breaks (rows_code ns)
 rows_woven [] low breaks = tt
 rows_woven (n ∷ ns) low breaks = rows_woven ns low breaks
 
 -- what belongs to no line
-rest_woven : (ns asking : List ℕ) (from : ℕ) → Rises from 65536 asking → Woven (base 65536 0) (break_base from) (past_code ns ++ (all_broken asking ++ (find_code ns ++ table_code ns)))
-rest_woven ns asking from r =
-    inl (
-      omega arith,
-      omega arith,
-      broken_woven (key_of (label_of Past) + 1) from asking [] (find_code ns ++ table_code ns) (subst (Rises from 65536) (sym (append-nil asking)) r)
-          (λ to b. inl (omega arith, omega arith, inl (omega arith, omega arith, rows_woven ns (key_of (label_of Table) + 1) (break_base to)))),
-    )
+rest_woven : (ns : List ℕ) → Woven (base 65536 0) (polled_base 65536) (past_code ns ++ (find_code ns ++ table_code ns))
+rest_woven ns =
+    inl (omega arith, omega arith, inl (omega arith, omega arith, inl (omega arith, omega arith, rows_woven ns (key_of (label_of Table) + 1) (polled_base 65536))))
 
 -- the labels of a whole program rise in their two orders
 pub program_woven : (seed : ℕ) (code : SlotCode) → Rises 0 65536 (numbers code) → AreCodable code → Woven lowest 0 (program_code seed code)
 program_woven seed code r c =
     let ns = numbers code in
-    let rest = past_code ns ++ (all_broken (still_asking [] code) ++ (find_code ns ++ table_code ns)) in
-    woven_lower lowest lowest 0 (break_base 0) (lines_code ns seed [] code ++ rest) (omega arith) (omega arith)
-    (lines_woven ns seed 0 0 [] code rest (omega arith) r c r (λ to b. rest_woven ns (still_asking [] code) to b))
+    let rest = past_code ns ++ (find_code ns ++ table_code ns) in
+    woven_lower lowest lowest 0 (polled_base 0) (lines_code ns seed code ++ rest) (omega arith) (omega arith)
+    (lines_woven ns seed 0 code rest (omega arith) r c (rest_woven ns))

@@ -1,5 +1,6 @@
 -- The groups of a list are no more than its instructions, and these are in range.
-use Rattle.std.proofs.Common.{◌≡◌, ◌+◌, ◌≤◌, List, [], ◌∷◌, ◌++◌, length, sym, subst, arith, length-append}
+use Rattle.std.proofs.Common.{◌≡◌, ◌+◌, ◌<◌, ◌≤◌, List, [], ◌∷◌, ◌++◌, length, map, ap, sym, subst, arith, length-append}
+use Rattle.std.proofs.lemmas.List.{length-map}
 use Rattle.tb_lower.specs.Ranges.{AreInRange}
 use Rattle.tb_lower.specs.Slots.{Instr, Put, Store, Compute, LeaveUnless, JumpTo}
 use Rattle.tb_selection.specs.Groups.{Group, Calculate, Stepped, Convert, Move, Use, Test, TestGo, OnLeft, OnRight, Divides, Remains, Single, slot_of, fetch}
@@ -58,3 +59,10 @@ groups_in_range gs is e h = by gs (subst (AreInRange 256) (sym e) h)
     by : (gs : List Group) → AreInRange 256 (expand_all gs) → AreGroupsInRange gs
     by [] h = tt
     by (g ∷ gs) h = let s = range_split (expand g) (expand_all gs) h in (s.0, by gs s.1)
+
+-- the groups of a list that is in range are in range, and as few
+pub selected_in_range : {A : Type 0} (f : A → Group) (gs : List A) (is : List Instr) → map f gs ≡ select is → expand_all (map f gs) ≡ is → AreInRange 256 is → length is < 65536
+    → AreInRange 256 (expand_all (map f gs)) × (length gs < 65536)
+selected_in_range f gs is selected all range short =
+    let few = selected_few is in let count = ap length selected in let same = length-map gs f in
+    (subst (AreInRange 256) (sym all) range, omega (arith, few, count, same, short))

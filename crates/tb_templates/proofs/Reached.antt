@@ -1,6 +1,6 @@
 -- Each label that a program's code names is known.
 use Rattle.std.proofs.Common.{◌≡◌, ℕ, ◌+◌, ◌%◌, ◌/◌, Bool, true, false, List, [], ◌∷◌, ◌++◌, refl, sym, ap, arith, subst}
-use Rattle.std.proofs.Common.{append_assoc, append-nil, Option, Some, None, is_some, true≢false}
+use Rattle.std.proofs.Common.{Option, Some, None, is_some, true≢false}
 use Rattle.std.specs.Prelude.{option_map, if◌then◌else◌, ◌||◌, nat_lt, nat_eq}
 use Rattle.std.proofs.lemmas.Bool.Decides.{nat_tests}
 use Rattle.std.proofs.lemmas.Bool.{or_right, eq-eqb}
@@ -37,8 +37,8 @@ use Rattle.tb_templates.specs.InPlace.{Change, Increment, Decrement, Raise, Lowe
 use Rattle.tb_templates.specs.Masks.{mask}
 use Rattle.tb_templates.proofs.Divided.{asked_rest_plain, left_over_plain}
 use Rattle.tb_templates.specs.Orders.{Side, Order, BySign, ByConstant, ByDifference, lifted, ordered_by, unless_carry, wanted_side, weighed}
-use Rattle.tb_templates.specs.Program.{rest_code, list_code, line_code, lines_code, past_code, find_code, rows_code, table_code, block_code, program_code, still_asking}
-use Rattle.tb_templates.specs.Breaks.{polled, all_broken, ends_away, done_behind, left_behind}
+use Rattle.tb_templates.specs.Program.{rest_code, list_code, line_code, lines_code, past_code, find_code, rows_code, table_code, block_code, program_code}
+use Rattle.tb_templates.specs.Breaks.{polled, behind}
 use Rattle.tb_settling.specs.Settled.{AllKnown}
 use Rattle.tb_templates.proofs.Listed.{tested_by, by_poll}
 use Rattle.tb_templates.proofs.Plain.{lifted_plain, plain_known, times_plain, shifted_plain}
@@ -65,9 +65,6 @@ Stands labels to = is_some (address_in labels (label_of to)) ≡ true
 
 abbrev pub LinesStand : List (Name × ℕ) → List ℕ → Type 0
 LinesStand labels ns = (n : ℕ) → has_line ns n ≡ true → Stands labels (target.Line n)
-
-abbrev pub BreaksStand : List (Name × ℕ) → List ℕ → Type 0
-BreaksStand labels ns = (n : ℕ) → has_line ns n ≡ true → Stands labels (target.Break n)
 
 pub record Known (labels : List (Name × ℕ)) (ns : List ℕ) : Type 0 where
   pub lines : LinesStand labels ns
@@ -324,37 +321,35 @@ module _ (labels : List (Name × ℕ)) (ns : List ℕ) (known : Known labels ns)
       let s = labels_split labels a code rest h in
       known_append labels code rest (group_known seed n i a g s.0) (rest_known seed n (i + 1) (a + size code) gs s.1)
 
-  polled_known : (n : ℕ) → Stands labels (target.Break n) → AllKnown labels (polled n)
-  polled_known n h = (refl ▹ refl ▹ to_label (target.Break n) h ▹ tt)
+  polled_known : (away : Bool) (n : ℕ) → Stands labels (target.Polled n) → AllKnown labels (polled away n)
+  polled_known true n h = (refl ▹ refl ▹ to_label (target.Polled n) h ▹ tt)
+  polled_known false n h = (refl ▹ refl ▹ to_label (target.Polled n) h ▹ refl ▹ refl ▹ refl ▹ refl ▹ refl ▹ tt)
 
-  list_known : (seed n a : ℕ) (is : List Instr) → Stands labels (target.Break n) → LabelsAt labels a (list_code ns seed n is) → AllKnown labels (list_code ns seed n is)
-  list_known seed n a is b =
+  behind_known : (away : Bool) (n : ℕ) → AllKnown labels (behind away n)
+  behind_known true n = (refl ▹ refl ▹ refl ▹ refl ▹ refl ▹ tt)
+  behind_known false n = tt
+
+  -- what a poll branches to is before or behind the line's groups
+  polled_stands : (away : Bool) (n a b : ℕ) → LabelsAt labels a (polled away n) → LabelsAt labels b (behind away n) → Stands labels (target.Polled n)
+  polled_stands true n a b h k = ap is_some k.0
+  polled_stands false n a b h k = ap is_some h.1.1.1.1.1.1.1.0
+
+  list_known : (seed n a : ℕ) (is : List Instr) → LabelsAt labels a (list_code ns seed n is) → AllKnown labels (list_code ns seed n is)
+  list_known seed n a is =
       by_poll (λ es. LabelsAt labels a es → AllKnown labels es) ns seed n is
-      (λ js e h. let s = labels_split labels a (polled n) (rest_code ns seed n 1 (select js)) h in
-      known_append labels (polled n) (rest_code ns seed n 1 (select js)) (polled_known n b) (rest_known seed n 1 (a + size (polled n)) (select js) s.1))
+      (λ js away e h. let front = polled away n in let code = rest_code ns seed n 1 (select js) in let back = behind away n in
+      let s = labels_split labels a front (code ++ back) h in
+      let t = labels_split labels (a + size front) code back s.1 in
+      known_append labels front (code ++ back) (polled_known away n (polled_stands away n a (a + size front + size code) s.0 t.1))
+      (known_append labels code back (rest_known seed n 1 (a + size front) (select js) t.0) (behind_known away n)))
       (rest_known seed n 1 a (select is))
 
-  broken_known : (ms : List ℕ) → AllKnown labels (all_broken ms)
-  broken_known [] = tt
-  broken_known (m ∷ ms) = (refl ▹ refl ▹ refl ▹ refl ▹ refl ▹ broken_known ms)
-
-  done_known : (t : Bool) (ms : List ℕ) → AllKnown labels (done_behind t ms)
-  done_known true ms = broken_known ms
-  done_known false ms = tt
-
-  lines_known : (seed a : ℕ) (asking : List ℕ) (lines : SlotCode) → BreaksStand labels (numbers lines)
-      → LabelsAt labels a (lines_code ns seed asking lines) → AllKnown labels (lines_code ns seed asking lines)
-  lines_known seed a asking [] b h = tt
-  lines_known seed a asking (line ∷ lines) b h =
-      let n = line.number in
-      let all = asking ++ n ∷ [] in let away = ends_away line.content in
-      let code = line_code ns seed line in let done = done_behind away all in
-      let more = lines_code ns seed (left_behind away all) lines in
-      let s = labels_split labels a code (done ++ more) h in
-      let t = labels_split labels (a + size code) done more s.1 in
-      known_append labels code (done ++ more) (refl ▹ list_known seed n (a + 0) line.content (b n (first_line n (numbers lines))) s.0.1)
-      (known_append labels done more (done_known away all)
-      (lines_known seed (a + size code + size done) (left_behind away all) lines (λ m e. b m (or_right (nat_eq n m) (has_line (numbers lines) m) e)) t.1))
+  lines_known : (seed a : ℕ) (lines : SlotCode) → LabelsAt labels a (lines_code ns seed lines) → AllKnown labels (lines_code ns seed lines)
+  lines_known seed a [] h = tt
+  lines_known seed a (line ∷ lines) h =
+      let code = line_code ns seed line in let more = lines_code ns seed lines in
+      let s = labels_split labels a code more h in
+      known_append labels code more (refl ▹ list_known seed line.number (a + 0) line.content s.0.1) (lines_known seed (a + size code) lines s.1)
 
   rows_known : (ms : List ℕ) → LinesStand labels ms → AllKnown labels (rows_code ms)
   rows_known [] h = tt
@@ -362,16 +357,13 @@ module _ (labels : List (Name × ℕ)) (ns : List ℕ) (known : Known labels ns)
       (refl ▹ to_label (target.Line m) (h m (first_line m ms)) ▹ rows_known ms (λ n e. h n (or_right (nat_eq m n) (has_line ms n) e)))
 
 -- ── a program ──
-lines_stand : (labels : List (Name × ℕ)) (ns : List ℕ) (seed a : ℕ) (asking : List ℕ) (lines : SlotCode)
-    → LabelsAt labels a (lines_code ns seed asking lines) → LinesStand labels (numbers lines)
-lines_stand labels ns seed a asking [] h = λ n e. absurd (true≢false (sym e))
-lines_stand labels ns seed a asking (line ∷ lines) h =
-    let all = asking ++ line.number ∷ [] in let away = ends_away line.content in
-    let code = line_code ns seed line in let done = done_behind away all in
-    let more = lines_code ns seed (left_behind away all) lines in
-    let s = labels_split labels a code (done ++ more) h in
-    let t = labels_split labels (a + size code) done more s.1 in
-    let rest = lines_stand labels ns seed (a + size code + size done) (left_behind away all) lines t.1 in
+lines_stand : (labels : List (Name × ℕ)) (ns : List ℕ) (seed a : ℕ) (lines : SlotCode)
+    → LabelsAt labels a (lines_code ns seed lines) → LinesStand labels (numbers lines)
+lines_stand labels ns seed a [] h = λ n e. absurd (true≢false (sym e))
+lines_stand labels ns seed a (line ∷ lines) h =
+    let code = line_code ns seed line in let more = lines_code ns seed lines in
+    let s = labels_split labels a code more h in
+    let rest = lines_stand labels ns seed (a + size code) lines s.1 in
     λ n e. by n (nat_eq line.number n) refl e (ap is_some s.0.0) (rest n)
   where
     by : (n : ℕ) (t : Bool) → nat_eq line.number n ≡ t → (t || has_line (numbers lines) n) ≡ true → Stands labels (target.Line line.number)
@@ -379,59 +371,20 @@ lines_stand labels ns seed a asking (line ∷ lines) h =
     by n true e k here rest = subst (λ m. Stands labels (target.Line m)) (let same : line.number ≡ n = grind (arith, nat_tests, e) in same) here
     by n false e k here rest = rest k
 
--- a number of one list or of the other
-pub either : (P : Type 0) (ms ks : List ℕ) (n : ℕ) → (has_line ms n ≡ true → P) → (has_line ks n ≡ true → P) → has_line (ms ++ ks) n ≡ true → P
-either P [] ks n f g e = g e
-either P (m ∷ ms) ks n f g e = by (nat_eq m n) refl e (either P ms ks n (λ h. f (or_right (nat_eq m n) (has_line ms n) h)) g)
-  where
-    by : (t : Bool) → nat_eq m n ≡ t → (t || has_line (ms ++ ks) n) ≡ true → (has_line (ms ++ ks) n ≡ true → P) → P
-    by true q k later = f (ap (λ b. b || has_line ms n) q)
-    by false q k later = later k
-
-broken_stand : (labels : List (Name × ℕ)) (a : ℕ) (ns : List ℕ) → LabelsAt labels a (all_broken ns) → BreaksStand labels ns
-broken_stand labels a [] h = λ n e. absurd (true≢false (sym e))
-broken_stand labels a (m ∷ ms) h = λ n e. by n (nat_eq m n) refl e (broken_stand labels (a + 0 + 2 + 2 + 2 + 3) ms h.1.1.1.1.1 n)
-  where
-    by : (n : ℕ) (t : Bool) → nat_eq m n ≡ t → (t || has_line ms n) ≡ true → (has_line ms n ≡ true → Stands labels (target.Break n)) → Stands labels (target.Break n)
-    by n true e k rest = subst (λ m. Stands labels (target.Break m)) (let same : m ≡ n = grind (arith, nat_tests, e) in same) (ap is_some h.0)
-    by n false e k rest = rest k
-
--- what is done for the STOP key is in the code: after some of the lines that ask for it, or after all of them
-done_stand : (labels : List (Name × ℕ)) (a : ℕ) (t : Bool) (ms ks : List ℕ) → LabelsAt labels a (done_behind t ms)
-    → BreaksStand labels (left_behind t ms ++ ks) → BreaksStand labels (ms ++ ks)
-done_stand labels a true ms ks h b = λ n. either (Stands labels (target.Break n)) ms ks n (broken_stand labels a ms h n) (b n)
-done_stand labels a false ms ks h b = b
-
-breaks_stand : (labels : List (Name × ℕ)) (ns : List ℕ) (seed a : ℕ) (asking : List ℕ) (lines : SlotCode)
-    → LabelsAt labels a (lines_code ns seed asking lines) → BreaksStand labels (still_asking asking lines) → BreaksStand labels (asking ++ numbers lines)
-breaks_stand labels ns seed a asking [] h b = subst (BreaksStand labels) (sym (append-nil asking)) b
-breaks_stand labels ns seed a asking (line ∷ lines) h b =
-    let all = asking ++ line.number ∷ [] in let away = ends_away line.content in
-    let code = line_code ns seed line in let done = done_behind away all in
-    let more = lines_code ns seed (left_behind away all) lines in
-    let s = labels_split labels a code (done ++ more) h in
-    let t = labels_split labels (a + size code) done more s.1 in
-    subst (BreaksStand labels) (append_assoc asking (line.number ∷ []) (numbers lines))
-    (done_stand labels (a + size code) away all (numbers lines) t.0 (breaks_stand labels ns seed (a + size code + size done) (left_behind away all) lines t.1 b))
-
 -- each label that is named is known
 pub program_known : (labels : List (Name × ℕ)) (a seed : ℕ) (code : SlotCode) → LabelsAt labels a (program_code seed code) → AllKnown labels (program_code seed code)
 program_known labels a seed code h =
     let ns = numbers code in
-    let asking = still_asking [] code in
-    let lines = lines_code ns seed [] code in let past = past_code ns in let last = all_broken asking in let search = find_code ns in let table = table_code ns in
-    let tail = past ++ (last ++ (search ++ table)) in
+    let lines = lines_code ns seed code in let past = past_code ns in let search = find_code ns in let table = table_code ns in
+    let tail = past ++ (search ++ table) in
     let s = labels_split labels a block_code (lines ++ tail) h in
     let b = a + size block_code in
     let t = labels_split labels b lines tail s.1 in
     let c = b + size lines in
-    let u = labels_split labels c past (last ++ (search ++ table)) t.1 in
-    let d = c + size past in
-    let v = labels_split labels d last (search ++ table) u.1 in
-    let w = labels_split labels (d + size last) search table v.1 in
-    let known : Known labels ns = record { lines = lines_stand labels ns seed b [] code t.0; past = ap is_some u.0.0; find = ap is_some w.0.0; table = ap is_some w.1.0 } in
-    let breaks = breaks_stand labels ns seed b [] code t.0 (broken_stand labels d asking v.0) in
-    (refl ▹ refl ▹ known_append labels lines tail (lines_known labels ns known seed b [] code breaks t.0)
-    (refl ▹ refl ▹ refl ▹ refl ▹ refl ▹ known_append labels last (search ++ table) (broken_known labels ns known asking)
-    (refl ▹ low_label labels ns known target.Table known.table ▹ refl ▹ high_label labels ns known target.Table known.table ▹ refl ▹ refl ▹ refl ▹ refl ▹ refl ▹ refl ▹
-    refl ▹ rows_known labels ns known ns known.lines)))
+    let u = labels_split labels c past (search ++ table) t.1 in
+    let w = labels_split labels (c + size past) search table u.1 in
+    let known : Known labels ns = record { lines = lines_stand labels ns seed b code t.0; past = ap is_some u.0.0; find = ap is_some w.0.0; table = ap is_some w.1.0 } in
+    (refl ▹ refl ▹ known_append labels lines tail (lines_known labels ns known seed b code t.0)
+    (refl ▹ refl ▹ refl ▹ refl ▹ refl ▹
+    refl ▹ low_label labels ns known target.Table known.table ▹ refl ▹ high_label labels ns known target.Table known.table ▹ refl ▹ refl ▹ refl ▹ refl ▹ refl ▹ refl ▹
+    refl ▹ rows_known labels ns known ns known.lines))

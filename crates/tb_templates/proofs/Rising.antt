@@ -5,7 +5,7 @@ use Rattle.tb_words.specs.Hexadecimal.{hex_digit}
 use Rattle.tb_asm.specs.declared.names.Name.{Name}
 use Rattle.tb_asm.specs.Layout.{Entry, instr, label, bytes, word}
 use Rattle.tb_templates.specs.declared.labels.Inner.{Inner}
-use Rattle.tb_templates.specs.declared.labels.Target.TheVariants.{Line, Inside, Break}
+use Rattle.tb_templates.specs.declared.labels.Target.TheVariants.{Line, Inside, Polled}
 use Rattle.tb_templates.specs.Labels.{label_of, letter_of}
 
 -- ── a number for each label ──
@@ -45,13 +45,13 @@ line_key n h = let e = word_back n h in omega (arith, e)
 pub inside_key : (inner : Inner) (n i : ℕ) → n < 65536 → i < 65536 → key (label_of (Inside inner n i)).letters.items ≡ base n i + letter_of inner
 inside_key inner n i h k = let e = word_back n h in let f = word_back i k in omega (arith, e, f)
 
--- the number of the label for the STOP key in line n, below those of all other labels
-abbrev pub break_base : ℕ → ℕ
-break_base n = (66 * 65536 + n) * 65536 * 256
+-- the number of the label that line n's poll branches to, below those of all other labels
+abbrev pub polled_base : ℕ → ℕ
+polled_base n = (66 * 65536 + n) * 65536 * 256
 
--- the number of a label for the STOP key
-pub break_key : (n : ℕ) → n < 65536 → key (label_of (Break n)).letters.items ≡ break_base n
-break_key n h = let e = word_back n h in omega (arith, e)
+-- the number of a label that a poll branches to
+pub polled_key : (n : ℕ) → n < 65536 → key (label_of (Polled n)).letters.items ≡ polled_base n
+polled_key n h = let e = word_back n h in omega (arith, e)
 
 abbrev pub key_of : Name → ℕ
 key_of n = key n.letters.items

@@ -1,6 +1,6 @@
 -- The settled items of a program: where its lines and labels are among them.
-use Rattle.std.proofs.Common.{◌≡◌, ℕ, ◌+◌, ◌≤◌, List, [], ◌∷◌, ◌++◌, ap, sym, subst, ◌∙◌, arith, refl, Bool, true, false, inl, inr, Some}
-use Rattle.std.specs.Prelude.{◌&&◌, unwrap_or}
+use Rattle.std.proofs.Common.{◌≡◌, ℕ, ◌+◌, ◌≤◌, List, [], ◌∷◌, ◌++◌, ap, sym, subst, ◌∙◌, arith, refl, true, inl, inr, Some}
+use Rattle.std.specs.Prelude.{unwrap_or}
 use Rattle.std.specs.List.{list_all}
 use Rattle.tb_asm.specs.declared.names.Name.{Name}
 use Rattle.tb_asm.specs.Layout.{Entry, label, instr, bytes, word, size, size_of, address_in, labels_from}
@@ -14,8 +14,7 @@ use Rattle.tb_settling.proofs.Forms.{forms_size, items_append, items_size, size_
 use Rattle.tb_templates.specs.declared.labels.Target.TheVariants.{Line, Past, Table}
 use Rattle.tb_templates.specs.Labels.{label_of}
 use Rattle.tb_templates.specs.Layout.{LabelAt, LabelsAt}
-use Rattle.tb_templates.specs.Breaks.{all_broken}
-use Rattle.tb_templates.specs.Program.{still_asking, line_code, lines_code, past_code, find_code, rows_code, table_code, block_code, program_code, AreCodable}
+use Rattle.tb_templates.specs.Program.{line_code, lines_code, past_code, find_code, rows_code, table_code, block_code, program_code, AreCodable}
 use Rattle.tb_templates.proofs.Ordered.{program_woven}
 use Rattle.tb_templates.proofs.Reached.{labels_split}
 use Rattle.tb_templates.proofs.Rising.{key_of}
@@ -88,32 +87,15 @@ rows_straight : (ns : List ℕ) → list_all is_straight (rows_code ns) ≡ true
 rows_straight [] = refl
 rows_straight (n ∷ ns) = rows_straight ns
 
--- what is done for the STOP key has no branches to labels
-pub broken_straight : (ns : List ℕ) → list_all is_straight (all_broken ns) ≡ true
-broken_straight [] = refl
-broken_straight (n ∷ ns) = broken_straight ns
-
-straight_both : (xs ys : List Entry) → list_all is_straight xs ≡ true → list_all is_straight ys ≡ true → list_all is_straight (xs ++ ys) ≡ true
-straight_both [] ys h k = k
-straight_both (x ∷ xs) ys h k = by (is_straight x) h (λ h. straight_both xs ys h k)
-  where
-    by : (t : Bool) → (t && list_all is_straight xs) ≡ true → (list_all is_straight xs ≡ true → list_all is_straight (xs ++ ys) ≡ true) → (t && list_all is_straight (xs ++ ys)) ≡ true
-    by true h later = later h
-    by false h later = h
-
--- what is done for the STOP key in the last lines
-abbrev pub last_broken : SlotCode → List Entry
-last_broken code = all_broken (still_asking [] code)
-
 -- a program's settled items: the block, the lines' settled items, and what belongs to none of them
 pub record Sections (seed : ℕ) (code : SlotCode) (items : List Entry) (labels : List (Name × ℕ)) : Type 0 where
   pub lines : List Form
-  pub of_lines : AreFormsOf (lines_code (numbers code) seed [] code) lines
-  pub are : items ≡ block_code ++ (items_from LINES_AT lines ++ (past_code (numbers code) ++ (last_broken code ++ (find_code (numbers code) ++ table_code (numbers code)))))
+  pub of_lines : AreFormsOf (lines_code (numbers code) seed code) lines
+  pub are : items ≡ block_code ++ (items_from LINES_AT lines ++ (past_code (numbers code) ++ (find_code (numbers code) ++ table_code (numbers code))))
   pub all_labels : LabelsAt labels PROLOGUE_AT items
   pub line_labels : LabelsAt labels LINES_AT (items_from LINES_AT lines)
   pub past : unwrap_or (address_in labels (label_of Past)) 0 ≡ LINES_AT + forms_size lines
-  pub table : address_in labels (label_of Table) ≡ Some (LINES_AT + forms_size lines + size (past_code (numbers code)) + size (last_broken code) + size (find_code (numbers code)))
+  pub table : address_in labels (label_of Table) ≡ Some (LINES_AT + forms_size lines + size (past_code (numbers code)) + size (find_code (numbers code)))
 
 -- the settled items of a program consist of these sections
 pub sections : (seed : ℕ) (code : SlotCode) → AreCodable code → Rises 0 65536 (numbers code) → (items : List Entry)
@@ -121,14 +103,14 @@ pub sections : (seed : ℕ) (code : SlotCode) → AreCodable code → Rises 0 65
 sections seed code lists rises items settled =
     let ns = numbers code in
     let labels = labels_from PROLOGUE_AT items in
-    let lines = lines_code ns seed [] code in let past = past_code ns in let last = last_broken code in let search = find_code ns in let table = table_code ns in
-    let tail = past ++ (last ++ (search ++ table)) in
+    let lines = lines_code ns seed code in let past = past_code ns in let search = find_code ns in let table = table_code ns in
+    let tail = past ++ (search ++ table) in
     let s = split block_code (lines ++ tail) settled.forms settled.of in
     let t = split lines tail s.back s.of_back in
     let block : items_from PROLOGUE_AT s.front ≡ block_code = straight_items PROLOGUE_AT block_code s.front refl s.of_front in
     let start : PROLOGUE_AT + forms_size s.front ≡ LINES_AT = (let a = items_size PROLOGUE_AT s.front in let b = ap size block in let c = block_size in omega (arith, a, b, c)) in
     let here = LINES_AT + forms_size t.front in
-    let last_items : items_from here t.back ≡ tail = straight_items here tail t.back (straight_both last (search ++ table) (broken_straight (still_asking [] code)) (rows_straight ns)) t.of_back in
+    let last_items : items_from here t.back ≡ tail = straight_items here tail t.back (rows_straight ns) t.of_back in
     let rest : items_from (PROLOGUE_AT + forms_size s.front) s.back ≡ items_from LINES_AT t.front ++ tail = ap (λ a. items_from a s.back) start
     ∙ joined_items LINES_AT s.back t.front t.back t.are ∙ ap (λ es. items_from LINES_AT t.front ++ es) last_items in
     let are : items ≡ block_code ++ (items_from LINES_AT t.front ++ tail) = settled.are ∙ joined_items PROLOGUE_AT settled.forms s.front s.back s.are ∙ (λ i. block i ++ rest i) in
@@ -141,9 +123,8 @@ sections seed code lists rises items settled =
     let e : PROLOGUE_AT + size block_code ≡ LINES_AT = omega (arith, b) in e) after_block.1 in
     let after_lines = labels_split labels LINES_AT own tail at_lines in
     let at_past : LabelsAt labels here tail = subst (λ a. LabelsAt labels a tail) (let e : LINES_AT + size own ≡ here = omega (arith, long) in e) after_lines.1 in
-    let after_past = labels_split labels here past (last ++ (search ++ table)) at_past in
-    let after_last = labels_split labels (here + size past) last (search ++ table) after_past.1 in
-    let after_find = labels_split labels (here + size past + size last) search table after_last.1 in
+    let after_past = labels_split labels here past (search ++ table) at_past in
+    let after_find = labels_split labels (here + size past) search table after_past.1 in
     record {
       lines = t.front;
       of_lines = t.of_front;

@@ -1,12 +1,11 @@
 -- A program's code can be settled and assembled, and its size.
-use Rattle.std.proofs.Common.{◌≡◌, ℕ, ◌+◌, ◌*◌, ◌≤◌, Bool, true, false, List, [], ◌∷◌, ◌++◌, length, length-append, refl, arith}
+use Rattle.std.proofs.Common.{◌≡◌, ℕ, ◌+◌, ◌≤◌, List, [], ◌∷◌, ◌++◌, arith}
 use Rattle.tb_asm.specs.Layout.{size, labels_from}
 use Rattle.tb_lower.specs.Slots.{SlotCode}
 use Rattle.tb_syntax.specs.Source.{numbers, Rises}
 use Rattle.tb_runtime16.specs.Addresses.{PROLOGUE_AT}
 use Rattle.tb_templates.specs.Layout.{LabelsAt}
-use Rattle.tb_templates.specs.Breaks.{all_broken, ends_away, done_behind, left_behind}
-use Rattle.tb_templates.specs.Program.{still_asking, line_code, lines_code, past_code, find_code, rows_code, table_code, block_code, program_code, AreCodable}
+use Rattle.tb_templates.specs.Program.{line_code, lines_code, past_code, find_code, rows_code, table_code, block_code, program_code, AreCodable}
 use Rattle.tb_settling.specs.Settled.{most, Suits}
 use Rattle.tb_templates.specs.Sizes.{lines_room, rest_room}
 use Rattle.tb_settling.proofs.Forms.{most_append}
@@ -23,43 +22,27 @@ block_size = omega arith
 block_most : most block_code ≡ 1011
 block_most = omega arith
 
-broken_most : (ns : List ℕ) → most (all_broken ns) ≡ 9 * length ns
-broken_most [] = refl
-broken_most (n ∷ ns) = let e = broken_most ns in omega (arith, e)
-
-done_most : (t : Bool) (ns : List ℕ) → most (done_behind t ns) + 9 * length (left_behind t ns) ≡ 9 * length ns
-done_most true ns = let e = broken_most ns in omega (arith, e)
-done_most false ns = omega arith
-
--- lines and their entries in the line table, with what is done for the STOP key in them and in those before them
-pub lines_most : (ns : List ℕ) (seed : ℕ) (asking : List ℕ) (lines : SlotCode)
-    → most (lines_code ns seed asking lines) + 9 * length (still_asking asking lines) + most (rows_code (numbers lines)) ≤ lines_room lines + 9 * length asking
-lines_most ns seed asking [] = omega arith
-lines_most ns seed asking (line ∷ lines) =
-    let all = asking ++ line.number ∷ [] in let away = ends_away line.content in
-    let done = done_behind away all in let more = lines_code ns seed (left_behind away all) lines in
-    let a = most_append (line_code ns seed line) (done ++ more) in
-    let b = most_append done more in
-    let c = list_fits ns seed line.number line.content in
-    let d = done_most away all in
-    let e = length-append asking (line.number ∷ []) in
-    let f = lines_most ns seed (left_behind away all) lines in
-    omega (arith, a, b, c, d, e, f)
+-- lines and their entries in the line table
+pub lines_most : (ns : List ℕ) (seed : ℕ) (lines : SlotCode) → most (lines_code ns seed lines) + most (rows_code (numbers lines)) ≤ lines_room lines
+lines_most ns seed [] = omega arith
+lines_most ns seed (line ∷ lines) =
+    let a = most_append (line_code ns seed line) (lines_code ns seed lines) in
+    let b = list_fits ns seed line.number line.content in
+    let c = lines_most ns seed lines in
+    omega (arith, a, b, c)
 
 -- a program, however many branches are replaced
 pub program_most : (seed : ℕ) (code : SlotCode) → most (program_code seed code) ≤ 1011 + (lines_room code + rest_room)
 program_most seed code =
     let ns = numbers code in
-    let lines = lines_code ns seed [] code in let past = past_code ns in let last = all_broken (still_asking [] code) in let search = find_code ns in let table = table_code ns in
+    let lines = lines_code ns seed code in let past = past_code ns in let search = find_code ns in let table = table_code ns in
     let a = block_most in
-    let b = most_append block_code (lines ++ (past ++ (last ++ (search ++ table)))) in
-    let c = most_append lines (past ++ (last ++ (search ++ table))) in
-    let d = most_append past (last ++ (search ++ table)) in
-    let e = most_append last (search ++ table) in
-    let f = most_append search table in
-    let g = lines_most ns seed [] code in
-    let h = broken_most (still_asking [] code) in
-    omega (arith, a, b, c, d, e, f, g, h)
+    let b = most_append block_code (lines ++ (past ++ (search ++ table))) in
+    let c = most_append lines (past ++ (search ++ table)) in
+    let d = most_append past (search ++ table) in
+    let e = most_append search table in
+    let f = lines_most ns seed code in
+    omega (arith, a, b, c, d, e, f)
 
 -- ── what settling needs ──
 -- each label of a program gives the address of its item

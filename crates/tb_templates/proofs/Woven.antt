@@ -1,23 +1,19 @@
--- The labels of a program's code: those of what is done for the STOP key rise, and so do all others between them. So
--- no label is there twice, and each gives its own address.
+-- The labels of a program's code: those that polls branch to rise, and so do all others between them. So no label is
+-- there twice, and each gives its own address.
 use Rattle.std.proofs.Common.{◌≡◌, ◌⊎◌, ℕ, ◌+◌, ◌<◌, ◌≤◌, Bool, true, false, List, [], ◌∷◌, ◌++◌, refl, sym, ap}
 use Rattle.std.proofs.Common.{◌∙◌, arith, inl, inr, Some, None, subst, append_assoc, cond}
 use Rattle.std.specs.Prelude.{◌||◌}
 use Rattle.std.specs.List.{list_any}
 use lib.Pointwise.{bytes_decides}
-use Rattle.tb_syntax.specs.Source.{Rises}
 use Rattle.tb_asm.specs.declared.names.Name.{Name}
 use Rattle.tb_asm.specs.Layout.{Entry, instr, label, bytes, word, size, size_of, label_at, labels_from, same_name, address_in}
 use Rattle.tb_asm.specs.Suited.{names_of, AreDistinct}
 use Rattle.tb_asm.proofs.Faults.{size_push, labels_push}
 use Rattle.tb_asm.proofs.Laws.{label_stands}
-use Rattle.tb_templates.specs.declared.labels.Target.TheVariants.{Break}
-use Rattle.tb_templates.specs.Labels.{label_of}
-use Rattle.tb_templates.specs.Breaks.{all_broken}
 use Rattle.tb_templates.specs.Layout.{LabelsAt}
-use Rattle.tb_templates.proofs.Rising.{key, key_of, base, break_base, break_key, Rising}
+use Rattle.tb_templates.proofs.Rising.{key, key_of, base, Rising}
 
--- where the numbers of lines' labels begin; those of what is done for the STOP key lie below
+-- where the numbers of lines' labels begin; those that polls branch to lie below
 abbrev pub lowest : ℕ
 lowest = base 0 0
 
@@ -45,18 +41,6 @@ rising_woven low middle breaks (instr n m o ∷ xs) ys l h k = rising_woven low 
 rising_woven low middle breaks (label n ∷ xs) ys l h k = inl (omega (arith, l, h.0), h.0, rising_woven (key_of n + 1) middle breaks xs ys (omega (arith, l, h.0)) h.1 k)
 rising_woven low middle breaks (bytes bs ∷ xs) ys l h k = rising_woven low middle breaks xs ys l h k
 rising_woven low middle breaks (word o ∷ xs) ys l h k = rising_woven low middle breaks xs ys l h k
-
--- what is done for the STOP key in lines before others
-pub broken_woven : (low from : ℕ) (ns ms : List ℕ) (ys : List Entry) → Rises from 65536 (ns ++ ms)
-    → ((to : ℕ) → Rises to 65536 ms → Woven low (break_base to) ys) → Woven low (break_base from) (all_broken ns ++ ys)
-broken_woven low from [] ms ys r f = f from r
-broken_woven low from (n ∷ ns) ms ys r f =
-    let k = break_key n r.1 in let least = r.0 in let small = r.1 in
-    inr (
-      omega (arith, k, small),
-      omega (arith, k, least),
-      woven_lower low low (key_of (label_of (Break n)) + 1) (break_base (n + 1)) (all_broken ns ++ ys) (omega arith) (omega (arith, k)) (broken_woven low (n + 1) ns ms ys r.2 f),
-    )
 
 -- ── labels before and after ──
 -- a number that no label has from these two on, and one that no label has below them

@@ -16,34 +16,27 @@ use Rattle.tb_templates.specs.declared.labels.Target.TheVariants.{Line, Past, Fi
 use Rattle.tb_templates.specs.Labels.{label_of}
 use Rattle.tb_templates.specs.Templates.{at, here, constant, address, faulted, next_line}
 use Rattle.tb_templates.specs.GroupTemplates.{group_template}
-use Rattle.tb_templates.specs.Breaks.{polled, all_broken, ends_away, done_behind, left_behind}
+use Rattle.tb_templates.specs.Breaks.{some_leaves, polled, behind}
 
 -- the groups of a line from group i on, one after another
 abbrev pub rest_code : List ℕ → ℕ → ℕ → ℕ → List Group → List Entry
 rest_code ns seed n i [] = []
 rest_code ns seed n i (g ∷ gs) = group_template ns seed n i g ++ rest_code ns seed n (i + 1) gs
 
--- a line's list: it takes an answer and then does its groups
+-- a line's list: it takes an answer and then does its groups, with what is done for the STOP key before or behind them
 abbrev pub list_code : List ℕ → ℕ → ℕ → List Instr → List Entry
-list_code ns seed n (Poll ∷ is) = polled n ++ rest_code ns seed n 1 (select is)
+list_code ns seed n (Poll ∷ is) =
+    let away = some_leaves (select is) in polled away n ++ (rest_code ns seed n 1 (select is) ++ behind away n)
 list_code ns seed n is = rest_code ns seed n 1 (select is)
 
 -- a line at its label; after its list it falls into what follows it
 abbrev pub line_code : List ℕ → ℕ → Numbered (List Instr) → List Entry
 line_code ns seed line = here (Line line.number) ∷ list_code ns seed line.number line.content
 
--- the code of lines, one after another, if the lines with these numbers before them ask for the STOP key: what is
--- done for it in them comes after the first line that ends away
-abbrev pub lines_code : List ℕ → ℕ → List ℕ → SlotCode → List Entry
-lines_code ns seed asking [] = []
-lines_code ns seed asking (line ∷ lines) =
-    let all = asking ++ line.number ∷ [] in let away = ends_away line.content in
-    line_code ns seed line ++ (done_behind away all ++ lines_code ns seed (left_behind away all) lines)
-
--- the lines after which none ends away
-abbrev pub still_asking : List ℕ → SlotCode → List ℕ
-still_asking asking [] = asking
-still_asking asking (line ∷ lines) = still_asking (left_behind (ends_away line.content) (asking ++ line.number ∷ [])) lines
+-- the code of lines, one after another
+abbrev pub lines_code : List ℕ → ℕ → SlotCode → List Entry
+lines_code ns seed [] = []
+lines_code ns seed (line ∷ lines) = line_code ns seed line ++ lines_code ns seed lines
 
 -- fault 7, at the highest line: the last line falls into it
 abbrev pub past_code : List ℕ → List Entry
@@ -70,12 +63,11 @@ table_code ns = here Table ∷ rows_code ns
 abbrev pub block_code : List Entry
 block_code = bytes block_bytes ∷ bytes (replicate (LINES_AT - PROLOGUE_AT - length block_bytes) 0) ∷ []
 
--- a program: the block, the lines in order, and what belongs to none of them, with what is done for the STOP key in the
--- last lines
+-- a program: the block, the lines in order, and what belongs to none of them
 abbrev pub program_code : ℕ → SlotCode → List Entry
 program_code seed code =
     let ns = numbers code in
-    block_code ++ (lines_code ns seed [] code ++ (past_code ns ++ (all_broken (still_asking [] code) ++ (find_code ns ++ table_code ns))))
+    block_code ++ (lines_code ns seed code ++ (past_code ns ++ (find_code ns ++ table_code ns)))
 
 -- code whose operands are in their ranges, with lists and lines that can be counted by a word
 abbrev pub AreCodable : SlotCode → Type 0

@@ -1,4 +1,4 @@
-//! The STOP key: it is asked for at the beginning of each line, and what is done for it is out of the way.
+//! The STOP key: it is asked for at the beginning of each line, and what is done for it belongs to the line.
 ghost use Rattle.std.specs.Prelude.{◌≡◌, map};
 ghost use Rattle.tb_lower.specs.PlainData.{instr_of};
 ghost use Rattle.tb_selection.specs.PlainData.{group_of};
@@ -20,31 +20,43 @@ const STOP: u8 = 3;
 // The fault of the STOP key.
 const BREAK: u8 = 0;
 
-/// Takes an answer at the beginning of a line; if it is the STOP key's, it branches elsewhere.
-pub fn put_polled(items: &mut Vec<Item>, line: u16) -> Result<(), AllocError>
-    ensures { Puts result items.old items.new (breaks.polled line) }
+/// Takes an answer at the beginning of a line. If the line goes on, what is done for the STOP key is in line.
+pub fn put_polled(items: &mut Vec<Item>, away: bool, line: u16) -> Result<(), AllocError>
+    ensures { Puts result items.old items.new (breaks.polled away line) }
 {
     put_at(items, Mnemonic::Jsr, GETIN)?;
     put_const(items, Mnemonic::Cmp, STOP)?;
-    put_branch(items, Mnemonic::Beq, Target::Break(line))?;
+    put_branch(items, asking(away), Target::Polled(line))?;
+    put_in_line(items, away, line)?;
     Ok(())
 }
 
-/// What is done for the STOP key in these lines: a break is a fault.
-pub fn put_all_broken(items: &mut Vec<Item>, lines: &[u16]) -> Result<(), AllocError>
-    ensures { Puts result items.old items.new (breaks.all_broken lines.now) }
+// The branch after a line's poll, by whether the line ends away.
+fn asking(away: bool) -> Mnemonic
+    ensures { result ≡ breaks.asking away }
 {
-    for line in lines {
-        put_broken(items, *line)?;
+    if away { Mnemonic::Beq } else { Mnemonic::Bne }
+}
+
+// What is done for the STOP key before the groups of a line that goes on, which are at its branch's target.
+fn put_in_line(items: &mut Vec<Item>, away: bool, line: u16) -> Result<(), AllocError>
+    ensures { Puts result items.old items.new (breaks.in_line away line) }
+{
+    if !away {
+        put_faulted(items, line, BREAK)?;
+        put_here(items, Target::Polled(line))?;
     }
     Ok(())
 }
 
-fn put_broken(items: &mut Vec<Item>, line: u16) -> Result<(), AllocError>
-    ensures { Puts result items.old items.new (breaks.broken line) }
+/// What is done for the STOP key behind the groups of a line that ends away.
+pub fn put_behind(items: &mut Vec<Item>, away: bool, line: u16) -> Result<(), AllocError>
+    ensures { Puts result items.old items.new (breaks.behind away line) }
 {
-    put_here(items, Target::Break(line))?;
-    put_faulted(items, line, BREAK)?;
+    if away {
+        put_here(items, Target::Polled(line))?;
+        put_faulted(items, line, BREAK)?;
+    }
     Ok(())
 }
 

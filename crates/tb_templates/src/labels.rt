@@ -26,8 +26,8 @@ pub enum Target {
     Line(u16),
     /// An address in the code of a group: the line's number and the group's index, from 1 on.
     Inside(Inner, u16, u16),
-    /// What is done for the STOP key in the line of this number.
-    Break(u16),
+    /// Where the branch of the poll goes in the line of this number: to what is done for the STOP key, or past it.
+    Polled(u16),
     /// Fault 7, after the last line.
     Past,
     /// The search in the line table.
@@ -43,7 +43,7 @@ pub fn label(target: Target) -> Name
     match target {
         Target::Line(line) => numbered_label(b'L', line),
         Target::Inside(inner, line, group) => inner_label(inner, line, group),
-        Target::Break(line) => numbered_label(b'B', line),
+        Target::Polled(line) => numbered_label(b'B', line),
         Target::Past => word_label(b'P', b'A', b'S', b'T'),
         Target::Find => word_label(b'S', b'E', b'E', b'K'),
         Target::Table => word_label(b'T', b'R', b'O', b'W'),

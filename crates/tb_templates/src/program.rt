@@ -11,13 +11,13 @@ ghost use Rattle.tb_syntax.specs.Source.{numbers, Rises};
 ghost use Rattle.tb_meaning.specs.Control.{highest};
 ghost use Rattle.tb_lower.specs.Ranges.{AreInRange};
 ghost use Rattle.tb_lower.specs.PlainData.{instr_of, slot_line_of, code_of};
-ghost use Rattle.tb_selection.specs.Select.{select};
-ghost use Rattle.tb_templates.specs.Breaks as breaks;
+ghost use Rattle.tb_selection.specs.Groups.{expand_all};
+ghost use Rattle.tb_selection.specs.PlainData.{group_of};
 ghost use Rattle.tb_templates.specs.Program as program;
 ghost use Rattle.tb_templates.specs.Program.{AreCodable, AreInTurn, first_of, program_code};
 ghost use Rattle.tb_templates.specs.Templates as templates;
 
-use crate::breaks::{put_all_broken, put_polled, some_leaves};
+use crate::breaks::{put_behind, put_polled, some_leaves};
 use crate::groups::put_group;
 use crate::labels::{Target, label};
 use crate::pieces::{put, put_address, put_at, put_constant, put_faulted, put_here};
@@ -27,7 +27,7 @@ use tb_asm::{Item, Operand};
 use tb_lower::{SlotCode, SlotInstr, SlotLine};
 use tb_opcodes::Mnemonic;
 use tb_runtime16::{BLOCK_AT, COUNT, LINE, LINES_AT, Routine, TABLE, block, entry};
-use tb_selection::select;
+use tb_selection::{Group, select};
 
 // A rough mean of the number of items that a line has; it only affects speed.
 const ITEMS_IN_A_LINE: usize = 32;
@@ -45,9 +45,8 @@ pub fn program_items(alloc: Global, seed: u16, code: &SlotCode) -> Result<Vec<It
     let numbers = line_numbers(alloc, code.lines())?;
     let mut items = Vec::with_capacity(alloc, ITEMS_IN_A_LINE * numbers.len())?;
     put_block(&mut items)?;
-    let asking = put_lines(&mut items, &numbers, seed, code.lines())?;
+    put_lines(&mut items, &numbers, seed, code.lines())?;
     put_past(&mut items, &numbers)?;
-    put_all_broken(&mut items, &asking)?;
     put_find(&mut items, &numbers)?;
     put_table(&mut items, &numbers)?;
     Ok(items)
@@ -82,32 +81,24 @@ fn zeros(alloc: Global, count: usize) -> Result<Vec<u8>, AllocError>
     Vec::from_elem(alloc, 0u8, count)
 }
 
-// The lines in order. After one that ends away comes what is done for the STOP key in the lines up to it; the result is
-// the numbers of the lines after the last such line.
+// The lines in order.
 fn put_lines(
     items: &mut Vec<Item>,
     numbers: &[u16],
     seed: u16,
     lines: &[SlotLine],
-) -> Result<Vec<u16>, AllocError>
+) -> Result<(), AllocError>
     requires rising { Rises 0 65536 numbers.now }
     requires lists { AreCodable (code_of lines.now) }
     requires in_turn { AreInTurn numbers.now (code_of lines.now) }
-    ensures lines { Puts result items.old items.new (program.lines_code numbers.now seed [] (code_of lines.now)) }
-    ensures asking { IfOk result (λ ns. ns.items ≡ program.still_asking [] (code_of lines.now)) }
+    ensures { Puts result items.old items.new (program.lines_code numbers.now seed (code_of lines.now)) }
 {
-    let mut asking = Vec::new(*items.allocator());
     let mut rest = lines;
     while let [line, behind @ ..] = rest {
-        let ends_away = put_line(items, numbers, seed, line, first_of(behind))?;
-        asking.push(line.number)?;
-        if ends_away {
-            put_all_broken(items, &asking)?;
-            asking.clear();
-        }
+        put_line(items, numbers, seed, line, first_of(behind))?;
         rest = behind;
     }
-    Ok(asking)
+    Ok(())
 }
 
 // The label of the first of these lines, or of what follows the last line.
@@ -120,25 +111,24 @@ fn first_of(lines: &[SlotLine]) -> Target
     }
 }
 
-// A line at its label, and whether it ends away.
+// A line at its label.
 fn put_line(
     items: &mut Vec<Item>,
     numbers: &[u16],
     seed: u16,
     line: &SlotLine,
     next: Target,
-) -> Result<bool, AllocError>
+) -> Result<(), AllocError>
     requires rising { Rises 0 65536 numbers.now }
     requires lists { AreInRange 256 (map instr_of line.now.code.items) × (length line.now.code.items < 65536) }
     requires next { next ≡ templates.next_line numbers.now line.now.number }
-    ensures line { Puts result items.old items.new (program.line_code numbers.now seed (slot_line_of line.now)) }
-    ensures ends { IfOk result (λ away. away ≡ breaks.ends_away (map instr_of line.now.code.items)) }
+    ensures { Puts result items.old items.new (program.line_code numbers.now seed (slot_line_of line.now)) }
 {
     put_here(items, Target::Line(line.number))?;
     put_list(items, numbers, seed, line.number, next, &line.code)
 }
 
-// A line's list, and whether it ends away: it takes an answer and then does its groups.
+// A line's list: it takes an answer and then does its groups.
 fn put_list(
     items: &mut Vec<Item>,
     numbers: &[u16],
@@ -146,44 +136,45 @@ fn put_list(
     line: u16,
     next: Target,
     list: &[SlotInstr],
-) -> Result<bool, AllocError>
+) -> Result<(), AllocError>
     requires rising { Rises 0 65536 numbers.now }
     requires list { AreInRange 256 (map instr_of list.now) × (length list.now < 65536) }
     requires next { next ≡ templates.next_line numbers.now line }
-    ensures list { Puts result items.old items.new (program.list_code numbers.now seed line (map instr_of list.now)) }
-    ensures ends { IfOk result (λ away. away ≡ breaks.ends_away (map instr_of list.now)) }
+    ensures { Puts result items.old items.new (program.list_code numbers.now seed line (map instr_of list.now)) }
 {
+    let alloc = *items.allocator();
     match list {
         [SlotInstr::Poll, behind @ ..] => {
-            put_polled(items, line)?;
-            put_groups(items, numbers, seed, line, next, behind)
+            let groups = select(alloc, behind)?;
+            let away = some_leaves(&groups);
+            put_polled(items, away, line)?;
+            put_groups(items, numbers, seed, line, next, &groups)?;
+            put_behind(items, away, line)
         }
-        _ => put_groups(items, numbers, seed, line, next, list),
+        _ => put_groups(items, numbers, seed, line, next, &select(alloc, list)?),
     }
 }
 
-// The groups of a list, and whether one of them leaves the line in any case.
+// The groups of a line.
 fn put_groups(
     items: &mut Vec<Item>,
     numbers: &[u16],
     seed: u16,
     line: u16,
     next: Target,
-    list: &[SlotInstr],
-) -> Result<bool, AllocError>
+    groups: &[Group<'_>],
+) -> Result<(), AllocError>
     requires rising { Rises 0 65536 numbers.now }
-    requires list { AreInRange 256 (map instr_of list.now) × (length list.now < 65536) }
+    requires groups { AreInRange 256 (expand_all (map group_of groups.now)) × (length groups.now < 65536) }
     requires next { next ≡ templates.next_line numbers.now line }
-    ensures groups { Puts result items.old items.new (program.rest_code numbers.now seed line 1 (select (map instr_of list.now))) }
-    ensures leaves { IfOk result (λ away. away ≡ breaks.some_leaves (select (map instr_of list.now))) }
+    ensures { Puts result items.old items.new (program.rest_code numbers.now seed line 1 (map group_of groups.now)) }
 {
-    let groups = select(*items.allocator(), list)?;
     let mut index = 0;
-    for group in &groups {
+    for group in groups {
         index += 1;
         put_group(items, numbers, seed, Spot { line, index, next }, *group)?;
     }
-    Ok(some_leaves(&groups))
+    Ok(())
 }
 
 // Fault 7, at the highest line.

@@ -13,11 +13,11 @@ use Rattle.tb_reaching.specs.View.{Comes, Fits, View}
 use Rattle.tb_runtime16.specs.Routines.{Here, Moves, AreReturns, WordAt}
 use Rattle.tb_runtime16.specs.Addresses.{HOME_S, LEFT, LINE, NOTES, POP_AT, PUSH_AT, RESULT}
 use Rattle.tb_runtime16.proofs.StatePlaces.{not_popped, not_pushed}
-use Rattle.tb_simulation.specs.Layout.{next_at, place_address}
+use Rattle.tb_simulation.specs.Layout.{place_address}
 use Rattle.tb_simulation.proofs.Frames.{state_popped, state_pushed, word_away, word_put}
 use Rattle.tb_simulation.proofs.Mirrors.{Flagged, return_addresses}
 use Rattle.tb_simulation.proofs.Pieces.{calls, jumps, jumps_through, points, put_word, sets}
-use Rattle.tb_simulation.proofs.Resolved.{Lies, highest_code}
+use Rattle.tb_simulation.proofs.Resolved.{Lies, highest_code, next_at}
 use Rattle.tb_simulation.proofs.Returning.{back_here, apart, behind_call, homed_kept}
 use Rattle.tb_selection.specs.Groups.{Single}
 use Rattle.tb_selection.specs.Liveness.{live}

@@ -11,11 +11,11 @@ use Rattle.tb_reaching.specs.View.{Comes, Fits, View}
 use Rattle.tb_runtime16.specs.Routines.{Here, Moves, WordAt}
 use Rattle.tb_runtime16.specs.Addresses.{COUNT, HOME_S, LEFT, LINE, NOTES, PUSH_AT, RESULT, SEARCH_AT, TABLE, WANTED}
 use Rattle.tb_runtime16.proofs.StatePlaces.{not_pushed, not_searched}
-use Rattle.tb_simulation.specs.Layout.{next_at, place_address}
+use Rattle.tb_simulation.specs.Layout.{place_address}
 use Rattle.tb_simulation.proofs.Frames.{state_pushed, word_away, word_kept, word_put}
 use Rattle.tb_simulation.proofs.Mirrors.{return_addresses}
 use Rattle.tb_simulation.proofs.Pieces.{calls, jumps, jumps_through, points, put_word, sets}
-use Rattle.tb_simulation.proofs.Resolved.{Code, Lies, Piece, call, jump_through, pointed, size}
+use Rattle.tb_simulation.proofs.Resolved.{Code, Lies, Piece, call, jump_through, pointed, size, next_at}
 use Rattle.tb_simulation.proofs.Returning.{back_here, behind_call, homed_kept}
 use Rattle.tb_selection.specs.declared.liveness.Live.{Live}
 use Rattle.tb_selection.specs.Groups.{AsLine, AsSubroutine, Operand, Usage, Use, use_of}

@@ -27,9 +27,9 @@ use Rattle.tb_selection.specs.Select.{select, attach}
 use Rattle.tb_selection.specs.GroupSteps.{steps, first, ahead, or_empty, first_group}
 use Rattle.tb_selection.specs.Laws.{AreClosed}
 use Rattle.tb_correctness.proofs.Pieces.Sources.{Fixed, compares_byte}
-use Rattle.tb_correctness.proofs.Pieces.Branches.{branch_behind, branches}
+use Rattle.tb_correctness.proofs.Pieces.Branches.{branch_behind, branches, is_taken}
 use Rattle.tb_correctness.proofs.Alone.Faults.{faults_at}
-use Rattle.tb_correctness.proofs.CodeBytes.GroupCode.{BranchReaches, GroupsLaid, GroupsLie, LineStands, Way, Zero, way_size}
+use Rattle.tb_correctness.proofs.CodeBytes.GroupCode.{BranchReaches, GroupsLaid, GroupsLie, LineStands, Way, Zero, broken_code, way_size}
 use Rattle.tb_correctness.proofs.Relation.Matching.{HoldsLive, Matches, Target}
 use Rattle.tb_correctness.proofs.Slots.SlotSide.{line, next}
 use Rattle.tb_correctness.proofs.Relation.Beginnings.{nothing_read, line_step}
@@ -64,6 +64,13 @@ module _ (code : SlotCode) (n : ℕ) (is : List Instr) (s : State) (r : Slots) w
       by [] = refl
       by (a ∷ l) = decide a l (nat_eq a 3)
 
+-- a branch that is taken if STOP was pressed leads there, one that is taken if it wasn't leads past it
+leads : (away pressed : Bool) (to onward : ℕ) → cond (is_taken away pressed) to onward ≡ cond pressed (cond away to onward) (cond away onward to)
+leads true true to onward = refl
+leads true false to onward = refl
+leads false true to onward = refl
+leads false false to onward = refl
+
 module _ (around : Surroundings) (fits : Fits around.f 16) (limit : ℕ) (rs : Serves around limit) (code : SlotCode) where
   open around use {ly, f, lo, hi, keys}
 
@@ -85,8 +92,12 @@ module _ (around : Surroundings) (fits : Fits around.f 16) (limit : ℕ) (rs : S
     abbrev stop : ℕ
     stop = first_or_zero s.answers
 
+    -- whether the line ends away, and so by which answer the branch is taken
+    abbrev away : Bool
+    away = lies.0
+
     abbrev way : Way
-    way = lies.0
+    way = lies.1
 
     -- its branch, what follows it, and where it leads
     abbrev near : ℕ
@@ -95,39 +106,52 @@ module _ (around : Surroundings) (fits : Fits around.f 16) (limit : ℕ) (rs : S
     abbrev onward : ℕ
     onward = near + way_size way
 
-    abbrev away : ℕ
-    away = lies.1
+    abbrev to : ℕ
+    to = lies.2
 
-    reach : BranchReaches way near away
-    reach = subst (λ p. BranchReaches way p away) (let e : at + 5 ≡ near = omega arith in e) lies.5
+    -- what is done for the STOP key, and the groups
+    abbrev broken_at : ℕ
+    broken_at = cond away to onward
 
-    rest : GroupsLie ly f.code n onward (select is)
-    rest = subst (λ p. GroupsLie ly f.code n p (select is)) (let e : at + 5 + way_size way ≡ onward = omega arith in e) lies.7
+    abbrev groups_at : ℕ
+    groups_at = cond away onward to
+
+    reach : BranchReaches way near to
+    reach = subst (λ p. BranchReaches way p to) (let e : at + 5 ≡ near = omega arith in e) lies.6
+
+    same_onward : at + 5 + way_size way ≡ onward
+    same_onward = omega arith
+
+    broken : Lies f.code broken_at (broken_code n)
+    broken = subst (λ p. Lies f.code (cond away to p) (broken_code n)) same_onward lies.7
+
+    rest : GroupsLie ly f.code n groups_at (select is)
+    rest = subst (λ p. GroupsLie ly f.code n (cond away p to) (select is)) same_onward lies.8
 
     -- after the comparison
     compared : (z : Bool) → eqb stop 3 ≡ z → stop < 256 → Moves f (WithA (at + 3) stop own w.mem s.text (drop 1 s.answers)) (Flagged near own w.mem s.text (drop 1 s.answers) z) [] 1
     compared z e lt u g = looser f u _ _ [] 1 1 (omega arith)
         (λ v k. record { here = k.here; zero = k.zero ∙ same_byte stop 3 lt (omega arith) ∙ e })
-        (compares_byte f 16 fits (at + 3) own w.mem s.text (drop 1 s.answers) refl (Fixed 3) stop tt lies.4.0 lies.4.1.0 u g)
+        (compares_byte f 16 fits (at + 3) own w.mem s.text (drop 1 s.answers) refl (Fixed 3) stop tt lies.5.0 lies.5.1.0 u g)
 
     setting : (onward ≤ highest_code) × Lies f.code onward []
-    setting = branch_behind f near way Zero true away [] lies.4.2
+    setting = branch_behind f near way Zero away to [] lies.5.2
 
-    parts : (z : Bool) → Moves f (Flagged near own w.mem s.text (drop 1 s.answers) z) (Here (cond z away onward) own w.mem s.text (drop 1 s.answers)) [] 2
-    parts z u g = looser f u _ _ [] 2 2 (omega arith) (λ v k. k.here) (branches f 16 fits own w.mem s.text (drop 1 s.answers) refl near way Zero true
-        z away setting.0 reach lies.4.2.1 u g.here g.zero)
+    parts : (z : Bool) → Moves f (Flagged near own w.mem s.text (drop 1 s.answers) z) (Here (cond z broken_at groups_at) own w.mem s.text (drop 1 s.answers)) [] 2
+    parts z u g = looser f u _ _ [] 2 2 (omega arith) (λ v k. subst (λ p. Here p own w.mem s.text (drop 1 s.answers) v) (leads away z to onward) k.here)
+        (branches f 16 fits own w.mem s.text (drop 1 s.answers) refl near way Zero away z to setting.0 reach lies.5.2.1 u g.here g.zero)
 
     -- a break
     breaks : Moves f (Flagged near own w.mem s.text (drop 1 s.answers) true) (IsHome f) (fault_text 0 n) (2 + (4 + limit))
     breaks =
         moves_then f _ _ _ [] (fault_text 0 n) 2 (4 + limit) (parts true)
-        (faults_at around fits limit rs n 0 small (omega arith) away w.mem s.text (drop 1 s.answers) lies.6 h.homed)
+        (faults_at around fits limit rs n 0 small (omega arith) broken_at w.mem s.text (drop 1 s.answers) broken h.homed)
 
     -- no break
     goes_on : (s' : State) → s'.text ≡ s.text → drop 1 s.answers ≡ s'.answers → HoldsState ly s' w.mem → Typable keys s'.text s'.answers
         → Moves f (Flagged near own w.mem s.text (drop 1 s.answers) false) (Matches around (line code n is s' r)) [] 2
     goes_on s' et ea hs short = moves_looser f _ _ _ [] 2 2 (omega arith)
-        (stood around code n small is s' r onward w.mem s.text (drop 1 s.answers) rest hs
+        (stood around code n small is s' r groups_at w.mem s.text (drop 1 s.answers) rest hs
         (subst (λ u. HoldsLive u r w.mem) (sym (closed n (Poll ∷ is) some)) (nothing_read r w.mem h.read.all_words)) h.homed (sym et) ea short)
         (parts false)
 
@@ -169,8 +193,8 @@ module _ (around : Surroundings) (fits : Fits around.f 16) (limit : ℕ) (rs : S
           rest = 1 + (10 + limit);
           few = omega arith;
           one = looser (opened f) w _ _ [] 1 1 (omega arith)
-              (λ u g. chained f u _ _ [] (sent_in (outcome code n is s r s.answers)) 1 (10 + limit) (asks at w.mem s.text s.answers lies.2 u g) (led s.answers refl h.short.answer_bytes))
-              (calls (opened f) 16 fits at own w.mem s.text s.answers refl GETIN refl lies.2 lies.3 w (record {
+              (λ u g. chained f u _ _ [] (sent_in (outcome code n is s r s.answers)) 1 (10 + limit) (asks at w.mem s.text s.answers lies.3 u g) (led s.answers refl h.short.answer_bytes))
+              (calls (opened f) 16 fits at own w.mem s.text s.answers refl GETIN refl lies.3 lies.4 w (record {
                 pc = h.pc ∙ ap (place_address ly) here;
                 stack = h.stack;
                 binary = h.binary;

@@ -25,10 +25,10 @@ use Rattle.tb_templates.specs.declared.sources.Source.TheVariants.{AtAddress}
 use Rattle.tb_templates.specs.GroupTemplates as items
 use Rattle.tb_templates.specs.InPlace.{change_of}
 use Rattle.tb_templates.specs.Sources.{source_of, destination_at}
-use Rattle.tb_simulation.specs.Layout.{Layout, layout_of, next_at}
+use Rattle.tb_simulation.specs.Layout.{Layout, layout_of}
 use Rattle.tb_simulation.proofs.Numbers.{address_bytes, constant_bytes, faulted_bytes, high_of, jump_bytes, low_of, next_same, start_of_line}
 use Rattle.tb_simulation.proofs.Resolved as resolved
-use Rattle.tb_simulation.proofs.Resolved.{Code, highest_code}
+use Rattle.tb_simulation.proofs.Resolved.{Code, highest_code, next_at}
 use Rattle.tb_correctness.proofs.CodeBytes.ChangeBytes.{computed_emitted, remains_emitted, stepped_emitted}
 use Rattle.tb_correctness.proofs.Arithmetic.Changes.{change_is}
 use Rattle.tb_correctness.proofs.CodeBytes.GroupCode as coded

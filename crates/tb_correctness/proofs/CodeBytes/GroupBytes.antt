@@ -4,7 +4,7 @@ use Rattle.std.specs.Prelude.{if◌then◌else◌, Option, None}
 use Rattle.std.specs.List.{list_all}
 use Rattle.tb_opcodes.specs.Opcodes as opcodes
 use Rattle.tb_opcodes.specs.declared.Mnemonic.{Mnemonic}
-use Rattle.tb_opcodes.specs.declared.Mnemonic.TheVariants.{Beq, Cmp, Sbc}
+use Rattle.tb_opcodes.specs.declared.Mnemonic.TheVariants.{Cmp, Sbc}
 use Rattle.tb_opcodes.specs.declared.Mode.TheVariants.{Relative}
 use Rattle.tb_asm.specs.declared.names.Name.{Name}
 use Rattle.tb_asm.specs.declared.items.Operand.TheVariants.{Label}
@@ -39,9 +39,9 @@ use Rattle.tb_templates.specs.declared.orders.Side.TheVariants.{Below, NotBelow}
 use Rattle.tb_templates.specs.Masks.{mask}
 use Rattle.tb_templates.proofs.Divided.{left_over_plain, masking_is}
 use Rattle.tb_templates.proofs.Plain.{plain_straight}
-use Rattle.tb_simulation.specs.Layout.{Layout, layout_of, next_at}
+use Rattle.tb_simulation.specs.Layout.{Layout, layout_of}
 use Rattle.tb_simulation.proofs.Resolved as resolved
-use Rattle.tb_simulation.proofs.Resolved.{Piece, Code, highest_code}
+use Rattle.tb_simulation.proofs.Resolved.{Piece, Code, highest_code, next_at}
 use Rattle.tb_correctness.proofs.CodeBytes.GroupCode as coded
 use Rattle.tb_correctness.proofs.CodeBytes.GroupCode.{Way, Short, Zero, BranchReaches, test_code, TestReaches, group_code, BranchesReach}
 use Rattle.tb_correctness.proofs.Slots.Singles.{IsAlone}
@@ -320,11 +320,11 @@ module _ (labels : List (Name × ℕ)) (ns : List ℕ) (seed n : ℕ) (seed_smal
         record { first = e.0; second = e.1; emits = e.2; reach = e.3 })
 
   -- ---- the poll at a line's beginning
-  -- the forms of a poll after its call, with the label for the STOP key, emit it by the way of its branch, which reaches
-  pub record PollEmitted (at stop : ℕ) (fs : List Form) : Type 0 where
+  -- the forms of a poll after its call emit it by the way of its branch, which reaches its label
+  pub record PollEmitted (at : ℕ) (away : Bool) (to : ℕ) (fs : List Form) : Type 0 where
     pub way : Way
-    pub emits : Emits labels at fs (coded.poll_code at way stop)
-    pub reach : BranchReaches way (at + 2) stop
+    pub emits : Emits labels at fs (coded.poll_code at away way to)
+    pub reach : BranchReaches way (at + 2) to
 
   abbrev stop_asked : List Entry
   stop_asked = product.const Cmp 3 ∷ []
@@ -334,18 +334,19 @@ module _ (labels : List (Name × ℕ)) (ns : List ℕ) (seed n : ℕ) (seed_smal
   stop_asked_bytes = record { same = λ a. refl }
 
   -- the forms of a poll emit its code
-  pub poll_emitted : (at stop : ℕ) (l : Name) (fs : List Form) → address_in labels l ≡ Some stop → stop ≤ highest_code
-      → AreFormsOf (stop_asked ++ (instr Beq Relative (Label l) ∷ [])) fs → Rest labels at fs → PollEmitted at stop fs
-  poll_emitted at stop l fs there top h r =
-      let c1 = cut stop_asked (instr Beq Relative (Label l) ∷ []) fs refl h in
-      let b1 = cut_branch Beq l [] c1.rest c1.of in
-      let is : fs ≡ map kept stop_asked ++ (formed b1.way Beq l ∷ []) =
-      c1.is ∙ ap (λ t. map kept stop_asked ++ t) (b1.is ∙ ap (λ t. formed b1.way Beq l ∷ t) (no_more b1.rest b1.of)) in
+  pub poll_emitted : (at : ℕ) (away : Bool) (to : ℕ) (l : Name) (fs : List Form) → address_in labels l ≡ Some to → to ≤ highest_code
+      → AreFormsOf (stop_asked ++ (instr (branch_by Zero away) Relative (Label l) ∷ [])) fs → Rest labels at fs → PollEmitted at away to fs
+  poll_emitted at away to l fs there top h r =
+      let m = branch_by Zero away in
+      let c1 = cut stop_asked (instr m Relative (Label l) ∷ []) fs refl h in
+      let b1 = cut_branch m l [] c1.rest c1.of in
+      let is : fs ≡ map kept stop_asked ++ (formed b1.way m l ∷ []) =
+      c1.is ∙ ap (λ t. map kept stop_asked ++ t) (b1.is ∙ ap (λ t. formed b1.way m l ∷ t) (no_more b1.rest b1.of)) in
       let r1 = behind_straight labels at stop_asked (ins 0xC9 3 ∷ []) _ stop_asked_bytes (subst (Rest labels at) is r) in
-      subst (PollEmitted at stop) (sym is)
+      subst (PollEmitted at away to) (sym is)
       (record {
         way = b1.way;
-        emits = block labels stop_asked (ins 0xC9 3 ∷ []) (stop_asked_bytes.same at) (branches labels b1.way Zero true l (let q = r1.below in
-            omega (arith, q)) (value_of labels l stop there) (ends labels));
-        reach = gets_there labels (at + 2) stop b1.way Beq l _ there top r1;
+        emits = block labels stop_asked (ins 0xC9 3 ∷ []) (stop_asked_bytes.same at) (branches labels b1.way Zero away l (let q = r1.below in
+            omega (arith, q)) (value_of labels l to there) (ends labels));
+        reach = gets_there labels (at + 2) to b1.way m l _ there top r1;
       })

@@ -1,5 +1,5 @@
 -- The code of groups as instructions at their addresses.
-use Rattle.std.specs.Prelude.{◌≡◌, ℕ, zero, suc, ◌+◌, ◌/◌, ◌%◌, ◌≤◌, ◌<◌, List, [], ◌∷◌, ◌++◌, length, Bool, true}
+use Rattle.std.specs.Prelude.{◌≡◌, ℕ, zero, suc, ◌+◌, ◌/◌, ◌%◌, ◌≤◌, ◌<◌, List, [], ◌∷◌, ◌++◌, length, Bool, cond, true}
 use Rattle.std.specs.Prelude.{false, not, if◌then◌else◌, bit_xor, nat_eq, nat_lt, Option, Some, None}
 use Rattle.tb_asm.specs.Layout.{distance, is_near}
 use Rattle.tb_syntax.specs.Source.{numbers}
@@ -30,8 +30,9 @@ use Rattle.tb_templates.specs.InPlace.{change_of}
 use Rattle.tb_templates.specs.Masks.{mask}
 use Rattle.tb_templates.specs.Templates.{var_at}
 use Rattle.tb_templates.specs.Sources.{source_of, tested_source, home_at, destination_at}
-use Rattle.tb_simulation.specs.Layout.{Layout, next_at, place_address}
+use Rattle.tb_simulation.specs.Layout.{Layout, place_address}
 use Rattle.tb_simulation.proofs.Resolved.{Piece, Code, Lies, pieces_size, size, sta_at, copied, constant, pointed, call, faulting, jump, jump_through, template, highest_code, find_code, past_code}
+use Rattle.tb_simulation.proofs.Resolved.{next_at}
 use Rattle.tb_selection.specs.Groups.{Conversion, Negated, Drawn, Usage, AsNumber, AsLine, AsSubroutine, Constant, Variable, Divisibility, Divisible}
 use Rattle.tb_selection.specs.Groups.{Indivisible, Group, Calculate, Stepped, Convert, Move, Use, Test, TestGo, Divides, Remains, Single, contrary, denied}
 use Rattle.tb_selection.specs.Groups.{slot_of, expand_all}
@@ -600,19 +601,21 @@ GroupsLie ly code n at (g ∷ gs) =
     × Behind g (GroupsLie ly code n (at + pieces_size (group_code ly n at first second g)) gs) × BranchesReach ly n at first second g × (0x0800 ≤ at)
 
 -- ---- lines
--- after the call of GETIN, at an address: the STOP key leads elsewhere
-abbrev pub poll_code : (at : ℕ) → Way → ℕ → List Piece
-poll_code at way stop = Code (ins 0xC9 3 ∷ []) ∷ Code (branch_code way (branch_on Zero true) (at + 2) stop) ∷ []
+-- after the call of GETIN, at an address: a branch if STOP was pressed, or, in a line that goes on, if it wasn't
+abbrev pub poll_code : (at : ℕ) → (away : Bool) → Way → ℕ → List Piece
+poll_code at away way to = Code (ins 0xC9 3 ∷ []) ∷ Code (branch_code way (branch_on Zero away) (at + 2) to) ∷ []
 
 -- what is done for the STOP key in line n
 abbrev pub broken_code : ℕ → List Piece
 broken_code n = Code (faulting n 0) ∷ []
 
--- a line whose list begins with a poll; its first instruction is among all the program's bytes only
+-- a line whose list begins with a poll; its first instruction is among all the program's bytes only; what is done for the
+-- STOP key and the line's groups are where the branch goes and behind it, or the other way round
 abbrev pub LineStands : Layout → (code whole : Part) (n at : ℕ) → List slots.Instr → Type 0
 LineStands ly code whole n at is =
-    (way : Way) × (stop : ℕ) × (at + 3 ≤ highest_code) × Stands whole at (call GETIN) × Lies code (at + 3) (poll_code (at + 3) way stop)
-    × BranchReaches way (at + 5) stop × Lies code stop (broken_code n) × GroupsLie ly code n (at + 5 + way_size way) (select is)
+    (away : Bool) × (way : Way) × (to : ℕ) × (at + 3 ≤ highest_code) × Stands whole at (call GETIN) × Lies code (at + 3) (poll_code (at + 3) away way to)
+    × BranchReaches way (at + 5) to × Lies code (cond away to (at + 5 + way_size way)) (broken_code n)
+    × GroupsLie ly code n (cond away (at + 5 + way_size way) to) (select is)
 
 -- a list that begins with a poll, with the code of the rest after it
 pub record PolledLine (ly : Layout) (code whole : Part) (n : ℕ) (js : List slots.Instr) : Type 0 where

@@ -17,11 +17,11 @@ use Rattle.tb_templates.specs.Labels.{label_of}
 use Rattle.tb_templates.specs.Layout.{LabelsAt}
 use Rattle.tb_templates.specs.Templates as product
 use Rattle.tb_templates.specs.Templates.{var_at, slot_at}
-use Rattle.tb_simulation.specs.Layout.{Layout, label_address, layout_of, next_at}
+use Rattle.tb_simulation.specs.Layout.{Layout, label_address, layout_of}
 use Rattle.tb_simulation.proofs.Numbers.{low_of, high_of, start_of_line, constant_bytes, copied_bytes, faulted_bytes, jump_bytes}
 use Rattle.std.proofs.lemmas.List.{append-nil}
 use Rattle.tb_reaching.proofs.Instr.{flat}
-use Rattle.tb_simulation.proofs.Resolved.{Piece, copied, template, jump_to}
+use Rattle.tb_simulation.proofs.Resolved.{Piece, copied, template, jump_to, next_at}
 use Rattle.tb_correctness.proofs.CodeBytes.GroupCode.{has_branches}
 use Rattle.tb_selection.specs.Groups.{Group, Calculate, Single}
 use Rattle.tb_selection.specs.Select.{alone}

@@ -19,7 +19,6 @@ use Rattle.tb_runtime16.specs.Block.{block_bytes}
 use Rattle.tb_settling.proofs.Forms.{size_append}
 use Rattle.tb_templates.specs.declared.labels.Target.TheVariants as target
 use Rattle.tb_templates.specs.Templates as product
-use Rattle.tb_templates.specs.Breaks.{broken}
 use Rattle.tb_templates.specs.Program as program
 use Rattle.tb_templates.proofs.Reached.{labels_split}
 use Rattle.tb_simulation.specs.Layout.{Layout, Lies, label_address, layout_of, place_address, is_start, inner}
@@ -29,7 +28,6 @@ use Rattle.tb_simulation.proofs.Emitted.{pieces_bytes, pieces_length, behind, li
 use Rattle.tb_simulation.proofs.LineStarts.{has_content}
 use Rattle.tb_simulation.proofs.Numbers.{joined, constant_bytes, faulted_bytes, address_bytes, start_of_line}
 use Rattle.tb_correctness.specs.Laid.{IsClear, LineLies, Laid}
-use Rattle.tb_correctness.proofs.CodeBytes.GroupCode.{broken_code}
 
 -- ---- one list of items after another
 module _ (code : Part) (labels : List (Name × ℕ)) where
@@ -175,13 +173,6 @@ module _ (labels : List (Name × ℕ)) (seed : ℕ) (code : Part) (sc : slots.Sl
       let at = label_address labels target.Past in
       (pieces at (program.past_code ns) (resolved.past_code laid_layout) (inside at (program.past_code ns) laid.past laid.past_clear)
       (faulted_bytes labels ns seed at (highest ns) 7 (top_small sc (λ n e. (line_of n e).1.small)) (omega arith))).1
-
-  -- what is done for the STOP key in a line
-  pub broken_lies : (n : ℕ) → n < 65536 → has_line ns n ≡ true → resolved.Lies within (label_address labels (target.Break n)) (broken_code n)
-  unfolding opcodes.encoded
-  broken_lies n small has =
-      let at = label_address labels (target.Break n) in
-      (pieces at (broken n) (broken_code n) (inside at (broken n) (laid.breaks n has) (laid.breaks_clear n has)) (faulted_bytes labels ns seed at n 0 small (omega arith))).1
 
   -- the line table's address is a word
   pub table_small : label_address labels target.Table < 65536

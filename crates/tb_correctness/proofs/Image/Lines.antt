@@ -1,9 +1,10 @@
 -- The settled code of lines is laid out as the laws of the groups want it.
 use Rattle.std.proofs.Common.{◌≡◌, ℕ, ◌+◌, ◌≤◌, ◌<◌, Bool, true, false, List, [], ◌∷◌, ◌++◌, length, refl, sym, ap, ◌∙◌}
-use Rattle.std.proofs.Common.{subst, inl, inr, ⊎_elim, arith, Option, Some, None}
+use Rattle.std.proofs.Common.{append-nil, cond, subst, inl, inr, ⊎_elim, arith, true≢false, Option, Some, None}
 use Rattle.std.specs.Prelude.{if◌then◌else◌, not, ◌||◌, nat_eq, unwrap_or}
 use Rattle.tb_opcodes.specs.Opcodes as opcodes
-use Rattle.tb_opcodes.specs.declared.Mnemonic.TheVariants.{Beq, Cmp, Jsr}
+use Rattle.tb_opcodes.specs.declared.Mnemonic.{Mnemonic}
+use Rattle.tb_opcodes.specs.declared.Mnemonic.TheVariants.{Cmp, Jsr}
 use Rattle.tb_asm.specs.declared.names.Name.{Name}
 use Rattle.tb_asm.specs.Layout.{Entry, address_in, bytes_from, size}
 use Rattle.tb_asm.specs.Settle.{Form, items_from}
@@ -27,28 +28,30 @@ use Rattle.tb_templates.specs.Labels.{label_of}
 use Rattle.tb_templates.specs.Templates as product
 use Rattle.tb_templates.specs.Templates.{next_line, target_of}
 use Rattle.tb_templates.specs.GroupTemplates.{group_template}
-use Rattle.tb_templates.specs.Breaks.{leaves, some_leaves}
+use Rattle.tb_templates.specs.Breaks.{asking, in_line, leaves, some_leaves}
+use Rattle.tb_templates.specs.Breaks.{behind as behind_groups}
+use Rattle.tb_templates.specs.Layout.{LabelsAt}
 use Rattle.tb_templates.specs.Program.{rest_code}
 use Rattle.tb_templates.proofs.Settled.{line_at, straight_items}
-use Rattle.tb_simulation.specs.Layout.{Layout, label_address, place_address, layout_of, next_at, inner}
-use Rattle.tb_simulation.proofs.Numbers.{next_has, next_same, start_of_line}
-use Rattle.tb_simulation.proofs.Resolved.{call, pieces_size, highest_code}
+use Rattle.tb_simulation.specs.Layout.{Layout, label_address, place_address, layout_of, inner}
+use Rattle.tb_simulation.proofs.Numbers.{faulted_bytes, next_has, next_same, start_of_line}
+use Rattle.tb_simulation.proofs.Resolved.{Lies, call, pieces_size, highest_code, next_at}
 use Rattle.tb_simulation.proofs.Emitted.{behind, lies}
 use Rattle.tb_correctness.specs.Laid.{ArePolled, LineLies, Laid}
-use Rattle.tb_correctness.proofs.CodeBytes.GroupCode.{GroupsLie, GroupsLaid, LineStands, OnlyIf, Way, BranchReaches, group_code, poll_code, way_size, Zero}
+use Rattle.tb_correctness.proofs.CodeBytes.GroupCode.{GroupsLie, GroupsLaid, LineStands, OnlyIf, Way, BranchReaches, broken_code, group_code, poll_code, way_size, Zero}
 use Rattle.tb_correctness.proofs.Pieces.Branches.{branch_size}
 use Rattle.tb_correctness.proofs.Slots.SlotsRead.{range_split}
-use Rattle.tb_correctness.proofs.CodeBytes.Emits.{bytes_behind, emitted_size}
+use Rattle.tb_correctness.proofs.CodeBytes.Emits.{branch_by, bytes_behind, emitted_size}
 use Rattle.tb_correctness.proofs.CodeBytes.CallBytes.{each_emitted}
 use Rattle.tb_correctness.proofs.CodeBytes.ItemBytes.{Rest, rest_before, rest_behind}
 use Rattle.tb_correctness.proofs.CodeBytes.GroupBytes.{poll_emitted}
-use Rattle.tb_correctness.proofs.Image.Laying.{inner_bytes, line_of, none_between, start_small, place_small, within_small, broken_lies, past_lies, find_lies}
+use Rattle.tb_correctness.proofs.Image.Laying.{inner_bytes, line_of, none_between, start_small, place_small, within_small, past_lies, find_lies}
 use Rattle.tb_correctness.proofs.Image.Laying.{top_small, table_small, content_has, content_none}
 use Rattle.tb_correctness.proofs.Slots.Singles.{AreAlone, all_alone}
 
 -- the poll's code after the call of GETIN
-poll_size : (at : ℕ) (way : Way) (stop : ℕ) → pieces_size (poll_code at way stop) ≡ 2 + way_size way
-poll_size at way stop = let b = branch_size way Zero true (at + 2) stop in omega (arith, b)
+poll_size : (at : ℕ) (away : Bool) (way : Way) (to : ℕ) → pieces_size (poll_code at away way to) ≡ 2 + way_size way
+poll_size at away way to = let b = branch_size way Zero away (at + 2) to in omega (arith, b)
 
 module _ (labels : List (Name × ℕ)) (seed : ℕ) (code : Part) (sc : slots.SlotCode) (laid : Laid labels seed code sc) where
   abbrev ns : List ℕ
@@ -138,25 +141,86 @@ module _ (labels : List (Name × ℕ)) (seed : ℕ) (code : Part) (sc : slots.Sl
           low,
         )
 
-    -- ---- a whole line
-    abbrev stop : Name
-    stop = label_of (target.Break n)
+    -- ---- what follows a poll's branch
+    -- what is done for the STOP key lies where it has its bytes
+    broken_lies : (at : ℕ) → at + 9 ≤ highest_code → Bytes within at (bytes_from labels at (product.faulted n 0)) → Lies within at (broken_code n)
+    unfolding opcodes.encoded
+    broken_lies at below b = lies within (within_small labels seed code sc laid) at (broken_code n) below (subst (Bytes within at) (faulted_bytes labels ns seed at n 0 small (omega arith)) b)
 
+    abbrev stop : ℕ
+    stop = label_address labels (target.Polled n)
+
+    abbrev onward : Bool → List Group → List Entry
+    onward away gs = in_line away n ++ (rest_code ns seed n 1 gs ++ behind_groups away n)
+
+    -- if that is at an address, what is done for the STOP key and the groups are there and at the branch's label
+    record OnwardLies (at : ℕ) (away : Bool) (gs : List Group) : Type 0 where
+      there : address_in labels (label_of (target.Polled n)) ≡ Some stop
+      below : stop ≤ highest_code
+      broken : Lies within (cond away stop at) (broken_code n)
+      groups : GroupsLie ly within n (cond away at stop) gs
+
+    onward_lies : (at : ℕ) (away : Bool) (gs : List Group) (fs : List Form) → some_leaves gs ≡ away → 0x0800 ≤ at → AreInRange 256 (expand_all gs) → AreAlone gs
+        → AreFormsOf (onward away gs) fs → Rest labels at fs → Bytes within at (bytes_from labels at (items_from at fs)) → at + forms_size fs ≡ next_at ly n → OnwardLies at away gs
+    unfolding opcodes.encoded
+    onward_lies at true gs fs leaves low ranged alone of r b ends =
+        let s = split (rest_code ns seed n 1 gs) (behind_groups true n) fs of in
+        let to = at + forms_size s.front in
+        let last : items_from to s.back ≡ behind_groups true n = straight_items to (behind_groups true n) s.back refl s.of_back in
+        let nine : forms_size s.back ≡ 9 = (let q = items_size to s.back in let z = ap size last in omega (arith, q, z)) in
+        let all = subst (Rest labels at) s.are r in
+        let rest = rest_behind labels at to s.front s.back refl all in
+        let label = (subst (LabelsAt labels to) last rest.labels_at).0 in
+        let here : stop ≡ to = ap (λ o. unwrap_or o 0) label in
+        let bs = part_bytes within at s.front s.back (let q = all.below in q) (subst (λ k. Bytes within at (bytes_from labels at (items_from at k))) s.are b) in
+        record {
+          there = stands (target.Polled n) to label;
+          below = (let q = rest.below in omega (arith, here, q));
+          broken = subst (λ p. Lies within p (broken_code n)) (sym here) (broken_lies to (let q = rest.below in omega (arith, q, nine))
+              (subst (λ es. Bytes within to (bytes_from labels to es)) last bs.1));
+          groups = rest_lies 1 at gs s.front low ranged alone s.of_front (rest_before labels at s.front s.back all) bs.0 (λ none. absurd (true≢false (sym leaves ∙ none)));
+        }
+    onward_lies at false gs fs leaves low ranged alone of r b ends =
+        let code = rest_code ns seed n 1 gs in
+        let s = split (in_line false n) (code ++ []) fs of in
+        let to = at + forms_size s.front in
+        let first : items_from at s.front ≡ in_line false n = straight_items at (in_line false n) s.front refl s.of_front in
+        let nine : forms_size s.front ≡ 9 = (let q = items_size at s.front in let z = ap size first in omega (arith, q, z)) in
+        let all = subst (Rest labels at) s.are r in
+        let front = rest_before labels at s.front s.back all in
+        let rest = rest_behind labels at to s.front s.back refl all in
+        let label = (subst (LabelsAt labels at) first front.labels_at).1.1.1.1.0 in
+        let here : stop ≡ to = ap (λ o. unwrap_or o 0) label ∙ (let q : at + 2 + 2 + 2 + 3 ≡ to = omega (arith, nine) in q) in
+        let bs = part_bytes within at s.front s.back (let q = all.below in q) (subst (λ k. Bytes within at (bytes_from labels at (items_from at k))) s.are b) in
+        record {
+          there = stands (target.Polled n) _ label;
+          below = (let q = rest.below in omega (arith, here, q));
+          broken = broken_lies at (let q = front.below in omega (arith, q, nine)) (subst (λ es. Bytes within at (bytes_from labels at es)) first bs.0);
+          groups = subst (λ p. GroupsLie ly within n p gs) (sym here) (rest_lies 1 to gs s.back (omega (arith, low)) ranged alone
+              (subst (λ es. AreFormsOf es s.back) (append-nil code) s.of_back) rest bs.1
+              (λ none. let z = ap forms_size s.are in let q = forms_append s.front s.back in omega (arith, ends, z, q)));
+        }
+
+    -- ---- a whole line
     -- its label and the call of GETIN, and what follows the call
     abbrev asks : List Entry
     asks = product.here (target.Line n) ∷ product.at Jsr GETIN ∷ []
 
-    abbrev answered : List Entry
-    answered = product.const Cmp 3 ∷ product.branch Beq (target.Break n) ∷ []
+    abbrev answered : Mnemonic → List Entry
+    answered m = product.const Cmp 3 ∷ product.branch m (target.Polled n) ∷ []
 
-    line_lies : (rest : List slots.Instr) → has_line ns n ≡ true → LineLies labels code ns seed n (slots.Poll ∷ rest)
-        → LineStands ly within code n (label_address labels (target.Line n)) rest
+    same_branch : (away : Bool) → asking away ≡ branch_by Zero away
+    same_branch true = refl
+    same_branch false = refl
+
+    line_lies : (rest : List slots.Instr) → LineLies labels code ns seed n (slots.Poll ∷ rest) → LineStands ly within code n (label_address labels (target.Line n)) rest
     unfolding opcodes.encoded
-    line_lies rest has l =
+    line_lies rest l =
         let at = label_address labels (target.Line n) in
         let gs = select rest in
-        let s = split asks (answered ++ rest_code ns seed n 1 gs) l.forms l.of in
-        let t = split answered (rest_code ns seed n 1 gs) s.back s.of_back in
+        let away = some_leaves gs in
+        let s = split asks (answered (asking away) ++ onward away gs) l.forms l.of in
+        let t = split (answered (asking away)) (onward away gs) s.back s.of_back in
         let whole : l.forms ≡ s.front ++ (t.front ++ t.back) = s.are ∙ ap (λ k. s.front ++ k) t.are in
         let head : items_from at s.front ≡ asks = straight_items at asks s.front refl s.of_front in
         let three : forms_size s.front ≡ 3 = (let a = items_size at s.front in let b = ap size head in omega (arith, a, b)) in
@@ -176,27 +240,27 @@ module _ (labels : List (Name × ℕ)) (seed : ℕ) (code : Part) (sc : slots.Sl
         (λ a lo hi. none_between labels seed code sc laid (at + 3) (at + size (items_from at l.forms)) (λ m e. ⊎_elim (λ q. inl (omega (arith, q)))
         (λ q. inr q) (l.clear m e)) a lo (later_inside at s.front t.front t.back l.forms three total long a hi)) later in
         let poll_rest = rest_before labels (at + 3) t.front t.back behind_call in
-        let broken = laid.breaks n has in
-        let to = label_address labels (target.Break n) in
-        let p = poll_emitted labels ns seed n laid.seed_small small (at + 3) to stop t.front (stands (target.Break n) _ broken.labelled.0)
-        (let b = broken.below in omega (arith, b)) t.of_front poll_rest in
-        let ps = poll_code (at + 3) p.way to in
-        let poll_long : forms_size t.front ≡ pieces_size ps = emitted_size labels p.emits in
         let behind_below = behind_call.below in
         let parts = part_bytes within (at + 3) t.front t.back behind_below inner_later in
+        let next_at_end : at + 3 + forms_size t.front + forms_size t.back ≡ next_at ly n =
+        (let q : at + 3 + forms_size t.front + forms_size t.back ≡ at + size (items_from at l.forms) = omega (arith, three, total, long) in q) ∙ l.next ∙ next_same labels ns seed n in
+        let o = onward_lies (at + 3 + forms_size t.front) away gs t.back refl (let b = l.after_block in omega (arith, b)) (subst (AreInRange 256) (sym (brackets rest)) l.ranged.1)
+        (all_alone rest) t.of_back (rest_behind labels (at + 3) (at + 3 + forms_size t.front) t.front t.back refl behind_call) parts.1 next_at_end in
+        let p = poll_emitted labels ns seed n laid.seed_small small (at + 3) away stop (label_of (target.Polled n)) t.front o.there o.below
+        (subst (λ m. AreFormsOf (answered m) t.front) (same_branch away) t.of_front) poll_rest in
+        let ps = poll_code (at + 3) away p.way stop in
+        let poll_long : forms_size t.front ≡ pieces_size ps = emitted_size labels p.emits in
         let sum = forms_append t.front t.back in
-        let groups_at : at + 3 + forms_size t.front ≡ at + 5 + way_size p.way = (let q = poll_size (at + 3) p.way to in omega (arith, poll_long, q)) in (
+        let onward_at : at + 3 + forms_size t.front ≡ at + 5 + way_size p.way = (let q = poll_size (at + 3) away p.way stop in omega (arith, poll_long, q)) in (
+          away,
           p.way,
-          to,
+          stop,
           omega (arith, below, total, three),
           stands_there code at (call GETIN) (omega (arith, below, total, three)) call_bytes,
           lies within (within_small labels seed code sc laid) (at + 3) ps (omega (arith, behind_below, sum, poll_long)) (subst (Bytes within (at + 3)) p.emits.bytes parts.0),
-          subst (λ a. BranchReaches p.way a to) (let q : at + 3 + 2 ≡ at + 5 = omega arith in q) p.reach,
-          broken_lies labels seed code sc laid n small has,
-          rest_lies 1 (at + 5 + way_size p.way) gs t.back (let b = l.after_block in omega (arith, b)) (subst (AreInRange 256) (sym (brackets rest)) l.ranged.1) (all_alone rest) t.of_back
-              (rest_behind labels (at + 3) (at + 5 + way_size p.way) t.front t.back groups_at behind_call)
-              (subst (λ a. Bytes within a (bytes_from labels a (items_from a t.back))) groups_at parts.1)
-              (λ none. line_end at l.forms s.front t.front t.back p.way three total long groups_at (l.next none) ∙ next_same labels ns seed n),
+          subst (λ a. BranchReaches p.way a stop) (let q : at + 3 + 2 ≡ at + 5 = omega arith in q) p.reach,
+          subst (λ a. Lies within (cond away stop a) (broken_code n)) onward_at o.broken,
+          subst (λ a. GroupsLie ly within n (cond away a stop) gs) onward_at o.groups,
         )
       where
         later_end : (at : ℕ) (f g h : List Form) → forms_size f ≡ 3 → forms_size l.forms ≡ forms_size f + (forms_size g + forms_size h)
@@ -208,11 +272,6 @@ module _ (labels : List (Name × ℕ)) (seed : ℕ) (code : Part) (sc : slots.Sl
             → size (items_from at fs) ≡ forms_size fs → (a : ℕ) → a < at + 3 + length (bytes_from labels (at + 3) (items_from (at + 3) (g ++ h))) → a < at + size (items_from at fs)
         later_inside at f g h fs three total long x hi = let a = all_size labels (at + 3) (items_from (at + 3) (g ++ h)) in
             let b = items_size (at + 3) (g ++ h) in let c = forms_append g h in omega (arith, a, b, c, three, total, long, hi)
-
-        line_end : (at : ℕ) (fs f g h : List Form) (way : Way) → forms_size f ≡ 3 → forms_size fs ≡ forms_size f + (forms_size g + forms_size h)
-            → size (items_from at fs) ≡ forms_size fs → at + 3 + forms_size g ≡ at + 5 + way_size way → at + size (items_from at fs)
-            ≡ label_address labels (next_line ns n) → at + 5 + way_size way + forms_size h ≡ label_address labels (next_line ns n)
-        line_end at fs f g h way three total long there next = (let q : at + 5 + way_size way + forms_size h ≡ at + size (items_from at fs) = omega (arith, three, total, long, there) in q) ∙ next
 
   -- the whole program
   polled_at : (lines : slots.SlotCode) → ArePolled lines → (n : ℕ) (is : List slots.Instr) → content_at lines n ≡ Some is → (rest : List slots.Instr) × (is ≡ slots.Poll ∷ rest)
@@ -241,7 +300,7 @@ module _ (labels : List (Name × ℕ)) (seed : ℕ) (code : Part) (sc : slots.Sl
           rest = p.0;
           polled = p.1;
           stands = subst (λ a. LineStands ly within code n a p.0) (start_of_line labels ns seed n (content_has labels seed code sc laid sc n is e))
-              (line_lies n (laid.lines n is e).small p.0 (content_has labels seed code sc laid sc n is e) l);
+              (line_lies n (laid.lines n is e).small p.0 l);
           small = (laid.lines n is e).small;
         };
     absent = λ n e. ap (λ t. if t then label_address labels (target.Line n) else label_address labels target.Past) (content_none labels seed code sc laid sc n e);

@@ -16,9 +16,8 @@ use Rattle.tb_meaning.specs.Steps.{Step, Stops, Faulted}
 use Rattle.tb_reaching.proofs.Comes.{chained, looser}
 use Rattle.tb_reaching.specs.View.{Comes, Fits, View}
 use Rattle.tb_runtime16.specs.Addresses.{LEFT, RIGHT}
-use Rattle.tb_simulation.specs.Layout.{next_at}
 use Rattle.tb_simulation.proofs.Joins.{sent_in}
-use Rattle.tb_simulation.proofs.Resolved.{Code, Lies, Piece, faulting, pieces_size}
+use Rattle.tb_simulation.proofs.Resolved.{Code, Lies, Piece, faulting, pieces_size, next_at}
 use Rattle.tb_selection.specs.declared.liveness.Live.{Live}
 use Rattle.tb_selection.specs.Groups.{Operand, Constant, Variable, InSlot, Tested, HeldBefore, HeldNow, Divisibility, Divisible, Indivisible, Side, OnLeft}
 use Rattle.tb_selection.specs.Groups.{OnRight, Divides, compared, contrary, dividing, expand, fetch, multiple, onward}

@@ -16,11 +16,10 @@ use Rattle.tb_meaning.proofs.Runs.{after_nothing}
 use Rattle.tb_reaching.proofs.Comes.{chained, looser}
 use Rattle.tb_reaching.specs.View.{Comes, Fits, Part, Setup, View}
 use Rattle.tb_runtime16.specs.Routines.{Entered, Here, Moves}
-use Rattle.tb_simulation.specs.Layout.{next_at}
 use Rattle.tb_simulation.proofs.Joins.{sent_in}
 use Rattle.tb_simulation.proofs.Mirrors.{HoldsState, Typable}
 use Rattle.tb_simulation.proofs.Pieces.{moves_looser}
-use Rattle.tb_simulation.proofs.Resolved.{Code, Lies, Piece, faulting, piece_size, pieces_size}
+use Rattle.tb_simulation.proofs.Resolved.{Code, Lies, Piece, faulting, piece_size, pieces_size, next_at}
 use Rattle.tb_selection.specs.Groups.{Operand, Tested, Test, TestGo, denied, expand}
 use Rattle.tb_selection.specs.GroupSteps.{steps}
 use Rattle.tb_selection.specs.Liveness.{live}

@@ -5,11 +5,12 @@ use Rattle.tb_meaning.specs.Control.{State, next_after}
 use Rattle.tb_lower.specs.Slots.{Whole, Slots, SlotCode}
 use Rattle.tb_reaching.specs.View.{View}
 use Rattle.tb_runtime16.specs.Routines.{Entered, Here}
-use Rattle.tb_simulation.specs.Layout.{next_at, place_address}
+use Rattle.tb_simulation.specs.Layout.{place_address}
 use Rattle.tb_simulation.proofs.Mirrors.{HoldsState, Typable}
 use Rattle.tb_selection.specs.Groups.{Tested, HeldBefore, HeldNow}
 use Rattle.tb_selection.specs.Liveness.{nothing_live}
 use Rattle.tb_templates.specs.Sources.{tested_source}
+use Rattle.tb_simulation.proofs.Resolved.{next_at}
 use Rattle.tb_correctness.proofs.Relation.Matching.{HoldsLive, Matches}
 use Rattle.tb_correctness.proofs.Slots.TestSide.{TestedFits}
 use Rattle.tb_correctness.proofs.Relation.Operands.{operand_apart}
