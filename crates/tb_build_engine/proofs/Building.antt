@@ -5,6 +5,7 @@ use Rattle.tb_streams.specs.Uses.{Use}
 use Rattle.tb_streams.specs.declared.tracked.Tracked.{Tracked}
 use Rattle.tb_meaning.specs.declared.missing.Warning.{Warning}
 use Rattle.tb_codegen.specs.Compiled.{prg_of, warnings_of}
+use Rattle.tb_codegen.specs.declared.settings.CompileSettings.{CompileSettings}
 use Rattle.tb_engines.specs.declared.outcome.End.TheVariants.{Done, StepLimit, WaitsForKey, WentWrong}
 use Rattle.tb_engines.specs.declared.outcome.Outcome.{Outcome}
 use Rattle.tb_engines.specs.declared.outcome.Outcome.TheVariants.{Ended, Refused, ReadFault, WriteFault, NoMemory}
@@ -30,28 +31,28 @@ all_left contents [] = tt
 all_left contents (file ∷ files) = (one_left contents file, all_left contents files)
 
 -- nothing is built if there is no program
-pub not_built : {W : Type 0} (contents : W → Option (List ℕ)) (seed : ℕ) (outcome : Outcome) (reader : Use) (files : List (Option (Tracked W)))
-    → ReadsSource seed (Err outcome) reader → Builds contents seed outcome [] reader.old files files
-not_built contents seed (Refused why) reader files (source, e, reads, refused, is, same) =
-    subst (λ w. Builds contents seed (Refused w) [] reader.old files files) (sym is)
+pub not_built : {W : Type 0} (contents : W → Option (List ℕ)) (settings : CompileSettings) (outcome : Outcome) (reader : Use) (files : List (Option (Tracked W)))
+    → ReadsSource settings (Err outcome) reader → Builds contents settings outcome [] reader.old files files
+not_built contents settings (Refused why) reader files (source, e, reads, refused, is, same) =
+    subst (λ w. Builds contents settings (Refused w) [] reader.old files files) (sym is)
     (record { source = source; reads = reads; refused = refused }, refl, all_left contents files)
-not_built contents seed ReadFault reader files fault = (refl, all_left contents files)
-not_built contents seed NoMemory reader files same = (refl, all_left contents files)
-not_built contents seed (Ended end) reader files none = absurd none
-not_built contents seed WriteFault reader files none = absurd none
+not_built contents settings ReadFault reader files fault = (refl, all_left contents files)
+not_built contents settings NoMemory reader files same = (refl, all_left contents files)
+not_built contents settings (Ended end) reader files none = absurd none
+not_built contents settings WriteFault reader files none = absurd none
 
 -- the same for the report, which has no warnings
-pub report_not_built : {W : Type 0} (contents : W → Option (List ℕ)) (seed : ℕ) (outcome ended : Outcome) (warnings : List Warning) (reader : Use)
-    (files : List (Option (Tracked W))) → ReadsSource seed (Err outcome) reader → ended ≡ outcome → warnings ≡ []
-    → Builds contents seed ended warnings reader.old files files
-report_not_built contents seed outcome ended warnings reader files is ends none =
-    subst (λ w. Builds contents seed ended w reader.old files files) (sym none)
-    (subst (λ o. Builds contents seed o [] reader.old files files) (sym ends) (not_built contents seed outcome reader files is))
+pub report_not_built : {W : Type 0} (contents : W → Option (List ℕ)) (settings : CompileSettings) (outcome ended : Outcome) (warnings : List Warning) (reader : Use)
+    (files : List (Option (Tracked W))) → ReadsSource settings (Err outcome) reader → ended ≡ outcome → warnings ≡ []
+    → Builds contents settings ended warnings reader.old files files
+report_not_built contents settings outcome ended warnings reader files is ends none =
+    subst (λ w. Builds contents settings ended w reader.old files files) (sym none)
+    (subst (λ o. Builds contents settings o [] reader.old files files) (sym ends) (not_built contents settings outcome reader files is))
 
-module _ {W : Type 0} (contents : W → Option (List ℕ)) (seed : ℕ) (s : CompiledSource) (reader : Use) (made : Made) (prg : List ℕ)
-    (warnings : List Warning) (is : ReadsSource seed (Ok s) reader) (tells : IsMade s.text.items s.program made)
+module _ {W : Type 0} (contents : W → Option (List ℕ)) (settings : CompileSettings) (s : CompiledSource) (reader : Use) (made : Made) (prg : List ℕ)
+    (warnings : List Warning) (is : ReadsSource settings (Ok s) reader) (tells : IsMade s.text.items s.program made)
     (file : prg ≡ prg_of s.program) (warned : warnings ≡ warnings_of s.program) where
-  texts : AreTexts seed reader.old warnings (texts_of prg made)
+  texts : AreTexts settings reader.old warnings (texts_of prg made)
   texts = record {
     source = s.text.items;
     program = s.program;
@@ -64,7 +65,7 @@ module _ {W : Type 0} (contents : W → Option (List ℕ)) (seed : ℕ) (s : Com
 
   -- what is written of a source that was read is what was built
   pub built : (outcome : Outcome) (olds news : List (Option (Tracked W))) → Writes contents (texts_of prg made) outcome olds news
-      → Builds contents seed outcome warnings reader.old olds news
+      → Builds contents settings outcome warnings reader.old olds news
   built (Ended Done) olds news w = (texts_of prg made, texts, w)
   built (Ended StepLimit) olds news none = absurd none
   built (Ended WaitsForKey) olds news none = absurd none

@@ -7,6 +7,7 @@ use Rattle.tb_meaning.specs.declared.missing.Warning.{Warning}
 use Rattle.tb_compile_errors.specs.declared.refusals.CompileError.{CompileError}
 use Rattle.tb_codegen.specs.Compiled.{prg_of, warnings_of}
 use Rattle.tb_codegen.specs.declared.compiled.Compiled.{Compiled}
+use Rattle.tb_codegen.specs.declared.settings.CompileSettings.{CompileSettings}
 use Rattle.tb_engines.specs.declared.outcome.End.TheVariants.{Done}
 use Rattle.tb_engines.specs.declared.outcome.Outcome.{Outcome}
 use Rattle.tb_engines.specs.declared.outcome.Outcome.TheVariants.{Ended, Refused, ReadFault, WriteFault, NoMemory}
@@ -18,26 +19,26 @@ use Rattle.tb_listing.specs.declared.build.Made.{Made}
 use Rattle.tb_build_engine.specs.Files.{AllWhole, AreLeft, BreaksOff, texts_of}
 
 -- what is made of a source before anything is written: its program, whose file keeps it, and the texts that tell of it
-pub record IsBuilt (seed : ℕ) (source : List ℕ) (program : Compiled) (made : Made) : Type 0 where
-  pub compiled : Compiles seed source (Ok program)
-  pub keeps : KeepsSource seed source (prg_of program)
+pub record IsBuilt (settings : CompileSettings) (source : List ℕ) (program : Compiled) (made : Made) : Type 0 where
+  pub compiled : Compiles settings source (Ok program)
+  pub keeps : KeepsSource settings.seed source (prg_of program)
   pub tells : IsMade source program made
 
 -- these texts are those of all that a reader had, with the program's warnings
-pub record AreTexts (seed : ℕ) (had : Option (List ℕ)) (warnings : List Warning) (texts : List (List ℕ)) : Type 0 where
+pub record AreTexts (settings : CompileSettings) (had : Option (List ℕ)) (warnings : List Warning) (texts : List (List ℕ)) : Type 0 where
   pub source : List ℕ
   pub program : Compiled
   pub made : Made
   pub reads : Reads had source
-  pub built : IsBuilt seed source program made
+  pub built : IsBuilt settings source program made
   pub warned : warnings ≡ warnings_of program
   pub are : texts ≡ texts_of (prg_of program) made
 
 -- the compiler refuses all that a reader had
-pub record IsNotCompiled (seed : ℕ) (had : Option (List ℕ)) (error : CompileError) : Type 0 where
+pub record IsNotCompiled (settings : CompileSettings) (had : Option (List ℕ)) (error : CompileError) : Type 0 where
   pub source : List ℕ
   pub reads : Reads had source
-  pub refused : Compiles seed source (Err error)
+  pub refused : Compiles settings source (Err error)
 
 -- how writing these texts ended, with what became of the files
 abbrev pub Writes : {W : Type 0} → (W → Option (List ℕ)) → List (List ℕ) → Outcome
@@ -48,18 +49,18 @@ Writes contents texts outcome olds news = ⊥
 
 -- What building came to, with what became of the files: all have their texts; or one fault of a writer broke it off;
 -- or nothing was written.
-abbrev pub Builds : {W : Type 0} → (W → Option (List ℕ)) → ℕ → Outcome → List Warning → Option (List ℕ)
+abbrev pub Builds : {W : Type 0} → (W → Option (List ℕ)) → CompileSettings → Outcome → List Warning → Option (List ℕ)
     → List (Option (Tracked W)) → List (Option (Tracked W)) → Type 0
-Builds contents seed (Ended Done) warnings had olds news =
-    (texts : List (List ℕ)) × AreTexts seed had warnings texts × AllWhole contents texts olds news
-Builds contents seed (Ended end) warnings had olds news = ⊥
-Builds contents seed WriteFault warnings had olds news =
-    (texts : List (List ℕ)) × AreTexts seed had warnings texts × BreaksOff contents texts olds news
-Builds contents seed (Refused (Source error)) warnings had olds news =
-    IsNotCompiled seed had error × (warnings ≡ []) × AreLeft contents olds news
-Builds contents seed (Refused why) warnings had olds news = ⊥
-Builds contents seed ReadFault warnings had olds news = (warnings ≡ []) × AreLeft contents olds news
-Builds contents seed NoMemory warnings had olds news = (warnings ≡ []) × AreLeft contents olds news
+Builds contents settings (Ended Done) warnings had olds news =
+    (texts : List (List ℕ)) × AreTexts settings had warnings texts × AllWhole contents texts olds news
+Builds contents settings (Ended end) warnings had olds news = ⊥
+Builds contents settings WriteFault warnings had olds news =
+    (texts : List (List ℕ)) × AreTexts settings had warnings texts × BreaksOff contents texts olds news
+Builds contents settings (Refused (Source error)) warnings had olds news =
+    IsNotCompiled settings had error × (warnings ≡ []) × AreLeft contents olds news
+Builds contents settings (Refused why) warnings had olds news = ⊥
+Builds contents settings ReadFault warnings had olds news = (warnings ≡ []) × AreLeft contents olds news
+Builds contents settings NoMemory warnings had olds news = (warnings ≡ []) × AreLeft contents olds news
 
 -- a read fault comes only if the reader failed in this call, by its count of failures, or gave too many bytes; at every
 -- other outcome it did not fail

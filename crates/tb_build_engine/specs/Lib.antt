@@ -1,2 +1,3 @@
 pub mod Files
 pub mod Builds
+pub mod Maps

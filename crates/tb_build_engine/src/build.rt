@@ -6,7 +6,7 @@ ghost use Rattle.tb_build_engine.specs.Builds.{Builds, ReadFaults, Writes};
 use crate::files::{BuildFiles, write_all};
 use std::alloc::Global;
 use std::io::{Read, Write};
-use tb_driver::read_source;
+use tb_driver::{CompileSettings, read_source};
 use tb_engines::{End, Outcome, Report};
 use tb_listing::{Made, make};
 use tb_streams::Tracked;
@@ -21,21 +21,21 @@ fn written<W: Write>(files: &mut BuildFiles<W>, prg: &[u8], made: &Made) -> Outc
     }
 }
 
-/// Compiles a source with a first state of RND, makes all texts that tell of its program, and then writes the wanted
-/// files, each whole before the next one. Nothing is written if the source is refused, or if memory runs out. At a write
-/// fault the files before it are whole, it has a prefix, and those after it are not written.
+/// Compiles a source, makes all texts that tell of its program, and then writes the wanted files, each whole before the
+/// next one. Nothing is written if the source is refused, or if memory runs out. At a write fault the files before it
+/// are whole, it has a prefix, and those after it are not written.
 pub fn build_files<R: Read, W: Write>(
     alloc: Global,
     reader: &mut Tracked<R>,
     files: &mut BuildFiles<W>,
-    seed: u16,
+    settings: CompileSettings,
 ) -> Report
-    ensures answers { Builds W.contents seed result.outcome result.warnings.items (R.remaining reader.old.stream)
+    ensures answers { Builds W.contents settings result.outcome result.warnings.items (R.remaining reader.old.stream)
         (each_of files.old) (each_of files.new) }
     ensures faults { ReadFaults result.outcome (use_of R.remaining reader.old reader.new) }
     ensures taken { TakesInput (use_of R.remaining reader.old reader.new) }
 {
-    let source = match read_source(alloc, reader, seed) {
+    let source = match read_source(alloc, reader, settings) {
         Ok(source) => source,
         Err(outcome) => return Report::new(alloc, outcome),
     };

@@ -3,6 +3,8 @@
 
 mod build;
 mod files;
+mod map;
 
 pub use build::build_files;
 pub use files::BuildFiles;
+pub use map::map_source;

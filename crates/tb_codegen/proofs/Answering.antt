@@ -1,32 +1,44 @@
--- What linking answers is what the two calls answer.
-use Rattle.std.proofs.Common.{ℕ, ◌≤◌, Result, Ok, Err, subst}
+-- What linking answers is what the compiler answers.
+use Rattle.std.proofs.Common.{ℕ, ◌≡◌, ◌<◌, ◌≤◌, Option, Some, None, Result, Ok, Err, sym, subst}
 use Rattle.std.specs.Prelude.{IfErr, IfOk}
 use Rattle.tb_syntax.specs.Source.{Program}
-use Rattle.tb_meaning.specs.Cost.{cost}
+use Rattle.tb_lower.specs.Lowered as lowered
+use Rattle.tb_lower.specs.Need.{too_deep}
 use Rattle.tb_lower.specs.Slots.{SlotCode}
 use Rattle.tb_parser.specs.Files.{AreStated}
 use Rattle.tb_compile_errors.specs.declared.refusals.CompileError.{CompileError}
 use Rattle.tb_compile_errors.specs.declared.refusals.CompileError.TheVariants.{Source, Lower, TooLarge, NoMemory}
 use Rattle.tb_codegen.specs.declared.compiled.Compiled.{Compiled}
-use Rattle.tb_codegen.specs.Answers.{FitAnswer, ProgramAnswer}
+use Rattle.tb_codegen.specs.declared.settings.CompileSettings.{CompileSettings}
+use Rattle.tb_codegen.specs.declared.settings.SizeLimit.{SizeLimit}
+use Rattle.tb_codegen.specs.declared.settings.SizeLimit.TheVariants.{Cost, Memory}
+use Rattle.tb_codegen.specs.Answers.{ProgramAnswer}
 use Rattle.tb_codegen.specs.Coded.{IsSlotCode, IsTooLong, TakesTooMuch}
-use Rattle.tb_codegen.specs.Compiled.{IsCompiled, most_cost}
+use Rattle.tb_codegen.specs.Compiled.{IsCompiled}
+use Rattle.tb_codegen.specs.Refusals.{IsExcess, IsTooLarge, IsWithinCost}
 use Rattle.tb_codegen.proofs.Sized.{cheap_fits}
 
--- what is linked of a cheap program is the answer of `compile`: it is never too long
-pub cheap_answer : (seed : ℕ) (p : Program) {code : SlotCode} (r : Result Compiled CompileError) → IsSlotCode p code → AreStated p → cost p ≤ most_cost
-    → IfOk r (IsCompiled seed p) → IfErr r (IsTooLong seed code) → ProgramAnswer seed p r
-cheap_answer seed p (Ok c) is stated cheap k h = (cheap, k)
-cheap_answer seed p (Err (Source e)) is stated cheap k h = h
-cheap_answer seed p (Err (Lower e)) is stated cheap k h = absurd h
-cheap_answer seed p (Err (TooLarge n)) is stated cheap k h = absurd (cheap_fits seed p is.lowered stated cheap h)
-cheap_answer seed p (Err NoMemory) is stated cheap k h = tt
+-- a program whose cost is more than it may be is too large
+pub costs_too_much : (size : SizeLimit) (seed : ℕ) (p : Program) (n : ℕ) → IsExcess size p (Some n) → IsTooLarge size seed p n
+costs_too_much Cost seed p n h = h
+costs_too_much Memory seed p n none = absurd none
 
--- and of any program that of `compile_to_fit`
-pub fit_answer : (seed : ℕ) (p : Program) {code : SlotCode} (r : Result Compiled CompileError) → IsSlotCode p code
-    → IfOk r (IsCompiled seed p) → IfErr r (IsTooLong seed code) → FitAnswer seed p r
-fit_answer seed p (Ok c) is k h = k
-fit_answer seed p (Err (Source e)) is k h = h
-fit_answer seed p (Err (Lower e)) is k h = absurd h
-fit_answer seed p (Err (TooLarge n)) is k h = (is.shallow, subst (TakesTooMuch n seed) is.lowered h)
-fit_answer seed p (Err NoMemory) is k h = tt
+-- and one whose cost is not is too large only by what it takes: a cheap one never is
+takes_too_much : (size : SizeLimit) (seed : ℕ) (p : Program) {code : SlotCode} (n : ℕ) → code ≡ lowered.program_code p → AreStated p → IsWithinCost size p
+    → TakesTooMuch n seed code → IsTooLarge size seed p n
+takes_too_much Cost seed p n same stated cheap h = absurd (cheap_fits seed p same stated cheap h)
+takes_too_much Memory seed p n same stated any h = subst (TakesTooMuch n seed) same h
+
+within_cost : (size : SizeLimit) (p : Program) → IsExcess size p None → IsWithinCost size p
+within_cost Cost p h = h
+within_cost Memory p h = h
+
+-- what is linked of a program that doesn't cost too much is the answer
+pub linked_answer : (settings : CompileSettings) (p : Program) {code : SlotCode} (r : Result Compiled CompileError) → IsSlotCode p code → AreStated p
+    → IsExcess settings.size p None → IfOk r (IsCompiled settings.seed p) → IfErr r (IsTooLong settings.seed code) → ProgramAnswer settings p r
+linked_answer settings p (Ok c) is stated within k h = (within_cost settings.size p within, k)
+linked_answer settings p (Err (Source e)) is stated within k h = h
+linked_answer settings p (Err (Lower e)) is stated within k h = absurd h
+linked_answer settings p (Err (TooLarge n)) is stated within k h =
+    (is.shallow, takes_too_much settings.size settings.seed p n is.lowered stated (within_cost settings.size p within) h)
+linked_answer settings p (Err NoMemory) is stated within k h = tt

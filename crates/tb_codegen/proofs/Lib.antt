@@ -17,9 +17,7 @@ pub mod Texts
 pub mod Kept
 -- what is compiled marks the lines of its program
 pub mod Marked
--- a line with what is done after it for the STOP key
-pub mod Stretches
 -- what both calls compile is the same
 pub mod Same
--- what linking answers is what the two calls answer
+-- what linking answers is what the compiler answers
 pub mod Answering

@@ -1,5 +1,5 @@
 -- What both calls compile is the same.
-use Rattle.std.proofs.Common.{◌≡◌, ℕ, List, ◌++◌, map, Option, Some, None, Result, Ok, Err, sym, ap, ◌∙◌, subst, arith, is_some, true≢false}
+use Rattle.std.proofs.Common.{◌≡◌, ℕ, List, ◌++◌, map, Option, Some, None, Result, Ok, Err, sym, ap, ◌∙◌, arith, is_some, true≢false}
 use Rattle.tb_syntax.specs.Source.{Program, numbers}
 use Rattle.tb_asm.specs.Layout.{Entry, size, labels_from, image_of, address_in}
 use Rattle.tb_asm.specs.Settle.{kept, items_from, SettlesTo}
@@ -15,7 +15,8 @@ use Rattle.tb_templates.specs.Labels.{label_of}
 use Rattle.tb_templates.specs.Program.{program_code}
 use Rattle.tb_codegen.specs.declared.compiled.Compiled.{Compiled}
 use Rattle.tb_codegen.specs.Compiled.{IsCompiled, starts_in, table_of}
-use Rattle.tb_codegen.specs.Answers.{HasOutcome, OutcomeAnswer, LinesMake, FitAnswer, FitOutcome, AreSame, GivesSame}
+use Rattle.tb_codegen.specs.Answers.{HasOutcome, OutcomeAnswer, LinesMake, ProgramAnswer, AreSame, GivesSame}
+use Rattle.tb_codegen.specs.Settings.{by_cost, by_memory}
 use Rattle.tb_settling.proofs.Rounds.{one_way}
 
 same_items : (at : ℕ) (es items others : List Entry) → SettlesTo at es items → SettlesTo at es others → items ≡ others
@@ -34,29 +35,23 @@ compiled_same seed p c d a b =
       warned = a.warned ∙ sym b.warned;
     }
 
-program_same : (seed : ℕ) (p : Program) (c : Compiled) (r : Result Compiled CompileError) → IsCompiled seed p c → FitAnswer seed p r → GivesSame c r
-program_same seed p c (Ok d) a h = compiled_same seed p c d a h
+program_same : (seed : ℕ) (p : Program) (c : Compiled) (r : Result Compiled CompileError) → IsCompiled seed p c → ProgramAnswer (by_memory seed) p r → GivesSame c r
+program_same seed p c (Ok d) a h = compiled_same seed p c d a h.1
 program_same seed p c (Err (Source e)) a h = h
 program_same seed p c (Err (Lower deep.NoMemory)) a h = h
 program_same seed p c (Err (Lower (deep.TooDeep n))) a h = let e : None ≡ Some n = sym a.shallow ∙ h in true≢false (sym (ap is_some e))
 program_same seed p c (Err (TooLarge n)) a h =
     let es = program_code seed (lowered.program_code p) in
-    let b = h.1.least in let g = h.1.more in let f = a.ends in
+    let b = h.1.takes in let g = h.1.past in let f = a.ends in
     let e = ap size (a.settled.are ∙ ap (items_from PROLOGUE_AT) (one_way PROLOGUE_AT (map kept es) a.settled.forms h.1.forms a.settled.settled h.1.rounds)) in
     absurd (omega (arith, e, b, f, g))
 program_same seed p c (Err NoMemory) a h = tt
 
 -- if one answer is a compiled program, the other shows the same program or memory ran out
-pub gives_same : (seed : ℕ) (source : List ℕ) (r : Result Compiled CompileError) → ((outcome : Outcome) → LinesMake source outcome → FitOutcome seed outcome r)
-    → (c : Compiled) → HasOutcome seed source (Ok c) → GivesSame c r
+pub gives_same : (seed : ℕ) (source : List ℕ) (r : Result Compiled CompileError) → ((outcome : Outcome) → LinesMake source outcome → OutcomeAnswer (by_memory seed) outcome r)
+    → (c : Compiled) → HasOutcome (by_cost seed) source (Ok c) → GivesSame c r
 gives_same seed source r only c h = by h.outcome h.answer (only h.outcome h.made)
   where
-    by : (o : Outcome) → OutcomeAnswer seed o (Ok c) → FitOutcome seed o r → GivesSame c r
+    by : (o : Outcome) → OutcomeAnswer (by_cost seed) o (Ok c) → OutcomeAnswer (by_memory seed) o r → GivesSame c r
     by (Ok p) a b = program_same seed p c r a.1 b
     by (Err e) a b = absurd a
-
--- the same for a program that the lines make
-pub gives_same_of : (seed : ℕ) (source : List ℕ) (r : Result Compiled CompileError) (p : Program) → ((outcome : Outcome) → LinesMake source outcome
-    → ◌≡◌ {A = Outcome} (Ok p) outcome) → FitAnswer seed p r
-    → (c : Compiled) → HasOutcome seed source (Ok c) → GivesSame c r
-gives_same_of seed source r p only answer = gives_same seed source r (λ o made. subst (λ x. FitOutcome seed x r) (only o made) answer)

@@ -30,7 +30,7 @@ use Rattle.tb_codegen.specs.declared.compiled.Compiled.{Compiled}
 use Rattle.tb_codegen.specs.Compiled.{prg_of, starts_of, table_of, warnings_of, IsCompiled, starts_in, stands_at, AreKnown, AddressesRise, most_cost}
 use Rattle.tb_codegen.specs.Coded.{IsListed, TakesTooMuch}
 use Rattle.tb_codegen.specs.Texts.{LinesHoldTexts, offset_of}
-use Rattle.tb_templates.proofs.Settled.{Sections, last_broken, sections}
+use Rattle.tb_templates.proofs.Settled.{Sections, sections}
 use Rattle.tb_codegen.proofs.Placed.{lines_known, lines_begin_in_order, start_numbers}
 use Rattle.tb_codegen.proofs.Texts.{lines_texts}
 use Rattle.tb_codegen.proofs.SmallPrograms.{AreSmall, are_small, small_spaced, small_short, few_lines, count_numbers}
@@ -76,7 +76,7 @@ rising_zero [] h = tt
 rising_zero (n ∷ ns) h = (omega arith, h.1, h.2)
 
 -- slot code has rising line numbers if its program has
-pub code_rises : (p : Program) → Rises 1 32768 (numbers p) → Rises 0 65536 (numbers (lowered.program_code p))
+code_rises : (p : Program) → Rises 1 32768 (numbers p) → Rises 0 65536 (numbers (lowered.program_code p))
 code_rises p h = subst (Rises 0 65536) (sym (same_numbers p)) (rising_zero (numbers p) (rising_words 0 (numbers p) h))
 
 -- ── a file's code ──
@@ -113,7 +113,7 @@ cheap_fits seed p {code} {n} same stated cheap long =
     let b = program_most seed (lowered.program_code p) in
     let d = forms_most es t.forms (settled_forms PROLOGUE_AT es (map kept es) t.forms t.rounds (kept_forms es)) in
     let e = items_size PROLOGUE_AT t.forms in
-    let f = t.more in let g = t.least in
+    let f = t.past in let g = t.takes in
     omega (arith, a, b, cheap, d, e, f, g)
 
 -- ── its image ──
@@ -130,7 +130,7 @@ module _ (seed : ℕ) {code : SlotCode} (s : IsListed code) {from : ℕ} {image 
 
   -- each line has a label
   pub known : AreKnown labels (numbers code)
-  known = subst (λ ls. AreKnown ls (numbers code)) (sym l.labels_are) (lines_known own (numbers code) seed LINES_AT [] code placed.lines placed.of_lines placed.line_labels)
+  known = subst (λ ls. AreKnown ls (numbers code)) (sym l.labels_are) (lines_known own (numbers code) seed LINES_AT code placed.lines placed.of_lines placed.line_labels)
 
   -- the line table has a label
   pub has_table : is_some (address_in labels (label_of Table)) ≡ true
@@ -150,7 +150,7 @@ file_texts seed p items file g is =
     let ns = numbers code in
     let labels = labels_from PROLOGUE_AT items in
     let lines = items_from LINES_AT g.lines in
-    let tail = past_code ns ++ (last_broken code ++ (find_code ns ++ table_code ns)) in
+    let tail = past_code ns ++ (find_code ns ++ table_code ns) in
     let start = PROLOGUE_AT + size block_code in
     let here : start ≡ LINES_AT = (let b = block_size in omega (arith, b)) in
     let block = bytes_from labels PROLOGUE_AT block_code in
@@ -163,7 +163,7 @@ file_texts seed p items file g is =
     let before : length (header ++ block) ≡ offset_of LINES_AT =
     (let a = length-append header block in let b = all_size labels PROLOGUE_AT block_code in let c = block_size in omega (arith, a, b, c)) in
     subst (λ f. LinesHoldTexts f (stands_at labels (label_of Past)) (starts_in labels (numbers p)) p) whole
-    (lines_texts labels ns seed (stands_at labels (label_of Past)) LINES_AT [] p g.lines (header ++ block) back g.of_lines g.line_labels g.past (omega arith) before)
+    (lines_texts labels ns seed (stands_at labels (label_of Past)) LINES_AT p g.lines (header ++ block) back g.of_lines g.line_labels g.past (omega arith) before)
 
 -- a program's compiled form, from its image's bytes and labels
 pub made : {seed : ℕ} {p : Program} {code : SlotCode} (c : Compiled) {from : ℕ} {image : List ℕ} {labels : List (Name × ℕ)}
@@ -186,7 +186,7 @@ made {seed} {p} {code} c same s shallow l ends file starts table warned =
       ends = ends;
       starts = all;
       lines = ap (map (λ s. s.0)) all ∙ start_numbers own (numbers p);
-      rising = subst (AddressesRise LINES_AT) (sym all) (lines_begin_in_order own (numbers (lowered.program_code p)) seed LINES_AT [] p g.lines g.of_lines g.line_labels);
+      rising = subst (AddressesRise LINES_AT) (sym all) (lines_begin_in_order own (numbers (lowered.program_code p)) seed LINES_AT p g.lines g.of_lines g.line_labels);
       table = ap (λ ls. address_in ls (label_of Table)) (sym l.labels_are) ∙ table;
       warned = warned;
     }

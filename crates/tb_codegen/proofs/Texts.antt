@@ -1,6 +1,6 @@
 -- The texts of a line are in its settled code.
 use Rattle.std.proofs.Common.{◌≡◌, ℕ, ◌+◌, ◌≤◌, List, [], ◌∷◌, ◌++◌, length, take, drop, map, true, refl, sym, ap, subst, ◌∙◌}
-use Rattle.std.proofs.Common.{arith, append_assoc, length-append, Option, Some, None}
+use Rattle.std.proofs.Common.{arith, append_assoc, length-append, Bool, Option, Some, None}
 use Rattle.std.specs.Prelude.{unwrap_or}
 use Rattle.std.specs.List.{list_all}
 use Rattle.tb_words.specs.declared.Rel.{Rel}
@@ -25,7 +25,7 @@ use Rattle.tb_templates.specs.declared.labels.Target.TheVariants as target
 use Rattle.tb_runtime16.specs.Addresses.{POINTER}
 use Rattle.tb_templates.specs.Templates.{address, text_call, jump, here}
 use Rattle.tb_templates.specs.GroupTemplates.{group_template}
-use Rattle.tb_templates.specs.Breaks.{polled, done_behind, ends_away}
+use Rattle.tb_templates.specs.Breaks.{polled, behind, some_leaves}
 use Rattle.tb_templates.specs.Layout.{LabelsAt}
 use Rattle.tb_templates.specs.Program.{rest_code, line_code, lines_code}
 use Rattle.tb_settling.specs.Settled.{AreFormsOf}
@@ -37,8 +37,7 @@ use Rattle.tb_selection.specs.Groups.{OnRight, Remains, Stepped, multiple, compa
 use Rattle.tb_selection.specs.Select.{select}
 use Rattle.tb_selection.proofs.Bracketed.{brackets}
 use Rattle.tb_codegen.specs.Compiled.{stands_at, starts_in}
-use Rattle.tb_templates.proofs.Settled.{joined_items, labels_behind, total_size}
-use Rattle.tb_codegen.proofs.Stretches.{asking_on, stretch, stretch_at, stretched}
+use Rattle.tb_templates.proofs.Settled.{joined_items, labels_behind, line_at, total_size}
 use Rattle.tb_codegen.specs.Texts.{TextsStand, none, text, offset_of, end_before, LinesHoldTexts}
 
 lower : (image : List ℕ) (to from from' : ℕ) (texts : List (List ℕ)) → from ≤ from' → TextsStand image to from' texts → TextsStand image to from texts
@@ -266,13 +265,22 @@ module _ (labels : List (Name × ℕ)) (ns : List ℕ) (seed n : ℕ) where
   rest_texts i (Single Return ∷ gs) = silent i (Single Return) gs _ refl (rest_texts (i + 1) gs)
   rest_texts i (Single End ∷ gs) = silent i (Single End) gs _ refl (rest_texts (i + 1) gs)
 
+  -- what is done for the STOP key behind the groups of a line has no text
+  ended_texts : (away : Bool) (gs : List Group) (texts : List (List ℕ)) → RestHolds 1 gs texts → (a : ℕ) (fs : List Form) → AreFormsOf (rest_code ns seed n 1 gs ++ behind away n) fs
+      → Holds labels a (items_from a fs) texts
+  ended_texts away gs texts rest a fs h =
+      let s = split (rest_code ns seed n 1 gs) (behind away n) fs h in
+      subst (λ es. Holds labels a es texts) (sym (joined_items a fs s.front s.back s.are))
+      (quiet_behind labels a (items_from a s.front) (items_from (a + forms_size s.front) s.back) texts (rest a s.front s.of_front))
+
   -- the texts of a line's statement are in the line's code
   line_texts : (a : ℕ) (c : Statement) (fs : List Form) → AreFormsOf (line_code ns seed (record { number = n; content = lowered.list_code c })) fs
       → Holds labels a (items_from a fs) (statement_texts c)
   line_texts a c fs h =
+      let gs = select (lowered.statement_code c) in let away = some_leaves gs in let texts = instr_texts (expand_all gs) in
       subst (Holds labels a (items_from a fs)) (ap instr_texts (brackets (lowered.statement_code c)) ∙ same_texts c)
-      (quiet_forms labels a (here (target.Line n) ∷ polled n) (rest_code ns seed n 1 (select (lowered.statement_code c))) fs
-      (instr_texts (expand_all (select (lowered.statement_code c)))) h (rest_texts 1 (select (lowered.statement_code c))))
+      (quiet_forms labels a (here (target.Line n) ∷ polled away n) (rest_code ns seed n 1 gs ++ behind away n) fs texts h
+      (ended_texts away gs texts (rest_texts 1 gs)))
 
 -- ---- lines
 module _ (labels : List (Name × ℕ)) (ns : List ℕ) (seed past : ℕ) where
@@ -280,40 +288,30 @@ module _ (labels : List (Name × ℕ)) (ns : List ℕ) (seed past : ℕ) where
   own_line line = record { number = line.number; content = lowered.list_code line.content }
 
   -- a line begins at the address of its label
-  begins : (a : ℕ) (asking : List ℕ) (line : Numbered Statement) (fs : List Form) → AreFormsOf (stretch ns seed asking (own_line line)) fs
+  begins : (a : ℕ) (line : Numbered Statement) (fs : List Form) → AreFormsOf (line_code ns seed (own_line line)) fs
       → LabelsAt labels a (items_from a fs) → stands_at labels (label_of (target.Line line.number)) ≡ a
-  begins a asking line fs h l = ap (λ o. unwrap_or o 0) (stretch_at labels ns seed a asking (own_line line) fs h l)
-
-  -- its texts are in its code, and so in that with what is done after it
-  stretch_texts : (a : ℕ) (asking : List ℕ) (line : Numbered Statement) (fs : List Form) → AreFormsOf (stretch ns seed asking (own_line line)) fs
-      → Holds labels a (items_from a fs) (statement_texts line.content)
-  stretch_texts a asking line fs h =
-      let s = split (line_code ns seed (own_line line)) (done_behind (ends_away (own_line line).content) (asking ++ line.number ∷ [])) fs h in
-      subst (λ es. Holds labels a es (statement_texts line.content)) (sym (joined_items a fs s.front s.back s.are))
-      (quiet_behind labels a (items_from a s.front) (items_from (a + forms_size s.front) s.back) (statement_texts line.content)
-      (line_texts labels ns seed line.number a line.content s.front s.of_front))
+  begins a line fs h l = ap (λ o. unwrap_or o 0) (line_at labels ns seed a (own_line line) fs h l)
 
   -- where these lines begin, or what follows them
-  ends_there : (a : ℕ) (asking : List ℕ) (p : Program) (fs : List Form) → AreFormsOf (lines_code ns seed asking (lowered.program_code p)) fs
+  ends_there : (a : ℕ) (p : Program) (fs : List Form) → AreFormsOf (lines_code ns seed (lowered.program_code p)) fs
       → LabelsAt labels a (items_from a fs) → past ≡ a + forms_size fs → end_before past (starts_in labels (numbers p)) ≡ a
-  ends_there a asking [] [] h l e = e ∙ (let q : a + 0 ≡ a = omega arith in q)
-  ends_there a asking [] (f ∷ fs) h l e = absurd h
-  ends_there a asking (line ∷ lines) fs h l e =
+  ends_there a [] [] h l e = e ∙ (let q : a + 0 ≡ a = omega arith in q)
+  ends_there a [] (f ∷ fs) h l e = absurd h
+  ends_there a (line ∷ lines) fs h l e =
       let own = own_line line in
-      let s = split (stretch ns seed asking own) (lines_code ns seed (asking_on asking own) (lowered.program_code lines)) fs (stretched ns seed asking own (lowered.program_code lines) fs h) in
-      begins a asking line s.front s.of_front (labels_behind labels a fs s.front s.back s.are l).0
+      let s = split (line_code ns seed own) (lines_code ns seed (lowered.program_code lines)) fs h in
+      begins a line s.front s.of_front (labels_behind labels a fs s.front s.back s.are l).0
 
   -- if the settled code of lines is in a file, so are their texts
-  pub lines_texts : (a : ℕ) (asking : List ℕ) (p : Program) (fs : List Form) (front back : List ℕ)
-      → AreFormsOf (lines_code ns seed asking (lowered.program_code p)) fs → LabelsAt labels a (items_from a fs) → past ≡ a + forms_size fs
+  pub lines_texts : (a : ℕ) (p : Program) (fs : List Form) (front back : List ℕ)
+      → AreFormsOf (lines_code ns seed (lowered.program_code p)) fs → LabelsAt labels a (items_from a fs) → past ≡ a + forms_size fs
       → PROLOGUE_AT ≤ a → length front ≡ offset_of a
       → LinesHoldTexts (front ++ (bytes_from labels a (items_from a fs) ++ back)) past (starts_in labels (numbers p)) p
-  lines_texts a asking [] fs front back h l e low at = tt
-  lines_texts a asking (line ∷ lines) fs front back h l e low at =
+  lines_texts a [] fs front back h l e low at = tt
+  lines_texts a (line ∷ lines) fs front back h l e low at =
       let mine = own_line line in
-      let on = asking_on asking mine in
-      let more = lines_code ns seed on (lowered.program_code lines) in
-      let s = split (stretch ns seed asking mine) more fs (stretched ns seed asking mine (lowered.program_code lines) fs h) in
+      let more = lines_code ns seed (lowered.program_code lines) in
+      let s = split (line_code ns seed mine) more fs h in
       let b = a + forms_size s.front in
       let own = items_from a s.front in let rest = items_from b s.back in
       let whole : items_from a fs ≡ own ++ rest = joined_items a fs s.front s.back s.are in
@@ -326,16 +324,16 @@ module _ (labels : List (Name × ℕ)) (ns : List ℕ) (seed past : ℕ) where
       let own_bytes = bytes_from labels a own in let rest_bytes = bytes_from labels b rest in
       let shown : file ≡ (front ++ own_bytes) ++ (rest_bytes ++ back) =
       ap (λ es. front ++ (bytes_from labels a es ++ back)) whole ∙ joined labels a own rest front back ∙ ap (λ c. (front ++ own_bytes) ++ (bytes_from labels c rest ++ back)) there in
-      let starts_there : stands_at labels (label_of (target.Line line.number)) ≡ a = begins a asking line s.front s.of_front ls.0 in
-      let ends : end_before past (starts_in labels (numbers lines)) ≡ b = ends_there b on lines s.back s.of_back ls.1 past_is in
+      let starts_there : stands_at labels (label_of (target.Line line.number)) ≡ a = begins a line s.front s.of_front ls.0 in
+      let ends : end_before past (starts_in labels (numbers lines)) ≡ b = ends_there b lines s.back s.of_back ls.1 past_is in
       let here_from : length front ≡ offset_of (stands_at labels (label_of (target.Line line.number))) = at ∙ ap offset_of (sym starts_there) in
       let here_to : length front + size own ≡ offset_of (end_before past (starts_in labels (numbers lines))) = (let q = ap offset_of ends in omega (arith, q, at, long, low)) in
       let first : TextsStand file (length front + size own) (length front) (statement_texts line.content) =
       subst (λ f. TextsStand f (length front + size own) (length front) (statement_texts line.content)) (sym (shown ∙ append_assoc front own_bytes (rest_bytes ++ back)))
-      (stretch_texts a asking line s.front s.of_front front (rest_bytes ++ back)) in
+      (line_texts labels ns seed line.number a line.content s.front s.of_front front (rest_bytes ++ back)) in
       let next : length (front ++ own_bytes) ≡ offset_of b = (let q = front_length labels a own front in omega (arith, q, at, long, low)) in (
         subst (λ to. TextsStand file to (offset_of (stands_at labels (label_of (target.Line line.number)))) (statement_texts line.content)) here_to
             (subst (λ from. TextsStand file (length front + size own) from (statement_texts line.content)) here_from first),
         subst (λ f. LinesHoldTexts f past (starts_in labels (numbers lines)) lines) (sym shown)
-            (lines_texts b on lines s.back (front ++ own_bytes) back s.of_back ls.1 past_is (omega (arith, low)) next),
+            (lines_texts b lines s.back (front ++ own_bytes) back s.of_back ls.1 past_is (omega (arith, low)) next),
       )

@@ -1,5 +1,5 @@
 -- A program's slot code, and when its code and line table are too long.
-use Rattle.std.specs.Prelude.{◌≡◌, ℕ, ◌+◌, ◌<◌, ◌≤◌, List, length, map, None}
+use Rattle.std.specs.Prelude.{◌≡◌, ℕ, ◌+◌, ◌<◌, nat_lt, if◌then◌else◌, List, length, map, None}
 use Rattle.tb_syntax.specs.Source.{Program, numbers, Rises}
 use Rattle.tb_asm.specs.Layout.{size}
 use Rattle.tb_asm.specs.Settle.{Form, kept, items_from, Settles}
@@ -11,7 +11,6 @@ use Rattle.tb_compile_errors.specs.declared.refusals.CompileError.{CompileError}
 use Rattle.tb_compile_errors.specs.declared.refusals.CompileError.TheVariants.{Source, Lower, TooLarge, NoMemory}
 use Rattle.tb_runtime16.specs.Addresses.{PROLOGUE_AT, LINES_AT}
 use Rattle.tb_templates.specs.Program.{AreCodable, program_code}
-use Rattle.tb_codegen.specs.Compiled.{most_cost}
 
 -- slot code that can be laid out: its lists and lines can be counted, and its numbers rise
 pub record IsListed (code : SlotCode) : Type 0 where
@@ -26,14 +25,19 @@ pub record IsSlotCode (program : Program) (code : SlotCode) : Type 0 where
   pub shallow : too_deep program ≡ None
   pub listed : IsListed code
 
--- Once it is settled, code with its line table takes n bytes from the first line's address on, more than there are up to
--- $9FFF. If it does not end below 65,536, it takes n bytes at least.
+-- the number that is told of code that takes this many bytes from the first line's address on: where it does not end below
+-- 65,536, the most that could
+abbrev pub told_of : ℕ → ℕ
+told_of bytes = if nat_lt bytes 62464 then bytes else 62464
+
+-- once it is settled, code with its line table ends past $9FFF, and n is what is told of the bytes that it takes
 pub record TakesTooMuch (n seed : ℕ) (code : SlotCode) : Type 0 where
   pub forms : List Form
   pub rounds : Settles PROLOGUE_AT (map kept (program_code seed code)) forms
-  pub more : most_cost < n
-  pub least : LINES_AT + n ≤ PROLOGUE_AT + size (items_from PROLOGUE_AT forms)
-  pub exact : PROLOGUE_AT + size (items_from PROLOGUE_AT forms) < 65536 → LINES_AT + n ≡ PROLOGUE_AT + size (items_from PROLOGUE_AT forms)
+  pub bytes : ℕ
+  pub takes : LINES_AT + bytes ≡ PROLOGUE_AT + size (items_from PROLOGUE_AT forms)
+  pub past : 0xA000 < LINES_AT + bytes
+  pub told : n ≡ told_of bytes
 
 -- why slot code has no PRG file
 abbrev pub IsTooLong : ℕ → SlotCode → CompileError → Type 0

@@ -1,3 +1,5 @@
+pub mod Settings
+pub mod Refusals
 pub mod Answers
 pub mod Compiled
 pub mod Coded

@@ -1,19 +1,22 @@
 //! From a source text to a PRG file.
-ghost use Rattle.std.specs.Prelude.{◌≤◌, Ok, IfErr, IfOk, length};
+ghost use Rattle.std.specs.Prelude.{◌≤◌, ◌<◌, Ok, IfErr, IfOk, length};
 ghost use Rattle.tb_syntax.specs.PlainData.{lines_of};
 ghost use Rattle.tb_syntax.specs.Source.{numbers, Rises};
+ghost use Rattle.tb_meaning.specs.Cost as cost;
 ghost use Rattle.tb_lower.specs.PlainData.{code_of};
 ghost use Rattle.tb_lower.specs.Refusals.{IsRefusal};
 ghost use Rattle.tb_parser.specs.Files.{AreStated, Outcome};
 ghost use Rattle.tb_codegen.specs.declared.compiled.Compiled.{Compiled};
-ghost use Rattle.tb_codegen.specs.Answers.{FitAnswer, FitOutcome, GivesSame, HasFitOutcome, HasOutcome, LinesMake};
-ghost use Rattle.tb_codegen.specs.Answers.{OutcomeAnswer, ProgramAnswer};
+ghost use Rattle.tb_codegen.specs.Answers.{GivesSame, HasOutcome, LinesMake, OutcomeAnswer, ProgramAnswer};
 ghost use Rattle.tb_codegen.specs.Coded.{IsSlotCode};
+ghost use Rattle.tb_codegen.specs.Refusals.{IsExcess};
+ghost use Rattle.tb_codegen.specs.Settings.{by_cost, by_memory};
 ghost use Rattle.tb_codegen.specs.Theorem.{KeepsItsSource, KeepsProgram, MarksItsLines, MarksProgram};
 
 use crate::compiled::Compiled;
 use crate::costs::cost;
 use crate::linking::linked;
+use crate::settings::{CompileSettings, SizeLimit};
 use std::alloc::Global;
 use tb_compile_errors::CompileError;
 use tb_lower::{LowerError, SlotCode, lower};
@@ -34,32 +37,15 @@ pub struct Options {
 /// an expression that needs more than 16 slots, a cost above [`MOST_COST`]; or memory runs out.
 pub fn compile(alloc: Global, source: &[u8], options: Options) -> Result<Compiled, CompileError>
     // What the file's lines make is answered,
-    ensures found { HasOutcome options.seed source.now result }
+    ensures found { HasOutcome (by_cost options.seed) source.now result }
     // and whatever they make is what is answered.
-    ensures only { (outcome : Outcome) → LinesMake source.now outcome → OutcomeAnswer options.seed outcome result }
+    ensures only { (outcome : Outcome) → LinesMake source.now outcome → OutcomeAnswer (by_cost options.seed) outcome result }
     // A compiled file's code, loaded at $0801, keeps the program that its source makes, whatever the ROM does.
     ensures keeps { IfOk result (KeepsItsSource options.seed source.now) }
     // When it comes to the address that start_of answers for a line, the program begins that line, in the same state.
     ensures marks { IfOk result (MarksItsLines options.seed source.now) }
 {
-    let program = parse(alloc, source)?;
-    compile_program(alloc, &program, options.seed)
-}
-
-// The PRG file of a program, if it is cheap enough.
-fn compile_program(alloc: Global, program: &Program, seed: u16) -> Result<Compiled, CompileError>
-    requires stated { AreStated (lines_of program.now) }
-    requires rising { Rises 1 32768 (numbers (lines_of program.now)) }
-    ensures answer { ProgramAnswer seed (lines_of program.now) result }
-    ensures keeps { 1 ≤ length (lines_of program.now) → IfOk result (KeepsProgram seed (lines_of program.now)) }
-    ensures marks { 1 ≤ length (lines_of program.now) → IfOk result (MarksProgram seed (lines_of program.now)) }
-{
-    let code = slot_code(alloc, program)?;
-    let cost = cost(program);
-    if cost > MOST_COST {
-        return Err(CompileError::TooLarge(cost));
-    }
-    linked(alloc, program, &code, seed)
+    compile_within(alloc, source, CompileSettings::by_cost(options.seed))
 }
 
 /// The PRG file of a source text, as `compile` makes it, but refused as too large only if its code and line table end
@@ -71,30 +57,65 @@ pub fn compile_to_fit(
     options: Options,
 ) -> Result<Compiled, CompileError>
     // What the file's lines make is answered,
-    ensures found { HasFitOutcome options.seed source.now result }
+    ensures found { HasOutcome (by_memory options.seed) source.now result }
     // and whatever they make is what is answered.
-    ensures only { (outcome : Outcome) → LinesMake source.now outcome → FitOutcome options.seed outcome result }
+    ensures only { (outcome : Outcome) → LinesMake source.now outcome → OutcomeAnswer (by_memory options.seed) outcome result }
     // If `compile` answers a program, it is the same one.
-    ensures same { (compiled : Compiled) → HasOutcome options.seed source.now (Ok compiled) → GivesSame compiled result }
+    ensures same { (compiled : Compiled) → HasOutcome (by_cost options.seed) source.now (Ok compiled) → GivesSame compiled result }
     // A compiled file's code, loaded at $0801, keeps the program that its source makes, whatever the ROM does.
     ensures keeps { IfOk result (KeepsItsSource options.seed source.now) }
     // When it comes to the address that start_of answers for a line, the program begins that line, in the same state.
     ensures marks { IfOk result (MarksItsLines options.seed source.now) }
 {
-    let program = parse(alloc, source)?;
-    fit_program(alloc, &program, options.seed)
+    compile_within(alloc, source, CompileSettings::by_memory(options.seed))
 }
 
-// The PRG file of a program, if it fits.
-fn fit_program(alloc: Global, program: &Program, seed: u16) -> Result<Compiled, CompileError>
+/// The PRG file of a source text, refused as too large by either limit: `compile` and `compile_to_fit` in one.
+pub fn compile_within(
+    alloc: Global,
+    source: &[u8],
+    settings: CompileSettings,
+) -> Result<Compiled, CompileError>
+    ensures found { HasOutcome settings source.now result }
+    ensures only { (outcome : Outcome) → LinesMake source.now outcome → OutcomeAnswer settings outcome result }
+    ensures keeps { IfOk result (KeepsItsSource settings.seed source.now) }
+    ensures marks { IfOk result (MarksItsLines settings.seed source.now) }
+{
+    let program = parse(alloc, source)?;
+    compile_program(alloc, &program, settings)
+}
+
+// The PRG file of a program, if it is not too large.
+fn compile_program(
+    alloc: Global,
+    program: &Program,
+    settings: CompileSettings,
+) -> Result<Compiled, CompileError>
     requires stated { AreStated (lines_of program.now) }
     requires rising { Rises 1 32768 (numbers (lines_of program.now)) }
-    ensures answer { FitAnswer seed (lines_of program.now) result }
-    ensures keeps { 1 ≤ length (lines_of program.now) → IfOk result (KeepsProgram seed (lines_of program.now)) }
-    ensures marks { 1 ≤ length (lines_of program.now) → IfOk result (MarksProgram seed (lines_of program.now)) }
+    ensures answer { ProgramAnswer settings (lines_of program.now) result }
+    ensures keeps { 1 ≤ length (lines_of program.now) → IfOk result (KeepsProgram settings.seed (lines_of program.now)) }
+    ensures marks { 1 ≤ length (lines_of program.now) → IfOk result (MarksProgram settings.seed (lines_of program.now)) }
 {
     let code = slot_code(alloc, program)?;
-    linked(alloc, program, &code, seed)
+    match excess(program, settings.size) {
+        Some(cost) => Err(CompileError::TooLarge(cost)),
+        None => linked(alloc, program, &code, settings.seed),
+    }
+}
+
+// What a program costs, if that is more than it may.
+fn excess(program: &Program, size: SizeLimit) -> Option<u32>
+    requires { cost.cost (lines_of program.now) < 4294967296 }
+    ensures { IsExcess size (lines_of program.now) result }
+{
+    match size {
+        SizeLimit::Cost => {
+            let cost = cost(program);
+            if cost > MOST_COST { Some(cost) } else { None }
+        }
+        SizeLimit::Memory => None,
+    }
 }
 
 // A program's slot code.

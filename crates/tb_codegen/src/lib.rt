@@ -5,8 +5,10 @@ mod compiled;
 mod compiler;
 mod costs;
 mod linking;
+mod settings;
 
 pub use compiled::{Compiled, LineStart};
-pub use compiler::{MOST_COST, Options, compile, compile_to_fit};
+pub use compiler::{MOST_COST, Options, compile, compile_to_fit, compile_within};
 pub use costs::{cost, line_cost};
+pub use settings::{CompileSettings, SizeLimit};
 pub use tb_compile_errors::CompileError;

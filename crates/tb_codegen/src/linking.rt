@@ -1,5 +1,5 @@
 //! From slot code to a PRG file.
-ghost use Rattle.std.specs.Prelude.{◌≡◌, ◌≤◌, ◌<◌, ◌+◌, IfOk, IfErr, Some, is_some, length, map, true};
+ghost use Rattle.std.specs.Prelude.{◌≡◌, ◌≤◌, ◌+◌, IfOk, IfErr, Some, is_some, length, map, true};
 ghost use Rattle.tb_asm.specs.Layout.{address_in};
 ghost use Rattle.tb_syntax.specs.PlainData.{lines_of};
 ghost use Rattle.tb_syntax.specs.Source.{numbers};
@@ -8,9 +8,8 @@ ghost use Rattle.tb_runtime16.specs.Addresses.{PROLOGUE_AT};
 ghost use Rattle.tb_settling.specs.Settled.{IsLaid};
 ghost use Rattle.tb_templates.specs.Labels.{label_of};
 ghost use Rattle.tb_templates.specs.Program.{program_code};
-ghost use Rattle.tb_codegen.specs.declared.compiler.TheConstants.{MOST_COST};
 ghost use Rattle.tb_codegen.specs.Compiled.{AreKnown, IsCompiled, pair_of, starts_in};
-ghost use Rattle.tb_codegen.specs.Coded.{IsListed, IsSlotCode, IsTooLong};
+ghost use Rattle.tb_codegen.specs.Coded.{IsListed, IsSlotCode, IsTooLong, told_of};
 ghost use Rattle.tb_codegen.specs.Theorem.{KeepsProgram, MarksProgram};
 
 use crate::compiled::{Compiled, LineStart};
@@ -81,9 +80,7 @@ fn fitted(alloc: Global, code: &SlotCode, seed: u16) -> Result<Image, CompileErr
 
 // The number that a refusal tells of code that takes more bytes than there are.
 fn told(bytes: usize) -> u32
-    ensures least { result ≤ bytes }
-    ensures exact { bytes < 62464 → result ≡ bytes }
-    ensures more { MOST_COST < bytes → MOST_COST < result }
+    ensures { result ≡ told_of bytes }
 {
     if bytes < MOST_TOLD {
         bytes as u32

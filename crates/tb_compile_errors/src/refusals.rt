@@ -13,7 +13,7 @@ pub enum CompileError {
     Source(SourceError),
     /// An expression needs too many slots.
     Lower(LowerError),
-    /// The program's cost, in bytes, which is above 37,888.
+    /// What the program costs or takes, in bytes: above 37,888.
     TooLarge(u32),
     /// Memory ran out.
     NoMemory,

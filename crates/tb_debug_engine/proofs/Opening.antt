@@ -39,7 +39,7 @@ use Rattle.tb_debug_engine.specs.declared.sources.Written.{Written}
 -- a program that `compile` made is loaded at $0801, below $A000
 loads : (source : Program) (seed : ℕ) (c : Compiled) → IsMadeOf source seed c
     → (content_of (prg_of c) ≡ Ok (BASIC_START, loaded_of c)) × (BASIC_START + length (loaded_of c) ≤ 0xa000)
-loads source seed c made = compiled_loads seed [] c source made.compiled
+loads source seed c made = compiled_loads seed c source made.compiled
 
 -- the machine that `run` starts for it is one from which its line starts are known
 shows_so : (c : Compiled) (text answers : List ℕ) (rom : Rom) (at : ℕ) (bytes : List ℕ) (d : Debugger) → content_of (prg_of c) ≡ Ok (at, bytes)

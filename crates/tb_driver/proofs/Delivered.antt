@@ -3,6 +3,7 @@ use Rattle.std.proofs.Common.{◌≡◌, ℕ, List, [], Option, Result, Ok, Err,
 use Rattle.tb_meaning.specs.declared.missing.Warning.{Warning}
 use Rattle.tb_codegen.specs.Compiled.{warnings_of}
 use Rattle.tb_codegen.specs.declared.compiled.Compiled.{Compiled}
+use Rattle.tb_codegen.specs.declared.settings.CompileSettings.{CompileSettings}
 use Rattle.tb_streams.specs.Streams.{Reads}
 use Rattle.tb_engines.specs.Outcomes.{Product, Answers, MadeFrom}
 use Rattle.tb_engines.specs.Delivery.{Makes, Shows}
@@ -59,14 +60,14 @@ refusal_delivered makes had source stop outcome report old new reads m written e
 -- ---- what is made of a source
 
 -- what is made of a source's program is made of the source
-pub from_compiled : (seed : ℕ) (makes : Compiled → Product → Type 0) (source : List ℕ) (c : Compiled) (warnings : List Warning)
-    (made : Result Text NoText) → Compiles seed source (Ok c) → warnings ≡ warnings_of c → Makes (makes c) made
-    → Makes (FromSource seed makes warnings source) made
-from_compiled seed makes source c warnings made compiled warned m =
-    makes_as (makes c) (FromSource seed makes warnings source) (λ x h. (Ok c, compiled, (warned, h))) made m
+pub from_compiled : (settings : CompileSettings) (makes : Compiled → Product → Type 0) (source : List ℕ) (c : Compiled) (warnings : List Warning)
+    (made : Result Text NoText) → Compiles settings source (Ok c) → warnings ≡ warnings_of c → Makes (makes c) made
+    → Makes (FromSource settings makes warnings source) made
+from_compiled settings makes source c warnings made compiled warned m =
+    makes_as (makes c) (FromSource settings makes warnings source) (λ x h. (Ok c, compiled, (warned, h))) made m
 
 -- a refusal is made of the source that is refused
-pub from_refusal : (seed : ℕ) (makes : Compiled → Product → Type 0) (source : List ℕ) (stop : NoText) → CompilesText seed source (Err stop)
-    → Makes (FromSource seed makes [] source) (Err stop)
-from_refusal seed makes source (NoTextRefused why) (e, refused, is) = (Err e, refused, (refl, ap (λ x. Err x) is))
-from_refusal seed makes source NoTextNoMemory none = tt
+pub from_refusal : (settings : CompileSettings) (makes : Compiled → Product → Type 0) (source : List ℕ) (stop : NoText) → CompilesText settings source (Err stop)
+    → Makes (FromSource settings makes [] source) (Err stop)
+from_refusal settings makes source (NoTextRefused why) (e, refused, is) = (Err e, refused, (refl, ap (λ x. Err x) is))
+from_refusal settings makes source NoTextNoMemory none = tt

@@ -7,6 +7,7 @@ use Rattle.tb_prg.specs.Prg.{content_of}
 use Rattle.tb_codegen.specs.Answers.{HasOutcome}
 use Rattle.tb_codegen.specs.Compiled.{prg_of, loaded_of}
 use Rattle.tb_codegen.specs.declared.compiled.Compiled.{Compiled}
+use Rattle.tb_codegen.specs.declared.settings.CompileSettings.{CompileSettings}
 use Rattle.tb_engines.specs.Programs.{start, StartsContent, StartsPrg}
 use Rattle.tb_engines.specs.declared.delivery.NoText.{NoText}
 use Rattle.tb_engines.specs.declared.delivery.NoText.TheVariants.{Refused, NoMemory}
@@ -14,9 +15,9 @@ use Rattle.tb_driver.specs.Starting.{IsLoadable, StartsLoadable}
 use Rattle.tb_driver.proofs.Output.{file_loads, in_ram}
 
 -- what the compiler answers is loadable
-pub answer_loads : (seed : ℕ) (source : List ℕ) (c : Compiled) → HasOutcome seed source (Ok c) → IsLoadable c
-answer_loads seed source c found =
-    let loads = file_loads seed source c found.outcome found.answer in
+pub answer_loads : (settings : CompileSettings) (source : List ℕ) (c : Compiled) → HasOutcome settings source (Ok c) → IsLoadable c
+answer_loads settings source c found =
+    let loads = file_loads settings source c found.outcome found.answer in
     (loads.0, in_ram (length (loaded_of c)) loads.1)
 
 -- a program that is loadable is started, unless memory is wanting

@@ -22,6 +22,7 @@ use Rattle.tb_runtime16.specs.Addresses.{PROLOGUE_AT}
 use Rattle.tb_opcodes.specs.Bytes.{AreBytes}
 use Rattle.tb_simulation.specs.Theorem.{Starts, HasEnded, IsSound, Keeps}
 use Rattle.tb_codegen.specs.declared.compiled.Compiled.{Compiled}
+use Rattle.tb_codegen.specs.declared.settings.CompileSettings.{CompileSettings}
 use Rattle.tb_codegen.specs.Answers.{LinesMake, OutcomeAnswer, Answered}
 use Rattle.tb_codegen.specs.Compiled.{prg_of, loaded_of, IsCompiled}
 use Rattle.tb_streams.specs.HostForm.{host_form_of}
@@ -143,8 +144,8 @@ in_ram n h k below = let a : BASIC_START + k < 0xa000 = omega arith in open_so (
     open_so : (a : ℕ) → BASIC_START ≤ a → a < 0xa000 → is_open a ≡ true
     open_so a from to = grind (arith, nat_tests)
 
-module _ {O : Type 0} (s : Settings O) (seed : ℕ) (source file : List ℕ)
-    (kept : KeepsSource seed source file) (small : AreBytes file) (small_text : AreBytes s.text) (small_answers : AreBytes s.answers) where
+module _ {O : Type 0} (s : Settings O) (settings : CompileSettings) (source file : List ℕ)
+    (kept : KeepsSource settings.seed source file) (small : AreBytes file) (small_text : AreBytes s.text) (small_answers : AreBytes s.answers) where
   abbrev bytes : List ℕ
   bytes = drop 2 file
 
@@ -154,19 +155,23 @@ module _ {O : Type 0} (s : Settings O) (seed : ℕ) (source file : List ℕ)
   begins : Starts BASIC_START bytes begun
   begins = starts bytes s.text s.answers kept.ends (bytes_behind file small) small_text small_answers
 
-  runs_loaded : (x : Product) → RunsAt s BASIC_START bytes x → RunsSource seed s.text s.answers source x
+  runs_loaded : (x : Product) → RunsAt s BASIC_START bytes x → RunsSource settings s.text s.answers source x
   runs_loaded (Ok product) (opens, (t, p, n, ran, is)) =
-      let sound = subst (IsSound kept.program seed begun) (sym ran.ran) (kept.keeps.sound begun begins ran.events ran.lawful) in
-      (kept.program, kept.made, subst (λ x. ShowsOutput kept.program seed s.text s.answers x.1 x.0) (sym is) (shows kept.program seed begun (state_of n) n.regs.pc t sound ran.answer.0))
+      let sound = subst (IsSound kept.program settings.seed begun) (sym ran.ran) (kept.keeps.sound begun begins ran.events ran.lawful) in (
+        kept.program,
+        kept.made,
+        subst (λ x. ShowsOutput kept.program settings.seed s.text s.answers x.1 x.0) (sym is)
+            (shows kept.program settings.seed begun (state_of n) n.regs.pc t sound ran.answer.0),
+      )
   runs_loaded (Err e) (is, closed) = absurd (closed (in_ram (length bytes) kept.ends))
 
   -- what comes of running the file comes of running the source
-  pub runs_source : (x : Product) → RunsPrg s file x → RunsSource seed s.text s.answers source x
+  pub runs_source : (x : Product) → RunsPrg s file x → RunsSource settings s.text s.answers source x
   runs_source x runs = runs_loaded x (subst (λ c. RunsContent s c x) kept.content runs)
 
   -- what is made by running the file is made by running the source
-  pub made_of_source : (made : Result Text NoText) → Makes (RunsPrg s file) made → Makes (RunsSource seed s.text s.answers source) made
-  made_of_source made m = makes_as (RunsPrg s file) (RunsSource seed s.text s.answers source) runs_source made m
+  pub made_of_source : (made : Result Text NoText) → Makes (RunsPrg s file) made → Makes (RunsSource settings s.text s.answers source) made
+  made_of_source made m = makes_as (RunsPrg s file) (RunsSource settings s.text s.answers source) runs_source made m
 
 -- ---- the compiled file
 
@@ -180,20 +185,21 @@ image_loads image h =
     let below : nat_lt 65536 (BASIC_START + length (drop 2 header ++ image)) ≡ false = grind (arith, nat_tests) in
     (rw below refl, ends)
 
-module _ (seed : ℕ) (source : List ℕ) (c : Compiled) where
-  -- the file that the compiler answers is loaded at $0801
-  pub compiled_loads : (program : Program) → IsCompiled seed program c → IsLoaded (prg_of c)
-  compiled_loads program is =
-      let l = all_size (labels_from PROLOGUE_AT is.items) PROLOGUE_AT is.items in
-      subst IsLoaded (sym is.prg) (image_loads (image_of PROLOGUE_AT is.items) (omega (arith, l, is.ends)))
+-- the file of a compiled program is loaded at $0801
+pub compiled_loads : (seed : ℕ) (c : Compiled) (program : Program) → IsCompiled seed program c → IsLoaded (prg_of c)
+compiled_loads seed c program is =
+    let l = all_size (labels_from PROLOGUE_AT is.items) PROLOGUE_AT is.items in
+    subst IsLoaded (sym is.prg) (image_loads (image_of PROLOGUE_AT is.items) (omega (arith, l, is.ends)))
 
-  pub file_loads : (outcome : Outcome) → OutcomeAnswer seed outcome (Ok c) → IsLoaded (prg_of c)
-  file_loads (Ok program) is = compiled_loads program is.1
+module _ (settings : CompileSettings) (source : List ℕ) (c : Compiled) where
+  -- and so is the one that the compiler answers
+  pub file_loads : (outcome : Outcome) → OutcomeAnswer settings outcome (Ok c) → IsLoaded (prg_of c)
+  file_loads (Ok program) is = compiled_loads settings.seed c program is.1
   file_loads (Err r) none = absurd none
 
   -- a compiled file keeps its source
-  pub keeps_source : Answered seed source (Ok c)
-      → (program : Program) × LinesMake source (Ok program) × Keeps BASIC_START (loaded_of c) program seed → KeepsSource seed source (prg_of c)
+  pub keeps_source : Answered settings source (Ok c)
+      → (program : Program) × LinesMake source (Ok program) × Keeps BASIC_START (loaded_of c) program settings.seed → KeepsSource settings.seed source (prg_of c)
   keeps_source found (program, made, keeps) =
       let loads = file_loads found.outcome found.answer in
       record { program = program; made = made; content = loads.0; ends = loads.1; keeps = keeps }

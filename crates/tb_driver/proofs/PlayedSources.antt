@@ -27,7 +27,7 @@ shows_as p q wider NoMemory typed writer (inr (so_far, text, end, runs, written)
 -- what playing a file that keeps its source shows is what the source shows
 pub shows_source : (file : List ℕ) → AreBytes file → (outcome : Outcome) (typed : List ℕ) (writer : Use)
     → Shows (RunsTyped file) outcome typed writer → ShowsSources file outcome typed writer
-shows_source file small outcome typed writer shown seed source kept =
-    shows_as (RunsTyped file) (λ text product. RunsSource seed text [] source product)
-    (λ text x (bytes, (limit, runs)). runs_source (quietly text [] limit) seed source file kept small (all_bytes text bytes) tt x runs)
+shows_source file small outcome typed writer shown settings source kept =
+    shows_as (RunsTyped file) (λ text product. RunsSource settings text [] source product)
+    (λ text x (bytes, (limit, runs)). runs_source (quietly text [] limit) settings source file kept small (all_bytes text bytes) tt x runs)
     outcome typed writer shown

@@ -12,6 +12,7 @@ use Rattle.tb_compile_errors.specs.declared.refusals.CompileError.TheVariants.{S
 use Rattle.tb_codegen.specs.Answers.{HasOutcome, LinesMake, OutcomeAnswer}
 use Rattle.tb_codegen.specs.Compiled.{prg_of, loaded_of, start_of, warnings_of}
 use Rattle.tb_codegen.specs.declared.compiled.Compiled.{Compiled}
+use Rattle.tb_codegen.specs.declared.settings.CompileSettings.{CompileSettings}
 use Rattle.tb_streams.specs.Streams.{Reads}
 use Rattle.tb_streams.specs.Uses.{Use, NeverFails}
 use Rattle.tb_engines.specs.Outcomes.{Product, Answers, AnswersInput, MadeFrom}
@@ -34,14 +35,14 @@ use Rattle.tb_driver.proofs.Refused.{is_refused}
 -- ---- what was read
 
 -- the program that the compiler answered for a source
-pub compiled : (seed : ℕ) (text source : List ℕ) (c : Compiled) → source ≡ text → HasOutcome seed source (Ok c)
-    → ((outcome : FileOutcome) → LinesMake source outcome → OutcomeAnswer seed outcome (Ok c))
-    → (program : Program) × LinesMake source (Ok program) × Keeps BASIC_START (loaded_of c) program seed
-    → (program : Program) × LinesMake source (Ok program) × MarksLines BASIC_START (loaded_of c) program seed (start_of c) → IsCompilation seed text c
-compiled seed text source c same found only keeps (program, made, marks) =
-    subst (λ s. IsCompilation seed s c) same (record {
+pub compiled : (settings : CompileSettings) (text source : List ℕ) (c : Compiled) → source ≡ text → HasOutcome settings source (Ok c)
+    → ((outcome : FileOutcome) → LinesMake source outcome → OutcomeAnswer settings outcome (Ok c))
+    → (program : Program) × LinesMake source (Ok program) × Keeps BASIC_START (loaded_of c) program settings.seed
+    → (program : Program) × LinesMake source (Ok program) × MarksLines BASIC_START (loaded_of c) program settings.seed (start_of c) → IsCompilation settings text c
+compiled settings text source c same found only keeps (program, made, marks) =
+    subst (λ s. IsCompilation settings s c) same (record {
       answer = record { found = found; only = only };
-      keeps = keeps_source seed source c found keeps;
+      keeps = keeps_source settings source c found keeps;
       lines = program;
       makes = made;
       compiled = (only (Ok program) made).1;
@@ -49,30 +50,30 @@ compiled seed text source c same found only keeps (program, made, marks) =
     })
 
 -- why the compiler answered none
-pub not_compiled : (seed : ℕ) (text source : List ℕ) (e : CompileError) (stop : NoText) → source ≡ text → HasOutcome seed source (Err e)
-    → ((outcome : FileOutcome) → LinesMake source outcome → OutcomeAnswer seed outcome (Err e)) → stop ≡ stop_of e → CompilesText seed text (Err stop)
-not_compiled seed text source e stop same found only is =
-    subst (λ s. CompilesText seed s (Err stop)) same (subst (λ t. CompilesText seed source (Err t)) (sym is) (by e found only))
+pub not_compiled : (settings : CompileSettings) (text source : List ℕ) (e : CompileError) (stop : NoText) → source ≡ text → HasOutcome settings source (Err e)
+    → ((outcome : FileOutcome) → LinesMake source outcome → OutcomeAnswer settings outcome (Err e)) → stop ≡ stop_of e → CompilesText settings text (Err stop)
+not_compiled settings text source e stop same found only is =
+    subst (λ s. CompilesText settings s (Err stop)) same (subst (λ t. CompilesText settings source (Err t)) (sym is) (by e found only))
   where
-    by : (e : CompileError) → HasOutcome seed source (Err e) → ((outcome : FileOutcome) → LinesMake source outcome → OutcomeAnswer seed outcome (Err e))
-        → CompilesText seed source (Err (stop_of e))
+    by : (e : CompileError) → HasOutcome settings source (Err e) → ((outcome : FileOutcome) → LinesMake source outcome → OutcomeAnswer settings outcome (Err e))
+        → CompilesText settings source (Err (stop_of e))
     by (BadSource e) found only = (BadSource e, record { found = found; only = only }, refl)
     by (Lower e) found only = (Lower e, record { found = found; only = only }, refl)
     by (TooLarge n) found only = (TooLarge n, record { found = found; only = only }, refl)
     by NoCompilerMemory found only = tt
 
 -- a source that was read and compiled
-pub source_read : (seed : ℕ) (reader : Use) (text : List ℕ) (s : CompiledSource) → Reads reader.old text
-    → CompilesText seed text (Ok s) → NeverFails reader → ReadsSource seed (Ok s) reader
-source_read seed reader text s reads (same, is) sound = (subst (Reads reader.old) (sym same) reads, is, sound)
+pub source_read : (settings : CompileSettings) (reader : Use) (text : List ℕ) (s : CompiledSource) → Reads reader.old text
+    → CompilesText settings text (Ok s) → NeverFails reader → ReadsSource settings (Ok s) reader
+source_read settings reader text s reads (same, is) sound = (subst (Reads reader.old) (sym same) reads, is, sound)
 
 -- one that was read and is not compiled
-pub source_refused : (seed : ℕ) (reader : Use) (text : List ℕ) (stop : NoText) (outcome : Outcome) → Reads reader.old text
-    → CompilesText seed text (Err stop) → outcome ≡ outcome_without stop → NeverFails reader → ReadsSource seed (Err outcome) reader
-source_refused seed reader text stop outcome reads refused is sound =
-    subst (λ o. ReadsSource seed (Err o) reader) (sym is) (by stop refused)
+pub source_refused : (settings : CompileSettings) (reader : Use) (text : List ℕ) (stop : NoText) (outcome : Outcome) → Reads reader.old text
+    → CompilesText settings text (Err stop) → outcome ≡ outcome_without stop → NeverFails reader → ReadsSource settings (Err outcome) reader
+source_refused settings reader text stop outcome reads refused is sound =
+    subst (λ o. ReadsSource settings (Err o) reader) (sym is) (by stop refused)
   where
-    by : (stop : NoText) → CompilesText seed text (Err stop) → ReadsSource seed (Err (outcome_without stop)) reader
+    by : (stop : NoText) → CompilesText settings text (Err stop) → ReadsSource settings (Err (outcome_without stop)) reader
     by (NoTextRefused why) (e, refused, same) = (text, e, reads, refused, same, sound)
     by NoTextNoMemory none = sound
 
@@ -83,48 +84,48 @@ kept None = tt
 kept (Some xs) = refl
 
 -- nothing was written, and a refusal is the compiler's
-not_made : (seed : ℕ) (makes : List ℕ → Product → Type 0) → ((source : List ℕ) (e : CompileError) → Compiles seed source (Err e) → makes source (Err (Source e)))
-    → (outcome : Outcome) (reader : Use) (bytes : Option (List ℕ)) → ReadsSource seed (Err outcome) reader
+not_made : (settings : CompileSettings) (makes : List ℕ → Product → Type 0) → ((source : List ℕ) (e : CompileError) → Compiles settings source (Err e) → makes source (Err (Source e)))
+    → (outcome : Outcome) (reader : Use) (bytes : Option (List ℕ)) → ReadsSource settings (Err outcome) reader
     → Answers (MadeFrom reader.old makes) outcome bytes bytes
-not_made seed makes refusal (Refused why) reader bytes (source, e, reads, refused, is, same) =
+not_made settings makes refusal (Refused why) reader bytes (source, e, reads, refused, is, same) =
     ((source, reads, subst (λ w. makes source (Err w)) (sym is) (refusal source e refused)), kept bytes)
-not_made seed makes refusal ReadFault reader bytes fault = kept bytes
-not_made seed makes refusal NoMemory reader bytes same = kept bytes
-not_made seed makes refusal (Ended end) reader bytes none = absurd none
-not_made seed makes refusal WriteFault reader bytes none = absurd none
+not_made settings makes refusal ReadFault reader bytes fault = kept bytes
+not_made settings makes refusal NoMemory reader bytes same = kept bytes
+not_made settings makes refusal (Ended end) reader bytes none = absurd none
+not_made settings makes refusal WriteFault reader bytes none = absurd none
 
 -- the same for the report, which has no warnings
-pub nothing_made : (seed : ℕ) (outcome : Outcome) (report : Report) (reader : Use) (bytes : Option (List ℕ)) → ReadsSource seed (Err outcome) reader
+pub nothing_made : (settings : CompileSettings) (outcome : Outcome) (report : Report) (reader : Use) (bytes : Option (List ℕ)) → ReadsSource settings (Err outcome) reader
     → report.outcome ≡ outcome → report.warnings.items ≡ [] → (makes : List ℕ → Compiled → Product → Type 0)
-    → Answers (MadeFrom reader.old (λ source. FromSource seed (makes source) report.warnings.items source)) report.outcome bytes bytes
-nothing_made seed outcome report reader bytes is ends none makes =
-    subst (λ w. Answers (MadeFrom reader.old (λ source. FromSource seed (makes source) w source)) report.outcome bytes bytes) (sym none)
-    (subst (λ o. Answers (MadeFrom reader.old (λ source. FromSource seed (makes source) [] source)) o bytes bytes) (sym ends)
-    (not_made seed (λ source. FromSource seed (makes source) [] source) (λ source e refused. (Err e, refused, (refl, refl))) outcome reader bytes is))
+    → Answers (MadeFrom reader.old (λ source. FromSource settings (makes source) report.warnings.items source)) report.outcome bytes bytes
+nothing_made settings outcome report reader bytes is ends none makes =
+    subst (λ w. Answers (MadeFrom reader.old (λ source. FromSource settings (makes source) w source)) report.outcome bytes bytes) (sym none)
+    (subst (λ o. Answers (MadeFrom reader.old (λ source. FromSource settings (makes source) [] source)) o bytes bytes) (sym ends)
+    (not_made settings (λ source. FromSource settings (makes source) [] source) (λ source e refused. (Err e, refused, (refl, refl))) outcome reader bytes is))
 
 -- and for a source's output, which is said of the source alone
-pub nothing_output : (seed : ℕ) (text answers : List ℕ) (outcome : Outcome) (report : Report) (reader : Use) (bytes : Option (List ℕ))
-    → ReadsSource seed (Err outcome) reader → report.outcome ≡ outcome
-    → Answers (MadeFrom reader.old (RunsSource seed text answers)) report.outcome bytes bytes
-nothing_output seed text answers outcome report reader bytes is ends =
-    subst (λ o. Answers (MadeFrom reader.old (RunsSource seed text answers)) o bytes bytes) (sym ends)
-    (not_made seed (RunsSource seed text answers) (is_refused seed) outcome reader bytes is)
+pub nothing_output : (settings : CompileSettings) (text answers : List ℕ) (outcome : Outcome) (report : Report) (reader : Use) (bytes : Option (List ℕ))
+    → ReadsSource settings (Err outcome) reader → report.outcome ≡ outcome
+    → Answers (MadeFrom reader.old (RunsSource settings text answers)) report.outcome bytes bytes
+nothing_output settings text answers outcome report reader bytes is ends =
+    subst (λ o. Answers (MadeFrom reader.old (RunsSource settings text answers)) o bytes bytes) (sym ends)
+    (not_made settings (RunsSource settings text answers) (is_refused settings) outcome reader bytes is)
 
 -- ---- if there is one
 
-module _ (seed : ℕ) (reader : Use) (s : CompiledSource) (is : ReadsSource seed (Ok s) reader) (outcome : Outcome) (writer : Use) where
+module _ (settings : CompileSettings) (reader : Use) (s : CompiledSource) (is : ReadsSource settings (Ok s) reader) (outcome : Outcome) (writer : Use) where
   -- what is written of the program is written of the source
   pub program_made : (makes : List ℕ → Compiled → Product → Type 0) (warnings : List Warning) → warnings ≡ warnings_of s.program
       → Answers (makes s.text.items s.program) outcome writer.old writer.new
-      → AnswersInput (λ source. FromSource seed (makes source) warnings source) outcome reader writer
+      → AnswersInput (λ source. FromSource settings (makes source) warnings source) outcome reader writer
   program_made makes warnings warned written =
-      answers_as (makes s.text.items s.program) (MadeFrom reader.old (λ source. FromSource seed (makes source) warnings source))
+      answers_as (makes s.text.items s.program) (MadeFrom reader.old (λ source. FromSource settings (makes source) warnings source))
       (λ x h. (s.text.items, is.0, (Ok s.program, is.1.answer, (warned, h)))) outcome writer.old writer.new written
 
   -- and so is what is made of its file
   pub product_made : (makes : List ℕ → Compiled → Product → Type 0) (warnings : List Warning) (made : Result Text NoText) → warnings ≡ warnings_of s.program
       → Makes (makes s.text.items s.program) made → Answers (Shows made) outcome writer.old writer.new
-      → AnswersInput (λ source. FromSource seed (makes source) warnings source) outcome reader writer
+      → AnswersInput (λ source. FromSource settings (makes source) warnings source) outcome reader writer
   product_made makes warnings made warned m written =
       let here = makes s.text.items s.program in
       program_made makes warnings warned (answers_as (Shows made) here (shown here made m) outcome writer.old writer.new written)
@@ -132,15 +133,15 @@ module _ (seed : ℕ) (reader : Use) (s : CompiledSource) (is : ReadsSource seed
   -- so is what was made of its file
   pub file_made : (makes : List ℕ → Product → Type 0) (warnings : List Warning) (file : List ℕ) (made : Result Text NoText) → file ≡ prg_of s.program
       → warnings ≡ warnings_of s.program → Makes (makes file) made → Answers (Shows made) outcome writer.old writer.new
-      → AnswersInput (FromSource seed (λ c. makes (prg_of c)) warnings) outcome reader writer
+      → AnswersInput (FromSource settings (λ c. makes (prg_of c)) warnings) outcome reader writer
   file_made makes warnings file made same warned m written =
       product_made (λ source c. makes (prg_of c)) warnings made warned (subst (λ f. Makes (makes f) made) same m) written
 
   -- running its file is running the source
   pub file_run : (text answers file : List ℕ) (made : Result Text NoText) → file ≡ prg_of s.program
-      → ((seed : ℕ) (source : List ℕ) → KeepsSource seed source file → Makes (RunsSource seed text answers source) made)
-      → Answers (Shows made) outcome writer.old writer.new → AnswersInput (RunsSource seed text answers) outcome reader writer
+      → ((settings : CompileSettings) (source : List ℕ) → KeepsSource settings.seed source file → Makes (RunsSource settings text answers source) made)
+      → Answers (Shows made) outcome writer.old writer.new → AnswersInput (RunsSource settings text answers) outcome reader writer
   file_run text answers file made same runs written =
-      let run = runs seed s.text.items (subst (KeepsSource seed s.text.items) (sym same) is.1.keeps) in
-      answers_as (Shows made) (MadeFrom reader.old (RunsSource seed text answers))
-      (λ x shows. (s.text.items, is.0, shown (RunsSource seed text answers s.text.items) made run x shows)) outcome writer.old writer.new written
+      let run = runs settings s.text.items (subst (KeepsSource settings.seed s.text.items) (sym same) is.1.keeps) in
+      answers_as (Shows made) (MadeFrom reader.old (RunsSource settings text answers))
+      (λ x shows. (s.text.items, is.0, shown (RunsSource settings text answers s.text.items) made run x shows)) outcome writer.old writer.new written

@@ -7,6 +7,7 @@ use Rattle.tb_kernal.specs.declared.outside.Quiet.{Quiet}
 use Rattle.tb_kernal.specs.Machine.{Content}
 use Rattle.tb_codegen.specs.Compiled.{loaded_of, warnings_of}
 use Rattle.tb_codegen.specs.declared.compiled.Compiled.{Compiled}
+use Rattle.tb_codegen.specs.declared.settings.CompileSettings.{CompileSettings}
 use Rattle.tb_stepper.specs.Holding.{Holds}
 use Rattle.tb_commands.specs.Lines.{lines_of}
 use Rattle.tb_commands.specs.Dialogue.{Dialogue}
@@ -40,19 +41,19 @@ module _ (s : Settings Quiet) where
   not_stepped program commands NoMemory none = tt
 
   -- what was made of a source's program and of commands that were read
-  pub steps_made : (seed : ℕ) (reader : Use) (source typed commands : List ℕ) (program : Compiled) (warnings : List Warning)
+  pub steps_made : (settings : CompileSettings) (reader : Use) (source typed commands : List ℕ) (program : Compiled) (warnings : List Warning)
       (made : Result Text NoText) → Reads reader.old typed → Consumes reader.old reader.new typed → commands ≡ typed
-      → Compiles seed source (Ok program) → warnings ≡ warnings_of program
-      → Makes (Steps s program commands) made → Makes (MadeFromTaken reader (StepsThrough s seed warnings source)) made
-  steps_made seed reader source typed commands program warnings made reads taken same compiled warned m =
+      → Compiles settings source (Ok program) → warnings ≡ warnings_of program
+      → Makes (Steps s program commands) made → Makes (MadeFromTaken reader (StepsThrough s settings warnings source)) made
+  steps_made settings reader source typed commands program warnings made reads taken same compiled warned m =
       let here = subst (λ c. Makes (Steps s program c) made) same m in
-      makes_as (FromSource seed (λ p. Steps s p typed) warnings source) (MadeFromTaken reader (StepsThrough s seed warnings source))
-      (λ x h. (typed, reads, taken, h)) made (from_compiled seed (λ p. Steps s p typed) source program warnings made compiled warned here)
+      makes_as (FromSource settings (λ p. Steps s p typed) warnings source) (MadeFromTaken reader (StepsThrough s settings warnings source))
+      (λ x h. (typed, reads, taken, h)) made (from_compiled settings (λ p. Steps s p typed) source program warnings made compiled warned here)
 
   -- what was made of a source that is refused
-  pub steps_refused : (seed : ℕ) (reader : Use) (source typed : List ℕ) (stop : NoText) → Reads reader.old typed
-      → Consumes reader.old reader.new typed → CompilesText seed source (Err stop)
-      → Makes (MadeFromTaken reader (StepsThrough s seed [] source)) (Err stop)
-  steps_refused seed reader source typed stop reads taken refused =
-      makes_as (FromSource seed (λ p. Steps s p typed) [] source) (MadeFromTaken reader (StepsThrough s seed [] source))
-      (λ x h. (typed, reads, taken, h)) (Err stop) (from_refusal seed (λ p. Steps s p typed) source stop refused)
+  pub steps_refused : (settings : CompileSettings) (reader : Use) (source typed : List ℕ) (stop : NoText) → Reads reader.old typed
+      → Consumes reader.old reader.new typed → CompilesText settings source (Err stop)
+      → Makes (MadeFromTaken reader (StepsThrough s settings [] source)) (Err stop)
+  steps_refused settings reader source typed stop reads taken refused =
+      makes_as (FromSource settings (λ p. Steps s p typed) [] source) (MadeFromTaken reader (StepsThrough s settings [] source))
+      (λ x h. (typed, reads, taken, h)) (Err stop) (from_refusal settings (λ p. Steps s p typed) source stop refused)

@@ -4,3 +4,4 @@ pub mod Starting
 pub mod Output
 pub mod Stepping
 pub mod Reading
+pub mod Fitting

@@ -14,31 +14,32 @@ use Rattle.tb_engines.specs.declared.outcome.Refusal.TheVariants.{Source}
 use Rattle.tb_codegen.specs.Answers.{LinesMake}
 use Rattle.tb_codegen.specs.Compiled.{IsCompiled, prg_of, loaded_of, start_of}
 use Rattle.tb_codegen.specs.declared.compiled.Compiled.{Compiled}
+use Rattle.tb_codegen.specs.declared.settings.CompileSettings.{CompileSettings}
 use Rattle.tb_driver.specs.declared.reading.CompiledSource.{CompiledSource}
 use Rattle.tb_driver.specs.Sources.{IsAnswer, Compiles}
 use Rattle.tb_driver.specs.Output.{KeepsSource}
 
 -- the compiler's answer for a source is this program: it keeps the source, and begins the source's lines where it says
-pub record IsCompilation (seed : ℕ) (source : List ℕ) (program : Compiled) : Type 0 where
-  pub answer : IsAnswer seed source (Ok program)
-  pub keeps : KeepsSource seed source (prg_of program)
+pub record IsCompilation (settings : CompileSettings) (source : List ℕ) (program : Compiled) : Type 0 where
+  pub answer : IsAnswer settings source (Ok program)
+  pub keeps : KeepsSource settings.seed source (prg_of program)
   pub lines : Program
   pub makes : LinesMake source (Ok lines)
-  pub compiled : IsCompiled seed lines program
-  pub marks : MarksLines BASIC_START (loaded_of program) lines seed (start_of program)
+  pub compiled : IsCompiled settings.seed lines program
+  pub marks : MarksLines BASIC_START (loaded_of program) lines settings.seed (start_of program)
 
 -- what compiling a source answers: the source with its program, or the compiler's refusal
-abbrev pub CompilesText : ℕ → List ℕ → Result CompiledSource NoText → Type 0
-CompilesText seed text (Ok s) = (s.text.items ≡ text) × IsCompilation seed s.text.items s.program
-CompilesText seed text (Err (NoTextRefused why)) = (e : CompileError) × Compiles seed text (Err e) × (why ≡ Source e)
-CompilesText seed text (Err NoTextNoMemory) = Unit {0}
+abbrev pub CompilesText : CompileSettings → List ℕ → Result CompiledSource NoText → Type 0
+CompilesText settings text (Ok s) = (s.text.items ≡ text) × IsCompilation settings s.text.items s.program
+CompilesText settings text (Err (NoTextRefused why)) = (e : CompileError) × Compiles settings text (Err e) × (why ≡ Source e)
+CompilesText settings text (Err NoTextNoMemory) = Unit {0}
 
 -- what reading and compiling a source answers: all that the reader had, with its program, or why there is none
-abbrev pub ReadsSource : ℕ → Result CompiledSource Outcome → Use → Type 0
-ReadsSource seed (Ok s) reader = Reads reader.old s.text.items × IsCompilation seed s.text.items s.program × NeverFails reader
-ReadsSource seed (Err (Refused why)) reader =
-    (source : List ℕ) × (e : CompileError) × Reads reader.old source × Compiles seed source (Err e) × (why ≡ Source e) × NeverFails reader
-ReadsSource seed (Err ReadFault) reader = MayFault reader
-ReadsSource seed (Err NoMemory) reader = NeverFails reader
-ReadsSource seed (Err (Ended end)) reader = ⊥
-ReadsSource seed (Err WriteFault) reader = ⊥
+abbrev pub ReadsSource : CompileSettings → Result CompiledSource Outcome → Use → Type 0
+ReadsSource settings (Ok s) reader = Reads reader.old s.text.items × IsCompilation settings s.text.items s.program × NeverFails reader
+ReadsSource settings (Err (Refused why)) reader =
+    (source : List ℕ) × (e : CompileError) × Reads reader.old source × Compiles settings source (Err e) × (why ≡ Source e) × NeverFails reader
+ReadsSource settings (Err ReadFault) reader = MayFault reader
+ReadsSource settings (Err NoMemory) reader = NeverFails reader
+ReadsSource settings (Err (Ended end)) reader = ⊥
+ReadsSource settings (Err WriteFault) reader = ⊥

@@ -3,6 +3,7 @@ use Rattle.std.specs.Prelude.{ℕ, ◌≡◌, List, [], Result, Ok, Err}
 use Rattle.tb_meaning.specs.declared.missing.Warning.{Warning}
 use Rattle.tb_parser.specs.Files.{Outcome}
 use Rattle.tb_codegen.specs.declared.compiled.Compiled.{Compiled}
+use Rattle.tb_codegen.specs.declared.settings.CompileSettings.{CompileSettings}
 use Rattle.tb_compile_errors.specs.declared.refusals.CompileError.{CompileError}
 use Rattle.tb_compile_errors.specs.declared.refusals.CompileError.TheVariants.{NoMemory}
 use Rattle.tb_codegen.specs.Answers.{HasOutcome, LinesMake, OutcomeAnswer}
@@ -16,16 +17,16 @@ use Rattle.tb_engines.specs.declared.outcome.Outcome.{Outcome as EngineOutcome}
 use Rattle.tb_engines.specs.declared.outcome.Outcome.TheVariants.{Ended, Refused, ReadFault, WriteFault, NoMemory as NoEngineMemory}
 use Rattle.tb_engines.specs.declared.outcome.Refusal.TheVariants.{Source}
 
--- what the compiler promises of an answer for a source and a seed of RND: what the file's lines make is answered, and
--- whatever they make is what is answered
-pub record IsAnswer (seed : ℕ) (source : List ℕ) (answer : Result Compiled CompileError) : Type 0 where
-  pub found : HasOutcome seed source answer
-  pub only : (outcome : Outcome) → LinesMake source outcome → OutcomeAnswer seed outcome answer
+-- what the compiler promises of an answer for a source: what the file's lines make is answered, and whatever they make is
+-- what is answered
+pub record IsAnswer (settings : CompileSettings) (source : List ℕ) (answer : Result Compiled CompileError) : Type 0 where
+  pub found : HasOutcome settings source answer
+  pub only : (outcome : Outcome) → LinesMake source outcome → OutcomeAnswer settings outcome answer
 
 -- the compiler's answer; to run out of memory is none
-abbrev pub Compiles : ℕ → List ℕ → Result Compiled CompileError → Type 0
-Compiles seed source (Err NoMemory) = ⊥
-Compiles seed source answer = IsAnswer seed source answer
+abbrev pub Compiles : CompileSettings → List ℕ → Result Compiled CompileError → Type 0
+Compiles settings source (Err NoMemory) = ⊥
+Compiles settings source answer = IsAnswer settings source answer
 
 -- how an engine stops if there is no program
 abbrev pub stop_of : CompileError → NoText
@@ -42,13 +43,13 @@ FromAnswer makes warnings (Ok c) product = (warnings ≡ warnings_of c) × makes
 FromAnswer makes warnings (Err e) product = (warnings ≡ []) × (product ≡ Err (Source e))
 
 -- what comes of a source
-abbrev pub FromSource : ℕ → (Compiled → Product → Type 0) → List Warning → List ℕ → Product → Type 0
-FromSource seed makes warnings source product =
-    (answer : Result Compiled CompileError) × Compiles seed source answer × FromAnswer makes warnings answer product
+abbrev pub FromSource : CompileSettings → (Compiled → Product → Type 0) → List Warning → List ℕ → Product → Type 0
+FromSource settings makes warnings source product =
+    (answer : Result Compiled CompileError) × Compiles settings source answer × FromAnswer makes warnings answer product
 
 -- what comes of running a source: the run of its program's PRG file
-abbrev pub RunsText : {O : Type 0} → Settings O → ℕ → List Warning → List ℕ → Product → Type 0
-RunsText s seed warnings source product = FromSource seed (λ program. RunsPrg s (prg_of program)) warnings source product
+abbrev pub RunsText : {O : Type 0} → Settings O → CompileSettings → List Warning → List ℕ → Product → Type 0
+RunsText s settings warnings source product = FromSource settings (λ program. RunsPrg s (prg_of program)) warnings source product
 
 -- if an input was not read, there is nothing to warn of
 abbrev pub WarnsOfRead : EngineOutcome → List Warning → Type 0

@@ -6,6 +6,7 @@ use Rattle.tb_meaning.specs.declared.missing.Warning.{Warning}
 use Rattle.tb_kernal.specs.declared.outside.Quiet.{Quiet}
 use Rattle.tb_codegen.specs.Compiled.{loaded_of}
 use Rattle.tb_codegen.specs.declared.compiled.Compiled.{Compiled}
+use Rattle.tb_codegen.specs.declared.settings.CompileSettings.{CompileSettings}
 use Rattle.tb_stepper.specs.Holding.{Holds}
 use Rattle.tb_commands.specs.Lines.{lines_of}
 use Rattle.tb_commands.specs.Dialogue.{Dialogue}
@@ -30,8 +31,8 @@ Steps s program commands (Ok (shown, end)) =
 Steps s program commands (Err e) = ⊥
 
 -- what comes of a source and of commands
-abbrev pub StepsThrough : Settings Quiet → ℕ → List Warning → List ℕ → List ℕ → Product → Type 0
-StepsThrough s seed warnings source commands product = FromSource seed (λ program. Steps s program commands) warnings source product
+abbrev pub StepsThrough : Settings Quiet → CompileSettings → List Warning → List ℕ → List ℕ → Product → Type 0
+StepsThrough s settings warnings source commands product = FromSource settings (λ program. Steps s program commands) warnings source product
 
 -- made from all that a reader had, all of which was taken from it
 abbrev pub MadeFromTaken : Use → (List ℕ → Product → Type 0) → Product → Type 0

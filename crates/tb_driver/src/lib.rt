@@ -2,17 +2,20 @@
 //! that is to be written, and then writes it. The engines of sources are here.
 #![tactic(auto)]
 
+mod fitting;
 mod playing;
 mod reading;
 mod sources;
 mod starting;
 mod stepping;
 
+pub use fitting::bytes_to_fit;
 pub use playing::play_compiled;
 pub use reading::{CompiledSource, compile_source, read_source, stop_of};
-pub use sources::{are_bytes, build, run_text};
+pub use sources::{are_bytes, build, build_within, run_text, run_within};
 pub use starting::start_program;
-pub use stepping::step_text;
+pub use stepping::{step_text, step_within};
+pub use tb_codegen::{CompileError, CompileSettings, SizeLimit};
 pub use tb_engines::{
     End, Outcome, Refusal, Report, Warnings, asm_text, dis_text, run_prg, without_input,
 };

@@ -1,6 +1,7 @@
 //! Reading and compiling a source.
 ghost use Rattle.std.specs.Prelude.{◌≡◌, ◌↔◌, ℕ, List, Err};
 ghost use Rattle.tb_compile_errors.specs.declared.refusals.CompileError.{CompileError};
+ghost use Rattle.tb_codegen.specs.declared.settings.CompileSettings.{CompileSettings};
 ghost use Rattle.tb_streams.specs.Uses.{use_of, TakesInput};
 ghost use Rattle.tb_driver.specs.Refused.{IsRefused};
 ghost use Rattle.tb_driver.specs.Sources.{Compiles, stop_of};
@@ -8,7 +9,7 @@ ghost use Rattle.tb_driver.specs.Reading.{CompilesText, ReadsSource};
 
 use std::alloc::Global;
 use std::io::Read;
-use tb_codegen::{CompileError, Compiled, Options, compile};
+use tb_codegen::{CompileError, CompileSettings, Compiled, compile_within};
 use tb_engines::{NoText, Outcome, Refusal, without_input, without_text};
 use tb_streams::{Tracked, read_input};
 
@@ -32,33 +33,38 @@ pub fn stop_of(error: CompileError) -> NoText
 /// A law: the compiler answers a refusal exactly for the sources that are refused for it, as is said of the source
 /// alone. It does nothing.
 pub fn refusals_are_answers()
-    ensures { (seed : ℕ) (source : List ℕ) (e : CompileError) → Compiles seed source (Err e) ↔ IsRefused source e }
+    ensures { (settings : CompileSettings) (source : List ℕ) (e : CompileError)
+        → Compiles settings source (Err e) ↔ IsRefused settings source e }
 {}
 
-/// Compiles a source with a first state of RND.
-pub fn compile_source(alloc: Global, text: Vec<u8>, seed: u16) -> Result<CompiledSource, NoText>
-    ensures { CompilesText seed text.items result }
+/// Compiles a source.
+pub fn compile_source(
+    alloc: Global,
+    text: Vec<u8>,
+    settings: CompileSettings,
+) -> Result<CompiledSource, NoText>
+    ensures { CompilesText settings text.items result }
 {
-    match compile(alloc, text.as_slice(), Options { seed }) {
+    match compile_within(alloc, text.as_slice(), settings) {
         Ok(program) => Ok(CompiledSource { text, program }),
         Err(error) => Err(stop_of(error)),
     }
 }
 
-/// Reads a source and compiles it with a first state of RND.
+/// Reads a source and compiles it.
 pub fn read_source<R: Read>(
     alloc: Global,
     reader: &mut Tracked<R>,
-    seed: u16,
+    settings: CompileSettings,
 ) -> Result<CompiledSource, Outcome>
-    ensures answers { ReadsSource seed result (use_of R.remaining reader.old reader.new) }
+    ensures answers { ReadsSource settings result (use_of R.remaining reader.old reader.new) }
     ensures taken { TakesInput (use_of R.remaining reader.old reader.new) }
 {
     let text = match read_input(alloc, reader) {
         Ok(text) => text,
         Err(error) => return Err(without_input(error)),
     };
-    match compile_source(alloc, text, seed) {
+    match compile_source(alloc, text, settings) {
         Ok(source) => Ok(source),
         Err(stop) => Err(without_text(stop)),
     }

@@ -5,13 +5,15 @@ ghost use Rattle.tb_streams.specs.Uses.{use_of, TakesInput};
 ghost use Rattle.tb_engines.specs.Outcomes.{Answers, AnswersInput, Faults};
 ghost use Rattle.tb_engines.specs.Delivery.{DeliveryFaults, Makes};
 ghost use Rattle.tb_engines.specs.Programs.{settings_of, RunsPrg};
+ghost use Rattle.tb_codegen.specs.declared.settings.CompileSettings.{CompileSettings};
+ghost use Rattle.tb_codegen.specs.Settings.{by_cost};
 ghost use Rattle.tb_driver.specs.Sources.{IsFile, FromSource, RunsText, WarnsOfRead};
 ghost use Rattle.tb_driver.specs.Output.{KeepsSource, RunsSource};
 
 use crate::reading::read_source;
 use std::alloc::Global;
 use std::io::{Read, Write};
-use tb_codegen::Compiled;
+use tb_codegen::{CompileSettings, Compiled};
 use tb_engines::{End, NoText, Outcome, Report, Text, deliver, run_file};
 use tb_kernal::{Keyboard, Outside};
 use tb_streams::{Tracked, write_output};
@@ -28,20 +30,36 @@ fn write_program<W: Write>(writer: &mut Tracked<W>, program: &Compiled) -> Outco
     }
 }
 
-/// Compiles a source with a first state of RND, and writes its PRG file.
+/// Compiles a source with a first state of RND, and writes its PRG file. A source is refused by its cost.
 pub fn build<R: Read, W: Write>(
     alloc: Global,
     reader: &mut Tracked<R>,
     writer: &mut Tracked<W>,
     seed: u16,
 ) -> Report
-    ensures answers { AnswersInput (FromSource seed IsFile result.warnings.items) result.outcome
+    ensures answers { AnswersInput (FromSource (by_cost seed) IsFile result.warnings.items) result.outcome
         (use_of R.remaining reader.old reader.new) (use_of W.contents writer.old writer.new) }
     ensures warned { WarnsOfRead result.outcome result.warnings.items }
     ensures faults { Faults result.outcome (use_of R.remaining reader.old reader.new) (use_of W.contents writer.old writer.new) }
     ensures taken { TakesInput (use_of R.remaining reader.old reader.new) }
 {
-    let source = match read_source(alloc, reader, seed) {
+    build_within(alloc, reader, writer, CompileSettings::by_cost(seed))
+}
+
+/// Compiles a source by any settings, and writes its PRG file.
+pub fn build_within<R: Read, W: Write>(
+    alloc: Global,
+    reader: &mut Tracked<R>,
+    writer: &mut Tracked<W>,
+    settings: CompileSettings,
+) -> Report
+    ensures answers { AnswersInput (FromSource settings IsFile result.warnings.items) result.outcome
+        (use_of R.remaining reader.old reader.new) (use_of W.contents writer.old writer.new) }
+    ensures warned { WarnsOfRead result.outcome result.warnings.items }
+    ensures faults { Faults result.outcome (use_of R.remaining reader.old reader.new) (use_of W.contents writer.old writer.new) }
+    ensures taken { TakesInput (use_of R.remaining reader.old reader.new) }
+{
+    let source = match read_source(alloc, reader, settings) {
         Ok(source) => source,
         Err(outcome) => return Report::new(alloc, outcome),
     };
@@ -65,8 +83,8 @@ fn run_compiled<O: Outside>(
     outside: &mut O,
 ) -> Result<Text, NoText>
     ensures machine { Makes (RunsPrg (settings_of O.gives outside.old keyboard limit) file.now) result }
-    ensures output { (seed : ℕ) (source : List ℕ) → KeepsSource seed source file.now
-        → Makes (RunsSource seed keyboard.text.items keyboard.answers.items source) result }
+    ensures output { (settings : CompileSettings) (source : List ℕ) → KeepsSource settings.seed source file.now
+        → Makes (RunsSource settings keyboard.text.items keyboard.answers.items source) result }
 {
     are_bytes(keyboard.text.as_slice());
     are_bytes(keyboard.answers.as_slice());
@@ -75,7 +93,7 @@ fn run_compiled<O: Outside>(
 
 /// Compiles a source with a first state of RND, runs it as `run_prg` does, and writes the host form of what it sent.
 /// That is the source's output: all of it if the program returned or waits for a key, and a prefix at the
-/// step limit.
+/// step limit. A source is refused by its cost.
 pub fn run_text<R: Read, W: Write, O: Outside>(
     alloc: Global,
     reader: &mut Tracked<R>,
@@ -85,15 +103,44 @@ pub fn run_text<R: Read, W: Write, O: Outside>(
     limit: u64,
     outside: &mut O,
 ) -> Report
-    ensures answers { AnswersInput (RunsText (settings_of O.gives outside.old keyboard limit) seed result.warnings.items)
+    ensures answers { AnswersInput (RunsText (settings_of O.gives outside.old keyboard limit) (by_cost seed) result.warnings.items)
         result.outcome (use_of R.remaining reader.old reader.new) (use_of W.contents writer.old writer.new) }
-    ensures output { AnswersInput (RunsSource seed keyboard.text.items keyboard.answers.items)
+    ensures output { AnswersInput (RunsSource (by_cost seed) keyboard.text.items keyboard.answers.items)
         result.outcome (use_of R.remaining reader.old reader.new) (use_of W.contents writer.old writer.new) }
     ensures warned { WarnsOfRead result.outcome result.warnings.items }
     ensures faults { Faults result.outcome (use_of R.remaining reader.old reader.new) (use_of W.contents writer.old writer.new) }
     ensures taken { TakesInput (use_of R.remaining reader.old reader.new) }
 {
-    let source = match read_source(alloc, reader, seed) {
+    run_within(
+        alloc,
+        reader,
+        writer,
+        CompileSettings::by_cost(seed),
+        keyboard,
+        limit,
+        outside,
+    )
+}
+
+/// Compiles a source by any settings and runs it, as `run_text` does.
+pub fn run_within<R: Read, W: Write, O: Outside>(
+    alloc: Global,
+    reader: &mut Tracked<R>,
+    writer: &mut Tracked<W>,
+    settings: CompileSettings,
+    keyboard: Keyboard,
+    limit: u64,
+    outside: &mut O,
+) -> Report
+    ensures answers { AnswersInput (RunsText (settings_of O.gives outside.old keyboard limit) settings result.warnings.items)
+        result.outcome (use_of R.remaining reader.old reader.new) (use_of W.contents writer.old writer.new) }
+    ensures output { AnswersInput (RunsSource settings keyboard.text.items keyboard.answers.items)
+        result.outcome (use_of R.remaining reader.old reader.new) (use_of W.contents writer.old writer.new) }
+    ensures warned { WarnsOfRead result.outcome result.warnings.items }
+    ensures faults { Faults result.outcome (use_of R.remaining reader.old reader.new) (use_of W.contents writer.old writer.new) }
+    ensures taken { TakesInput (use_of R.remaining reader.old reader.new) }
+{
+    let source = match read_source(alloc, reader, settings) {
         Ok(source) => source,
         Err(outcome) => return Report::new(alloc, outcome),
     };

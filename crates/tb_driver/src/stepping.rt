@@ -2,6 +2,7 @@
 ghost use Rattle.tb_streams.specs.Uses.{use_of, TakesInput};
 ghost use Rattle.tb_play.specs.Plays.{quietly};
 ghost use Rattle.tb_engines.specs.Delivery.{Makes};
+ghost use Rattle.tb_codegen.specs.Settings.{by_cost};
 ghost use Rattle.tb_driver.specs.Sources.{WarnsOfRead};
 ghost use Rattle.tb_driver.specs.Starting.{IsLoadable};
 ghost use Rattle.tb_driver.specs.Stepping.{AnswersBoth, FaultsOfBoth, Steps, StepsThrough};
@@ -10,7 +11,7 @@ use crate::reading::compile_source;
 use crate::starting::start_program;
 use std::alloc::Global;
 use std::io::{Read, Write};
-use tb_codegen::Compiled;
+use tb_codegen::{CompileSettings, Compiled};
 use tb_commands::answers;
 use tb_engines::{End, NoText, Report, Text, deliver, without_input};
 use tb_kernal::{Keyboard, Quiet};
@@ -43,7 +44,7 @@ fn step_program(
 
 /// Reads a source and then commands, compiles the source with a first state of RND, and writes the answers to the
 /// commands, each a line, up to `q` or the end. The machine is the one that `run_text` starts with, and the outside
-/// is `Quiet`. A walk to a line takes at most `limit` steps.
+/// is `Quiet`. A walk to a line takes at most `limit` steps. A source is refused by its cost.
 pub fn step_text<R: Read, C: Read, W: Write>(
     alloc: Global,
     source: &mut Tracked<R>,
@@ -54,7 +55,39 @@ pub fn step_text<R: Read, C: Read, W: Write>(
     limit: u64,
 ) -> Report
     ensures answers { AnswersBoth
-        (StepsThrough (quietly keyboard.text.items keyboard.answers.items limit) seed result.warnings.items) result.outcome
+        (StepsThrough (quietly keyboard.text.items keyboard.answers.items limit) (by_cost seed) result.warnings.items) result.outcome
+        (use_of R.remaining source.old source.new) (use_of C.remaining commands.old commands.new)
+        (use_of W.contents writer.old writer.new) }
+    ensures warned { WarnsOfRead result.outcome result.warnings.items }
+    ensures faults { FaultsOfBoth result.outcome
+        (use_of R.remaining source.old source.new) (use_of C.remaining commands.old commands.new)
+        (use_of W.contents writer.old writer.new) }
+    ensures source_taken { TakesInput (use_of R.remaining source.old source.new) }
+    ensures commands_taken { TakesInput (use_of C.remaining commands.old commands.new) }
+{
+    step_within(
+        alloc,
+        source,
+        commands,
+        writer,
+        CompileSettings::by_cost(seed),
+        keyboard,
+        limit,
+    )
+}
+
+/// Compiles a source by any settings and steps through it, as `step_text` does.
+pub fn step_within<R: Read, C: Read, W: Write>(
+    alloc: Global,
+    source: &mut Tracked<R>,
+    commands: &mut Tracked<C>,
+    writer: &mut Tracked<W>,
+    settings: CompileSettings,
+    keyboard: Keyboard,
+    limit: u64,
+) -> Report
+    ensures answers { AnswersBoth
+        (StepsThrough (quietly keyboard.text.items keyboard.answers.items limit) settings result.warnings.items) result.outcome
         (use_of R.remaining source.old source.new) (use_of C.remaining commands.old commands.new)
         (use_of W.contents writer.old writer.new) }
     ensures warned { WarnsOfRead result.outcome result.warnings.items }
@@ -72,7 +105,7 @@ pub fn step_text<R: Read, C: Read, W: Write>(
         Ok(commands) => commands,
         Err(error) => return Report::new(alloc, without_input(error)),
     };
-    let source = match compile_source(alloc, text, seed) {
+    let source = match compile_source(alloc, text, settings) {
         Ok(source) => source,
         Err(stop) => return Report::new(alloc, deliver(writer, Err(stop))),
     };

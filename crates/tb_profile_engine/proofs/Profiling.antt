@@ -10,6 +10,7 @@ use Rattle.tb_runtime16.specs.Addresses.{LINES_AT}
 use Rattle.tb_codegen.specs.Answers.{HasOutcome, OutcomeAnswer, LinesMake}
 use Rattle.tb_codegen.specs.Compiled.{loaded_of, starts_of, IsCompiled, AddressesRise}
 use Rattle.tb_codegen.specs.declared.compiled.Compiled.{Compiled}
+use Rattle.tb_codegen.specs.declared.settings.CompileSettings.{CompileSettings}
 use Rattle.tb_engines.specs.Programs.{start, Settings}
 use Rattle.tb_engines.specs.Outcomes.{Product}
 use Rattle.tb_engines.specs.declared.delivery.NoText.{NoText}
@@ -78,17 +79,17 @@ module _ {O : Type 0} (s : Settings O) (source : List ℕ) (c : Compiled) where
         page = shows.page;
       }
 
-  of_outcome : (seed : ℕ) (outcome : FileOutcome) (ran : Ran) (texts : Texts) → LinesMake source outcome → OutcomeAnswer seed outcome (Ok c)
+  of_outcome : (settings : CompileSettings) (outcome : FileOutcome) (ran : Ran) (texts : Texts) → LinesMake source outcome → OutcomeAnswer settings outcome (Ok c)
       → IsProfile s c ran → Shows source ran.table texts
       → IsProfileOf s source c texts.page.items texts.table.items ran
-  of_outcome seed (Ok program) ran texts made answer is shows = of_program seed program ran texts made answer.1 is shows
-  of_outcome seed (Err r) ran texts made answer is shows = absurd answer
+  of_outcome settings (Ok program) ran texts made answer is shows = of_program settings.seed program ran texts made answer.1 is shows
+  of_outcome settings (Err r) ran texts made answer is shows = absurd answer
 
   -- the texts of a profiled run are the profile of the source that makes the program
-  pub profiles : (seed : ℕ) (ran : Ran) (made : Made) → HasOutcome seed source (Ok c) → IsProfile s c ran
+  pub profiles : (settings : CompileSettings) (ran : Ran) (made : Made) → HasOutcome settings source (Ok c) → IsProfile s c ran
       → Shows source ran.table made.texts → made.end ≡ ran.end
       → MakesTexts (Profiles s source c) (Ok made)
-  profiles seed ran made found is shows ends = (ran, of_outcome seed found.outcome ran made.texts found.made found.answer is shows, ends)
+  profiles settings ran made found is shows ends = (ran, of_outcome settings found.outcome ran made.texts found.made found.answer is shows, ends)
 
 -- ---- what is prepared
 

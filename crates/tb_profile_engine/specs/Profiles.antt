@@ -2,6 +2,7 @@
 use Rattle.std.specs.Prelude.{ℕ, ◌≡◌, List, map, Result, Ok, Err}
 use Rattle.tb_syntax.specs.Source.{Program, numbers}
 use Rattle.tb_codegen.specs.declared.compiled.Compiled.{Compiled}
+use Rattle.tb_codegen.specs.declared.settings.CompileSettings.{CompileSettings}
 use Rattle.tb_codegen.specs.Answers.{HasOutcome, LinesMake}
 use Rattle.tb_driver.specs.Sources.{FromSource}
 use Rattle.tb_meaning.specs.declared.missing.Warning.{Warning}
@@ -36,7 +37,7 @@ Profiles s source compiled page (Err e) = ⊥
 
 -- the compiler answered this program for the source
 abbrev pub IsProgramOf : List ℕ → Compiled → Type 0
-IsProgramOf source compiled = (seed : ℕ) × HasOutcome seed source (Ok compiled)
+IsProgramOf source compiled = (settings : CompileSettings) × HasOutcome settings source (Ok compiled)
 
 -- what was made of a program; there is nothing if memory ran out
 abbrev pub MakesTexts : (List ℕ → Product → Type 0) → Result Made NoText → Type 0
@@ -45,9 +46,9 @@ MakesTexts makes (Err (Refused e)) = ⊥
 MakesTexts makes (Err NoMemory) = Unit {0}
 
 -- what comes of profiling a source: a table with its page, or the compiler's refusal
-abbrev pub ProfilesSource : {O : Type 0} → Settings O → ℕ → List Warning → List ℕ → List ℕ → Product → Type 0
-ProfilesSource s seed warnings page source product =
-    FromSource seed (λ compiled. Profiles s source compiled page) warnings source product
+abbrev pub ProfilesSource : {O : Type 0} → Settings O → CompileSettings → List Warning → List ℕ → List ℕ → Product → Type 0
+ProfilesSource s settings warnings page source product =
+    FromSource settings (λ compiled. Profiles s source compiled page) warnings source product
 
 -- ---- steps of the engine
 

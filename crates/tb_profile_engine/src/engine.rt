@@ -8,7 +8,7 @@ ghost use Rattle.tb_profile_engine.specs.Profiles.{IsPrepared, IsProgramOf, Make
 use crate::running::profile_program;
 use std::alloc::Global;
 use std::io::{Read, Write};
-use tb_driver::{CompiledSource, read_source};
+use tb_driver::{CompileSettings, CompiledSource, read_source};
 use tb_engines::{End, NoText, Report, Text, deliver};
 use tb_kernal::{Keyboard, Outside};
 use tb_profile_table::{Texts, texts_of};
@@ -76,25 +76,25 @@ fn prepare(alloc: Global, made: Result<Made, NoText>) -> Prepared
     }
 }
 
-/// Compiles a source with a first state of RND, runs it as `run_text` does, and writes a table of what its lines took.
+/// Compiles a source, runs it as `run_text` does, and writes a table of what its lines took.
 /// The page is made with it.
 pub fn profile_text<R: Read, W: Write, O: Outside>(
     alloc: Global,
     reader: &mut Tracked<R>,
     writer: &mut Tracked<W>,
-    seed: u16,
+    settings: CompileSettings,
     keyboard: Keyboard,
     limit: u32,
     outside: &mut O,
 ) -> Profiled
     ensures answers { AnswersInput
-        (ProfilesSource (settings_of O.gives outside.old keyboard limit) seed result.report.warnings.items result.page.items)
+        (ProfilesSource (settings_of O.gives outside.old keyboard limit) settings result.report.warnings.items result.page.items)
         result.report.outcome (use_of R.remaining reader.old reader.new) (use_of W.contents writer.old writer.new) }
     ensures warned { WarnsOfRead result.report.outcome result.report.warnings.items }
     ensures faults { Faults result.report.outcome (use_of R.remaining reader.old reader.new) (use_of W.contents writer.old writer.new) }
     ensures taken { TakesInput (use_of R.remaining reader.old reader.new) }
 {
-    let source = match read_source(alloc, reader, seed) {
+    let source = match read_source(alloc, reader, settings) {
         Ok(source) => source,
         Err(outcome) => {
             return Profiled {

@@ -1,24 +1,12 @@
 -- The goals of `compile_to_fit` in src/compiler.rt.
-use Rattle.std.proofs.Common.{refl, Result, Ok, Err}
-use Rattle.std.specs.Prelude.{IfOk}
-use Rattle.tb_syntax.specs.PlainData.{lines_of}
-use Rattle.tb_codegen.proofs.Kept.{made_some}
-use Rattle.tb_codegen.proofs.Same.{gives_same_of}
+use Rattle.std.proofs.Common.{subst}
+use Rattle.tb_parser.specs.Files.{Outcome}
+use Rattle.tb_codegen.specs.Answers.{LinesMake, OutcomeAnswer}
+use Rattle.tb_codegen.proofs.Same.{gives_same}
 use Rattle.tb_codegen.proofs.compiler.compile_to_fit.Goals as goal
 
-with_first : {C E : Type 0} (P : C → Type 0) (Q : C → Type 0) (r : Result C E) → ((c : C) → P c → Q c) → IfOk r P → IfOk r Q
-with_first P Q (Ok c) f h = f c h
-with_first P Q (Err e) f h = tt
-
-pub returns-clause-keeps : goal.returns-clause-keeps
-returns-clause-keeps c =
-    let p = lines_of c.in_ok-program.program in
-    with_first _ _ c.fit_program.result (λ k h. (p, c.in_ok-program.ensures.found, h)) (c.fit_program.ensures.keeps (made_some _ _ _ _ c.in_ok-program.ensures.found p refl))
-
-pub returns-clause-marks : goal.returns-clause-marks
-returns-clause-marks c =
-    let p = lines_of c.in_ok-program.program in
-    with_first _ _ c.fit_program.result (λ k h. (p, c.in_ok-program.ensures.found, h)) (c.fit_program.ensures.marks (made_some _ _ _ _ c.in_ok-program.ensures.found p refl))
-
 pub returns-clause-same : goal.returns-clause-same
-returns-clause-same c = gives_same_of c.args.options.seed c.args.source.now c.fit_program.result (lines_of c.in_ok-program.program) c.in_ok-program.ensures.only c.fit_program.ensures.answer
+returns-clause-same c =
+    gives_same c.args.options.seed c.args.source.now c.compile_within.result
+    (subst (λ settings. (outcome : Outcome) → LinesMake c.args.source.now outcome → OutcomeAnswer settings outcome c.compile_within.result)
+    c.by_memory.ensures c.compile_within.ensures.only)

@@ -1,5 +1,5 @@
 -- The goals of `fitted` in src/linking.rt.
-use Rattle.std.proofs.Common.{◌⊎◌, inl, inr, ap, sym, map, subst, ◌∙◌, arith}
+use Rattle.std.proofs.Common.{◌⊎◌, ◌-◌, inl, inr, ap, sym, map, subst, ◌∙◌, arith}
 use Rattle.tb_asm.specs.Layout.{entry_of}
 use Rattle.tb_lower.specs.PlainData.{code_of}
 use Rattle.tb_runtime16.specs.Addresses.{PROLOGUE_AT}
@@ -17,10 +17,8 @@ returns-then-len-gt-ROOM-clause-refused c =
     let e = ap (map entry_of) c.deref.ensures.value ∙ c.in_ok-items.ensures in
     let image = c.in-Ok.image in
     let a = c.len.ensures in let b = c.len-then-len-gt-ROOM.ensures in let d = c.if-len-gt-ROOM.true in
-    let least = c.told.ensures.least in
-    image_takes (subst (λ es. IsLaid PROLOGUE_AT es image.at image.bytes.items image.labels.entries) e c.in-Ok.ensures.laid)
-    (c.told.ensures.more (omega (arith, a, b, d))) (omega (arith, a, b, d, least))
-    (λ short. (let same = c.told.ensures.exact (omega (arith, a, b, d, short)) in omega (arith, a, b, d, same)))
+    image_takes (c.len-then-len-gt-ROOM.result - 1011) (subst (λ es. IsLaid PROLOGUE_AT es image.at image.bytes.items image.labels.entries) e c.in-Ok.ensures.laid)
+    (omega (arith, a, b, d)) (omega (arith, a, b, d)) c.told.ensures
 
 pub returns : goal.returns
 returns c =
@@ -31,5 +29,5 @@ returns c =
     record {
       laid = tt;
       fits = tt;
-      refused = end_takes long (c.told-in_default.ensures.more (omega arith)) c.told-in_default.ensures.least;
+      refused = end_takes long c.told-in_default.ensures;
     }

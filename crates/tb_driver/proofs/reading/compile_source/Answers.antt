@@ -6,11 +6,11 @@ use Rattle.tb_driver.proofs.reading.compile_source.Goals as goal
 pub returns-in-Ok : goal.returns-in-Ok
 returns-in-Ok c = (
   refl,
-  compiled c.args.seed _ c.as_slice.result.now c.in-Ok.program c.as_slice.ensures.value c.in-Ok.ensures.found c.in-Ok.ensures.only c.in-Ok.ensures.keeps
+  compiled c.args.settings _ c.as_slice.result.now c.in-Ok.program c.as_slice.ensures.value c.in-Ok.ensures.found c.in-Ok.ensures.only c.in-Ok.ensures.keeps
       c.in-Ok.ensures.marks,
 )
 
 pub returns-in-Err : goal.returns-in-Err
 returns-in-Err c =
-    not_compiled c.args.seed _ c.as_slice.result.now c.in-Err.error c.stop_of.result c.as_slice.ensures.value c.in-Err.ensures.found c.in-Err.ensures.only
+    not_compiled c.args.settings _ c.as_slice.result.now c.in-Err.error c.stop_of.result c.as_slice.ensures.value c.in-Err.ensures.found c.in-Err.ensures.only
     c.stop_of.ensures

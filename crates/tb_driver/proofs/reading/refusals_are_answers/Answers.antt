@@ -3,4 +3,4 @@ use Rattle.tb_driver.proofs.Refused.{is_refused, is_answered}
 use Rattle.tb_driver.proofs.reading.refusals_are_answers.Goals as goal
 
 pub returns : goal.returns
-returns c seed source e = (is_refused seed source e, is_answered seed source e)
+returns c settings source e = (is_refused settings source e, is_answered settings source e)

@@ -1,9 +1,9 @@
--- The goals of `compile` in src/compiler.rt.
+-- The goals of `compile_within` in src/compiler.rt.
 use Rattle.std.proofs.Common.{refl, Result, Ok, Err}
 use Rattle.std.specs.Prelude.{IfOk}
 use Rattle.tb_syntax.specs.PlainData.{lines_of}
 use Rattle.tb_codegen.proofs.Kept.{made_some}
-use Rattle.tb_codegen.proofs.compiler.compile.Goals as goal
+use Rattle.tb_codegen.proofs.compiler.compile_within.Goals as goal
 
 with_first : {C E : Type 0} (P : C → Type 0) (Q : C → Type 0) (r : Result C E) → ((c : C) → P c → Q c) → IfOk r P → IfOk r Q
 with_first P Q (Ok c) f h = f c h

@@ -1,4 +1,4 @@
--- The goals of `step_text` in src/stepping.rt.
+-- The goals of `step_within` in src/stepping.rt.
 use Rattle.std.proofs.Common.{rules}
 use Rattle.tb_streams.specs.Uses.{use_of}
 use Rattle.tb_play.specs.Plays.{quietly}
@@ -6,11 +6,11 @@ use Rattle.tb_driver.specs.Stepping.{StepsThrough, MadeFromTaken}
 use Rattle.tb_driver.proofs.Delivered.{delivered, refusal_delivered}
 use Rattle.tb_driver.proofs.Loadable.{answer_loads}
 use Rattle.tb_driver.proofs.Stepped.{steps_made, steps_refused}
-use Rattle.tb_driver.proofs.stepping.step_text.Goals as goal
+use Rattle.tb_driver.proofs.stepping.step_within.Goals as goal
 
 pub step_program-requires : goal.step_program-requires
 step_program-requires g c =
-    answer_loads c.args.seed c.in-Ok-compile_source.source.text.items c.in-Ok-compile_source.source.program c.in-Ok-compile_source.ensures.1.answer.found
+    answer_loads c.args.settings c.in-Ok-compile_source.source.text.items c.in-Ok-compile_source.source.program c.in-Ok-compile_source.ensures.1.answer.found
 
 pub returns-clause-answers : goal.returns-clause-answers
 returns-clause-answers g c =
@@ -19,9 +19,9 @@ returns-clause-answers g c =
     let source = c.in-Ok-compile_source.source in
     let warnings = c.into_warnings.result.items in
     let (same, is) = c.in-Ok-compile_source.ensures in
-    delivered (λ text. MadeFromTaken reader (StepsThrough s c.args.seed warnings text)) _ _ source.text.items c.step_program.result _ _ _
+    delivered (λ text. MadeFromTaken reader (StepsThrough s c.args.settings warnings text)) _ _ source.text.items c.step_program.result _ _ _
     c.in-Ok.ensures.whole same
-    (steps_made s c.args.seed reader source.text.items _ _ source.program warnings c.step_program.result
+    (steps_made s c.args.settings reader source.text.items _ _ source.program warnings c.step_program.result
     c.in-Ok-read_input.ensures.whole c.in-Ok-read_input.ensures.consumed c.as_slice.ensures.value is.answer c.into_warnings.ensures c.step_program.ensures)
     c.deliver-2.ensures.answers
 
@@ -30,8 +30,8 @@ returns-in-Err-compile_source-clause-answers g c =
     let s = quietly c.args.keyboard.text.items c.args.keyboard.answers.items c.args.limit in
     let reader = use_of g.C.Read.remaining c.args.commands.now c.read_input-2.new.reader in
     let stop = c.in-Err-compile_source.stop in
-    refusal_delivered (λ w text. MadeFromTaken reader (StepsThrough s c.args.seed w text)) _ _ stop
+    refusal_delivered (λ w text. MadeFromTaken reader (StepsThrough s c.args.settings w text)) _ _ stop
     c.deliver.result c.new-in-Err-compile_source.result _ _ c.in-Ok.ensures.whole
-    (steps_refused s c.args.seed reader _ _ stop c.in-Ok-read_input.ensures.whole c.in-Ok-read_input.ensures.consumed
+    (steps_refused s c.args.settings reader _ _ stop c.in-Ok-read_input.ensures.whole c.in-Ok-read_input.ensures.consumed
     c.in-Err-compile_source.ensures)
     c.deliver.ensures.answers c.new-in-Err-compile_source.ensures.outcome c.new-in-Err-compile_source.ensures.warnings

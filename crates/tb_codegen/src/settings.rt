@@ -1,0 +1,43 @@
+//! How a source is compiled.
+ghost use Rattle.std.specs.Prelude.{◌≡◌};
+ghost use Rattle.tb_codegen.specs.Settings.{by_cost, by_memory};
+
+/// When a program is refused as too large.
+#[derive(Clone, Copy, Debug, PartialEq, Eq, Drop)]
+pub enum SizeLimit {
+    /// If it costs more than [`crate::MOST_COST`].
+    Cost,
+    /// If its code and line table end past `$9FFF`, whatever it costs.
+    Memory,
+}
+
+/// How a source is compiled.
+#[derive(Clone, Copy, Debug, PartialEq, Eq, Drop)]
+pub struct CompileSettings {
+    /// The first RND state, any word.
+    pub seed: u16,
+    /// When it is refused as too large.
+    pub size: SizeLimit,
+}
+
+impl CompileSettings {
+    /// With a first state of RND, and refused by the cost.
+    pub fn by_cost(seed: u16) -> CompileSettings
+        ensures { result ≡ by_cost seed }
+    {
+        CompileSettings {
+            seed,
+            size: SizeLimit::Cost,
+        }
+    }
+
+    /// With a first state of RND, and refused only if the memory is too small.
+    pub fn by_memory(seed: u16) -> CompileSettings
+        ensures { result ≡ by_memory seed }
+    {
+        CompileSettings {
+            seed,
+            size: SizeLimit::Memory,
+        }
+    }
+}
