@@ -1,11 +1,11 @@
 -- What rows do to the headings of a text.
 use Rattle.std.proofs.Common.{◌≡◌, ℕ, Bool, true, false, List, [], ◌∷◌, ◌++◌, map, take, ap, sym, ◌∙◌, refl, arith, append_assoc}
-use Rattle.std.proofs.Common.{append-nil, subst, get_or, length, ◌<◌, ◌≤◌, ◌+◌, ◌-◌, drop, if◌then◌else◌, ◌&&◌, eqb, ◌==◌}
+use Rattle.std.proofs.Common.{append-nil, subst, get_or, length, ◌<◌, ◌+◌, if◌then◌else◌, ◌&&◌, eqb, ◌==◌}
 use Rattle.std.proofs.lemmas.Bool.Decides.{nat_tests}
 use Rattle.std.specs.List.{filter}
 use Rattle.std.specs.Fmt.{decimal}
 use Rattle.std.specs.Prelude.{Result, Ok, Err, OnOk, codes}
-use Rattle.std.proofs.lemmas.List.{map-append, take_more, length-take, length-drop}
+use Rattle.std.proofs.lemmas.List.{map-append, take_more}
 use Rattle.tb_asm.specs.Text.{split_lines, begins_with_10, put}
 use Rattle.tb_source_text.specs.Lines.{last_of}
 use Rattle.tb_source_text.specs.ShownBytes.{shown}
@@ -128,10 +128,3 @@ comments_of text lines starts e = comments_in (split_lines text) ∙ ap (map (λ
     firsts : (starts : List (ℕ × ℕ)) → map (λ h. h.0) (map (heading_on lines) starts) ≡ map (comment_on lines) starts
     firsts [] = refl
     firsts (s ∷ starts) = ap (λ ls. comment_on lines s ∷ ls) (firsts starts)
-
--- some of the items after the first ones
-pub within_all : {A : Type 0} (done n : ℕ) (xs : List A) → done ≤ length xs → n ≤ length (take (length xs - done) (drop done xs)) → done + n ≤ length xs
-within_all done n xs l h =
-    let t = length-take (length xs - done) (drop done xs) in
-    let d = length-drop done xs in
-    grind (arith, h, t, d)

@@ -20,9 +20,8 @@ use Rattle.tb_settling.proofs.Forms.{forms_size, items_size, size_append, split,
 use Rattle.tb_templates.specs.declared.labels.Target.TheVariants.{Line}
 use Rattle.tb_templates.specs.Labels.{label_of}
 use Rattle.tb_templates.specs.Layout.{LabelsAt}
-use Rattle.tb_templates.specs.Program.{lines_code, past_code, find_code, table_code, block_code, program_code}
-use Rattle.tb_templates.proofs.Settled.{Sections, last_broken, sections, labels_behind, total_size}
-use Rattle.tb_codegen.proofs.Stretches.{asking_on, stretch, stretch_at, stretch_some, stretched}
+use Rattle.tb_templates.specs.Program.{line_code, lines_code, past_code, find_code, table_code, block_code, program_code}
+use Rattle.tb_templates.proofs.Settled.{Sections, sections, labels_behind, line_at, some_bytes, total_size}
 use Rattle.tb_templates.proofs.Taken.{block_size}
 use Rattle.tb_codegen.specs.declared.compiled.Compiled.{Compiled}
 use Rattle.tb_codegen.specs.Coded.{IsListed}
@@ -49,27 +48,26 @@ past_first a front there e some = omega arith
 back_within : (a whole front back end : ℕ) → whole ≡ front + back → a + whole ≤ end → a + front + back ≤ end
 back_within a whole front back end e le = omega arith
 
-before_table : (table own past last find : ℕ) → table ≡ LINES_AT + own + past + last + find → LINES_AT + own ≤ table
-before_table table own past last find e = omega arith
+before_table : (table own past find : ℕ) → table ≡ LINES_AT + own + past + find → LINES_AT + own ≤ table
+before_table table own past find e = omega arith
 
 -- lines begin one after another, and what is laid after their code comes after them
-lines_rise : (labels : List (Name × ℕ)) (ns : List ℕ) (seed a : ℕ) (asking : List ℕ) (p : Program) (fs : List Form) (end : ℕ)
-    → AreFormsOf (lines_code ns seed asking (lowered.program_code p)) fs → LabelsAt labels a (items_from a fs) → a + forms_size fs ≤ end
+lines_rise : (labels : List (Name × ℕ)) (ns : List ℕ) (seed a : ℕ) (p : Program) (fs : List Form) (end : ℕ)
+    → AreFormsOf (lines_code ns seed (lowered.program_code p)) fs → LabelsAt labels a (items_from a fs) → a + forms_size fs ≤ end
     → AddressesRise a (starts_in labels (numbers p) ++ (0, end) ∷ [])
-lines_rise labels ns seed a asking [] fs end h l le = (front_within a (forms_size fs) end le, tt)
-lines_rise labels ns seed a asking (line ∷ lines) fs end h l le =
+lines_rise labels ns seed a [] fs end h l le = (front_within a (forms_size fs) end le, tt)
+lines_rise labels ns seed a (line ∷ lines) fs end h l le =
     let own : Numbered (List Instr) = record { number = line.number; content = lowered.list_code line.content } in
-    let on = asking_on asking own in
-    let s = split (stretch ns seed asking own) (lines_code ns seed on (lowered.program_code lines)) fs (stretched ns seed asking own (lowered.program_code lines) fs h) in
+    let s = split (line_code ns seed own) (lines_code ns seed (lowered.program_code lines)) fs h in
     let ls = labels_behind labels a fs s.front s.back s.are l in
     let at = stands_at labels (label_of (Line line.number)) in
-    let there : at ≡ a = ap (λ o. unwrap_or o 0) (stretch_at labels ns seed a asking own s.front s.of_front ls.0) in
-    let long = stretch_some ns seed line.number asking (lowered.statement_code line.content) s.front s.of_front in
+    let there : at ≡ a = ap (λ o. unwrap_or o 0) (line_at labels ns seed a own s.front s.of_front ls.0) in
+    let long = some_bytes ns seed line.number (lowered.statement_code line.content) s.front s.of_front in
     let all = total_size a fs s.front s.back s.are in
     let b = a + forms_size s.front in (
       not_below a at there,
       starts_low (at + 1) b (starts_in labels (numbers lines) ++ (0, end) ∷ []) (past_first a (forms_size s.front) at there long)
-          (lines_rise labels ns seed b on lines s.back end s.of_back ls.1 (back_within a (forms_size fs) (forms_size s.front) (forms_size s.back) end all le)),
+          (lines_rise labels ns seed b lines s.back end s.of_back ls.1 (back_within a (forms_size fs) (forms_size s.front) (forms_size s.back) end all le)),
     )
 
 -- the parts of a compiled program are laid in this way
@@ -84,27 +82,26 @@ are_laid seed ls c stated rises h =
     let g : Sections seed code h.items labels = sections seed code s.lists s.rising h.items
     (settled_by PROLOGUE_AT (program_code seed code) h.items h.settled (settled_reaches PROLOGUE_AT (program_code seed code) h.items h.settled)) in
     let own = items_from LINES_AT g.lines in
-    let past = past_code ns in let last = last_broken code in let find = find_code ns in let rows = table_code ns in
-    let table : table_of c ≡ LINES_AT + forms_size g.lines + size past + size last + size find = ap (λ o. unwrap_or o 0) (sym h.table ∙ g.table) in
-    let all : size h.items ≡ size block_code + (size own + (size past + (size last + (size find + size rows)))) =
-    ap size g.are ∙ size_append block_code (own ++ (past ++ (last ++ (find ++ rows))))
-    ∙ ap (λ n. size block_code + n) (size_append own (past ++ (last ++ (find ++ rows)))
-    ∙ ap (λ n. size own + n) (size_append past (last ++ (find ++ rows)) ∙ ap (λ n. size past + n) (size_append last (find ++ rows)
-    ∙ ap (λ n. size last + n) (size_append find rows)))) in
+    let past = past_code ns in let find = find_code ns in let rows = table_code ns in
+    let table : table_of c ≡ LINES_AT + forms_size g.lines + size past + size find = ap (λ o. unwrap_or o 0) (sym h.table ∙ g.table) in
+    let all : size h.items ≡ size block_code + (size own + (size past + (size find + size rows))) =
+    ap size g.are ∙ size_append block_code (own ++ (past ++ (find ++ rows)))
+    ∙ ap (λ n. size block_code + n) (size_append own (past ++ (find ++ rows))
+    ∙ ap (λ n. size own + n) (size_append past (find ++ rows) ∙ ap (λ n. size past + n) (size_append find rows))) in
     let own_size : size own ≡ forms_size g.lines = items_size LINES_AT g.lines in
     let file : length (prg_of c) ≡ length header + length (image_of PROLOGUE_AT h.items) = ap length h.prg ∙ length-append header (image_of PROLOGUE_AT h.items) in
     let image : length (image_of PROLOGUE_AT h.items) ≡ size h.items = all_size labels PROLOGUE_AT h.items in
     record {
       rising = subst (λ ss. AddressesRise LINES_AT (ss ++ (0, table_of c) ∷ [])) (sym h.starts)
-          (lines_rise labels ns seed LINES_AT [] p g.lines (table_of c) g.of_lines g.line_labels (before_table (table_of c) (forms_size g.lines) (size past) (size last) (size find) table));
+          (lines_rise labels ns seed LINES_AT p g.lines (table_of c) g.of_lines g.line_labels (before_table (table_of c) (forms_size g.lines) (size past) (size find) table));
       within = lies (table_of c) (length (prg_of c)) (length (image_of PROLOGUE_AT h.items)) (size h.items) (forms_size g.lines) (size block_code)
-          (size past) (size last) (size find) (size rows) (size own) table all block_size own_size file image;
+          (size past) (size find) (size rows) (size own) table all block_size own_size file image;
       ends = fits (length (prg_of c)) (length (image_of PROLOGUE_AT h.items)) (size h.items) file image h.ends;
     }
   where
-    lies : (t n m k l block past last find rows own : ℕ) → t ≡ LINES_AT + l + past + last + find → k ≡ block + (own + (past + (last + (find + rows))))
+    lies : (t n m k l block past find rows own : ℕ) → t ≡ LINES_AT + l + past + find → k ≡ block + (own + (past + (find + rows)))
         → block ≡ 1011 → own ≡ l → n ≡ 14 + m → m ≡ k → t ≤ PROLOGUE_AT + (n - 14)
-    lies t n m k l block past last find rows own e a b o f i = omega arith
+    lies t n m k l block past find rows own e a b o f i = omega arith
 
     fits : (n m k : ℕ) → n ≡ 14 + m → m ≡ k → PROLOGUE_AT + k ≤ 0xA000 → PROLOGUE_AT + (n - 14) ≤ 0xA000
     fits n m k e f l = omega arith

@@ -4,6 +4,10 @@ pub mod Kept
 pub mod Laid
 pub mod Named
 pub mod Parts
+pub mod Refused
+pub mod Routines
+pub mod Rowed
 pub mod Short
 pub mod Sorted
 pub mod Sums
+pub mod Sweep

@@ -6,6 +6,7 @@ use Rattle.tb_meaning.specs.Cost.{cost}
 use Rattle.tb_parser.specs.Files.{Outcome}
 use Rattle.tb_runtime16.specs.Addresses.{PROLOGUE_AT}
 use Rattle.tb_codegen.specs.declared.compiled.Compiled.{Compiled}
+use Rattle.tb_codegen.specs.declared.settings.CompileSettings.{CompileSettings}
 use Rattle.tb_codegen.specs.Answers.{LinesMake, OutcomeAnswer}
 use Rattle.tb_codegen.specs.Compiled.{AddressesRise, prg_of, starts_of, table_of}
 use Rattle.tb_codegen.specs.Theorem.{KeepsItsSource}
@@ -19,13 +20,13 @@ use Rattle.tb_listing.specs.Places.{ShowsProgram}
 abbrev pub image_size : Compiled → ℕ
 image_size c = length (prg_of c) - 14
 
--- the compiler answered this program for the source with a seed: for whatever the source's lines make
-abbrev pub IsAnsweredWith : ℕ → List ℕ → Compiled → Type 0
-IsAnsweredWith seed source compiled = (outcome : Outcome) → LinesMake source outcome → OutcomeAnswer seed outcome (Ok compiled)
+-- the compiler answered this program for the source with these settings: for whatever the source's lines make
+abbrev pub IsAnsweredWith : CompileSettings → List ℕ → Compiled → Type 0
+IsAnsweredWith settings source compiled = (outcome : Outcome) → LinesMake source outcome → OutcomeAnswer settings outcome (Ok compiled)
 
 -- the compiler answered this program for the source
 abbrev pub IsProgramOf : List ℕ → Compiled → Type 0
-IsProgramOf source compiled = (seed : ℕ) × IsAnsweredWith seed source compiled
+IsProgramOf source compiled = (settings : CompileSettings) × IsAnsweredWith settings source compiled
 
 -- the labels of a compiled program's places, a listing that gives its image back and shows the lines of the source and
 -- the names of its places, and the map of its parts
@@ -37,12 +38,12 @@ pub record Tells (source : List ℕ) (compiled : Compiled) (program : Program) (
   pub map : made.map.items ≡ map_text (starts_of compiled) (table_of compiled) (image_size compiled) program
 
 -- what tells of a source's compilation, with the program that the source's lines make; the file keeps its source, for
--- each seed with which it was compiled
+-- all settings with which it was compiled
 pub record IsMade (source : List ℕ) (compiled : Compiled) (made : Made) : Type 0 where
   pub sorted : AddressesRise 0 (all_labels (starts_of compiled) (table_of compiled))
   pub program : Program
   pub makes : LinesMake source (Ok program)
-  pub keeps : (seed : ℕ) → seed < 65536 → IsAnsweredWith seed source compiled → KeepsItsSource seed source compiled
+  pub keeps : (settings : CompileSettings) → settings.seed < 65536 → IsAnsweredWith settings source compiled → KeepsItsSource settings.seed source compiled
   pub tells : Tells source compiled program made
   pub bytes : sum_by (λ p. p.bytes) (parts (starts_of compiled) (table_of compiled) (image_size compiled) program) ≡ image_size compiled
   pub prices : sum_by (λ p. p.price) (parts (starts_of compiled) (table_of compiled) (image_size compiled) program) ≡ cost program

@@ -1,6 +1,10 @@
 pub mod Labels
 pub mod Map
 pub mod Comments
+pub mod Bytes
+pub mod Pieces
+pub mod PlaceNames
+pub mod Rows
 pub mod Builds
 pub mod Sizes
 pub mod Places

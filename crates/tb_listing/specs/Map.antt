@@ -59,7 +59,7 @@ rows_text ps = flat_map row_text ps
 abbrev pub sum_part : ℕ → Program → Part
 sum_part size program = record { name = codes "sum"; at = PROLOGUE_AT; bytes = size; price = cost program }
 
--- what is left of both rooms
+-- what is left of both rooms; none of the cost if it is above the most that `compile` accepts
 abbrev pub left_part : ℕ → Program → Part
 left_part size program = record { name = codes "left"; at = PROLOGUE_AT + size; bytes = 0xA000 - (PROLOGUE_AT + size); price = most_cost - cost program }
 

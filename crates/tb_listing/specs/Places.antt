@@ -1,5 +1,5 @@
 -- The places of a program, and what it is that its listing names them.
-use Rattle.std.specs.Prelude.{ℕ, ◌≡◌, ◌⊎◌, List, [], ◌∷◌, ◌++◌, Option, Some, None, Ok, codes, map}
+use Rattle.std.specs.Prelude.{ℕ, ◌≡◌, ◌≤◌, ◌⊎◌, List, [], ◌∷◌, ◌++◌, Option, Some, None, Ok, codes, length, map}
 use Rattle.tb_asm.specs.declared.names.Name.{Name}
 use Rattle.tb_asm.specs.Layout.{Entry, address_in, image_of, labels_from}
 use Rattle.tb_asm.specs.Assembled.{refusal}
@@ -9,6 +9,9 @@ use Rattle.tb_runtime16.specs.Addresses.{PROLOGUE_AT}
 use Rattle.tb_source_text.specs.Lines.{numbered}
 use Rattle.tb_listing.specs.Comments.{comment_on, comments, heading_on, headings, plain}
 use Rattle.tb_listing.specs.Labels.{block_labels, line_label}
+use Rattle.tb_listing.specs.Pieces.{Plan}
+use Rattle.tb_listing.specs.Rows.{named_text}
+use Rattle.tb_streams.specs.Streams.{most_input}
 
 -- the names in a program's image: of the block and its routines, of each line, and of the line table
 abbrev pub image_labels : List (ℕ × ℕ) → ℕ → List (List ℕ × ℕ)
@@ -40,13 +43,36 @@ pub record Names (image : List ℕ) (places : List (List ℕ × ℕ)) (text : Li
   pub read : items_of_text text ≡ Ok items
   pub names : NamesItems image places items
 
--- A listing with names: it gives the image back with each place of the program under its name. Its comments are the lines
--- of the source, in the order of their code, each directly above the label of its line.
-pub record IsNamedListing (source : List ℕ) (starts : List (ℕ × ℕ)) (table : ℕ) (image text : List ℕ) : Type 0 where
-  pub names : Names image (image_labels starts table) text
-  pub lines : comments text ≡ map (comment_on (numbered source)) starts
-  pub headed : headings text ≡ map (heading_on (numbered source)) starts
+-- the places of a program that its listing names
+abbrev pub places_of : Plan → List (List ℕ × ℕ)
+places_of p = image_labels p.starts p.table
 
--- it is that, or the listing without names
+-- a text with names that is written: no longer than what can be read, and it gives the image back with each place under
+-- its name
+abbrev pub IsReadable : Plan → List ℕ → Type 0
+IsReadable p text = (length text ≤ most_input) × Names p.image (places_of p) text
+
+-- a text with names, if it can be written; else the listing without names
+abbrev pub Shows : Plan → List ℕ → List ℕ → Type 0
+Shows p text shown = ((shown ≡ text) × IsReadable p text) ⊎ ((shown ≡ plain p.image) × ¬ (IsReadable p text))
+
+-- A listing with names: it gives the image back with each place of the program under its name. Its comments are the lines
+-- of the source, in the order of their code, each directly above the label of its line. The rows below, with the texts in
+-- their comments, are those of the program's pieces.
+pub record IsNamedListing (source : List ℕ) (p : Plan) (text : List ℕ) : Type 0 where
+  pub names : Names p.image (places_of p) text
+  pub lines : comments text ≡ map (comment_on (numbered source)) p.starts
+  pub headed : headings text ≡ map (heading_on (numbered source)) p.starts
+  pub rows : text ≡ named_text source p
+
+-- the plan of a program by its parts
+abbrev pub plan_by : List (ℕ × ℕ) → ℕ → List ℕ → Plan
+plan_by starts table image = record { image = image; starts = starts; table = table }
+
+-- it is that, or the listing without names where the text with names can't be written
+abbrev pub ShowsPlan : List ℕ → Plan → List ℕ → Type 0
+ShowsPlan source p text = IsNamedListing source p text ⊎ ((text ≡ plain p.image) × ¬ (IsReadable p (named_text source p)))
+
+-- that for a program by its parts
 abbrev pub ShowsProgram : List ℕ → List (ℕ × ℕ) → ℕ → List ℕ → List ℕ → Type 0
-ShowsProgram source starts table image text = IsNamedListing source starts table image text ⊎ (text ≡ plain image)
+ShowsProgram source starts table image text = ShowsPlan source (plan_by starts table image) text

@@ -1,9 +1,9 @@
 //! All texts that a build makes of one compilation.
-ghost use Rattle.std.specs.Prelude.{◌≡◌, ◌+◌, ◌-◌, ◌≤◌, length, IfOk};
+ghost use Rattle.std.specs.Prelude.{◌≡◌, ◌+◌, ◌-◌, ◌≤◌, ◌<◌, length, IfOk};
 ghost use Rattle.tb_syntax.specs.PlainData.{lines_of};
 ghost use Rattle.tb_meaning.specs.Cost.{cost};
 ghost use Rattle.tb_runtime16.specs.Addresses.{PROLOGUE_AT};
-ghost use Rattle.tb_codegen.specs.Compiled.{most_cost, prg_of};
+ghost use Rattle.tb_codegen.specs.Compiled.{prg_of};
 ghost use Rattle.tb_listing.specs.Builds.{IsMade, IsProgramOf, Tells};
 
 use crate::label_file::labels;
@@ -44,7 +44,7 @@ fn all_of(
     compiled: &Compiled,
     program: &Program,
 ) -> Result<Made, AllocError>
-    requires small { cost (lines_of program.now) ≤ most_cost }
+    requires small { cost (lines_of program.now) < 4294967296 }
     requires headed { 14 ≤ length (prg_of compiled.now) }
     requires ends { PROLOGUE_AT + (length (prg_of compiled.now) - 14) ≤ 0xA000 }
     ensures { IfOk result (Tells source.now compiled.now (lines_of program.now)) }

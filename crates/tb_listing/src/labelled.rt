@@ -1,8 +1,12 @@
 //! The listing with names, row by row.
-ghost use Rattle.std.specs.Prelude.{◌≡◌, ◌≤◌, ◌∷◌, ◌++◌, [], IfOk, OnOk, length, map};
+ghost use Rattle.std.specs.Prelude.{◌≡◌, ◌≤◌, ◌∷◌, ◌++◌, [], IfOk, OnOk, drop, length, map, option_map, take};
 ghost use Rattle.tb_words.specs.Texts.{AppendsBytes};
 ghost use Rattle.tb_codegen.specs.Compiled.{pair_of as start_pair};
+ghost use Rattle.tb_asm.specs.Mnemonics as mnemonics;
 ghost use Rattle.tb_listing.specs.Comments.{KeepsHeadings, comment_row, heading_on, headings, label_row};
+ghost use Rattle.tb_listing.specs.Pieces.{plan_of, row_of};
+ghost use Rattle.tb_listing.specs.PlaceNames as places;
+ghost use Rattle.tb_listing.specs.Rows as rows;
 ghost use Rattle.tb_source_text.specs.Lines.{pair_of};
 ghost use Rattle.tb_source_text.specs.ShownBytes.{shown};
 
@@ -12,7 +16,7 @@ use crate::pieces::{Kind, Named, Piece, Program};
 use std::alloc::{AllocError, Global};
 use tb_asm::name;
 use tb_disasm::{Content, first_line, write_byte, write_item, write_word};
-use tb_opcodes::Mode;
+use tb_opcodes::{Mnemonic, Mode};
 use tb_source_text::{Numbered, cut, push_shown, text_of};
 
 /// All that a listing shows.
@@ -27,37 +31,55 @@ pub struct View<'a> {
 /// The text of a listing: a row for each piece, below its label; above the first piece of a line are the source's text of
 /// it and its label. Each row is ended by 10. Fails if memory runs out.
 pub fn labelled(alloc: Global, view: &View<'_>) -> Result<Vec<u8>, AllocError>
-    ensures { IfOk result (λ text. headings text.items ≡ map (heading_on (map pair_of view.now.sources.now))
+    ensures rows { IfOk result (λ text. text.items ≡ rows.lines_text (plan_of view.now.program) view.now.marks.now.marks.items
+        (map pair_of view.now.sources.now) (map start_pair view.now.program.starts.now) (map row_of view.now.pieces.now)) }
+    ensures headed { IfOk result (λ text. headings text.items ≡ map (heading_on (map pair_of view.now.sources.now))
         (map start_pair view.now.program.starts.now)) }
 {
     let mut text = Vec::new(alloc);
-    let mut done = 0;
+    let mut rest = view.pieces;
     for start in view.program.starts {
-        let next = done + count_before(&view.pieces[done..], start.at);
-        push_pieces(alloc, &mut text, view, &view.pieces[done..next])?;
+        push_pieces(alloc, &mut text, view, pieces_before(rest, start.at))?;
         push_comment(&mut text, text_of(view.sources, start.number))?;
         push_line_label(alloc, &mut text, start.number)?;
-        done = next;
+        rest = pieces_from(rest, start.at);
     }
-    push_pieces(alloc, &mut text, view, &view.pieces[done..])?;
+    push_pieces(alloc, &mut text, view, rest)?;
     Ok(text)
+}
+
+// The pieces before an address.
+fn pieces_before<'a, 'b>(pieces: &'a [Piece<'b>], at: u16) -> &'a [Piece<'b>]
+    ensures { result.now ≡ take (rows.count_before at (map row_of pieces.now)) pieces.now }
+{
+    pieces.split_at(count_before(pieces, at)).0
+}
+
+// The pieces from an address on.
+fn pieces_from<'a, 'b>(pieces: &'a [Piece<'b>], at: u16) -> &'a [Piece<'b>]
+    ensures { result.now ≡ drop (rows.count_before at (map row_of pieces.now)) pieces.now }
+{
+    pieces.split_at(count_before(pieces, at)).1
 }
 
 // How many of the first pieces lie before an address.
 fn count_before(pieces: &[Piece<'_>], at: u16) -> usize
-    ensures { result ≤ length pieces.now }
+    ensures count { result ≡ rows.count_before at (map row_of pieces.now) }
+    ensures within { result ≤ length pieces.now }
 {
-    for (i, piece) in pieces.iter().enumerate() {
+    let mut count = 0;
+    for piece in pieces {
         if at <= piece.at {
-            return i;
+            return count;
         }
+        count += 1;
     }
-    pieces.len()
+    count
 }
 
 // Appends the front of a row and what follows it.
 fn push_row(text: &mut Vec<u8>, front: &[u8], row: &[u8]) -> Result<(), AllocError>
-    ensures { AppendsBytes result text.old text.new (map shown front.now ++ map shown row.now ++ 10 ∷ []) }
+    ensures { AppendsBytes result text.old text.new (rows.row_text front.now row.now) }
 {
     push_shown(text, front)?;
     push_shown(text, row)?;
@@ -84,7 +106,9 @@ fn push_pieces(
     view: &View<'_>,
     pieces: &[Piece<'_>],
 ) -> Result<(), AllocError>
-    ensures { OnOk result (KeepsHeadings text.old.items text.new.items) }
+    ensures rows { AppendsBytes result text.old text.new (rows.pieces_text (plan_of view.now.program)
+        view.now.marks.now.marks.items (map row_of pieces.now)) }
+    ensures kept { OnOk result (KeepsHeadings text.old.items text.new.items) }
 {
     for piece in pieces {
         push_label(alloc, text, view, piece.at)?;
@@ -95,7 +119,8 @@ fn push_pieces(
 
 // Appends the label of an address, if it has one. That of a line is below its comment.
 fn push_label(alloc: Global, text: &mut Vec<u8>, view: &View<'_>, at: u16) -> Result<(), AllocError>
-    ensures { OnOk result (KeepsHeadings text.old.items text.new.items) }
+    ensures label { AppendsBytes result text.old text.new (rows.label_text (plan_of view.now.program) view.now.marks.now.marks.items at) }
+    ensures kept { OnOk result (KeepsHeadings text.old.items text.new.items) }
 {
     if is_line(&view.program, at) || !has_label(&view.program, view.marks, at) {
         return Ok(());
@@ -110,35 +135,46 @@ fn push_piece(
     view: &View<'_>,
     piece: &Piece<'_>,
 ) -> Result<(), AllocError>
-    ensures { OnOk result (KeepsHeadings text.old.items text.new.items) }
+    ensures row { AppendsBytes result text.old text.new (rows.row_text (32 ∷ 32 ∷ [])
+        (rows.row_content (plan_of view.now.program) view.now.marks.now.marks.items (row_of piece.now))) }
+    ensures kept { OnOk result (KeepsHeadings text.old.items text.new.items) }
 {
-    push_row(text, b"  ", &row_of(alloc, view, piece)?)
+    push_row(text, b"  ", &row_content(alloc, view, piece)?)
 }
 
 // The content of a piece's row.
-fn row_of(alloc: Global, view: &View<'_>, piece: &Piece<'_>) -> Result<Vec<u8>, AllocError> {
+fn row_content(alloc: Global, view: &View<'_>, piece: &Piece<'_>) -> Result<Vec<u8>, AllocError>
+    ensures { IfOk result (λ row. row.items ≡ rows.row_content (plan_of view.now.program) view.now.marks.now.marks.items
+        (row_of piece.now)) }
+{
     let mut row = Vec::new(alloc);
-    push_content(alloc, &mut row, view, piece)?;
+    push_item(alloc, &mut row, view, piece)?;
     write_word(&mut row, b"; ", piece.at, b" ")?;
-    match piece.kind {
-        Kind::Data => {
-            row.extend_from_slice(b" ")?;
-            row.extend_from_slice(piece.bytes)?;
-        }
-        _ => push_bytes(&mut row, piece.bytes)?,
-    }
-    if let Named::Whole(address) = piece.named {
-        push_outside(alloc, &mut row, address)?;
-    }
+    push_bytes(&mut row, piece.kind, piece.bytes)?;
+    push_outside_named(alloc, &mut row, piece.named)?;
     Ok(row)
 }
 
-fn push_content(
+// Appends the name of an address outside the image that a piece names whole.
+fn push_outside_named(alloc: Global, row: &mut Vec<u8>, named: Named) -> Result<(), AllocError>
+    ensures { AppendsBytes result row.old row.new (rows.outside_of named) }
+{
+    match named {
+        Named::Whole(address) => push_outside(alloc, row, address),
+        Named::Nothing | Named::Low(_) | Named::High(_) => Ok(()),
+    }
+}
+
+// Appends the item of a piece, by what it is.
+fn push_item(
     alloc: Global,
     row: &mut Vec<u8>,
     view: &View<'_>,
     piece: &Piece<'_>,
-) -> Result<(), AllocError> {
+) -> Result<(), AllocError>
+    ensures { AppendsBytes result row.old row.new (rows.item_by piece.now.kind (plan_of view.now.program)
+        view.now.marks.now.marks.items (row_of piece.now)) }
+{
     match piece.kind {
         Kind::Code => push_code(alloc, row, view, piece),
         Kind::Data => push_data(row, piece.bytes),
@@ -155,7 +191,9 @@ struct Around {
 }
 
 // How an instruction of a mode writes an address by its name, whole or by a byte; none if it names no address.
-fn signs_around(mode: Mode, named: Named) -> Option<Around> {
+fn signs_around(mode: Mode, named: Named) -> Option<Around>
+    ensures { option_map rows.pair_of result ≡ rows.signs_around mode named }
+{
     let (before, behind): (&'static [u8], &'static [u8]) = match (mode, named) {
         (Mode::Immediate, Named::Low(_)) => (b" #<", b" "),
         (Mode::Immediate, Named::High(_)) => (b" #>", b" "),
@@ -173,7 +211,10 @@ fn named_address(
     alloc: Global,
     view: &View<'_>,
     piece: &Piece<'_>,
-) -> Result<Option<Vec<u8>>, AllocError> {
+) -> Result<Option<Vec<u8>>, AllocError>
+    ensures { IfOk result (λ name. option_map (λ v. v.items) name ≡ rows.named_place (plan_of view.now.program)
+        view.now.marks.now.marks.items (row_of piece.now)) }
+{
     match piece.named.address() {
         Some(at) if view.marks.at(at).begins.is_some() => {
             Ok(Some(name_of(alloc, &view.program, view.marks, at)?))
@@ -187,7 +228,10 @@ fn push_code(
     row: &mut Vec<u8>,
     view: &View<'_>,
     piece: &Piece<'_>,
-) -> Result<(), AllocError> {
+) -> Result<(), AllocError>
+    ensures { AppendsBytes result row.old row.new (rows.code_item (plan_of view.now.program)
+        view.now.marks.now.marks.items (row_of piece.now)) }
+{
     if piece.bytes.is_empty() {
         return Ok(());
     }
@@ -197,13 +241,25 @@ fn push_code(
             named_address(alloc, view, piece)?,
             signs_around(*mode, piece.named),
         ) {
-            row.extend_from_slice(name(*mnemonic).as_slice())?;
-            row.extend_from_slice(around.before)?;
-            row.extend_from_slice(&place)?;
-            return row.extend_from_slice(around.behind);
+            return push_by_name(row, *mnemonic, around, &place);
         }
     }
     write_item(row, &line.content)
+}
+
+// Appends an instruction with a name as its operand.
+fn push_by_name(
+    row: &mut Vec<u8>,
+    mnemonic: Mnemonic,
+    around: Around,
+    place: &[u8],
+) -> Result<(), AllocError>
+    ensures { AppendsBytes result row.old row.new (mnemonics.name_of mnemonic ++ around.before.now ++ place.now ++ around.behind.now) }
+{
+    row.extend_from_slice(name(mnemonic).as_slice())?;
+    row.extend_from_slice(around.before)?;
+    row.extend_from_slice(place)?;
+    row.extend_from_slice(around.behind)
 }
 
 fn push_address(
@@ -211,7 +267,10 @@ fn push_address(
     row: &mut Vec<u8>,
     view: &View<'_>,
     piece: &Piece<'_>,
-) -> Result<(), AllocError> {
+) -> Result<(), AllocError>
+    ensures { AppendsBytes result row.old row.new (rows.address_item (rows.named_place (plan_of view.now.program)
+        view.now.marks.now.marks.items (row_of piece.now)) piece.now.bytes.now) }
+{
     match named_address(alloc, view, piece)? {
         Some(place) => {
             row.extend_from_slice(b".word ")?;
@@ -222,14 +281,18 @@ fn push_address(
     }
 }
 
-fn push_word(row: &mut Vec<u8>, bytes: &[u8]) -> Result<(), AllocError> {
+fn push_word(row: &mut Vec<u8>, bytes: &[u8]) -> Result<(), AllocError>
+    ensures { AppendsBytes result row.old row.new (rows.word_item bytes.now) }
+{
     match bytes {
         [low, high] => write_word(row, b".word $", u16::from_le_bytes([*low, *high]), b" "),
         _ => push_data(row, bytes),
     }
 }
 
-fn push_data(row: &mut Vec<u8>, bytes: &[u8]) -> Result<(), AllocError> {
+fn push_data(row: &mut Vec<u8>, bytes: &[u8]) -> Result<(), AllocError>
+    ensures { AppendsBytes result row.old row.new (rows.data_item bytes.now) }
+{
     let mut before: &'static [u8] = b".byte $";
     for byte in bytes {
         write_byte(row, before, u16::from(*byte), b"")?;
@@ -238,7 +301,22 @@ fn push_data(row: &mut Vec<u8>, bytes: &[u8]) -> Result<(), AllocError> {
     row.extend_from_slice(b" ")
 }
 
-fn push_bytes(row: &mut Vec<u8>, bytes: &[u8]) -> Result<(), AllocError> {
+// Appends bytes as a comment has them: data as text, all else in digits.
+fn push_bytes(row: &mut Vec<u8>, kind: Kind, bytes: &[u8]) -> Result<(), AllocError>
+    ensures { AppendsBytes result row.old row.new (rows.bytes_shown kind bytes.now) }
+{
+    match kind {
+        Kind::Data => {
+            row.extend_from_slice(b" ")?;
+            row.extend_from_slice(bytes)
+        }
+        Kind::Code | Kind::Number | Kind::Address => push_digits(row, bytes),
+    }
+}
+
+fn push_digits(row: &mut Vec<u8>, bytes: &[u8]) -> Result<(), AllocError>
+    ensures { AppendsBytes result row.old row.new (rows.spaced bytes.now) }
+{
     for byte in bytes {
         write_byte(row, b" ", u16::from(*byte), b"")?;
     }

@@ -2,6 +2,7 @@
 #![tactic(auto)]
 
 mod build;
+mod bytes;
 mod label_file;
 mod labelled;
 mod listing;

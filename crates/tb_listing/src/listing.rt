@@ -1,18 +1,21 @@
 //! The listing of a program: assembler text that gives its image back.
-ghost use Rattle.std.specs.Prelude.{◌≡◌, ◌⊎◌, ◌+◌, ◌-◌, ◌≤◌, true, false, None, length, drop, map, IfOk};
-ghost use Rattle.tb_asm.specs.Layout.{entry_of, image_of, labels_from};
-ghost use Rattle.tb_asm.specs.Assembled.{refusal};
+ghost use Rattle.std.specs.Prelude.{◌≡◌, ◌≢◌, ◌+◌, ◌-◌, ◌≤◌, false, length, drop, map, IfOk, MatchBool};
+ghost use Rattle.tb_asm.specs.Layout.{entry_of};
+ghost use Rattle.tb_asm.specs.declared.errors.AsmErrorKind.TheVariants.{NoMemory};
 ghost use Rattle.tb_runtime16.specs.Addresses.{PROLOGUE_AT};
 ghost use Rattle.tb_codegen.specs.Compiled.{pair_of, prg_of, starts_of, table_of};
 ghost use Rattle.tb_disasm.specs.Back.{GivesBack};
 ghost use Rattle.tb_listing.specs.Comments.{heading_on, headings, plain};
-ghost use Rattle.tb_listing.specs.Places.{AreNamed, Names, NamesItems, ShowsProgram, image_labels};
+ghost use Rattle.tb_listing.specs.Pieces.{plan_of};
+ghost use Rattle.tb_listing.specs.Places.{IsReadable, Names, NamesItems, Shows, ShowsProgram, places_of};
+ghost use Rattle.tb_listing.specs.Rows.{named_text};
 ghost use Rattle.tb_source_text.specs.Lines.{numbered};
 ghost use Rattle.tb_streams.specs.Streams.{most_input};
 
+use crate::bytes::behind;
 use crate::labelled::{View, labelled};
 use crate::marks::marks_of;
-use crate::pieces::{Program, behind, pieces};
+use crate::pieces::{Program, pieces};
 use crate::places::has_places;
 use std::alloc::{AllocError, Global};
 use tb_asm::{AsmErrorKind, Item, TextError, assemble, read_text};
@@ -33,7 +36,8 @@ pub fn list(alloc: Global, compiled: &Compiled, source: &[u8]) -> Result<Vec<u8>
     requires ends { PROLOGUE_AT + (length (prg_of compiled.now) - 14) ≤ 0xA000 }
     ensures back { IfOk result (λ text. GivesBack PROLOGUE_AT text.items (drop 14 (prg_of compiled.now))) }
     ensures readable { IfOk result (λ text. length text.items ≤ most_input) }
-    // The lines of the source are in it as comments, and each place has its name, unless it is the listing without names.
+    // It is the text with names, which has each line of the source as a comment, each text in its comment and each place
+    // under its name, wherever that text reads back as the program.
     ensures shows { IfOk result (λ text. ShowsProgram source.now (starts_of compiled.now) (table_of compiled.now)
         (drop 14 (prg_of compiled.now)) text.items) }
 {
@@ -48,7 +52,8 @@ pub fn list(alloc: Global, compiled: &Compiled, source: &[u8]) -> Result<Vec<u8>
 
 // The listing with names.
 fn with_names(alloc: Global, program: &Program<'_>, source: &[u8]) -> Result<Vec<u8>, AllocError>
-    ensures { IfOk result (λ text. headings text.items ≡ map (heading_on (numbered source.now)) (map pair_of program.now.starts.now)) }
+    ensures text { IfOk result (λ text. text.items ≡ named_text source.now (plan_of program.now)) }
+    ensures headed { IfOk result (λ text. headings text.items ≡ map (heading_on (numbered source.now)) (map pair_of program.now.starts.now)) }
 {
     let pieces = pieces(alloc, program)?;
     let marks = marks_of(alloc, program.image.len(), pieces.as_slice())?;
@@ -70,20 +75,29 @@ fn checked(alloc: Global, text: Vec<u8>, program: &Program<'_>) -> Result<Vec<u8
     requires { PROLOGUE_AT + length program.now.image.now ≤ 0xA000 }
     ensures back { IfOk result (λ text. GivesBack PROLOGUE_AT text.items program.now.image.now) }
     ensures readable { IfOk result (λ text. length text.items ≤ most_input) }
-    ensures either { IfOk result (λ shown. ((shown.items ≡ text.items)
-        × Names program.now.image.now (image_labels (map pair_of program.now.starts.now) program.now.table) text.items)
-        ⊎ (shown.items ≡ plain program.now.image.now)) }
+    ensures either { IfOk result (λ shown. Shows (plan_of program.now) text.items shown.items) }
 {
-    if text.len() <= MOST_INPUT && names_program(alloc, &text, program)? {
+    if is_readable(alloc, &text, program)? {
         return Ok(text);
     }
     without_names(alloc, program.image)
 }
 
+// Whether a text can be read, and reads as items that assemble to a program's image, with its places among their labels.
+fn is_readable(alloc: Global, text: &[u8], program: &Program<'_>) -> Result<bool, AllocError>
+    ensures { IfOk result (λ is. MatchBool is (IsReadable (plan_of program.now) text.now)
+        (¬ (IsReadable (plan_of program.now) text.now))) }
+{
+    if MOST_INPUT < text.len() {
+        return Ok(false);
+    }
+    names_program(alloc, text, program)
+}
+
 // Whether a text reads as items that assemble to a program's image, with its places among their labels.
 fn names_program(alloc: Global, text: &[u8], program: &Program<'_>) -> Result<bool, AllocError>
-    ensures { IfOk result (λ does. does ≡ true
-        → Names program.now.image.now (image_labels (map pair_of program.now.starts.now) program.now.table) text.now) }
+    ensures { IfOk result (λ does. MatchBool does (Names program.now.image.now (places_of (plan_of program.now)) text.now)
+        (¬ (Names program.now.image.now (places_of (plan_of program.now)) text.now))) }
 {
     match read_text(alloc, text) {
         Ok(items) => assembles_to(alloc, items.as_slice(), program),
@@ -93,9 +107,9 @@ fn names_program(alloc: Global, text: &[u8], program: &Program<'_>) -> Result<bo
 }
 
 fn assembles_to(alloc: Global, items: &[Item], program: &Program<'_>) -> Result<bool, AllocError>
-    ensures { IfOk result (λ does. does ≡ true
-        → NamesItems program.now.image.now (image_labels (map pair_of program.now.starts.now) program.now.table)
-        (map entry_of items.now)) }
+    ensures { IfOk result (λ does. MatchBool does
+        (NamesItems program.now.image.now (places_of (plan_of program.now)) (map entry_of items.now))
+        (¬ (NamesItems program.now.image.now (places_of (plan_of program.now)) (map entry_of items.now)))) }
 {
     match assemble(alloc, BLOCK_AT, items) {
         Ok(made) => {
@@ -110,7 +124,7 @@ fn assembles_to(alloc: Global, items: &[Item], program: &Program<'_>) -> Result<
 
 // What is not assembled gives no image.
 fn no_image(kind: AsmErrorKind) -> Result<bool, AllocError>
-    ensures { IfOk result (λ same. same ≡ false) }
+    ensures { IfOk result (λ same. (same ≡ false) × (kind ≢ NoMemory)) }
 {
     match kind {
         AsmErrorKind::NoMemory => Err(AllocError),

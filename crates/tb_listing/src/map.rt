@@ -1,10 +1,10 @@
 //! The map of a program: the address of each part, what it takes and what it costs.
-ghost use Rattle.std.specs.Prelude.{◌≡◌, ◌≤◌, ◌+◌, ◌-◌, ◌++◌, [], IfOk, map, drop, length, replicate};
+ghost use Rattle.std.specs.Prelude.{◌≡◌, ◌≤◌, ◌<◌, ◌+◌, ◌-◌, ◌++◌, [], IfOk, map, drop, length, replicate};
 ghost use Rattle.tb_words.specs.Texts.{AppendsBytes};
 ghost use Rattle.tb_syntax.specs.PlainData.{lines_of};
 ghost use Rattle.tb_meaning.specs.Cost as cost;
 ghost use Rattle.tb_runtime16.specs.Addresses.{PROLOGUE_AT};
-ghost use Rattle.tb_codegen.specs.Compiled.{most_cost, pair_of, prg_of, starts_of, table_of};
+ghost use Rattle.tb_codegen.specs.Compiled.{pair_of, prg_of, starts_of, table_of};
 ghost use Rattle.tb_codegen.specs.Texts.{end_before};
 ghost use Rattle.tb_listing.specs.Map.{left, right, row_text, rows_text, first_part, line_parts, block_part, table_part, map_text};
 
@@ -30,7 +30,7 @@ const NUMBER_WIDTH: usize = 8;
 /// The map of a compiled program: a table of the block, each line and the line table with address, bytes and cost, their
 /// sums, and what is left of the room. The highest line includes all up to the line table. Fails if memory runs out.
 pub fn chart(alloc: Global, compiled: &Compiled, program: &Program) -> Result<Vec<u8>, AllocError>
-    requires small { cost.cost (lines_of program.now) ≤ most_cost }
+    requires small { cost.cost (lines_of program.now) < 4294967296 }
     requires ends { PROLOGUE_AT + (length (prg_of compiled.now) - 14) ≤ 0xA000 }
     ensures { IfOk result (λ text. text.items ≡ map_text (starts_of compiled.now) (table_of compiled.now)
         (length (prg_of compiled.now) - 14) (lines_of program.now)) }
@@ -40,7 +40,8 @@ pub fn chart(alloc: Global, compiled: &Compiled, program: &Program) -> Result<Ve
     let mut text = Vec::from_slice(alloc, b"part        addr   bytes    cost\n")?;
     let cost = push_parts(alloc, &mut text, compiled, size, program)?;
     push_row(alloc, &mut text, b"sum", BLOCK_AT, size, cost)?;
-    let (left, budget) = (END - end, MOST_COST - cost);
+    let left = END - end;
+    let budget = MOST_COST.saturating_sub(cost);
     push_row(alloc, &mut text, b"left", end as u16, left, budget)?;
     Ok(text)
 }
@@ -53,7 +54,7 @@ fn push_parts(
     size: usize,
     program: &Program,
 ) -> Result<u32, AllocError>
-    requires small { cost.cost (lines_of program.now) ≤ most_cost }
+    requires small { cost.cost (lines_of program.now) < 4294967296 }
     requires ends { PROLOGUE_AT + size ≤ 0xA000 }
     ensures sum { IfOk result (λ sum. sum ≡ cost.cost (lines_of program.now)) }
     ensures rows { AppendsBytes result text.old text.new (row_text (block_part (starts_of compiled.now) (table_of compiled.now))
@@ -92,7 +93,7 @@ fn push_lines(
     table: u16,
     program: &Program,
 ) -> Result<u32, AllocError>
-    requires { cost.cost (lines_of program.now) ≤ most_cost }
+    requires { cost.cost (lines_of program.now) < 4294967296 }
     ensures { IfOk result (λ sum. (sum ≡ cost.cost (lines_of program.now))
         × (text.new.items ≡ text.old.items ++ rows_text (line_parts (map pair_of starts.now) table
         (lines_of program.now)))) }

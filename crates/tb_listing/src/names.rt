@@ -1,8 +1,12 @@
 //! The names of addresses.
-ghost use Rattle.std.specs.Prelude.{◌≡◌, ◌++◌, false, true, codes, IfOk};
+ghost use Rattle.std.specs.Prelude.{◌≡◌, ◌<◌, ◌++◌, false, true, codes, map, IfOk};
 ghost use Rattle.std.specs.Fmt.{decimal};
 ghost use Rattle.tb_words.specs.Texts.{AppendsBytes};
+ghost use Rattle.tb_codegen.specs.Compiled.{pair_of};
 ghost use Rattle.tb_listing.specs.Comments.{begins_plainly, is_comment};
+ghost use Rattle.tb_listing.specs.Labels.{all_routines};
+ghost use Rattle.tb_listing.specs.Pieces.{plan_of};
+ghost use Rattle.tb_listing.specs.PlaceNames as places;
 
 use crate::label_file::{ROUTINES, name};
 use crate::marks::Marks;
@@ -24,7 +28,9 @@ const SLOTS_END: u16 = SLOTS + 32;
 const SCRATCH_END: u16 = 0xc080;
 
 /// The number of the line that begins at an address, if one does.
-pub fn line_at(starts: &[LineStart], at: u16) -> Option<u16> {
+pub fn line_at(starts: &[LineStart], at: u16) -> Option<u16>
+    ensures { result ≡ places.line_at (map pair_of starts.now) at }
+{
     for start in starts {
         if start.at == at {
             return Some(start.number);
@@ -34,12 +40,16 @@ pub fn line_at(starts: &[LineStart], at: u16) -> Option<u16> {
 }
 
 /// Whether a line begins at an address, which has no name of its own then.
-pub fn is_line(program: &Program<'_>, at: u16) -> bool {
+pub fn is_line(program: &Program<'_>, at: u16) -> bool
+    ensures { result ≡ places.is_line (plan_of program.now) at }
+{
     own_name(program, at).is_empty() && line_at(program.starts, at).is_some()
 }
 
 /// Whether the piece at an address has a label above it: the address has a name of its own, or is named by a piece.
-pub fn has_label(program: &Program<'_>, marks: &Marks, at: u16) -> bool {
+pub fn has_label(program: &Program<'_>, marks: &Marks, at: u16) -> bool
+    ensures { result ≡ places.has_label (plan_of program.now) marks.now.marks.items at }
+{
     marks.at(at).is_named || !own_name(program, at).is_empty()
 }
 
@@ -59,7 +69,8 @@ pub fn name_of(
     marks: &Marks,
     at: u16,
 ) -> Result<Vec<u8>, AllocError>
-    ensures { IfOk result (λ name. is_comment name.items ≡ false) }
+    ensures name { IfOk result (λ name. name.items ≡ places.name_of (plan_of program.now) marks.now.marks.items at) }
+    ensures plain { IfOk result (λ name. is_comment name.items ≡ false) }
 {
     let own = own_name(program, at);
     if own.is_empty() {
@@ -82,7 +93,8 @@ fn name_of_start(
     at: u16,
 ) -> Result<Vec<u8>, AllocError>
     requires { begins_plainly inner.now ≡ true }
-    ensures { IfOk result (λ name. is_comment name.items ≡ false) }
+    ensures name { IfOk result (λ name. name.items ≡ places.name_of_start line inner.now at) }
+    ensures plain { IfOk result (λ name. is_comment name.items ≡ false) }
 {
     match line {
         Some(number) => line_name(alloc, number),
@@ -96,12 +108,21 @@ fn name_of_start(
 
 // The prefix of a name that is built from an address: in the code, or in the data of routines or lines.
 fn inner_name(marks: &Marks, at: u16) -> &'static [u8]
-    ensures { begins_plainly result.now ≡ true }
+    ensures name { result.now ≡ places.inner_name (places.mark_at marks.now.marks.items at).begins at }
+    ensures plain { begins_plainly result.now ≡ true }
 {
     match marks.at(at).begins {
-        Some(Kind::Data) => if at < LINES_AT { b"data" } else { b"text" },
+        Some(Kind::Data) => data_name(at),
         _ => b"at",
     }
+}
+
+// The prefix of a name in data.
+fn data_name(at: u16) -> &'static [u8]
+    ensures name { result.now ≡ places.data_name at }
+    ensures plain { begins_plainly result.now ≡ true }
+{
+    if at < LINES_AT { b"data" } else { b"text" }
 }
 
 // Appends a name that ends with a number.
@@ -119,7 +140,8 @@ fn push_number(
 
 // The name of an address that every program has; empty for any other address.
 fn own_name(program: &Program<'_>, at: u16) -> &'static [u8]
-    ensures { is_comment result.now ≡ false }
+    ensures name { result.now ≡ places.own_name (plan_of program.now) at }
+    ensures plain { is_comment result.now ≡ false }
 {
     if at == BLOCK_AT {
         b"prologue"
@@ -137,7 +159,8 @@ fn own_name(program: &Program<'_>, at: u16) -> &'static [u8]
 }
 
 fn routine_name(at: u16) -> &'static [u8]
-    ensures { is_comment result.now ≡ false }
+    ensures name { result.now ≡ places.routine_at all_routines at }
+    ensures plain { is_comment result.now ≡ false }
 {
     for routine in ROUTINES {
         if entry(routine) == at {
@@ -148,11 +171,11 @@ fn routine_name(at: u16) -> &'static [u8]
 }
 
 /// Appends two spaces and the name of an address outside the image, if it has one.
-pub fn push_outside(alloc: Global, text: &mut Vec<u8>, at: u16) -> Result<(), AllocError> {
+pub fn push_outside(alloc: Global, text: &mut Vec<u8>, at: u16) -> Result<(), AllocError>
+    ensures { AppendsBytes result text.old text.new (places.outside_text at) }
+{
     if VARS <= at && at < VARS_END {
-        let letter = b'A' + ((at - VARS) / 2) as u8;
-        text.extend_from_slice(&[b' ', b' ', b'v', b'a', b'r', letter])?;
-        push_offset(alloc, text, (at - VARS) % 2)
+        push_variable(alloc, text, at - VARS)
     } else if SLOTS <= at && at < SLOTS_END {
         text.extend_from_slice(b"  slots")?;
         push_offset(alloc, text, at - SLOTS)
@@ -164,27 +187,47 @@ pub fn push_outside(alloc: Global, text: &mut Vec<u8>, at: u16) -> Result<(), Al
     }
 }
 
+// Appends the name of a variable, by an offset among the variables.
+fn push_variable(alloc: Global, text: &mut Vec<u8>, offset: u16) -> Result<(), AllocError>
+    requires { offset < 52 }
+    ensures { AppendsBytes result text.old text.new (places.variable_text offset) }
+{
+    text.extend_from_slice(b"  var")?;
+    text.push(b'A' + (offset / 2) as u8)?;
+    push_offset(alloc, text, offset % 2)
+}
+
 // The name of an address, or of the word whose high byte is there.
-fn push_word_name(alloc: Global, text: &mut Vec<u8>, at: u16) -> Result<(), AllocError> {
-    for offset in [0u16, 1] {
-        let name = outside_name(at.wrapping_sub(offset));
-        if !name.is_empty() {
-            text.extend_from_slice(b"  ")?;
-            text.extend_from_slice(name)?;
-            return push_offset(alloc, text, offset);
-        }
+fn push_word_name(alloc: Global, text: &mut Vec<u8>, at: u16) -> Result<(), AllocError>
+    ensures { AppendsBytes result text.old text.new (places.word_name at) }
+{
+    let name = outside_name(at);
+    if !name.is_empty() {
+        text.extend_from_slice(b"  ")?;
+        return text.extend_from_slice(name);
+    }
+    let name = outside_name(at.wrapping_sub(1));
+    if !name.is_empty() {
+        text.extend_from_slice(b"  ")?;
+        text.extend_from_slice(name)?;
+        return push_offset(alloc, text, 1);
     }
     Ok(())
 }
 
-fn push_offset(alloc: Global, text: &mut Vec<u8>, offset: u16) -> Result<(), AllocError> {
+// Appends an offset, if it isn't 0.
+fn push_offset(alloc: Global, text: &mut Vec<u8>, offset: u16) -> Result<(), AllocError>
+    ensures { AppendsBytes result text.old text.new (places.offset_text offset) }
+{
     if offset == 0 {
         return Ok(());
     }
     push_number(alloc, text, b"+", offset)
 }
 
-fn outside_name(at: u16) -> &'static [u8] {
+fn outside_name(at: u16) -> &'static [u8]
+    ensures { result.now ≡ places.outside_name at }
+{
     match at {
         LEFT => b"left",
         RIGHT => b"right",

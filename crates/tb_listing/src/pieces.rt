@@ -1,13 +1,29 @@
 //! An image in pieces: the bytes of each row of a listing, and the addresses that they name.
-ghost use Rattle.std.specs.Prelude.{◌≡◌, ◌≤◌, length, drop};
+ghost use Rattle.std.specs.Prelude.{◌≡◌, ◌≤◌, ◌<◌, [], length, map, IfOk};
+ghost use Rattle.tb_asm.specs.Layout.{number_in};
+ghost use Rattle.tb_listing.specs.Pieces as plans;
+ghost use Rattle.tb_listing.specs.PlaceNames.{address_named};
+ghost use Rattle.tb_listing.specs.Pieces.{plan_of, row_of, rows_of};
 
-use crate::sizes::{BREAK, FAULT_NUMBER, FAULT_SIZE, POWERS_SIZE, ROW_SIZE, SEARCH_SIZE, WORD};
+use crate::bytes::{behind, forth, is_at, is_call, last, pair_in, word_in};
+use crate::sizes::{BLOCK_SIZE, FAULT_SIZE, POWERS_SIZE, ROW_SIZE, SEARCH_SIZE, WORD};
 use std::alloc::{AllocError, Global};
 use tb_asm::Operand;
 use tb_codegen::LineStart;
 use tb_disasm::{Content, first_line};
-use tb_opcodes::{Mnemonic, Mode, length};
-use tb_runtime16::{BLOCK_AT, LINES_AT, RETURN_LOW, Routine, block, entry};
+use tb_opcodes::Mode;
+use tb_runtime16::{BLOCK_AT, LINES_AT, RETURN_LOW, Routine, entry};
+
+// The opcodes by which the code that loads addresses and texts is found.
+const JMP: u8 = 0x4c;
+
+const STA_PAGE_ZERO: u8 = 0x85;
+
+const STA: u8 = 0x8d;
+
+const STA_BY_X: u8 = 0x9d;
+
+const LDA_NUMBER: u8 = 0xa9;
 
 /// A compiled program: the bytes after its BASIC line, where its lines begin, and where its line table does.
 #[derive(Clone, Copy, Drop)]
@@ -19,26 +35,17 @@ pub struct Program<'a> {
 
 impl Program<'_> {
     /// The address of the search for a line in the line table.
-    pub fn search(&self) -> u16 {
+    pub fn search(&self) -> u16
+        ensures { result ≡ plans.search (plan_of self.now) }
+    {
         self.table.wrapping_sub(SEARCH_SIZE)
     }
 
-    /// The address of fault 7, after the last line: before the search, or before the STOP key's code of the last lines.
-    pub fn past(&self) -> u16 {
-        let mut past = self.search().wrapping_sub(FAULT_SIZE);
-        for _ in self.starts {
-            if self.number_of_fault(past) != Some(BREAK) {
-                break;
-            }
-            past = past.wrapping_sub(FAULT_SIZE);
-        }
-        past
-    }
-
-    // The number of the fault that the code at this address hands over.
-    fn number_of_fault(&self, at: u16) -> Option<u8> {
-        let offset = usize::from(at.wrapping_sub(BLOCK_AT));
-        self.image.get(offset.saturating_add(FAULT_NUMBER)).copied()
+    /// The address of fault 7, between the last line and the search.
+    pub fn past(&self) -> u16
+        ensures { result ≡ plans.past (plan_of self.now) }
+    {
+        self.search().wrapping_sub(FAULT_SIZE)
     }
 }
 
@@ -66,7 +73,9 @@ pub enum Named {
 
 impl Named {
     /// The address, if one is named.
-    pub fn address(self) -> Option<u16> {
+    pub fn address(self) -> Option<u16>
+        ensures { result ≡ address_named self }
+    {
         match self {
             Named::Nothing => None,
             Named::Whole(address) | Named::Low(address) | Named::High(address) => Some(address),
@@ -84,41 +93,21 @@ pub struct Piece<'a> {
 }
 
 /// The pieces of a program's image, one after another. Fails if memory runs out.
-pub fn pieces<'a>(alloc: Global, program: &Program<'a>) -> Result<Vec<Piece<'a>>, AllocError> {
+pub fn pieces<'a>(alloc: Global, program: &Program<'a>) -> Result<Vec<Piece<'a>>, AllocError>
+    ensures { IfOk result (λ pieces. map row_of pieces.items ≡ rows_of (plan_of program.now)) }
+{
     let mut pieces = Vec::new(alloc);
     let mut rest = program.image;
     let mut at = BLOCK_AT;
     let mut text = Span { from: 0, to: 0 };
     while !rest.is_empty() {
-        if let Some(found) = text_after_call(at, rest) {
-            text = found;
-        }
-        let (kind, size) = first_kind(program, text, at, rest);
-        let named = what_is_named(program, kind, at, rest);
-        let (bytes, more) = rest.split_at(size);
-        pieces.push(Piece {
-            at,
-            bytes,
-            kind,
-            named,
-        })?;
-        at = at.wrapping_add(low_word(size));
-        rest = more;
+        text = text_here(text, at, rest);
+        let piece = first_piece(program, text, at, rest);
+        pieces.push(piece)?;
+        at = forth(at, piece.bytes.len());
+        rest = behind(rest, piece.bytes.len());
     }
     Ok(pieces)
-}
-
-/// The bytes after the first `size` ones.
-pub fn behind(bytes: &[u8], size: usize) -> &[u8]
-    requires { size ≤ length bytes.now }
-    ensures { result.now ≡ drop size bytes.now }
-{
-    bytes.split_at(size).1
-}
-
-// A number modulo 65,536.
-fn low_word(number: usize) -> u16 {
-    (number % 0x1_0000) as u16
 }
 
 // Bytes from an address up to before another one.
@@ -128,88 +117,73 @@ struct Span {
     to: u16,
 }
 
-// An instruction, and what follows it.
-#[derive(Clone, Copy, Drop)]
-struct Instruction<'a> {
-    mnemonic: Mnemonic,
-    mode: Mode,
-    // Its operand, 0 if it has none.
-    operand: u16,
-    // The address after it, and the bytes from there on.
-    after: u16,
-    rest: &'a [u8],
-}
-
-impl Instruction<'_> {
-    fn is(&self, mnemonic: Mnemonic, mode: Mode) -> bool {
-        self.mnemonic == mnemonic && self.mode == mode
-    }
-
-    fn calls(&self, routine: Routine) -> bool {
-        self.is(Mnemonic::Jsr, Mode::Absolute) && self.operand == entry(routine)
-    }
-}
-
-// The instruction that begins here; `None` if there is none.
-fn first_instruction(at: u16, bytes: &[u8]) -> Option<Instruction<'_>> {
-    if bytes.is_empty() {
-        return None;
-    }
-    let (line, size) = first_line(at, bytes);
-    let Content::Instr(mnemonic, mode, operand) = line.content else {
-        return None;
-    };
-    Some(Instruction {
-        mnemonic,
-        mode,
-        operand: match operand {
-            Operand::Word(word) => word,
-            Operand::Byte(byte) => u16::from(byte),
-            Operand::Nothing | Operand::Label(_) | Operand::LowOf(_) | Operand::HighOf(_) => 0,
-        },
-        after: at.wrapping_add(low_word(size)),
-        rest: bytes.split_at(size.min(bytes.len())).1,
-    })
-}
-
-// Where the text of a PRINT is, if its call of Text is here: the jump after the call leads past the text.
-fn text_after_call(at: u16, rest: &[u8]) -> Option<Span> {
-    let call = first_instruction(at, rest)?;
-    let jump = first_instruction(call.after, call.rest)?;
-    if call.calls(Routine::Text) && jump.is(Mnemonic::Jmp, Mode::Absolute) {
-        Some(Span {
-            from: jump.after,
-            to: jump.operand,
-        })
-    } else {
-        None
-    }
-}
-
-// What comes first, and how many bytes it has: at least one, and no more than there are.
-fn first_kind(program: &Program<'_>, text: Span, at: u16, rest: &[u8]) -> (Kind, usize)
-    requires { 1 ≤ length rest.now }
-    ensures some { 1 ≤ result.1 }
-    ensures within { result.1 ≤ length rest.now }
+// The text of a PRINT, if its call of Text is here: the jump after the call leads past the text. Else the one before.
+fn text_here(text: Span, at: u16, rest: &[u8]) -> Span
+    ensures { result ≡ plans.text_here text at rest.now }
 {
-    let data = data_size(text, at);
-    let (kind, size) = if data > 0 {
-        (Kind::Data, data)
-    } else if at < program.table {
-        (Kind::Code, first_line(at, rest).1)
-    } else if (at - program.table) % ROW_SIZE == 0 {
-        (Kind::Number, WORD)
+    if is_call(rest, 0, Routine::Text) && is_at(rest, 3, JMP) && 6 <= rest.len() {
+        Span {
+            from: forth(at, 6),
+            to: word_in(rest, 4),
+        }
     } else {
-        (Kind::Address, WORD)
+        text
+    }
+}
+
+// The first piece.
+fn first_piece<'a>(program: &Program<'a>, text: Span, at: u16, rest: &'a [u8]) -> Piece<'a>
+    requires { 0 < length rest.now }
+    ensures row { row_of result ≡ plans.first_row (plan_of program.now) text at rest.now }
+    ensures some { 0 < length result.bytes.now }
+    ensures within { length result.bytes.now ≤ length rest.now }
+{
+    let kind = first_kind(program, text, at);
+    Piece {
+        at,
+        bytes: rest.split_at(first_size(kind, text, at, rest)).0,
+        kind,
+        named: what_is_named(program, kind, at, rest),
+    }
+}
+
+// What comes first.
+fn first_kind(program: &Program<'_>, text: Span, at: u16) -> Kind
+    ensures { result ≡ plans.first_kind program.now.table text at }
+{
+    if data_size(text, at) > 0 {
+        Kind::Data
+    } else if at < program.table {
+        Kind::Code
+    } else if (at - program.table) % ROW_SIZE == 0 {
+        Kind::Number
+    } else {
+        Kind::Address
+    }
+}
+
+// How many bytes the first piece has: at least one, and no more than there are.
+fn first_size(kind: Kind, text: Span, at: u16, rest: &[u8]) -> usize
+    requires { 0 < length rest.now }
+    ensures size { result ≡ plans.first_size kind text at rest.now }
+    ensures some { 0 < result }
+    ensures within { result ≤ length rest.now }
+{
+    let size = match kind {
+        Kind::Data => usize::from(data_size(text, at)),
+        Kind::Code => first_line(at, rest).1,
+        Kind::Number | Kind::Address => WORD,
     };
-    (kind, size.max(1).min(rest.len()))
+    size.max(1).min(rest.len())
 }
 
 // How many bytes of data begin here; 0 for code and for the line table.
-fn data_size(text: Span, at: u16) -> usize {
-    let block_end = BLOCK_AT.wrapping_add(low_word(block().len()));
+fn data_size(text: Span, at: u16) -> u16
+    ensures { result ≡ plans.data_size text at }
+{
+    let block_end = BLOCK_AT + BLOCK_SIZE;
     let behind_number = entry(Routine::Text);
-    usize::from(if at == text.from {
+    if at == text.from {
         text.to.saturating_sub(text.from)
     } else if at == behind_number - 2 * POWERS_SIZE || at == behind_number - POWERS_SIZE {
         POWERS_SIZE
@@ -217,121 +191,115 @@ fn data_size(text: Span, at: u16) -> usize {
         LINES_AT.saturating_sub(block_end)
     } else {
         0
-    })
+    }
 }
 
 // What the first piece names.
-fn what_is_named(program: &Program<'_>, kind: Kind, at: u16, rest: &[u8]) -> Named {
-    match (kind, rest) {
-        (Kind::Address, [low, high, ..]) => Named::Whole(u16::from_le_bytes([*low, *high])),
-        (Kind::Code, _) => named_by_code(program, at, rest),
+fn what_is_named(program: &Program<'_>, kind: Kind, at: u16, rest: &[u8]) -> Named
+    requires { 0 < length rest.now }
+    ensures { result ≡ plans.named_first (plan_of program.now) kind at rest.now }
+{
+    match kind {
+        Kind::Code => named_by_code(program, at, rest),
+        Kind::Address if 2 <= rest.len() => Named::Whole(word_in(rest, 0)),
         _ => Named::Nothing,
     }
 }
 
 // What the first instruction names.
-fn named_by_code(program: &Program<'_>, at: u16, rest: &[u8]) -> Named {
-    let Some(instruction) = first_instruction(at, rest) else {
-        return Named::Nothing;
-    };
-    match instruction.mode {
-        Mode::Immediate if instruction.mnemonic == Mnemonic::Lda => loaded(program, at, rest),
-        Mode::Immediate | Mode::Implied | Mode::Accumulator => Named::Nothing,
-        _ => Named::Whole(instruction.operand),
+fn named_by_code(program: &Program<'_>, at: u16, rest: &[u8]) -> Named
+    requires { 0 < length rest.now }
+    ensures { result ≡ plans.named_by_code (plan_of program.now) at rest.now }
+{
+    let (line, _) = first_line(at, rest);
+    match line.content {
+        Content::Instr(_, mode, operand) => {
+            named_by_operand(program, at, rest, mode, number(&operand))
+        }
+        Content::Byte(_) => Named::Nothing,
     }
 }
 
-// An address that is loaded byte by byte.
-#[derive(Clone, Copy, Drop)]
-struct Load {
-    address: u16,
-    // How many bytes lie between the loads of its low byte and of its high one, the first load with them.
-    apart: usize,
+// The number that an operand shows.
+fn number(operand: &Operand) -> u16
+    ensures { result ≡ number_in [] operand.now }
+{
+    match operand {
+        Operand::Byte(byte) => u16::from(*byte),
+        Operand::Word(word) => *word,
+        _ => 0,
+    }
+}
+
+// What an instruction names, by its mode and the number of its operand.
+fn named_by_operand(program: &Program<'_>, at: u16, rest: &[u8], mode: Mode, number: u16) -> Named
+    ensures { result ≡ plans.named_by_operand (plan_of program.now) at rest.now mode number }
+{
+    match mode {
+        Mode::Immediate => loaded(program, at, rest),
+        Mode::Implied | Mode::Accumulator => Named::Nothing,
+        _ => Named::Whole(number),
+    }
 }
 
 // The address of which the first instruction loads a byte, if it is known to load one.
-fn loaded(program: &Program<'_>, at: u16, rest: &[u8]) -> Named {
-    if let Some(load) = first_load(program, at, rest) {
-        return Named::Low(load.address);
+fn loaded(program: &Program<'_>, at: u16, rest: &[u8]) -> Named
+    ensures { result ≡ plans.loaded (plan_of program.now) at rest.now }
+{
+    if is_load(program, at, rest) {
+        return Named::Low(pair_in(rest, 1, 5));
     }
-    for store in [Mode::ZeroPage, Mode::AbsoluteX] {
-        let apart = u16::from(length(Mode::Immediate)) + u16::from(length(store));
-        let before = last(program.image, rest.len().saturating_add(usize::from(apart)));
-        if let Some(load) = first_load(program, at.wrapping_sub(apart), before) {
-            if load.apart == usize::from(apart) {
-                return Named::High(load.address);
-            }
-        }
+    if is_load_by_x(rest) {
+        return Named::Low(pair_in(rest, 1, 6));
+    }
+    let before = last(program.image, rest.len().saturating_add(4));
+    if is_load(program, at.wrapping_sub(4), before) {
+        return Named::High(pair_in(before, 1, 5));
+    }
+    let before = last(program.image, rest.len().saturating_add(5));
+    if is_load_by_x(before) {
+        return Named::High(pair_in(before, 1, 6));
     }
     Named::Nothing
 }
 
-fn last(bytes: &[u8], count: usize) -> &[u8] {
-    bytes.split_at(bytes.len().saturating_sub(count)).1
+// Whether an address is loaded here byte by byte into page zero: of the line table for the search, of the line to return
+// to for Push, or of a text.
+fn is_load(program: &Program<'_>, at: u16, rest: &[u8]) -> bool
+    ensures { result ≡ plans.is_load (plan_of program.now) at rest.now }
+{
+    is_at(rest, 0, LDA_NUMBER)
+        && is_at(rest, 2, STA_PAGE_ZERO)
+        && is_at(rest, 4, LDA_NUMBER)
+        && 6 <= rest.len()
+        && (at == program.search() || hands_to_push(rest) || hands_to_text(rest))
 }
 
-// Whether the code after the loads hands the address to Push or to Text.
-fn hands_over(at: u16, rest: &[u8]) -> bool {
-    hands_to_push(at, rest).unwrap_or(false) || hands_to_text(at, rest).unwrap_or(false)
+// Whether, after both loads, STA to page zero and JSR Push follow.
+fn hands_to_push(rest: &[u8]) -> bool
+    ensures { result ≡ plans.hands_to_push rest.now }
+{
+    is_at(rest, 6, STA_PAGE_ZERO) && is_call(rest, 8, Routine::Push)
 }
 
-// STA to page zero, JSR Push.
-fn hands_to_push(at: u16, rest: &[u8]) -> Option<bool> {
-    let store = first_instruction(at, rest)?;
-    let call = first_instruction(store.after, store.rest)?;
-    Some(store.is(Mnemonic::Sta, Mode::ZeroPage) && call.calls(Routine::Push))
+// Whether, after both loads, STA to page zero, LDA of the length, STA and JSR Text follow.
+fn hands_to_text(rest: &[u8]) -> bool
+    ensures { result ≡ plans.hands_to_text rest.now }
+{
+    is_at(rest, 6, STA_PAGE_ZERO)
+        && is_at(rest, 8, LDA_NUMBER)
+        && is_at(rest, 10, STA)
+        && is_call(rest, 13, Routine::Text)
 }
 
-// STA to page zero, LDA of the length, STA, JSR Text.
-fn hands_to_text(at: u16, rest: &[u8]) -> Option<bool> {
-    let store = first_instruction(at, rest)?;
-    let length = first_instruction(store.after, store.rest)?;
-    let kept = first_instruction(length.after, length.rest)?;
-    let call = first_instruction(kept.after, kept.rest)?;
-    Some(
-        store.is(Mnemonic::Sta, Mode::ZeroPage)
-            && length.is(Mnemonic::Lda, Mode::Immediate)
-            && kept.is(Mnemonic::Sta, Mode::Absolute)
-            && call.calls(Routine::Text),
-    )
-}
-
-// The load that begins here: of the line to return to, in line or by Push, of the line table for the search, or of a
-// text.
-fn first_load(program: &Program<'_>, at: u16, rest: &[u8]) -> Option<Load> {
-    let low = first_instruction(at, rest)?;
-    let store = first_instruction(low.after, low.rest)?;
-    let high = first_instruction(store.after, store.rest)?;
-    if !low.is(Mnemonic::Lda, Mode::Immediate) || !high.is(Mnemonic::Lda, Mode::Immediate) {
-        return None;
-    }
-    let is_load = match (store.mnemonic, store.mode) {
-        (Mnemonic::Sta, Mode::ZeroPage) => {
-            at == program.search() || hands_over(high.after, high.rest)
-        }
-        (Mnemonic::Sta, Mode::AbsoluteX) => {
-            store.operand == RETURN_LOW && stores_by_x(high.after, high.rest)
-        }
-        _ => false,
-    };
-    if !is_load {
-        return None;
-    }
-    Some(Load {
-        address: u16::from_le_bytes([low_byte(low.operand), low_byte(high.operand)]),
-        apart: usize::from(high.after.wrapping_sub(low.after)),
-    })
-}
-
-// Whether STA by X begins here.
-fn stores_by_x(at: u16, rest: &[u8]) -> bool {
-    match first_instruction(at, rest) {
-        Some(store) => store.is(Mnemonic::Sta, Mode::AbsoluteX),
-        None => false,
-    }
-}
-
-// A number modulo 256.
-fn low_byte(number: u16) -> u8 {
-    (number % 0x100) as u8
+// Whether the address of the line to return to is loaded here byte by byte, each stored in the list of returns.
+fn is_load_by_x(rest: &[u8]) -> bool
+    ensures { result ≡ plans.is_load_by_x rest.now }
+{
+    is_at(rest, 0, LDA_NUMBER)
+        && is_at(rest, 2, STA_BY_X)
+        && word_in(rest, 3) == RETURN_LOW
+        && is_at(rest, 5, LDA_NUMBER)
+        && is_at(rest, 7, STA_BY_X)
+        && 10 <= rest.len()
 }

@@ -1,5 +1,5 @@
 //! The places of a program, as labels of assembled items.
-ghost use Rattle.std.specs.Prelude.{◌≡◌, true, map, IfOk};
+ghost use Rattle.std.specs.Prelude.{◌≡◌, map, IfOk, MatchBool};
 ghost use Rattle.tb_codegen.specs.Compiled.{pair_of};
 ghost use Rattle.tb_listing.specs.Labels.{all_routines, block_labels, line_label, routine_label};
 ghost use Rattle.tb_listing.specs.Places.{AreNamed, IsNamed, image_labels};
@@ -17,8 +17,9 @@ pub fn has_places(
     starts: &[LineStart],
     table: u16,
 ) -> Result<bool, AllocError>
-    ensures { IfOk result (λ has. has ≡ true
-        → AreNamed image.now.labels.entries (image_labels (map pair_of starts.now) table)) }
+    ensures { IfOk result (λ has. MatchBool has
+        (AreNamed image.now.labels.entries (image_labels (map pair_of starts.now) table))
+        (¬ (AreNamed image.now.labels.entries (image_labels (map pair_of starts.now) table)))) }
 {
     if !has_block(image) {
         return Ok(false);
@@ -30,7 +31,8 @@ pub fn has_places(
 }
 
 fn has_block(image: &Image) -> bool
-    ensures { result ≡ true → AreNamed image.now.labels.entries block_labels }
+    ensures { MatchBool result (AreNamed image.now.labels.entries block_labels)
+        (¬ (AreNamed image.now.labels.entries block_labels)) }
 {
     has_label(image, b"prologue", BLOCK_AT)
         && has_label(image, b"send", SEND_AT)
@@ -39,7 +41,8 @@ fn has_block(image: &Image) -> bool
 
 // Whether a name is the label of an address.
 fn has_label(image: &Image, name: &[u8], at: u16) -> bool
-    ensures { result ≡ true → IsNamed image.now.labels.entries (name.now, at) }
+    ensures { MatchBool result (IsNamed image.now.labels.entries (name.now, at))
+        (¬ (IsNamed image.now.labels.entries (name.now, at))) }
 {
     match Name::read(name) {
         Some(name) => image.address_of(&name) == Some(at),
@@ -48,7 +51,8 @@ fn has_label(image: &Image, name: &[u8], at: u16) -> bool
 }
 
 fn has_routines(image: &Image) -> bool
-    ensures { result ≡ true → AreNamed image.now.labels.entries (map routine_label all_routines) }
+    ensures { MatchBool result (AreNamed image.now.labels.entries (map routine_label all_routines))
+        (¬ (AreNamed image.now.labels.entries (map routine_label all_routines))) }
 {
     for routine in ROUTINES {
         if !has_label(image, name(routine), entry(routine)) {
@@ -59,8 +63,9 @@ fn has_routines(image: &Image) -> bool
 }
 
 fn has_lines(alloc: Global, image: &Image, starts: &[LineStart]) -> Result<bool, AllocError>
-    ensures { IfOk result (λ has. has ≡ true
-        → AreNamed image.now.labels.entries (map line_label (map pair_of starts.now))) }
+    ensures { IfOk result (λ has. MatchBool has
+        (AreNamed image.now.labels.entries (map line_label (map pair_of starts.now)))
+        (¬ (AreNamed image.now.labels.entries (map line_label (map pair_of starts.now))))) }
 {
     for start in starts {
         if !has_line(alloc, image, start.number, start.at)? {
@@ -71,7 +76,8 @@ fn has_lines(alloc: Global, image: &Image, starts: &[LineStart]) -> Result<bool,
 }
 
 fn has_line(alloc: Global, image: &Image, number: u16, at: u16) -> Result<bool, AllocError>
-    ensures { IfOk result (λ has. has ≡ true → IsNamed image.now.labels.entries (line_label (number, at))) }
+    ensures { IfOk result (λ has. MatchBool has (IsNamed image.now.labels.entries (line_label (number, at)))
+        (¬ (IsNamed image.now.labels.entries (line_label (number, at))))) }
 {
     let name = format!(in alloc; "line{number}")?;
     Ok(has_label(image, name.as_bytes(), at))

@@ -4,14 +4,11 @@ ghost use Rattle.tb_listing.specs.Sizes.{AreSizesOfCode};
 /// How many bytes the search for a line takes, which lies before the line table.
 pub const SEARCH_SIZE: u16 = 21;
 
-/// How many bytes the code of a fault takes that a line finds by itself, such as fault 7 after the last line.
+/// How many bytes the code of fault 7 takes, after the last line.
 pub const FAULT_SIZE: u16 = 9;
 
-/// The offset of the fault's number in these bytes.
-pub const FAULT_NUMBER: usize = 5;
-
-/// The fault of the STOP key.
-pub const BREAK: u8 = 0;
+/// How many bytes the block takes, which lies before the lines.
+pub const BLOCK_SIZE: u16 = 996;
 
 /// How many bytes a row of the line table takes, and each of its two words.
 pub const ROW_SIZE: u16 = 4;

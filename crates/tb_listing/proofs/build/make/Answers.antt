@@ -2,6 +2,7 @@
 use Rattle.std.proofs.Common.{◌≤◌, Ok, arith, length, length-append, subst, sym}
 use Rattle.std.proofs.lemmas.Result.{IfOk-weaker}
 use Rattle.tb_syntax.specs.PlainData.{lines_of}
+use Rattle.tb_codegen.proofs.SmallPrograms.{are_small, cost_small}
 use Rattle.tb_codegen.specs.Compiled.{IsCompiled, starts_of, table_of}
 use Rattle.tb_listing.specs.Builds.{IsMade, Tells, image_size}
 use Rattle.tb_listing.proofs.Kept.{program_keeps}
@@ -11,15 +12,16 @@ use Rattle.tb_listing.proofs.Sums.{bytes_add_up, prices_add_up}
 use Rattle.tb_listing.proofs.build.make.Goals as goal
 
 pub all_of-requires-clause-small : goal.all_of-requires-clause-small
-all_of-requires-clause-small c = (c.requires.1 (Ok (lines_of c.in-Ok.program)) c.in-Ok.ensures.found).0
+all_of-requires-clause-small c =
+    cost_small (lines_of c.in-Ok.program) (are_small (lines_of c.in-Ok.program) c.in-Ok.ensures.stated) c.in-Ok.ensures.rising
 
 pub all_of-requires-clause-headed : goal.all_of-requires-clause-headed
 all_of-requires-clause-headed c =
-    let is : IsCompiled c.requires.0 (lines_of c.in-Ok.program) c.args.compiled.now = (c.requires.1 (Ok (lines_of c.in-Ok.program)) c.in-Ok.ensures.found).1 in
+    let is : IsCompiled c.requires.0.seed (lines_of c.in-Ok.program) c.args.compiled.now = (c.requires.1 (Ok (lines_of c.in-Ok.program)) c.in-Ok.ensures.found).1 in
     subst (λ file. 14 ≤ length file) (sym is.prg) (simp length-append (omega arith))
 
 pub all_of-requires-clause-ends : goal.all_of-requires-clause-ends
-all_of-requires-clause-ends c = (are_laid c.requires.0 c.in-Ok.program c.args.compiled.now c.in-Ok.ensures.stated c.in-Ok.ensures.rising
+all_of-requires-clause-ends c = (are_laid c.requires.0.seed c.in-Ok.program c.args.compiled.now c.in-Ok.ensures.stated c.in-Ok.ensures.rising
     (c.requires.1 (Ok (lines_of c.in-Ok.program)) c.in-Ok.ensures.found).1).ends
 
 pub returns : goal.returns
@@ -28,14 +30,14 @@ returns c =
     let compiled = c.args.compiled.now in
     let program = lines_of c.in-Ok.program in
     let answer = c.requires.1 (Ok program) c.in-Ok.ensures.found in
-    let is : IsCompiled c.requires.0 program compiled = answer.1 in
-    let laid = are_laid c.requires.0 c.in-Ok.program compiled c.in-Ok.ensures.stated c.in-Ok.ensures.rising is in
+    let is : IsCompiled c.requires.0.seed program compiled = answer.1 in
+    let laid = are_laid c.requires.0.seed c.in-Ok.program compiled c.in-Ok.ensures.stated c.in-Ok.ensures.rising is in
     IfOk-weaker c.all_of.result (Tells source compiled program) (IsMade source compiled)
     (λ made tells. record {
       sorted = labels_rise (starts_of compiled) (table_of compiled) (image_size compiled) laid;
       program = program;
       makes = c.in-Ok.ensures.found;
-      keeps = λ seed small answered. program_keeps seed source c.in-Ok.program compiled small c.in-Ok.ensures.found c.in-Ok.ensures.stated
+      keeps = λ settings small answered. program_keeps settings.seed source c.in-Ok.program compiled small c.in-Ok.ensures.found c.in-Ok.ensures.stated
           c.in-Ok.ensures.rising (answered (Ok program) c.in-Ok.ensures.found).1;
       tells = tells;
       bytes = bytes_add_up (starts_of compiled) (table_of compiled) (image_size compiled) program laid is.lines;

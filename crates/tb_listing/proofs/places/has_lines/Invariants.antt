@@ -6,6 +6,9 @@ use Rattle.tb_listing.specs.Places.{AreNamed}
 use Rattle.tb_listing.proofs.places.has_lines.Given as goal
 
 abbrev pub invariant-loop-start : goal.invariant-loop-start
-invariant-loop-start l =
-    AreNamed l.image.labels.entries (map line_label (map pair_of (drop l.start-index l.starts)))
-    → AreNamed l.image.labels.entries (map line_label (map pair_of l.starts))
+invariant-loop-start l = record {
+  all : AreNamed l.image.labels.entries (map line_label (map pair_of (drop l.start-index l.starts)))
+      → AreNamed l.image.labels.entries (map line_label (map pair_of l.starts));
+  left : AreNamed l.image.labels.entries (map line_label (map pair_of l.starts))
+      → AreNamed l.image.labels.entries (map line_label (map pair_of (drop l.start-index l.starts)));
+}

@@ -5,5 +5,7 @@ use Rattle.tb_listing.specs.Places.{AreNamed}
 use Rattle.tb_listing.proofs.places.has_routines.Given as goal
 
 abbrev pub invariant-loop-routine : goal.invariant-loop-routine
-invariant-loop-routine l =
-    AreNamed l.image.labels.entries (map routine_label (drop l.routine-index all_routines)) → AreNamed l.image.labels.entries (map routine_label all_routines)
+invariant-loop-routine l = record {
+  all : AreNamed l.image.labels.entries (map routine_label (drop l.routine-index all_routines)) → AreNamed l.image.labels.entries (map routine_label all_routines);
+  left : AreNamed l.image.labels.entries (map routine_label all_routines) → AreNamed l.image.labels.entries (map routine_label (drop l.routine-index all_routines));
+}
