@@ -10,6 +10,7 @@ use Rattle.tb_parser.specs.declared.errors.SourceError.{SourceError}
 use Rattle.tb_compile_errors.specs.declared.refusals.CompileError.TheVariants.{Source, Lower, TooLarge, NoMemory}
 use Rattle.tb_compile_errors.specs.declared.refusals.CompileError.{CompileError}
 use Rattle.tb_codegen.specs.Answers.{ProgramAnswer}
+use Rattle.tb_codegen.specs.Settings.{by_cost}
 use Rattle.tb_codegen.specs.Compiled.{most_cost}
 use Rattle.tb_codegen.specs.declared.compiled.Compiled.{Compiled}
 use Rattle.tb_check.specs.Agreement.{Accepts, Agrees, AgreesWith, Compiles, RefusesFirst, RefusesProgram, first_of}
@@ -44,21 +45,22 @@ beyond n h = grind arith
 none_is_some : (n : ℕ) → None ≡ Some n → ⊥
 none_is_some n h = true≢false (sym (ap is_some h))
 
-refused : (seed : ℕ) (p : Program) (f : ProgramFaults) (answer : Result Compiled CompileError) → HasFaults p f → ¬ (IsGood p) → ProgramAnswer seed p answer → RefusesProgram f answer
+refused : (seed : ℕ) (p : Program) (f : ProgramFaults) (answer : Result Compiled CompileError) → HasFaults p f → ¬ (IsGood p)
+    → ProgramAnswer (by_cost seed) p answer → RefusesProgram f answer
 refused seed p f (Ok c) has bad h = bad (record { shallow = no_deep p h.1.shallow; small = within (cost p) h.0 })
 refused seed p f (Err (Source e)) has bad h = h
 refused seed p f (Err (Lower deep.NoMemory)) has bad h = h
 refused seed p f (Err (Lower (deep.TooDeep n))) has bad h = ap first_of has.deep ∙ first_deep p ∙ h
 refused seed p f (Err (TooLarge n)) has bad h =
-    (has.deep ∙ no_deep p h.0, has.large ∙ beyond (cost p) (subst (λ k. most_cost < k) (sym h.1) h.2) ∙ ap Some h.1)
+    (has.deep ∙ no_deep p h.0, has.large ∙ beyond (cost p) (subst (λ k. most_cost < k) (sym h.1.0) h.1.1) ∙ ap Some h.1.0)
 refused seed p f (Err NoMemory) has bad h = tt
 
-accepted : (seed : ℕ) (p : Program) (answer : Result Compiled CompileError) → IsGood p → ProgramAnswer seed p answer → Accepts answer
+accepted : (seed : ℕ) (p : Program) (answer : Result Compiled CompileError) → IsGood p → ProgramAnswer (by_cost seed) p answer → Accepts answer
 accepted seed p (Ok c) good h = tt
 accepted seed p (Err (Source e)) good h = h
 accepted seed p (Err (Lower deep.NoMemory)) good h = h
 accepted seed p (Err (Lower (deep.TooDeep n))) good h = none_is_some n (sym (ap first_of good.shallow) ∙ first_deep p ∙ h)
-accepted seed p (Err (TooLarge n)) good h = none_is_some (cost p) (sym good.small ∙ beyond (cost p) (subst (λ k. most_cost < k) (sym h.1) h.2))
+accepted seed p (Err (TooLarge n)) good h = none_is_some (cost p) (sym good.small ∙ beyond (cost p) (subst (λ k. most_cost < k) (sym h.1.0) h.1.1))
 accepted seed p (Err NoMemory) good h = tt
 
 first : (seed : ℕ) (source : List ℕ) (found : List SourceError) (answer : Result Compiled CompileError) → FirstIs source found → found ≢ []

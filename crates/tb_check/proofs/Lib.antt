@@ -20,3 +20,6 @@ pub mod Found
 -- ── all that is told ──
 -- what becomes of a source and what is told of it, by what was read
 pub mod Judged
+-- ── notes ──
+-- patterns in an empty text
+pub mod Unfit

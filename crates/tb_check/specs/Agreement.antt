@@ -9,6 +9,7 @@ use Rattle.tb_parser.specs.Readings.{Refusal, at_column}
 use Rattle.tb_compile_errors.specs.declared.refusals.CompileError.TheVariants.{Source, Lower, TooLarge, NoMemory}
 use Rattle.tb_compile_errors.specs.declared.refusals.CompileError.{CompileError}
 use Rattle.tb_codegen.specs.Answers.{LinesMake, OutcomeAnswer, RefusalAnswer}
+use Rattle.tb_codegen.specs.Settings.{by_cost}
 use Rattle.tb_codegen.specs.declared.compiled.Compiled.{Compiled}
 use Rattle.tb_check.specs.declared.judging.ProgramFaults.{ProgramFaults}
 use Rattle.tb_check.specs.declared.judging.Verdict.{Verdict}
@@ -16,7 +17,7 @@ use Rattle.tb_check.specs.declared.judging.Verdict.TheVariants.{BadLines, Empty,
 
 -- what the compiler promises of its answer for a source
 abbrev pub Compiles : ℕ → List ℕ → Result Compiled CompileError → Type 0
-Compiles seed source answer = (outcome : Outcome) → LinesMake source outcome → OutcomeAnswer seed outcome answer
+Compiles seed source answer = (outcome : Outcome) → LinesMake source outcome → OutcomeAnswer (by_cost seed) outcome answer
 
 -- the compiler's refusal is the first of the bad lines
 abbrev pub RefusesFirst : List SourceError → Result Compiled CompileError → Type 0

@@ -4,7 +4,7 @@ use lib.Pointwise.{pointwise}
 use Rattle.std.specs.List.{find, starts_with}
 use Rattle.tb_check.specs.declared.foreign_words.ForeignWord.{ForeignWord}
 use Rattle.tb_check.specs.declared.foreign_words.ForeignWord.TheVariants.{For, Next, Step, Poke, Peek, Dim, Get, On, Read, Data}
-use Rattle.tb_check.specs.declared.foreign_words.ForeignWord.TheVariants.{Def, Else, And, Or, Not, Stop, Cls, Abs, Tab, Chr}
+use Rattle.tb_check.specs.declared.foreign_words.ForeignWord.TheVariants.{Def, Else, And, Or, Not, Stop, Cls, Abs, Tab, Chr, Mod, Int, Sgn, While, Sys}
 
 -- how a word is written
 abbrev pub name_of : ForeignWord → List ℕ
@@ -28,11 +28,17 @@ name_of Cls = codes "CLS"
 name_of Abs = codes "ABS"
 name_of Tab = codes "TAB"
 name_of Chr = codes "CHR$"
+name_of Mod = codes "MOD"
+name_of Int = codes "INT"
+name_of Sgn = codes "SGN"
+name_of While = codes "WHILE"
+name_of Sys = codes "SYS"
 
 -- all of them
 abbrev pub foreign_words : List ForeignWord
 foreign_words =
-    For ∷ Next ∷ Step ∷ Poke ∷ Peek ∷ Dim ∷ Get ∷ On ∷ Read ∷ Data ∷ Def ∷ Else ∷ And ∷ Or ∷ Not ∷ Stop ∷ Cls ∷ Abs ∷ Tab ∷ Chr ∷ []
+    For ∷ Next ∷ Step ∷ Poke ∷ Peek ∷ Dim ∷ Get ∷ On ∷ Read ∷ Data ∷ Def ∷ Else ∷ And ∷ Or ∷ Not ∷ Stop ∷ Cls ∷ Abs ∷ Tab ∷ Chr
+    ∷ Mod ∷ Int ∷ Sgn ∷ While ∷ Sys ∷ []
 
 -- whether a name follows a word, which may come right after its letters
 abbrev pub takes_name : ForeignWord → Bool

@@ -15,8 +15,14 @@ pub mod Agreement
 -- ── what helps ──
 -- words of other BASICs
 pub mod ForeignWords
--- words one letter away from those of statements
+-- words one slip away from those of statements
 pub mod NearWords
+-- patterns of code, with classes of bytes
+pub mod Patterns
+-- the code around a place of a line
+pub mod Surroundings
+-- the rules for that code
+pub mod Rules
 -- the note on the first fault of a line
 pub mod Notes
 -- the warnings on a source that is compiled

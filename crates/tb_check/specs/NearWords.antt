@@ -1,5 +1,5 @@
--- Words one letter away from those of statements.
-use Rattle.std.specs.Prelude.{ℕ, nat_eq, Bool, false, ◌||◌, ◌==◌, if◌then◌else◌, List, [], ◌∷◌, length, Option, codes}
+-- Words one slip away from those of statements.
+use Rattle.std.specs.Prelude.{ℕ, nat_eq, Bool, false, ◌&&◌, ◌||◌, ◌==◌, if◌then◌else◌, List, [], ◌∷◌, length, Option, codes}
 use lib.Pointwise.{pointwise}
 use Rattle.std.specs.List.{find}
 use Rattle.tb_grammar.specs.StatementReading.{spelled}
@@ -17,14 +17,20 @@ abbrev pub statement_words : List StatementWord
 statement_words =
     Begins Let ∷ Begins Print ∷ Begins Input ∷ Begins If ∷ Then ∷ Begins Goto ∷ Begins Gosub ∷ Begins Return ∷ Begins End ∷ Begins Rem ∷ []
 
--- whether a word becomes another one by a letter that is changed, left out or added
+-- whether two words are the same once the first two letters of one are swapped
+abbrev pub is_swapped : List ℕ → List ℕ → Bool
+is_swapped (a ∷ b ∷ word) (c ∷ d ∷ other) = (a == d) && ((b == c) && pointwise nat_eq word other)
+is_swapped _ _ = false
+
+-- whether a word becomes another one by a letter that is changed, left out or added, or by two that are swapped
 abbrev pub is_near : List ℕ → List ℕ → Bool
 is_near [] [] = false
 is_near [] (b ∷ other) = length other == 0
 is_near (a ∷ word) [] = length word == 0
 is_near (a ∷ word) (b ∷ other) =
     if a == b then is_near word other
-    else pointwise nat_eq word other || (pointwise nat_eq word (b ∷ other) || pointwise nat_eq (a ∷ word) other)
+    else pointwise nat_eq word other
+    || (pointwise nat_eq word (b ∷ other) || (pointwise nat_eq (a ∷ word) other || is_swapped (a ∷ word) (b ∷ other)))
 
 -- the first word that is near
 abbrev pub near_word : List ℕ → Option StatementWord

@@ -6,13 +6,15 @@ use Rattle.std.specs.Char.{is_ascii_digit, is_ascii_uppercase, to_ascii_uppercas
 use Rattle.std.specs.List.{slice_get, starts_with, ends_with}
 use Rattle.tb_parser.specs.declared.errors.SourceError.{SourceError}
 use Rattle.tb_parser.specs.declared.errors.SourceErrorKind.{SourceErrorKind}
-use Rattle.tb_parser.specs.declared.errors.SourceErrorKind.TheVariants.{BadByte, Syntax}
+use Rattle.tb_parser.specs.declared.errors.SourceErrorKind.TheVariants.{BadByte, NotCompiled, Syntax}
 use Rattle.tb_check.specs.declared.notes.Note.{Note}
 use Rattle.tb_check.specs.declared.notes.Note.TheVariants.{ForeignWord, QuestionMark, Colon, LongName, TextName, ThenNumber, OpenText, Tab}
-use Rattle.tb_check.specs.declared.notes.Note.TheVariants.{ByteOrderMark, Near}
+use Rattle.tb_check.specs.declared.notes.Note.TheVariants.{ByteOrderMark, Near, SignInText, Power, Array}
 use Rattle.tb_check.specs.declared.notes.Word.{Word as RustWord}
 use Rattle.tb_check.specs.ForeignWords.{foreign_word}
 use Rattle.tb_check.specs.NearWords.{near_word}
+use Rattle.tb_check.specs.Rules.{note_by_rules}
+use Rattle.tb_check.specs.Surroundings.{code_around}
 
 -- ── a byte that no line may have ──
 -- a note, if a condition holds
@@ -23,14 +25,32 @@ note_if b note = if b then Some note else None
 abbrev pub is_at_mark : List ℕ → SourceError → Bool
 is_at_mark line e = (e.line == 1) && ((e.column == 1) && starts_with nat_eq line (239 ∷ 187 ∷ 191 ∷ []))
 
--- at a tab
-abbrev pub note_on_tab : Option ℕ → Option Note
-note_on_tab (Some b) = note_if (b == 9) Tab
-note_on_tab None = None
+-- outside a text, at a byte that other BASICs have: ^ [ _
+abbrev pub note_on_sign : ℕ → Option Note
+note_on_sign b =
+    if b == 94 then Some Power
+    else if b == 91 then Some Array
+    else if b == 95 then Some LongName
+    else None
+
+-- at such a byte, in a text or outside
+abbrev pub note_on_bad_byte : Bool → ℕ → Option Note
+note_on_bad_byte is_in_text b = if b == 9 then Some Tab else if is_in_text then Some SignInText else note_on_sign b
+
+-- whether a text has no second quote: the number of quotes is odd
+abbrev pub is_open : List ℕ → Bool
+is_open [] = false
+is_open (b ∷ bs) = if b == 34 then not (is_open bs) else is_open bs
+
+-- at a byte that is at a place, if there is one
+abbrev pub note_on_bad_place : List ℕ → ℕ → Option ℕ → Option Note
+note_on_bad_place line place (Some b) = note_on_bad_byte (is_open (take place line)) b
+note_on_bad_place line place None = None
 
 -- at a byte that no line may have
 abbrev pub note_on_byte : List ℕ → SourceError → Option Note
-note_on_byte line e = if is_at_mark line e then Some ByteOrderMark else note_on_tab (slice_get line (e.column - 1))
+note_on_byte line e =
+    if is_at_mark line e then Some ByteOrderMark else note_on_bad_place line (e.column - 1) (slice_get line (e.column - 1))
 
 -- ── runs of bytes ──
 -- how many letters a text in upper case begins with
@@ -50,11 +70,6 @@ after_spaces (b ∷ bs) = if b == 32 then after_spaces bs else b ∷ bs
 -- a text without the spaces at its end
 abbrev pub before_spaces : List ℕ → List ℕ
 before_spaces text = reverse (after_spaces (reverse text))
-
--- whether a text has no second quote: the number of quotes is odd
-abbrev pub is_open : List ℕ → Bool
-is_open [] = false
-is_open (b ∷ bs) = if b == 34 then not (is_open bs) else is_open bs
 
 -- ── words ──
 -- a word of a line: its letters, the same with the `$` after them if there is one, how many of the letters are before
@@ -125,14 +140,20 @@ abbrev pub note_on_place : List ℕ → ℕ → Option ℕ → Option Note
 note_on_place line place (Some b) = note_at line place b
 note_on_place line place None = note_if (is_open line) OpenText
 
--- at a place of a line in upper case, from 0
+-- at a place of a line in upper case, from 0: by what is there, or else by the rules for what is around it
 abbrev pub note_on_syntax : List ℕ → ℕ → Option Note
-note_on_syntax line place = note_on_place line place (slice_get line place)
+note_on_syntax line place = option_or (note_on_place line place (slice_get line place)) (note_by_rules (code_around line place))
+
+-- ── a place at which a word that is left out begins ──
+-- at a place of a line in upper case, from 0: the word around it may be one of a statement that is misspelled
+abbrev pub note_on_left_out : List ℕ → ℕ → Option Note
+note_on_left_out line place = if nat_lt place (length line) then option_map (λ w. Near w) (near_word (word_at line place).letters) else None
 
 -- ── all notes ──
 -- by the kind of the fault
 abbrev pub note_by : SourceErrorKind → List ℕ → SourceError → Option Note
 note_by BadByte line e = note_on_byte line e
+note_by NotCompiled line e = note_on_left_out (map to_ascii_uppercase line) (e.column - 1)
 note_by Syntax line e = note_on_syntax (map to_ascii_uppercase line) (e.column - 1)
 note_by _ line e = None
 

@@ -1,8 +1,11 @@
 -- The warnings on a source that is compiled.
-use Rattle.std.specs.Prelude.{ℕ, ◌%◌, nat_le, Bool, true, false, not, ◌&&◌, ◌==◌, if◌then◌else◌, List, [], ◌∷◌, ◌++◌, flat_map, map}
+use Rattle.std.specs.Prelude.{ℕ, ◌%◌, nat_le, nat_lt, Bool, true, false, ◌&&◌, ◌||◌, ◌==◌, if◌then◌else◌, List, [], ◌∷◌, ◌++◌, flat_map, map}
 use Rattle.std.specs.Prelude.{Option, Some, None}
 use Rattle.std.specs.Option.{option_or}
-use Rattle.tb_words.specs.Words.{signed}
+use Rattle.std.specs.List.{list_any}
+use Rattle.tb_words.specs.Words.{is_negative, signed}
+use Rattle.tb_syntax.specs.declared.expressions.Operator.{Operator}
+use Rattle.tb_syntax.specs.declared.expressions.Operator.TheVariants.{Divide}
 use Rattle.tb_syntax.specs.Source.{Expression, Number, Variable, Negate, Binary, Random, Item, Text, Value, Zone, Program, numbers}
 use Rattle.tb_syntax.specs.Source.{Statement, Let, Print, Input, If, Goto, Gosub, Return, End, Remark}
 use Rattle.tb_meaning.specs.Control.{content_at, highest}
@@ -11,8 +14,9 @@ use Rattle.tb_meaning.specs.Values.{constant}
 use Rattle.tb_check.specs.declared.lines.NumberedLine.{NumberedLine}
 use Rattle.tb_check.specs.declared.warnings.LineWarning.{LineWarning}
 use Rattle.tb_check.specs.declared.warnings.Warning.{Warning}
-use Rattle.tb_check.specs.declared.warnings.Warning.TheVariants.{NoLine, Replaced, TakenOut, RunsPast, EvenBound}
-use Rattle.tb_check.specs.declared.warnings.TheConstants.{LARGEST_BOUND}
+use Rattle.tb_check.specs.declared.warnings.Warning.TheVariants.{NoLine, HighTarget, Replaced, TakenOut, RunsPast, EvenBound}
+use Rattle.tb_check.specs.declared.warnings.Warning.TheVariants.{BoundOfOne, BadBound, ZeroDivisor}
+use Rattle.tb_check.specs.declared.warnings.TheConstants.{HIGHEST_NUMBER, LARGEST_BOUND}
 use Rattle.tb_check.specs.Entries.{is_one_of}
 
 -- ── a later line ──
@@ -43,6 +47,19 @@ to_targets targets = map (λ target. NoLine (signed target)) targets
 -- the missing target of line n, of which the compiler warns
 abbrev pub no_lines : Program → ℕ → List Warning
 no_lines p n = to_targets (targets_at n (missing_targets p))
+
+-- ── a target that no line can have ──
+-- a target that is written as a number above all line numbers
+abbrev pub high_target : Expression → List Warning
+high_target (Number n) = if nat_lt HIGHEST_NUMBER n then HighTarget n ∷ [] else []
+high_target _ = []
+
+-- the same of a statement
+abbrev pub high_targets : Statement → List Warning
+high_targets (Goto e) = high_target e
+high_targets (Gosub e) = high_target e
+high_targets (If l rel r c) = high_targets c
+high_targets _ = []
 
 -- ── the last line ──
 -- whether the next line may follow a statement
@@ -92,20 +109,65 @@ statement_bounds Remark = []
 abbrev pub is_even_bound : ℕ → Bool
 is_even_bound n = (n % 2 == 0) && (nat_le 2 n && nat_le n LARGEST_BOUND)
 
--- of bounds after others: the even ones, each once
-abbrev pub even_after : (before bounds : List ℕ) → List ℕ
-even_after before [] = []
-even_after before (n ∷ ns) = (if is_even_bound n && not (is_one_of n before) then n ∷ [] else []) ++ even_after (before ++ n ∷ []) ns
+-- on a bound
+abbrev pub on_bound : ℕ → List Warning
+on_bound n =
+    if n == 1 then BoundOfOne ∷ []
+    else if (n == 0) || is_negative n then BadBound (signed n) ∷ []
+    else if is_even_bound n then EvenBound n ∷ []
+    else []
 
--- a statement's even bounds of RND, each once
-abbrev pub even_bounds : List ℕ → List Warning
-even_bounds bounds = map (λ n. EvenBound n) (even_after [] bounds)
+-- on bounds after others, each once
+abbrev pub on_bounds_after : (before bounds : List ℕ) → List Warning
+on_bounds_after before [] = []
+on_bounds_after before (n ∷ ns) = (if is_one_of n before then [] else on_bound n) ++ on_bounds_after (before ++ n ∷ []) ns
+
+-- on a statement's bounds of RND, each once
+abbrev pub on_bounds : List ℕ → List Warning
+on_bounds bounds = on_bounds_after [] bounds
+
+-- ── divisions ──
+-- whether an operator divides by 0, if its right operand has this value
+abbrev pub is_zero_division : Operator → Option ℕ → Bool
+is_zero_division Divide (Some n) = n == 0
+is_zero_division _ _ = false
+
+-- whether an expression has a divisor that is 0 without variables and RND
+abbrev pub divides_by_zero : Expression → Bool
+divides_by_zero (Number n) = false
+divides_by_zero (Variable x) = false
+divides_by_zero (Negate e) = divides_by_zero e
+divides_by_zero (Binary op l r) = divides_by_zero l || (divides_by_zero r || is_zero_division op (constant r))
+divides_by_zero (Random e) = divides_by_zero e
+
+-- whether an item of PRINT has one
+abbrev pub item_divides_by_zero : Item → Bool
+item_divides_by_zero (Text t) = false
+item_divides_by_zero (Value e) = divides_by_zero e
+item_divides_by_zero Zone = false
+
+-- whether a statement has one
+abbrev pub statement_divides_by_zero : Statement → Bool
+statement_divides_by_zero (Let x e) = divides_by_zero e
+statement_divides_by_zero (Print items ends) = list_any item_divides_by_zero items
+statement_divides_by_zero (Input xs) = false
+statement_divides_by_zero (If l rel r c) = divides_by_zero l || (divides_by_zero r || statement_divides_by_zero c)
+statement_divides_by_zero (Goto e) = divides_by_zero e
+statement_divides_by_zero (Gosub e) = divides_by_zero e
+statement_divides_by_zero Return = false
+statement_divides_by_zero End = false
+statement_divides_by_zero Remark = false
+
+-- on a statement with one
+abbrev pub zero_divisors : Statement → List Warning
+zero_divisors c = if statement_divides_by_zero c then ZeroDivisor ∷ [] else []
 
 -- ── all warnings ──
 -- on line n of the program, in their order
 abbrev pub on_statement : Program → ℕ → Option Statement → List Warning
 on_statement p n None = []
-on_statement p n (Some c) = no_lines p n ++ (runs_past p n c ++ even_bounds (statement_bounds c))
+on_statement p n (Some c) =
+    no_lines p n ++ (high_targets c ++ (runs_past p n c ++ (on_bounds (statement_bounds c) ++ zero_divisors c)))
 
 -- on a line that is not bare, by the later line that has its number; if there is none, it is the program's
 abbrev pub on_stated : Program → ℕ → Option NumberedLine → List Warning

@@ -26,9 +26,14 @@ pub enum ForeignWord {
     Abs,
     Tab,
     Chr,
+    Mod,
+    Int,
+    Sgn,
+    While,
+    Sys,
 }
 
-const FOREIGN_WORDS: [ForeignWord; 20] = [
+const FOREIGN_WORDS: [ForeignWord; 25] = [
     ForeignWord::For,
     ForeignWord::Next,
     ForeignWord::Step,
@@ -49,6 +54,11 @@ const FOREIGN_WORDS: [ForeignWord; 20] = [
     ForeignWord::Abs,
     ForeignWord::Tab,
     ForeignWord::Chr,
+    ForeignWord::Mod,
+    ForeignWord::Int,
+    ForeignWord::Sgn,
+    ForeignWord::While,
+    ForeignWord::Sys,
 ];
 
 impl ForeignWord {
@@ -80,6 +90,11 @@ impl ForeignWord {
             ForeignWord::Abs => "ABS",
             ForeignWord::Tab => "TAB",
             ForeignWord::Chr => "CHR$",
+            ForeignWord::Mod => "MOD",
+            ForeignWord::Int => "INT",
+            ForeignWord::Sgn => "SGN",
+            ForeignWord::While => "WHILE",
+            ForeignWord::Sys => "SYS",
         }
     }
 

@@ -8,7 +8,10 @@ mod judging;
 mod lines;
 mod near_words;
 mod notes;
+mod patterns;
 mod remaining;
+mod rules;
+mod surroundings;
 mod warnings;
 
 pub use examination::{BadLine, Examined, Findings, examine};

@@ -1,7 +1,7 @@
-//! Words one letter away from those of statements.
+//! Words one slip away from those of statements.
 ghost use Rattle.std.specs.Prelude.{◌≡◌};
 ghost use Rattle.std.specs.List.{find};
-ghost use Rattle.tb_check.specs.NearWords.{is_near, near_word, spelling_of};
+ghost use Rattle.tb_check.specs.NearWords.{is_near, is_swapped, near_word, spelling_of};
 
 use tb_grammar::{Keyword, THEN};
 
@@ -39,7 +39,8 @@ impl StatementWord {
     }
 }
 
-/// The first word of a statement from which a word in upper case is one letter away: changed, left out or added.
+/// The first word of a statement from which a word in upper case is one slip away: a letter is changed, left out or
+/// added, or two that follow each other are swapped.
 pub fn near_word(letters: &[u8]) -> Option<StatementWord>
     ensures { result ≡ near_word letters.now }
 {
@@ -65,11 +66,26 @@ fn is_near(word: &[u8], other: &[u8]) -> bool
             if a == b {
                 is_near(word_rest, other_rest)
             } else {
-                word_rest == other_rest || word_rest == other || word == other_rest
+                word_rest == other_rest
+                    || word_rest == other
+                    || word == other_rest
+                    || is_swapped(word, other)
             }
         }
         ([_, word_rest @ ..], []) => word_rest.is_empty(),
         ([], [_, other_rest @ ..]) => other_rest.is_empty(),
         ([], []) => false,
+    }
+}
+
+// Whether two words differ in that their first two letters are swapped.
+fn is_swapped(word: &[u8], other: &[u8]) -> bool
+    ensures { result ≡ is_swapped word.now other.now }
+{
+    match (word, other) {
+        ([a, b, word_rest @ ..], [c, d, other_rest @ ..]) => {
+            a == d && b == c && word_rest == other_rest
+        }
+        _ => false,
     }
 }

@@ -1,9 +1,13 @@
 //! Notes: what may help with a bad line, by what is at the place of its fault.
-ghost use Rattle.std.specs.Prelude.{◌≡◌, ◌<◌, ◌≤◌, IfOk, length};
+ghost use Rattle.std.specs.Prelude.{◌≡◌, ◌<◌, ◌≤◌, IfOk, length, option_map};
+ghost use Rattle.std.specs.List.{slice_get};
+ghost use Rattle.tb_check.specs.declared.notes.Note.TheVariants.{Near};
 ghost use Rattle.tb_check.specs.Notes as spec;
 
 use crate::foreign_words::{ForeignWord, foreign_word};
 use crate::near_words::{StatementWord, near_word};
+use crate::rules::note_by_rules;
+use crate::surroundings::code_around;
 use std::alloc::{AllocError, Global};
 use tb_grammar::THEN;
 use tb_parser::{SourceError, SourceErrorKind};
@@ -31,8 +35,51 @@ pub enum Note {
     Tab,
     /// The file begins with a byte order mark.
     ByteOrderMark,
-    /// A word one letter away from that of a statement.
+    /// A word one letter away from that of a statement, or with two letters swapped.
     Near(StatementWord),
+    /// A byte that no text may have, in a text.
+    SignInText,
+    /// A text after INPUT.
+    TextInInput,
+    /// `**` or `^`.
+    Power,
+    /// A sign behind an operator.
+    SignedOperand,
+    /// `=>`.
+    AtLeast,
+    /// `=<`.
+    AtMost,
+    /// `==`.
+    OneEqualSign,
+    /// `!=`.
+    Unequal,
+    ExtraParenthesis,
+    /// A relation in parentheses.
+    RelationAsValue,
+    /// A parenthesis that is not closed.
+    NotClosed,
+    /// Something behind END or RETURN.
+    NothingBehind,
+    /// A name with a parenthesis.
+    Array,
+    /// A decimal point.
+    Fraction,
+    /// `+=` and the like.
+    Shorthand,
+    /// `%` between two values.
+    Remainder,
+    /// A name with `%`.
+    WholeName,
+    /// An IF without a relation.
+    NoRelation,
+    /// A remark behind a statement.
+    RemarkBehind,
+    /// A name after GOTO or GOSUB.
+    LineName,
+    /// A separator of PRINT without an item before it.
+    NoItem,
+    /// Two items of PRINT without a separator.
+    NoSeparator,
 }
 
 /// The note on the first fault of a line, if there is one. Fails only if memory runs out.
@@ -41,9 +88,13 @@ pub fn note_of(alloc: Global, line: &[u8], error: SourceError) -> Result<Option<
 {
     match error.kind {
         SourceErrorKind::BadByte => Ok(note_on_byte(line, error)),
+        SourceErrorKind::NotCompiled => {
+            let line = line.to_ascii_uppercase(alloc)?;
+            Ok(note_on_left_out(&line, error.column.saturating_sub(1)))
+        }
         SourceErrorKind::Syntax => {
             let line = line.to_ascii_uppercase(alloc)?;
-            Ok(note_on_syntax(&line, error.column.saturating_sub(1)))
+            note_on_syntax(alloc, &line, error.column.saturating_sub(1))
         }
         _ => Ok(None),
     }
@@ -53,9 +104,18 @@ fn note_on_byte(line: &[u8], error: SourceError) -> Option<Note>
     ensures { result ≡ spec.note_on_byte line.now error }
 {
     if is_at_mark(line, error) {
-        Some(Note::ByteOrderMark)
-    } else {
-        note_on_tab(line.get(error.column.saturating_sub(1)).copied())
+        return Some(Note::ByteOrderMark);
+    }
+    note_on_bad_place(line, error.column.saturating_sub(1))
+}
+
+// The note by the byte at a place of a line, from 0.
+fn note_on_bad_place(line: &[u8], place: usize) -> Option<Note>
+    ensures { result ≡ spec.note_on_bad_place line.now place (slice_get line.now place) }
+{
+    match line.get(place) {
+        Some(byte) => note_on_bad_byte(is_open(&line[..place]), *byte),
+        None => None,
     }
 }
 
@@ -66,18 +126,52 @@ fn is_at_mark(line: &[u8], error: SourceError) -> bool
     error.line == 1 && error.column == 1 && line.starts_with(BYTE_ORDER_MARK)
 }
 
-fn note_on_tab(byte: Option<u8>) -> Option<Note>
-    ensures { result ≡ spec.note_on_tab byte }
+fn note_on_bad_byte(is_in_text: bool, byte: u8) -> Option<Note>
+    ensures { result ≡ spec.note_on_bad_byte is_in_text byte }
 {
     match byte {
-        Some(b'\t') => Some(Note::Tab),
+        b'\t' => Some(Note::Tab),
+        _ if is_in_text => Some(Note::SignInText),
+        b'^' => Some(Note::Power),
+        b'[' => Some(Note::Array),
+        b'_' => Some(Note::LongName),
         _ => None,
     }
 }
 
+// The note on a place in or at a word that is left out, of a line in upper case.
+fn note_on_left_out(line: &[u8], place: usize) -> Option<Note>
+    ensures { result ≡ spec.note_on_left_out line.now place }
+{
+    if place < line.len() {
+        note_on_near(near_word(word_at(line, place).letters))
+    } else {
+        None
+    }
+}
+
+fn note_on_near(near: Option<StatementWord>) -> Option<Note>
+    ensures { result ≡ option_map (λ w. Near w) near }
+{
+    match near {
+        Some(word) => Some(Note::Near(word)),
+        None => None,
+    }
+}
+
 // The note on a place of a line in upper case, from 0, at which no line of the language goes on like this.
-fn note_on_syntax(line: &[u8], place: usize) -> Option<Note>
-    ensures { result ≡ spec.note_on_syntax line.now place }
+fn note_on_syntax(alloc: Global, line: &[u8], place: usize) -> Result<Option<Note>, AllocError>
+    ensures { IfOk result (λ note. note ≡ spec.note_on_syntax line.now place) }
+{
+    match note_on_place(line, place) {
+        Some(note) => Ok(Some(note)),
+        None => Ok(note_by_rules(&code_around(alloc, line, place)?)),
+    }
+}
+
+// The note by what is at the place.
+fn note_on_place(line: &[u8], place: usize) -> Option<Note>
+    ensures { result ≡ spec.note_on_place line.now place (slice_get line.now place) }
 {
     match line.get(place) {
         Some(byte) => note_at(line, place, *byte),
@@ -241,8 +335,8 @@ impl Word<'_> {
 fn note_on_slip(letters: &[u8]) -> Option<Note>
     ensures { result ≡ spec.note_on_slip letters.now }
 {
-    match near_word(letters) {
-        Some(word) => Some(Note::Near(word)),
+    match note_on_near(near_word(letters)) {
+        Some(note) => Some(note),
         None if letters.len() == 2 => Some(Note::LongName),
         None => None,
     }

@@ -1,5 +1,6 @@
 //! Warnings on a source that is compiled.
 ghost use Rattle.std.specs.Prelude.{◌≡◌, ◌∷◌, ◌++◌, [], Some, IfOk, OnOk, flat_map, map};
+ghost use Rattle.std.specs.List.{list_any};
 ghost use Rattle.tb_words.specs.Words.{word_of};
 ghost use Rattle.tb_syntax.specs.PlainData.{expression_of, item_of, lines_of, statement_of};
 ghost use Rattle.tb_syntax.specs.Source.{numbers};
@@ -12,16 +13,21 @@ use crate::lines::NumberedLine;
 use crate::remaining::{last_lines, outdone_by};
 use std::alloc::{AllocError, Global};
 use tb_meaning::{Warning as MissingJump, constant, warnings as missing_jumps};
-use tb_syntax::{Expr, PrintItem, Program, Statement};
+use tb_syntax::{Expr, Operator, PrintItem, Program, Statement};
 
 /// The largest bound of RND that is warned of: there is a better one for each up to it.
 const LARGEST_BOUND: u16 = 15_000;
+
+/// The highest number of a line, and the largest one of a variable.
+const HIGHEST_NUMBER: u16 = 32_767;
 
 /// What there is to warn of.
 #[derive(Clone, Copy, Drop)]
 pub enum Warning {
     /// A GOTO or GOSUB goes to this line, which isn't there.
     NoLine(i16),
+    /// A GOTO or GOSUB goes to this number, which no line can have.
+    HighTarget(u16),
     /// A later line of the file has the same number, and a statement.
     Replaced { number: u16, by: usize },
     /// A later line of the file is the bare number.
@@ -30,6 +36,12 @@ pub enum Warning {
     RunsPast,
     /// RND has this even bound.
     EvenBound(u16),
+    /// RND has the bound 1.
+    BoundOfOne,
+    /// RND has this bound, which is below 1.
+    BadBound(i16),
+    /// A divisor is 0.
+    ZeroDivisor,
 }
 
 /// A warning at its line of the file, from 1.
@@ -153,11 +165,16 @@ fn warn_of_statement(
         (spec.on_statement (lines_of facts.now.program.now) line.now.number (Some (statement_of statement.now)))) }
 {
     warn_of_jumps(&facts.jumps, line, found)?;
+    warn_of_targets(line.line, statement, found)?;
     if line.number == facts.highest && goes_on(statement) {
         push(found, line.line, Warning::RunsPast)?;
     }
     let bounds = bounds_of(alloc, statement)?;
-    warn_of_bounds(line.line, &bounds, found)
+    warn_of_bounds(line.line, &bounds, found)?;
+    if statement_divides_by_zero(statement) {
+        push(found, line.line, Warning::ZeroDivisor)?;
+    }
+    Ok(())
 }
 
 // Appends the warnings on the missing targets of a line.
@@ -177,20 +194,50 @@ fn warn_of_jumps(
     Ok(())
 }
 
-// Appends a warning on each even bound, where it comes first.
+// Appends a warning if a statement jumps to a number that no line can have.
+fn warn_of_targets(
+    line: usize,
+    statement: &Statement,
+    found: &mut Vec<LineWarning>,
+) -> Result<(), AllocError>
+    ensures { OnOk result (found.new.items ≡ found.old.items ++ spec.at line (spec.high_targets (statement_of statement.now))) }
+{
+    match statement {
+        Statement::Goto(Expr::Number(target)) | Statement::Gosub(Expr::Number(target))
+            if HIGHEST_NUMBER < *target => { push(found, line, Warning::HighTarget(*target)) }
+        Statement::If(_, _, _, statement) => warn_of_targets(line, statement, found),
+        _ => Ok(()),
+    }
+}
+
+// Appends what there is to warn of each bound, where it comes first.
 fn warn_of_bounds(
     line: usize,
     bounds: &[u16],
     found: &mut Vec<LineWarning>,
 ) -> Result<(), AllocError>
-    ensures { OnOk result (found.new.items ≡ found.old.items ++ spec.at line (spec.even_bounds bounds.now)) }
+    ensures { OnOk result (found.new.items ≡ found.old.items ++ spec.at line (spec.on_bounds bounds.now)) }
 {
     for (i, bound) in bounds.iter().enumerate() {
-        if is_even_bound(*bound) && !bounds[..i].contains(bound) {
-            push(found, line, Warning::EvenBound(*bound))?;
+        if !bounds[..i].contains(bound) {
+            warn_of_bound(line, *bound, found)?;
         }
     }
     Ok(())
+}
+
+fn warn_of_bound(line: usize, bound: u16, found: &mut Vec<LineWarning>) -> Result<(), AllocError>
+    ensures { OnOk result (found.new.items ≡ found.old.items ++ spec.at line (spec.on_bound bound)) }
+{
+    if bound == 1 {
+        push(found, line, Warning::BoundOfOne)
+    } else if bound == 0 || HIGHEST_NUMBER < bound {
+        push(found, line, Warning::BadBound(bound.cast_signed()))
+    } else if is_even_bound(bound) {
+        push(found, line, Warning::EvenBound(bound))
+    } else {
+        Ok(())
+    }
 }
 
 // Whether the next line may follow a statement.
@@ -265,4 +312,59 @@ fn is_even_bound(bound: u16) -> bool
     ensures { result ≡ spec.is_even_bound bound }
 {
     bound % 2 == 0 && 2 <= bound && bound <= LARGEST_BOUND
+}
+
+// Whether a statement has a divisor that is 0 without variables and RND.
+fn statement_divides_by_zero(statement: &Statement) -> bool
+    ensures { result ≡ spec.statement_divides_by_zero (statement_of statement.now) }
+{
+    match statement {
+        Statement::Let(_, e) | Statement::Goto(e) | Statement::Gosub(e) => divides_by_zero(e),
+        Statement::Print(items, _) => items_divide_by_zero(items),
+        Statement::If(left, _, right, statement) => {
+            divides_by_zero(left) || divides_by_zero(right) || statement_divides_by_zero(statement)
+        }
+        Statement::Input(_) | Statement::Return | Statement::End | Statement::Remark => false,
+    }
+}
+
+fn items_divide_by_zero(items: &[PrintItem]) -> bool
+    ensures { result ≡ list_any spec.item_divides_by_zero (map item_of items.now) }
+{
+    for item in items {
+        if item_divides_by_zero(item) {
+            return true;
+        }
+    }
+    false
+}
+
+fn item_divides_by_zero(item: &PrintItem) -> bool
+    ensures { result ≡ spec.item_divides_by_zero (item_of item.now) }
+{
+    match item {
+        PrintItem::Value(e) => divides_by_zero(e),
+        _ => false,
+    }
+}
+
+fn divides_by_zero(e: &Expr) -> bool
+    ensures { result ≡ spec.divides_by_zero (expression_of e.now) }
+{
+    match e {
+        Expr::Number(_) | Expr::Variable(_) => false,
+        Expr::Negate(e) | Expr::Random(e) => divides_by_zero(e),
+        Expr::Binary(operator, left, right) => {
+            divides_by_zero(left)
+                || divides_by_zero(right)
+                || is_zero_division(*operator, constant(right))
+        }
+    }
+}
+
+// Whether an operator divides by 0, by the value of its right operand, if it has one.
+fn is_zero_division(operator: Operator, divisor: Option<u16>) -> bool
+    ensures { result ≡ spec.is_zero_division operator divisor }
+{
+    matches!((operator, divisor), (Operator::Divide, Some(0)))
 }

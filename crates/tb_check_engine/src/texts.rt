@@ -6,7 +6,7 @@ use std::fmt;
 use tb_check::{ForeignWord, Note, Warning};
 
 /// The largest bound of RND that is advised.
-const ADVISED: u32 = 30_000;
+const ADVISED: u32 = 32_767;
 
 /// What is said of a note.
 #[derive(Drop)]
@@ -37,6 +37,11 @@ fn advice(word: ForeignWord) -> &'static str
         ForeignWord::Abs => "IF X<0 LET X=-X does it",
         ForeignWord::Tab => "a comma in PRINT goes on to the next zone of 8 columns",
         ForeignWord::Chr => "PRINT takes texts between quotes",
+        ForeignWord::Mod => "A-A/B*B is the remainder",
+        ForeignWord::Int => "all numbers are whole, and so is a quotient",
+        ForeignWord::Sgn => "IF X<0 LET S=-1 does it, with an IF for each sign",
+        ForeignWord::While => "go back with IF and GOTO",
+        ForeignWord::Sys => "a program calls no machine code",
     }
 }
 
@@ -61,6 +66,38 @@ impl fmt::Display for NoteText {
                 "the file begins with a byte order mark (EF BB BF); save it without one",
             ),
             Note::Near(word) => write!(f, "did you mean {}", word.spelling()),
+            Note::SignInText => f.write_str(
+                "a text holds letters, digits, spaces and the signs from ! to @",
+            ),
+            Note::TextInInput => f.write_str(
+                "INPUT takes variables alone; PRINT the text on the line before",
+            ),
+            Note::Power => f.write_str("Tiny BASIC has no powers; write A*A"),
+            Note::SignedOperand => f.write_str(
+                "a sign behind an operator stands in parentheses: A*(-1)",
+            ),
+            Note::AtLeast => f.write_str("write >= for =>"),
+            Note::AtMost => f.write_str("write <= for =<"),
+            Note::OneEqualSign => f.write_str("write = for =="),
+            Note::Unequal => f.write_str("write <> for !="),
+            Note::ExtraParenthesis => f.write_str("no parenthesis is open here"),
+            Note::RelationAsValue => f.write_str(
+                "a relation is no value; IF takes one, without parentheses around it",
+            ),
+            Note::NotClosed => f.write_str("a parenthesis is not closed"),
+            Note::NothingBehind => f.write_str("nothing follows END and RETURN on a line"),
+            Note::Array => f.write_str("there are the variables A to Z and no arrays"),
+            Note::Fraction => f.write_str("numbers are whole; there is no decimal point"),
+            Note::Shorthand => f.write_str("write the operation out: LET A=A+1"),
+            Note::Remainder => f.write_str("Tiny BASIC has no %; A-A/B*B is the remainder"),
+            Note::WholeName => f.write_str("all variables hold whole numbers; leave out the %"),
+            Note::NoRelation => f.write_str("IF takes a relation: IF A<>0"),
+            Note::RemarkBehind => f.write_str("a remark has a line of its own"),
+            Note::LineName => f.write_str("GOTO and GOSUB take the number of a line"),
+            Note::NoItem => f.write_str(
+                "an item stands before each separator of PRINT; \"\" is an empty one",
+            ),
+            Note::NoSeparator => f.write_str("PRINT has ; or , between its items"),
         }
     }
 }
@@ -68,7 +105,7 @@ impl fmt::Display for NoteText {
 // How often a bound goes into the largest one that is advised.
 fn times_of(bound: u16) -> u32
     ensures value { result ≡ times_of bound }
-    ensures few { result ≤ 30000 }
+    ensures few { result ≤ 32767 }
 {
     if bound == 0 {
         1
@@ -98,6 +135,13 @@ impl fmt::Display for WarningText {
                     "RND({bound}) is odd and even in turns; RND({larger})/{times} is better"
                 )
             }
+            Warning::HighTarget(target) => write!(
+                f,
+                "{target} is read as a negative number; line numbers end at 32767"
+            ),
+            Warning::BoundOfOne => f.write_str("RND(1) is always 0"),
+            Warning::BadBound(bound) => write!(f, "fault 3: the bound of RND is {bound}"),
+            Warning::ZeroDivisor => f.write_str("fault 2: a divisor is 0"),
         }
     }
 }
