@@ -20,6 +20,16 @@ pub enum Form {
     Files,
     /// A file that is named by its place, and must be unless the option of this name is there.
     FileUnless(&'static str),
+    /// An option without a value.
+    Flag,
+    /// A file that is named by its place, if it is named at all.
+    FileIfNamed,
+    /// The option `-o`, which names what is written.
+    Output,
+    /// The option `-o`, which excludes the argument of this name.
+    OutputInPlaceOf(&'static str),
+    /// One file or more, named by their places, which may be missing if the option of this name is there.
+    FilesUnless(&'static str),
     /// An option that names a file.
     FileOption,
     /// An option that names a file, and excludes the argument of this name.
@@ -55,6 +65,10 @@ const PRG_NAME: &str = "prg";
 
 const KEYS_NAME: &str = "keys";
 
+const OUT_NAME: &str = "OUT";
+
+const OUTPUT_NAME: &str = "output";
+
 pub const SOURCE: Argument = Argument {
     name: SOURCE_NAME,
     help: "The source file",
@@ -88,19 +102,37 @@ pub const PRG_FILE: Argument = Argument {
 pub const PRG_FILES: Argument = Argument {
     name: "FILE",
     help: "The PRG files, in order",
-    form: Form::Files,
+    form: Form::FilesUnless(OUTPUT_NAME),
+};
+
+pub const BUILD_OUT: Argument = Argument {
+    name: OUT_NAME,
+    help: "The PRG file that is written; SOURCE with .prg in place of .bas if it is missing",
+    form: Form::FileIfNamed,
 };
 
 pub const OUT: Argument = Argument {
-    name: "OUT",
+    name: OUT_NAME,
     help: "The PRG file that is written",
-    form: Form::File,
+    form: Form::FileUnless(OUTPUT_NAME),
 };
 
 pub const DISK_OUT: Argument = Argument {
-    name: "OUT",
+    name: OUT_NAME,
     help: "The disk image that is written, a D64 file",
     form: Form::File,
+};
+
+pub const OUTPUT: Argument = Argument {
+    name: OUTPUT_NAME,
+    help: "The file that is written, in place of OUT",
+    form: Form::OutputInPlaceOf(OUT_NAME),
+};
+
+pub const DISK_OUTPUT: Argument = Argument {
+    name: OUTPUT_NAME,
+    help: "The disk image that is written; then all other words are PRG files",
+    form: Form::Output,
 };
 
 pub const PRG: Argument = Argument {
@@ -113,6 +145,12 @@ pub const SEED: Argument = Argument {
     name: "seed",
     help: "The first state of RND, 0 to 65535",
     form: Form::NumberOr(USUAL_SEED_TEXT),
+};
+
+pub const FIT: Argument = Argument {
+    name: "fit",
+    help: "Take any source that fits the memory, whatever it costs",
+    form: Form::Flag,
 };
 
 pub const KEYS: Argument = Argument {

@@ -3,8 +3,9 @@ ghost use Rattle.std.specs.Prelude.{◌≡◌};
 ghost use Rattle.tb_command_line.specs.Table.{NamesEach, command_of};
 
 use crate::arguments::{
-    ANSWERS, AT, Argument, DISK_OUT, KEY_FILE, KEYS, LABELS, LIMIT, LIST, MAP, OUT, PAGE,
-    PLAY_LIMIT, PRG, PRG_FILE, PRG_FILES, RECORD, RUDE, SEED, SOURCE, SOURCE_OR_PRG, SOURCES, TEXT,
+    ANSWERS, AT, Argument, BUILD_OUT, DISK_OUT, DISK_OUTPUT, FIT, KEY_FILE, KEYS, LABELS, LIMIT,
+    LIST, MAP, OUT, OUTPUT, PAGE, PLAY_LIMIT, PRG, PRG_FILE, PRG_FILES, RECORD, RUDE, SEED, SOURCE,
+    SOURCE_OR_PRG, SOURCES, TEXT,
 };
 
 /// A command of `tbc`.
@@ -48,7 +49,7 @@ static COMMANDS: [CommandRow; 10] = [
         name: "build",
         help: "Compile a Tiny BASIC source to a PRG file",
         usage: None,
-        arguments: &[SOURCE, OUT, SEED, LABELS, LIST, MAP],
+        arguments: &[SOURCE, BUILD_OUT, OUTPUT, SEED, FIT, LABELS, LIST, MAP],
     },
     CommandRow {
         command: CommandName::Run,
@@ -59,6 +60,7 @@ static COMMANDS: [CommandRow; 10] = [
             SOURCE_OR_PRG,
             PRG,
             SEED,
+            FIT,
             KEYS,
             KEY_FILE,
             ANSWERS,
@@ -71,14 +73,14 @@ static COMMANDS: [CommandRow; 10] = [
         name: "play",
         help: "Play a source or a PRG file: what you type is its keyboard",
         usage: Some("tbc play [OPTIONS] <SOURCE>\n       tbc play [OPTIONS] --prg <FILE>"),
-        arguments: &[SOURCE_OR_PRG, PRG, SEED, PLAY_LIMIT, RECORD],
+        arguments: &[SOURCE_OR_PRG, PRG, SEED, FIT, PLAY_LIMIT, RECORD],
     },
     CommandRow {
         command: CommandName::Asm,
         name: "asm",
         help: "Assemble a text to a PRG file",
         usage: None,
-        arguments: &[TEXT, OUT, AT],
+        arguments: &[TEXT, OUT, OUTPUT, AT],
     },
     CommandRow {
         command: CommandName::Dis,
@@ -92,28 +94,30 @@ static COMMANDS: [CommandRow; 10] = [
         name: "step",
         help: "Step through a source by commands from standard input",
         usage: None,
-        arguments: &[SOURCE, SEED, KEYS, KEY_FILE, ANSWERS, LIMIT],
+        arguments: &[SOURCE, SEED, FIT, KEYS, KEY_FILE, ANSWERS, LIMIT],
     },
     CommandRow {
         command: CommandName::Debug,
         name: "debug",
         help: "Debug a source forth and back by commands from standard input; h lists them",
         usage: None,
-        arguments: &[SOURCE, SEED, KEYS, KEY_FILE, ANSWERS, LIMIT, RUDE],
+        arguments: &[SOURCE, SEED, FIT, KEYS, KEY_FILE, ANSWERS, LIMIT, RUDE],
     },
     CommandRow {
         command: CommandName::Profile,
         name: "profile",
         help: "Run a source, and show what each of its lines took",
         usage: None,
-        arguments: &[SOURCE, SEED, KEYS, KEY_FILE, ANSWERS, LIMIT, RUDE, PAGE],
+        arguments: &[
+            SOURCE, SEED, FIT, KEYS, KEY_FILE, ANSWERS, LIMIT, RUDE, PAGE,
+        ],
     },
     CommandRow {
         command: CommandName::Disk,
         name: "disk",
         help: "Make a disk image of PRG files",
-        usage: None,
-        arguments: &[DISK_OUT, PRG_FILES],
+        usage: Some("tbc disk <OUT> <FILE>...\n       tbc disk -o <OUT> <FILE>..."),
+        arguments: &[DISK_OUT, PRG_FILES, DISK_OUTPUT],
     },
     CommandRow {
         command: CommandName::Check,

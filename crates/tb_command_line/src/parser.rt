@@ -1,7 +1,7 @@
 //! The table of the commands as a parser of `clap`.
 use crate::arguments::{Argument, Form};
 use crate::commands::{CommandRow, rows};
-use clap::{Arg, Command, value_parser};
+use clap::{Arg, ArgAction, Command, value_parser};
 use std::alloc::{AllocError, Global};
 use tb_jobs::MOST_EVENTS;
 
@@ -56,6 +56,11 @@ fn clap_argument<'a>(alloc: Global, argument: &Argument) -> Result<Arg<'a>, Allo
         Form::Files => Ok(plain.required(true).num_args(1..)),
         Form::FileUnless(option) => plain.required_unless_present(option),
         Form::FileInPlaceOf(excluded) => option(plain, argument, "FILE").conflicts_with(excluded),
+        Form::Flag => Ok(plain.long(argument.name).action(ArgAction::SetTrue)),
+        Form::FileIfNamed => Ok(plain),
+        Form::FilesUnless(option) => plain.num_args(1..).required_unless_present(option),
+        Form::Output => Ok(output_option(plain)),
+        Form::OutputInPlaceOf(excluded) => output_option(plain).conflicts_with(excluded),
         Form::FileOption => Ok(option(plain, argument, "FILE")),
         Form::Digits => Ok(digits_option(plain, argument)),
         Form::Address => Ok(option(plain, argument, "HEX").required(true)),
@@ -68,6 +73,10 @@ fn clap_argument<'a>(alloc: Global, argument: &Argument) -> Result<Arg<'a>, Allo
 // An option with a value of this name.
 fn option<'a>(plain: Arg<'a>, argument: &Argument, value: &'a str) -> Arg<'a> {
     plain.long(argument.name).value_name(value)
+}
+
+fn output_option(plain: Arg<'_>) -> Arg<'_> {
+    plain.short('o').value_name("OUT")
 }
 
 fn digits_option<'a>(plain: Arg<'a>, argument: &Argument) -> Arg<'a> {

@@ -1,6 +1,7 @@
 //! The values of arguments that the parser found.
 use crate::arguments::{
-    ANSWERS, Argument, KEY_FILE, KEYS, LABELS, LIMIT, LIST, MAP, PRG, RUDE, SEED, SOURCE_OR_PRG,
+    ANSWERS, Argument, FIT, KEY_FILE, KEYS, LABELS, LIMIT, LIST, MAP, PRG, RUDE, SEED,
+    SOURCE_OR_PRG,
 };
 use clap::ArgMatches;
 use std::alloc::{AllocError, Global};
@@ -27,6 +28,19 @@ pub fn optional_text(
     })
 }
 
+/// A copy of the text of the first of two arguments that is there.
+pub fn first_text(
+    alloc: Global,
+    found: &ArgMatches<'_>,
+    first: &Argument,
+    second: &Argument,
+) -> Result<Option<String>, AllocError> {
+    match optional_text(alloc, found, first)? {
+        Some(text) => Ok(Some(text)),
+        None => optional_text(alloc, found, second),
+    }
+}
+
 /// Copies of the texts of an argument that may have several.
 pub fn texts(
     alloc: Global,
@@ -43,6 +57,11 @@ pub fn texts(
 /// The first state of RND.
 pub fn seed_of(found: &ArgMatches<'_>) -> u16 {
     found.get_one::<u16>(SEED.name).unwrap_or(USUAL_SEED)
+}
+
+/// Whether a source is refused as too large only if it doesn't fit the memory.
+pub fn fit_of(found: &ArgMatches<'_>) -> bool {
+    found.get_flag(FIT.name)
 }
 
 /// The seed of rude events, if they are wanted.
@@ -62,6 +81,7 @@ pub fn limit_of(found: &ArgMatches<'_>, argument: &Argument, usual: Limit) -> Li
 pub fn settings_of(alloc: Global, found: &ArgMatches<'_>) -> Result<Settings, AllocError> {
     Ok(Settings {
         seed: seed_of(found),
+        fit: fit_of(found),
         keys: typed_of(alloc, found)?,
         answers: text(alloc, found, &ANSWERS)?,
         limit: limit_of(found, &LIMIT, Limit::default_limit()),

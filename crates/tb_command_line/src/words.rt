@@ -3,17 +3,20 @@ ghost use Rattle.std.specs.Prelude.{IfOk};
 ghost use Rattle.tb_jobs.specs.Limits.{IsWithinLimit};
 
 use crate::arguments::{
-    AT, DISK_OUT, OUT, PAGE, PLAY_LIMIT, PRG_FILE, PRG_FILES, RECORD, SOURCE, SOURCES, TEXT,
+    AT, BUILD_OUT, DISK_OUT, DISK_OUTPUT, OUT, OUTPUT, PAGE, PLAY_LIMIT, PRG_FILE, PRG_FILES,
+    RECORD, SOURCE, SOURCES, TEXT,
 };
 use crate::commands::{CommandName, command_named, rows};
 use crate::parser::parser;
 use crate::values::{
-    extras_of, limit_of, optional_text, rude_of, runnable_of, seed_of, settings_of, text, texts,
+    extras_of, first_text, fit_of, limit_of, optional_text, rude_of, runnable_of, seed_of,
+    settings_of, text, texts,
 };
 use clap::ArgMatches;
 use clap::error::ErrorKind;
 use std::alloc::{AllocError, Global};
 use std::convert::AsStr;
+use tb_files::usual_out;
 use tb_jobs::{Job, JobError, Limit};
 
 /// Reads the words after the program's own name.
@@ -77,10 +80,16 @@ fn job_of(alloc: Global, command: CommandName, found: &ArgMatches<'_>) -> Result
 fn build_job(alloc: Global, found: &ArgMatches<'_>) -> Result<Job, AllocError>
     ensures { IfOk result IsWithinLimit }
 {
+    let source = text(alloc, found, &SOURCE)?;
+    let out = match first_text(alloc, found, &OUTPUT, &BUILD_OUT)? {
+        Some(out) => out,
+        None => usual_out(alloc, source.as_str())?,
+    };
     Ok(Job::Build {
-        source: text(alloc, found, &SOURCE)?,
-        out: text(alloc, found, &OUT)?,
+        source,
+        out,
         seed: seed_of(found),
+        fit: fit_of(found),
         beside: extras_of(alloc, found)?,
     })
 }
@@ -101,6 +110,7 @@ fn play_job(alloc: Global, found: &ArgMatches<'_>) -> Result<Job, AllocError>
     Ok(Job::Play {
         what: runnable_of(alloc, found)?,
         seed: seed_of(found),
+        fit: fit_of(found),
         limit: limit_of(found, &PLAY_LIMIT, Limit::most()),
         record: optional_text(alloc, found, &RECORD)?,
     })
@@ -111,7 +121,7 @@ fn asm_job(alloc: Global, found: &ArgMatches<'_>) -> Result<Job, AllocError>
 {
     Ok(Job::Asm {
         text: text(alloc, found, &TEXT)?,
-        out: text(alloc, found, &OUT)?,
+        out: first_text(alloc, found, &OUTPUT, &OUT)?.unwrap_or(String::new(alloc)),
         at: text(alloc, found, &AT)?,
     })
 }
@@ -157,10 +167,20 @@ fn profile_job(alloc: Global, found: &ArgMatches<'_>) -> Result<Job, AllocError>
 fn disk_job(alloc: Global, found: &ArgMatches<'_>) -> Result<Job, AllocError>
     ensures { IfOk result IsWithinLimit }
 {
-    Ok(Job::Disk {
-        out: text(alloc, found, &DISK_OUT)?,
-        files: texts(alloc, found, &PRG_FILES)?,
-    })
+    let first = text(alloc, found, &DISK_OUT)?;
+    let mut others = texts(alloc, found, &PRG_FILES)?;
+    match optional_text(alloc, found, &DISK_OUTPUT)? {
+        Some(out) => {
+            let mut files = Vec::new(alloc);
+            files.push(first)?;
+            files.append(&mut others)?;
+            Ok(Job::Disk { out, files })
+        }
+        None => Ok(Job::Disk {
+            out: first,
+            files: others,
+        }),
+    }
 }
 
 fn check_job(alloc: Global, found: &ArgMatches<'_>) -> Result<Job, AllocError>

@@ -1,3 +1,4 @@
 pub mod Naming
 pub mod Imaging
 pub mod Used
+pub mod Adding

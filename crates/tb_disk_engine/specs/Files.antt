@@ -1,9 +1,9 @@
 -- What taking files in and making a disk of them come to.
-use Rattle.std.specs.Prelude.{ℕ, ◌≡◌, List, [], ◌∷◌, ◌++◌, map, Contains, Option, Result, Ok, Err, is_ok, true, ⊤}
+use Rattle.std.specs.Prelude.{ℕ, ◌≡◌, List, [], ◌∷◌, ◌++◌, map, Contains, Option, Result, Ok, Err, ⊤}
 use Rattle.std.specs.Io.KnownBytes.{Appends, Keeps}
 use Rattle.tb_streams.specs.Streams.{Reads, AppendsPrefix}
 use Rattle.tb_streams.specs.Uses.{Use, Fails, NeverFails, MayFault}
-use Rattle.tb_prg.specs.Prg.{content_of}
+use Rattle.tb_disk_engine.specs.Programs.{Judges}
 use Rattle.tb_disk.specs.declared.names.Name.{Name}
 use Rattle.tb_disk.specs.declared.image.File.{File}
 use Rattle.tb_disk.specs.Names.{IsName, field_of}
@@ -15,7 +15,7 @@ use Rattle.tb_disk_engine.specs.declared.files.Taken.{Taken}
 use Rattle.tb_disk_engine.specs.declared.files.DiskFiles.{DiskFiles}
 use Rattle.tb_disk_engine.specs.declared.outcome.DiskOutcome.{DiskOutcome}
 use Rattle.tb_disk_engine.specs.declared.outcome.DiskOutcome.TheVariants.{Done, Refused, ReadFault, WriteFault, NoMemory}
-use Rattle.tb_disk_engine.specs.declared.outcome.DiskRefusal.TheVariants.{BadName, NameTwice, Prg, Full}
+use Rattle.tb_disk_engine.specs.declared.outcome.DiskRefusal.TheVariants.{BadName, NameTwice, Prg, Text, NotRam, Full}
 
 -- a file on a disk: its name's field, and its bytes
 abbrev pub Entry : Type 0
@@ -43,18 +43,17 @@ NamesNext d path (Ok name) = IsName (file_text path) × (name.field ≡ field_of
 NamesNext d path (Err (Refused NameTwice)) = IsName (file_text path) × IsUsed d (field_of (file_text path))
 NamesNext d path (Err e) = Unnamed path e
 
--- these are the bytes of a PRG file
-abbrev pub IsPrg : List ℕ → Type 0
-IsPrg bytes = is_ok (content_of bytes) ≡ true
-
--- the files with one more at their end, or why it was not taken in: no PRG file, or a fault of its reader
+-- the files with one more at their end, or why it was not taken in: one of them has the name, no program that can be
+-- loaded, or a fault of its reader
 abbrev pub Adds : DiskFiles → Name → Option (List ℕ) → Result DiskFiles DiskOutcome → Type 0
-Adds old name had (Ok new) = (bytes : List ℕ) × Reads had bytes × IsPrg bytes × (entries new ≡ entries old ++ (name.field, bytes) ∷ [])
-Adds old name had (Err (Refused (Prg e))) = (bytes : List ℕ) × Reads had bytes × (content_of bytes ≡ Err e)
+Adds old name had (Ok new) = (¬ IsUsed old name.field) × (bytes : List ℕ) × Reads had bytes × Judges bytes (Ok tt) × (entries new ≡ entries old ++ (name.field, bytes) ∷ [])
+Adds old name had (Err (Refused (Prg e))) = (¬ IsUsed old name.field) × (bytes : List ℕ) × Reads had bytes × Judges bytes (Err (Prg e))
+Adds old name had (Err (Refused Text)) = (¬ IsUsed old name.field) × (bytes : List ℕ) × Reads had bytes × Judges bytes (Err Text)
+Adds old name had (Err (Refused NotRam)) = (¬ IsUsed old name.field) × (bytes : List ℕ) × Reads had bytes × Judges bytes (Err NotRam)
 Adds old name had (Err (Refused BadName)) = ⊥
-Adds old name had (Err (Refused NameTwice)) = ⊥
+Adds old name had (Err (Refused NameTwice)) = IsUsed old name.field
 Adds old name had (Err (Refused Full)) = ⊥
-Adds old name had (Err ReadFault) = ⊤
+Adds old name had (Err ReadFault) = ¬ IsUsed old name.field
 Adds old name had (Err NoMemory) = ⊤
 Adds old name had (Err Done) = ⊥
 Adds old name had (Err WriteFault) = ⊥
@@ -93,6 +92,8 @@ Writes d path (Refused Full) writer = IsFull d × Keeps writer.old writer.new
 Writes d path (Refused BadName) writer = ⊥
 Writes d path (Refused NameTwice) writer = ⊥
 Writes d path (Refused (Prg e)) writer = ⊥
+Writes d path (Refused Text) writer = ⊥
+Writes d path (Refused NotRam) writer = ⊥
 Writes d path ReadFault writer = ⊥
 Writes d path WriteFault writer = (image : List ℕ) × IsImageOf d path image × AppendsPrefix writer.old writer.new image
 Writes d path NoMemory writer = Keeps writer.old writer.new

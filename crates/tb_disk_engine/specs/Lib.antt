@@ -1,3 +1,4 @@
 pub mod Names
 pub mod Outcomes
+pub mod Programs
 pub mod Files

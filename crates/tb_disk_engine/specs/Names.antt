@@ -8,7 +8,7 @@ use Rattle.tb_disk.specs.Names.{IsName}
 use Rattle.tb_disk.specs.Images.{text_of}
 use Rattle.tb_disk_engine.specs.declared.outcome.DiskOutcome.{DiskOutcome}
 use Rattle.tb_disk_engine.specs.declared.outcome.DiskOutcome.TheVariants.{Done, Refused, ReadFault, WriteFault, NoMemory}
-use Rattle.tb_disk_engine.specs.declared.outcome.DiskRefusal.TheVariants.{BadName, NameTwice, Prg, Full}
+use Rattle.tb_disk_engine.specs.declared.outcome.DiskRefusal.TheVariants.{BadName, NameTwice, Prg, Text, NotRam, Full}
 
 -- a letter in upper case, `_` as `-`; every other byte as it is
 abbrev pub sign_of : ℕ → ℕ
@@ -41,6 +41,8 @@ abbrev pub Unnamed : List ℕ → DiskOutcome → Type 0
 Unnamed path (Refused BadName) = ¬ IsName (file_text path)
 Unnamed path (Refused NameTwice) = ⊥
 Unnamed path (Refused (Prg e)) = ⊥
+Unnamed path (Refused Text) = ⊥
+Unnamed path (Refused NotRam) = ⊥
 Unnamed path (Refused Full) = ⊥
 Unnamed path NoMemory = ⊤
 Unnamed path Done = ⊥

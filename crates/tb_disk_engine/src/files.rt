@@ -1,7 +1,10 @@
 //! The files for a disk, and its image.
-ghost use Rattle.std.specs.Prelude.{◌≡◌, [], map, IfOk, MatchBool, MatchResult};
+ghost use Rattle.std.specs.Prelude.{◌≡◌, [], map, ◌+◌, ◌≤◌, ◌↔◌, IsTrue, IfOk, MatchBool, MatchResult};
+ghost use Rattle.std.specs.List.{list_all};
+ghost use Rattle.tb_memmap.specs.Bytes.{IsOpenRange};
 ghost use Rattle.tb_streams.specs.Uses.{use_of, TakesInput};
 ghost use Rattle.tb_disk_engine.specs.Files.{entry_of, entry_in, entries, IsUsed, NamesNext, Adds, AddFaults};
+ghost use Rattle.tb_disk_engine.specs.Programs.{is_text_byte, Judges};
 ghost use Rattle.tb_disk_engine.specs.Files.{IsImageOf, HasNoImage, Writes, WriteFaults};
 
 use crate::names::{disk_name, file_name};
@@ -9,7 +12,11 @@ use crate::outcome::{DiskOutcome, DiskRefusal};
 use std::alloc::{AllocError, Global};
 use std::io::{Read, Write};
 use tb_disk::{DiskError, File, Name, disk};
+use tb_memmap::is_open_at;
 use tb_streams::{InputError, Tracked, read_input, write_output};
+
+/// The load address of a program with a BASIC line.
+const BASIC_START: u16 = 0x0801;
 
 // A file that was taken in, with its name on the disk.
 #[derive(Drop)]
@@ -36,6 +43,50 @@ fn files_in(alloc: Global, taken: &[Taken]) -> Result<Vec<File<'_>>, AllocError>
         })?;
     }
     Ok(files)
+}
+
+// Whether a byte may be one of a text: a character of ASCII, a tabulator or a line end.
+fn is_text_byte(byte: u8) -> bool
+    ensures { result ≡ is_text_byte byte }
+{
+    byte == b'\t' || byte == b'\n' || byte == b'\r' || (32 <= byte && byte <= 126)
+}
+
+// Whether all bytes may be those of a text.
+fn is_text(bytes: &[u8]) -> bool
+    ensures { result ≡ list_all is_text_byte bytes.now }
+{
+    bytes.iter().all(|byte| is_text_byte(*byte))
+}
+
+// Whether each of `count` addresses from `at` on is one of RAM.
+fn is_in_ram(at: u16, count: usize) -> bool
+    requires { at + count ≤ 65536 }
+    ensures { IsTrue result ↔ IsOpenRange at count }
+{
+    for k in 0..count {
+        if !is_open_at((usize::from(at) + k) as u16) {
+            return false;
+        }
+    }
+    true
+}
+
+// Whether the bytes of a file are a PRG file that belongs on a disk.
+fn judged(file: &[u8]) -> Result<(), DiskRefusal>
+    ensures { Judges file.now result }
+{
+    let program = match tb_prg::read(file) {
+        Ok(program) => program,
+        Err(error) => return Err(DiskRefusal::Prg(error)),
+    };
+    if is_text(file) {
+        return Err(DiskRefusal::Text);
+    }
+    if program.at != BASIC_START && !is_in_ram(program.at, program.bytes.len()) {
+        return Err(DiskRefusal::NotRam);
+    }
+    Ok(())
 }
 
 impl DiskFiles {
@@ -72,8 +123,8 @@ impl DiskFiles {
         Ok(name)
     }
 
-    /// Takes in all that a reader gives under a name, after the files so far. Refused if it is no PRG file; on any
-    /// error the files are let go.
+    /// Takes in all that a reader gives under a name, after the files so far. Refused if one of these has the name, and
+    /// then if it is no PRG file; on any error the files are let go.
     pub fn add<R: Read>(
         mut self,
         alloc: Global,
@@ -84,13 +135,16 @@ impl DiskFiles {
         ensures faults { AddFaults result (use_of R.remaining reader.old reader.new) }
         ensures taken { TakesInput (use_of R.remaining reader.old reader.new) }
     {
+        if self.has(&name) {
+            return Err(DiskOutcome::Refused(DiskRefusal::NameTwice));
+        }
         let bytes = match read_input(alloc, reader) {
             Ok(bytes) => bytes,
             Err(InputError::Fault) => return Err(DiskOutcome::ReadFault),
             Err(InputError::NoMemory) => return Err(DiskOutcome::NoMemory),
         };
-        if let Err(error) = tb_prg::read(bytes.as_slice()) {
-            return Err(DiskOutcome::Refused(DiskRefusal::Prg(error)));
+        if let Err(refusal) = judged(bytes.as_slice()) {
+            return Err(DiskOutcome::Refused(refusal));
         }
         match self.files.push(Taken { name, bytes }) {
             Ok(()) => Ok(self),

@@ -19,6 +19,12 @@ pub enum DiskRefusal {
     /// A file is no PRG file.
     #[error("not a PRG: {0}")]
     Prg(PrgError),
+    /// A file is a text.
+    #[error("not a PRG: text")]
+    Text,
+    /// A file without a BASIC line would not lie in RAM.
+    #[error("not a PRG: not RAM")]
+    NotRam,
     /// The files take more than 664 blocks, or there are more than 144.
     #[error("disk full")]
     Full,

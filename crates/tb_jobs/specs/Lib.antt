@@ -1,2 +1,3 @@
 pub mod Limits
 pub mod Statuses
+pub mod Files

@@ -11,9 +11,9 @@ IsWithin limit = (1 ≤ limit.events) × (limit.events ≤ MOST_EVENTS)
 
 -- a run takes 1 to MOST_EVENTS events
 abbrev pub IsWithinLimit : Job → Type 0
-IsWithinLimit (Build source out seed beside) = ⊤
+IsWithinLimit (Build source out seed fit beside) = ⊤
 IsWithinLimit (Run what settings rude) = IsWithin settings.limit
-IsWithinLimit (Play what seed limit made) = IsWithin limit
+IsWithinLimit (Play what seed fit limit made) = IsWithin limit
 IsWithinLimit (Asm text out at) = ⊤
 IsWithinLimit (Dis prg) = ⊤
 IsWithinLimit (Step source settings) = IsWithin settings.limit

@@ -18,8 +18,10 @@ pub enum Failure {
     BadKeys,
     /// An address is no four hexadecimal digits.
     BadAddress,
-    /// Two of the files of a build, its source one of them, have the same name.
+    /// A file would be written that is also read, or that is written twice.
     SameFile,
+    /// A source that is there would be written, at this path.
+    IsSource(String),
     /// A key file can't be read.
     ReadFault,
     /// A growth was refused.
@@ -36,7 +38,8 @@ impl Failure {
             | Failure::NotUtf8
             | Failure::BadKeys
             | Failure::BadAddress
-            | Failure::SameFile => status::BAD_WORDS,
+            | Failure::SameFile
+            | Failure::IsSource(_) => status::BAD_WORDS,
             Failure::ReadFault => status::FAULT,
             Failure::NoMemory => status::NO_MEMORY,
         }
@@ -52,6 +55,7 @@ impl fmt::Display for Failure {
             Failure::BadKeys => f.write_str("tbc: bad key list\n"),
             Failure::BadAddress => f.write_str("tbc: bad address\n"),
             Failure::SameFile => f.write_str("tbc: same file twice\n"),
+            Failure::IsSource(path) => writeln!(f, "tbc: {path} is a source"),
             Failure::ReadFault => f.write_str("tbc: read fault\n"),
             Failure::NoMemory => f.write_str("tbc: out of memory\n"),
         }

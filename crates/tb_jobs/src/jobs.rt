@@ -76,6 +76,8 @@ pub enum Typed {
 pub struct Settings {
     /// The first state of RND.
     pub seed: u16,
+    /// Whether a source is refused as too large only if it doesn't fit the memory.
+    pub fit: bool,
     pub keys: Typed,
     /// The answers for GETIN.
     pub answers: String,
@@ -102,6 +104,8 @@ pub enum Job {
         out: String,
         /// The first state of RND.
         seed: u16,
+        /// Whether a source is refused as too large only if it doesn't fit the memory.
+        fit: bool,
         /// The files of the texts that tell of it.
         beside: BuildExtras,
     },
@@ -117,6 +121,8 @@ pub enum Job {
         what: Runnable,
         /// The first state of RND.
         seed: u16,
+        /// Whether a source is refused as too large only if it doesn't fit the memory.
+        fit: bool,
         /// How many events it may take between two lines.
         limit: Limit,
         /// The key file that is written of all that was typed, if it is wanted.

@@ -2,6 +2,7 @@
 #![tactic(auto)]
 
 mod failure;
+mod files;
 mod jobs;
 
 pub use failure::Failure;

@@ -1,5 +1,5 @@
 //! Debugging: commands come from standard input, and each is answered on standard output before the next one is read.
-use crate::reading::read_warned;
+use crate::reading::{read_warned, settings_of};
 use std::io;
 use std::rt::Files;
 use tb_command_line::Settings;
@@ -16,7 +16,7 @@ pub fn debug_file<R: Files + Print + Eprint + Input + AllocGlobal>(
     rude: Option<u16>,
     prompts: bool,
 ) -> Outcome {
-    match read_warned(rt, source, settings.seed) {
+    match read_warned(rt, source, settings_of(settings.seed, settings.fit)) {
         Ok(source) => {
             let setting = Setting {
                 rom: rom(rude),

@@ -1,18 +1,18 @@
 //! The program `tbc`: its words become a job, and an engine does it over files and standard streams.
 #![tactic(auto)]
 
-mod building;
 mod checking;
 mod debugging;
-mod disks;
 mod ending;
-mod files;
+mod host;
+mod noting;
 mod playing;
 mod profiling;
 mod reading;
 mod tasks;
 
 use ending::Ending;
+use noting::note;
 use std::io::IsTerminal;
 use std::process::ExitCode;
 use std::rt::{Env, Files};
@@ -35,19 +35,23 @@ fn job_of_words<R: Env + AllocGlobal>(rt: &R) -> Result<Job, Failure> {
 fn start<R: Files + Env + Print + Eprint + Input + AllocGlobal>(
     rt: &R,
     prompts: bool,
+    notes: bool,
 ) -> Result<Ending, Failure> {
     let job = job_of_words(rt)?;
-    tasks::perform(rt, &job, prompts)
+    let ending = tasks::perform(rt, &job, prompts)?;
+    // Nobody can be told that standard error fails.
+    let _ = eprint!(rt; "{ending}");
+    if notes {
+        note(rt, &job, &ending);
+    }
+    Ok(ending)
 }
 
 fn main(rt: HostRuntime) -> ExitCode {
     let prompts = rt.stdin().is_terminal() && rt.stdout().is_terminal();
-    // Nobody can be told that standard error fails.
-    let status = match start(&rt, prompts) {
-        Ok(ending) => {
-            let _ = eprint!(rt; "{ending}");
-            ending.status()
-        }
+    let notes = rt.stderr().is_terminal();
+    let status = match start(&rt, prompts, notes) {
+        Ok(ending) => ending.status(),
         Err(failure) => {
             let _ = eprint!(rt; "{failure}");
             failure.status()

@@ -1,21 +1,24 @@
 //! Playing: standard input is the keyboard, and standard output the screen.
-use crate::files::{open, write_file};
+use crate::host::Host;
 use crate::reading::read_warned;
 use std::io;
 use std::rt::Files;
 use tb_command_line::Runnable;
-use tb_driver::{Outcome, Played, Tracked, play_compiled, play_file, read_input, without_input};
+use tb_driver::{
+    CompileSettings, Outcome, Played, Tracked, play_compiled, play_file, read_input, without_input,
+};
+use tb_file_engine::{opened, save};
 
 /// Plays a source or a PRG file, and records what was typed in a key file, where that is wanted.
 pub fn play<R: Files + Print + Eprint + Input + AllocGlobal>(
     rt: &R,
     what: &Runnable,
-    seed: u16,
+    settings: CompileSettings,
     limit: u64,
     record: Option<&str>,
 ) -> Outcome {
     let played = match what {
-        Runnable::Source(source) => play_source(rt, source.as_str(), seed, limit),
+        Runnable::Source(source) => play_source(rt, source.as_str(), settings, limit),
         Runnable::Prg(prg) => play_prg(rt, prg.as_str(), limit),
     };
     match (played, record) {
@@ -29,10 +32,10 @@ pub fn play<R: Files + Print + Eprint + Input + AllocGlobal>(
 fn play_source<R: Files + Print + Eprint + Input + AllocGlobal>(
     rt: &R,
     path: &str,
-    seed: u16,
+    settings: CompileSettings,
     limit: u64,
 ) -> Result<Played, Outcome> {
-    let source = read_warned(rt, path, seed)?;
+    let source = read_warned(rt, path, settings)?;
     let mut keys = Tracked::new(rt.reader());
     let mut screen = Tracked::new(io::writer(rt));
     Ok(play_compiled(
@@ -49,7 +52,7 @@ fn play_prg<R: Files + Print + Input + AllocGlobal>(
     path: &str,
     limit: u64,
 ) -> Result<Played, Outcome> {
-    let prg = match read_input(rt.alloc(), &mut open(rt, path)?) {
+    let prg = match read_input(rt.alloc(), &mut opened(&mut Host::new(rt), path)?) {
         Ok(prg) => prg,
         Err(error) => return Err(without_input(error)),
     };
@@ -59,14 +62,18 @@ fn play_prg<R: Files + Print + Input + AllocGlobal>(
 }
 
 // Where there is nothing to record, the file is not opened.
-fn write_record<R: Files + AllocGlobal>(rt: &R, path: &str, played: &Played) -> Outcome {
+fn write_record<R: Files + Print + Input + AllocGlobal>(
+    rt: &R,
+    path: &str,
+    played: &Played,
+) -> Outcome {
     let text = match played.recorded(rt.alloc()) {
         Ok(Some(text)) => text,
         Ok(None) => return played.outcome,
         Err(_) => return Outcome::NoMemory,
     };
-    match write_file(rt, path, text.as_slice()) {
-        Ok(()) => played.outcome,
-        Err(outcome) => outcome,
+    match save(&mut Host::new(rt), path, text.as_slice()) {
+        Outcome::Ended(_) => played.outcome,
+        outcome => outcome,
     }
 }

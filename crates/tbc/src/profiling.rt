@@ -1,14 +1,16 @@
 //! Profiles: the table is written on standard output, and then the page to its file.
-use crate::files::{open, write_file};
+use crate::host::Host;
+use crate::reading::settings_of;
 use std::io;
 use std::rt::Files;
 use tb_command_line::Settings;
 use tb_driver::{Outcome, Report, Tracked};
+use tb_file_engine::{opened, save};
 use tb_kernal::{Keyboard, Outside};
 use tb_profile_engine::{Profiled, profile_text};
 
 /// Profiles a source, and writes the page if there is a table and the page is wanted.
-pub fn profile_file<R: Files + Print + AllocGlobal, O: Outside>(
+pub fn profile_file<R: Files + Print + Input + AllocGlobal, O: Outside>(
     rt: &R,
     source: &str,
     settings: &Settings,
@@ -16,7 +18,7 @@ pub fn profile_file<R: Files + Print + AllocGlobal, O: Outside>(
     outside: &mut O,
     html: Option<&str>,
 ) -> Report {
-    let mut file = match open(rt, source) {
+    let mut file = match opened(&mut Host::new(rt), source) {
         Ok(file) => file,
         Err(outcome) => return Report::new(rt.alloc(), outcome),
     };
@@ -24,7 +26,7 @@ pub fn profile_file<R: Files + Print + AllocGlobal, O: Outside>(
         rt.alloc(),
         &mut file,
         &mut Tracked::new(io::writer(rt)),
-        settings.seed,
+        settings_of(settings.seed, settings.fit),
         keyboard,
         settings.limit.events,
         outside,
@@ -38,9 +40,14 @@ pub fn profile_file<R: Files + Print + AllocGlobal, O: Outside>(
     }
 }
 
-fn write_page<R: Files>(rt: &R, path: &str, page: &[u8], ended: Outcome) -> Outcome {
-    match write_file(rt, path, page) {
-        Ok(()) => ended,
-        Err(outcome) => outcome,
+fn write_page<R: Files + Print + Input>(
+    rt: &R,
+    path: &str,
+    page: &[u8],
+    ended: Outcome,
+) -> Outcome {
+    match save(&mut Host::new(rt), path, page) {
+        Outcome::Ended(_) => ended,
+        outcome => outcome,
     }
 }

@@ -1,35 +1,45 @@
 //! The commands. Key lists, key files and addresses are looked at before any other file is opened.
-use crate::building::build_wanted;
 use crate::checking::check_files;
 use crate::debugging::debug_file;
-use crate::disks::make_disk;
 use crate::ending::Ending;
-use crate::files::{open, save};
+use crate::host::Host;
 use crate::playing::play;
 use crate::profiling::profile_file;
+use crate::reading::settings_of;
 use std::alloc::Global;
 use std::io;
 use std::rt::Files;
-use tb_command_line::{Failure, Job, Runnable, Settings, Typed};
+use tb_command_line::{BuildExtras, Failure, Job, Runnable, Settings, Typed};
 use tb_driver::{
-    End, KeyError, KeyFileError, Outcome, Report, Tracked, address, asm_text, dis_text, key_list,
-    read_key_file, run_prg, run_text, step_text, write_output,
+    CompileSettings, End, KeyError, KeyFileError, Outcome, Report, Tracked, address, dis_text,
+    key_list, read_key_file, run_prg, run_within, step_within, write_output,
 };
+use tb_file_engine::{BuildNames, assemble_file, build_file, disk_file, opened};
+use tb_files::{Barred, may_write};
 use tb_kernal::{Keyboard, Outside, Quiet, Rude};
 
-/// Does what the words ask for. A prompt is shown before a debugger's command where that is wanted.
+/// Does what the words ask for, if the files that are to be written may be. A prompt is shown before a debugger's command
+/// where that is wanted.
 pub fn perform<R: Files + Print + Eprint + Input + AllocGlobal>(
     rt: &R,
     job: &Job,
     prompts: bool,
 ) -> Result<Ending, Failure> {
+    look_at_files(rt, job)?;
     match job {
         Job::Build {
             source,
             out,
             seed,
+            fit,
             beside,
-        } => Ok(Ending::Report(build_wanted(rt, source.as_str(), out.as_str(), *seed, beside)?)),
+        } => Ok(Ending::Report(build(
+            rt,
+            source.as_str(),
+            out.as_str(),
+            settings_of(*seed, *fit),
+            beside,
+        ))),
         Job::Run {
             what,
             settings,
@@ -38,14 +48,22 @@ pub fn perform<R: Files + Print + Eprint + Input + AllocGlobal>(
         Job::Play {
             what,
             seed,
+            fit,
             limit,
             record,
-        } => play_recorded(rt, what, *seed, limit.events, record),
+        } => {
+            let settings = settings_of(*seed, *fit);
+            let outcome = play(rt, what, settings, u64::from(limit.events), name_of(record));
+            Ok(plain_ending(rt, outcome))
+        }
         Job::Asm { text, out, at } => { assemble_at(rt, text.as_str(), out.as_str(), at.as_str()) }
         Job::Dis { prg } => Ok(plain_ending(rt, list_file(rt, prg.as_str()))),
-        Job::Disk { out, files } => {
-            Ok(Ending::Disk(make_disk(rt, out.as_str(), files.as_slice())))
-        }
+        Job::Disk { out, files } => Ok(Ending::Disk(disk_file(
+            rt.alloc(),
+            &mut Host::new(rt),
+            out.as_str(),
+            files.as_slice(),
+        ))),
         Job::Check { sources } => Ok(Ending::Check(check_files(rt, sources.as_slice()))),
         Job::Show { text } => Ok(plain_ending(rt, show(rt, text.as_str()))),
         Job::Profile {
@@ -53,7 +71,13 @@ pub fn perform<R: Files + Print + Eprint + Input + AllocGlobal>(
             settings,
             rude,
             html,
-        } => profile_with_page(rt, source.as_str(), settings, *rude, html),
+        } => Ok(Ending::Report(profile_beside(
+            rt,
+            source.as_str(),
+            settings,
+            *rude,
+            name_of(html),
+        )?)),
         Job::Debug {
             source,
             settings,
@@ -69,61 +93,60 @@ pub fn perform<R: Files + Print + Eprint + Input + AllocGlobal>(
     }
 }
 
-fn play_recorded<R: Files + Print + Eprint + Input + AllocGlobal>(
-    rt: &R,
-    what: &Runnable,
-    seed: u16,
-    limit: u32,
-    record: &Option<String>,
-) -> Result<Ending, Failure> {
-    let (Runnable::Source(program) | Runnable::Prg(program)) = what;
-    let record = beside(program.as_str(), record)?;
-    Ok(plain_ending(rt, play(rt, what, seed, u64::from(limit), record)))
+// Whether the files that a job writes may be written. Nothing is opened for that.
+fn look_at_files<R: Files + Print + Input + AllocGlobal>(rt: &R, job: &Job) -> Result<(), Failure> {
+    let alloc = rt.alloc();
+    let written = job.written(alloc)?;
+    if written.is_empty() {
+        return Ok(());
+    }
+    let kept = job.kept(alloc)?;
+    match may_write(alloc, &Host::new(rt), kept.as_slice(), written.as_slice()) {
+        Ok(()) => Ok(()),
+        Err(Barred::SameFile) => Err(Failure::SameFile),
+        Err(Barred::Source(path)) => Err(Failure::IsSource(String::from_str(alloc, path)?)),
+        Err(Barred::NoMemory) => Err(Failure::NoMemory),
+    }
 }
 
-fn assemble_at<R: Files + AllocGlobal>(
+fn name_of(file: &Option<String>) -> Option<&str> {
+    match file {
+        Some(name) => Some(name.as_str()),
+        None => None,
+    }
+}
+
+fn build<R: Files + Print + Input + AllocGlobal>(
+    rt: &R,
+    source: &str,
+    out: &str,
+    settings: CompileSettings,
+    beside: &BuildExtras,
+) -> Report {
+    let names = BuildNames {
+        out,
+        labels: name_of(&beside.labels),
+        listing: name_of(&beside.listing),
+        map: name_of(&beside.map),
+    };
+    build_file(rt.alloc(), &mut Host::new(rt), source, settings, names)
+}
+
+fn assemble_at<R: Files + Print + Input + AllocGlobal>(
     rt: &R,
     text: &str,
     out: &str,
     at: &str,
 ) -> Result<Ending, Failure> {
-    match address(at) {
-        Some(at) => Ok(plain_ending(rt, assemble_file(rt, text, out, at))),
-        None => Err(Failure::BadAddress),
-    }
-}
-
-fn profile_with_page<R: Files + Print + AllocGlobal>(
-    rt: &R,
-    source: &str,
-    settings: &Settings,
-    rude: Option<u16>,
-    html: &Option<String>,
-) -> Result<Ending, Failure> {
-    let html = beside(source, html)?;
-    apart_from_keys(&settings.keys, html)?;
-    Ok(Ending::Report(profile_beside(rt, source, settings, rude, html)?))
-}
-
-// The name of a file that is written at the end, which must not take the program's place.
-fn beside<'a>(program: &str, file: &'a Option<String>) -> Result<Option<&'a str>, Failure> {
-    match file {
-        Some(file) if file.as_str() == program => Err(Failure::SameFile),
-        Some(file) => Ok(Some(file.as_str())),
-        None => Ok(None),
-    }
-}
-
-// A page must not take the key file's place either.
-fn apart_from_keys(typed: &Typed, page: Option<&str>) -> Result<(), Failure> {
-    match (typed, page) {
-        (Typed::File(keys), Some(page)) if keys.as_str() == page => Err(Failure::SameFile),
-        _ => Ok(()),
-    }
+    let Some(at) = address(at) else {
+        return Err(Failure::BadAddress);
+    };
+    let outcome = assemble_file(rt.alloc(), &mut Host::new(rt), text, out, at);
+    Ok(plain_ending(rt, outcome))
 }
 
 // A run with a rude ROM, if one is asked for.
-fn run_beside<R: Files + Print + AllocGlobal>(
+fn run_beside<R: Files + Print + Input + AllocGlobal>(
     rt: &R,
     what: &Runnable,
     settings: &Settings,
@@ -137,7 +160,7 @@ fn run_beside<R: Files + Print + AllocGlobal>(
 }
 
 // A profile with a rude ROM, if one is asked for.
-fn profile_beside<R: Files + Print + AllocGlobal>(
+fn profile_beside<R: Files + Print + Input + AllocGlobal>(
     rt: &R,
     source: &str,
     settings: &Settings,
@@ -161,7 +184,10 @@ fn plain_ending<R: AllocGlobal>(rt: &R, outcome: Outcome) -> Ending {
 }
 
 // What the words say is looked at before the key file is opened.
-fn keyboard<R: Files + AllocGlobal>(rt: &R, settings: &Settings) -> Result<Keyboard, Failure> {
+fn keyboard<R: Files + Print + Input + AllocGlobal>(
+    rt: &R,
+    settings: &Settings,
+) -> Result<Keyboard, Failure> {
     let answers = key_list(rt.alloc(), settings.answers.as_str()).map_err(of_keys)?;
     let text = match &settings.keys {
         Typed::Digits(digits) => key_list(rt.alloc(), digits.as_str()).map_err(of_keys)?,
@@ -170,8 +196,8 @@ fn keyboard<R: Files + AllocGlobal>(rt: &R, settings: &Settings) -> Result<Keybo
     Ok(Keyboard { text, answers })
 }
 
-fn keys_in<R: Files + AllocGlobal>(rt: &R, path: &str) -> Result<Vec<u8>, Failure> {
-    let mut file = open(rt, path).map_err(of_file)?;
+fn keys_in<R: Files + Print + Input + AllocGlobal>(rt: &R, path: &str) -> Result<Vec<u8>, Failure> {
+    let mut file = opened(&mut Host::new(rt), path).map_err(of_file)?;
     read_key_file(rt.alloc(), &mut file).map_err(of_key_file)
 }
 
@@ -205,7 +231,7 @@ fn show<R: Print>(rt: &R, text: &str) -> Outcome {
     }
 }
 
-fn run_file<R: Files + Print + AllocGlobal, O: Outside>(
+fn run_file<R: Files + Print + Input + AllocGlobal, O: Outside>(
     rt: &R,
     what: &Runnable,
     settings: &Settings,
@@ -213,7 +239,7 @@ fn run_file<R: Files + Print + AllocGlobal, O: Outside>(
     outside: &mut O,
 ) -> Report {
     let (Runnable::Source(path) | Runnable::Prg(path)) = what;
-    let mut file = match open(rt, path.as_str()) {
+    let mut file = match opened(&mut Host::new(rt), path.as_str()) {
         Ok(file) => file,
         Err(outcome) => return plain(rt, outcome),
     };
@@ -222,11 +248,11 @@ fn run_file<R: Files + Print + AllocGlobal, O: Outside>(
     let limit = u64::from(settings.limit.events);
     match what {
         Runnable::Source(_) => {
-            run_text(
+            run_within(
                 alloc,
                 &mut file,
                 &mut screen,
-                settings.seed,
+                settings_of(settings.seed, settings.fit),
                 keyboard,
                 limit,
                 outside,
@@ -246,35 +272,25 @@ fn step_file<R: Files + Print + Input + AllocGlobal>(
     settings: &Settings,
 ) -> Result<Report, Failure> {
     let keyboard = keyboard(rt, settings)?;
-    let mut file = match open(rt, source) {
+    let mut file = match opened(&mut Host::new(rt), source) {
         Ok(file) => file,
         Err(outcome) => return Ok(plain(rt, outcome)),
     };
     let mut commands = Tracked::new(rt.reader());
     let mut screen = Tracked::new(io::writer(rt));
-    Ok(step_text(
+    Ok(step_within(
         rt.alloc(),
         &mut file,
         &mut commands,
         &mut screen,
-        settings.seed,
+        settings_of(settings.seed, settings.fit),
         keyboard,
         u64::from(settings.limit.events),
     ))
 }
 
-fn assemble_file<R: Files + AllocGlobal>(rt: &R, text: &str, out: &str, at: u16) -> Outcome {
-    let mut file = match open(rt, text) {
-        Ok(file) => file,
-        Err(outcome) => return outcome,
-    };
-    let mut made = Tracked::new(Vec::new(rt.alloc()));
-    let outcome = asm_text(rt.alloc(), &mut file, &mut made, at);
-    save(rt, out, outcome, made.stream.as_slice())
-}
-
-fn list_file<R: Files + Print + AllocGlobal>(rt: &R, path: &str) -> Outcome {
-    match open(rt, path) {
+fn list_file<R: Files + Print + Input + AllocGlobal>(rt: &R, path: &str) -> Outcome {
+    match opened(&mut Host::new(rt), path) {
         Ok(mut file) => dis_text(rt.alloc(), &mut file, &mut Tracked::new(io::writer(rt))),
         Err(outcome) => outcome,
     }

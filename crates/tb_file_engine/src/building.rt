@@ -1,0 +1,221 @@
+//! Building a source's file: the PRG file, and the files of the texts that tell of its program.
+use crate::saving::{unread, unwritten};
+use std::alloc::{AllocError, Global};
+use std::io::Read;
+use tb_build_engine::{BuildFiles, build_files, map_source};
+use tb_driver::{CompileError, CompileSettings, Refusal, SizeLimit, build_within};
+use tb_engines::{End, Outcome, Report};
+use tb_files::{FileSystem, Trouble, Work, transfer};
+use tb_streams::Tracked;
+
+/// What a build writes: the PRG file, and the label file, the listing and the map, if they are wanted.
+#[derive(Clone, Copy)]
+pub struct BuildNames<'a> {
+    pub out: &'a str,
+    pub labels: Option<&'a str>,
+    pub listing: Option<&'a str>,
+    pub map: Option<&'a str>,
+}
+
+// A source that is compiled, and what was made of it.
+#[derive(Drop)]
+struct Build<'a> {
+    alloc: Global,
+    settings: CompileSettings,
+    names: BuildNames<'a>,
+    made: Vec<Vec<u8>>,
+    told: Option<Report>,
+}
+
+// A text that is made in memory, if it is wanted.
+fn in_memory(alloc: Global, name: Option<&str>) -> Option<Tracked<Vec<u8>>> {
+    match name {
+        Some(_) => Some(Tracked::new(Vec::new(alloc))),
+        None => None,
+    }
+}
+
+// The texts that were wanted, in the order in which they are written.
+fn texts_of(alloc: Global, files: BuildFiles<Vec<u8>>) -> Result<Vec<Vec<u8>>, AllocError> {
+    let mut texts = Vec::new(alloc);
+    texts.push(files.out.stream)?;
+    for file in [files.labels, files.listing, files.map] {
+        if let Some(file) = file {
+            texts.push(file.stream)?;
+        }
+    }
+    Ok(texts)
+}
+
+// The paths that are wanted, in the same order.
+fn paths_of<'a>(alloc: Global, names: &BuildNames<'a>) -> Result<Vec<&'a str>, AllocError> {
+    let mut paths = Vec::new(alloc);
+    paths.push(names.out)?;
+    for name in [names.labels, names.listing, names.map] {
+        if let Some(name) = name {
+            paths.push(name)?;
+        }
+    }
+    Ok(paths)
+}
+
+impl Build<'_> {
+    // Whether the PRG file is all that is wanted: then no text that tells of the program is made.
+    fn is_alone(&self) -> bool {
+        self.names.labels.is_none() && self.names.listing.is_none() && self.names.map.is_none()
+    }
+}
+
+impl Work for Build<'_> {
+    type End = Outcome;
+
+    fn look_at(&mut self, _path: &str) -> Result<(), Outcome> {
+        Ok(())
+    }
+
+    fn take<R: Read>(&mut self, input: &mut Tracked<R>) -> Result<(), Outcome> {
+        let mut files = BuildFiles {
+            out: Tracked::new(Vec::new(self.alloc)),
+            labels: in_memory(self.alloc, self.names.labels),
+            listing: in_memory(self.alloc, self.names.listing),
+            map: in_memory(self.alloc, self.names.map),
+        };
+        let report = if self.is_alone() {
+            build_within(self.alloc, input, &mut files.out, self.settings)
+        } else {
+            build_files(self.alloc, input, &mut files, self.settings)
+        };
+        match report.outcome {
+            Outcome::Ended(End::Done) => {}
+            // Only memory is wanting to a writer in memory.
+            Outcome::WriteFault => return Err(Outcome::NoMemory),
+            outcome => return Err(outcome),
+        }
+        self.told = Some(report);
+        match texts_of(self.alloc, files) {
+            Ok(texts) => {
+                self.made = texts;
+                Ok(())
+            }
+            Err(_) => Err(Outcome::NoMemory),
+        }
+    }
+
+    fn make(&mut self) -> Result<Vec<Vec<u8>>, Outcome> {
+        Ok(std::mem::replace(&mut self.made, Vec::new(self.alloc)))
+    }
+
+    fn unread(trouble: Trouble) -> Outcome {
+        unread(trouble)
+    }
+
+    fn unwritten(trouble: Trouble) -> Outcome {
+        unwritten(trouble)
+    }
+}
+
+// The map alone of a source that costs too much.
+#[derive(Drop)]
+struct Map {
+    alloc: Global,
+    settings: CompileSettings,
+    made: Vec<u8>,
+}
+
+impl Work for Map {
+    type End = Outcome;
+
+    fn look_at(&mut self, _path: &str) -> Result<(), Outcome> {
+        Ok(())
+    }
+
+    fn take<R: Read>(&mut self, input: &mut Tracked<R>) -> Result<(), Outcome> {
+        let mut map = Tracked::new(Vec::new(self.alloc));
+        match map_source(self.alloc, input, &mut map, self.settings).outcome {
+            Outcome::Ended(End::Done) => {
+                self.made = map.stream;
+                Ok(())
+            }
+            outcome => Err(outcome),
+        }
+    }
+
+    fn make(&mut self) -> Result<Vec<Vec<u8>>, Outcome> {
+        let mut made = Vec::new(self.alloc);
+        match made.push(std::mem::replace(&mut self.made, Vec::new(self.alloc))) {
+            Ok(()) => Ok(made),
+            Err(_) => Err(Outcome::NoMemory),
+        }
+    }
+
+    fn unread(trouble: Trouble) -> Outcome {
+        unread(trouble)
+    }
+
+    fn unwritten(trouble: Trouble) -> Outcome {
+        unwritten(trouble)
+    }
+}
+
+// Writes the map of a source that costs too much, if it is wanted and the source fits the memory. The refusal is what is
+// told, whatever becomes of the map.
+fn map_refused<F: FileSystem>(
+    alloc: Global,
+    files: &mut F,
+    source: &str,
+    seed: u16,
+    map: Option<&str>,
+) {
+    if let Some(map) = map {
+        let mut work = Map {
+            alloc,
+            settings: CompileSettings::by_memory(seed),
+            made: Vec::new(alloc),
+        };
+        let _ = transfer(files, &mut work, &[source], &[map]);
+    }
+}
+
+// Whether a source is refused by its cost.
+fn costs_too_much(settings: CompileSettings, outcome: Outcome) -> bool {
+    settings.size == SizeLimit::Cost
+        && matches!(
+            outcome,
+            Outcome::Refused(Refusal::Source(CompileError::TooLarge(_)))
+        )
+}
+
+/// Compiles a source's file, makes all that is to be written, and then writes each file whole before the next one. If the
+/// source costs too much, only the map of what the memory would take is written.
+pub fn build_file<F: FileSystem>(
+    alloc: Global,
+    files: &mut F,
+    source: &str,
+    settings: CompileSettings,
+    names: BuildNames<'_>,
+) -> Report {
+    let Ok(paths) = paths_of(alloc, &names) else {
+        return Report::new(alloc, Outcome::NoMemory);
+    };
+    let mut work = Build {
+        alloc,
+        settings,
+        names,
+        made: Vec::new(alloc),
+        told: None,
+    };
+    let outcome = match transfer(files, &mut work, &[source], paths.as_slice()) {
+        Ok(()) => Outcome::Ended(End::Done),
+        Err(outcome) => outcome,
+    };
+    if costs_too_much(settings, outcome) {
+        map_refused(alloc, files, source, settings.seed, names.map);
+    }
+    match (work.told, outcome) {
+        (Some(report), Outcome::Ended(_) | Outcome::WriteFault) => Report {
+            outcome,
+            warnings: report.warnings,
+        },
+        _ => Report::new(alloc, outcome),
+    }
+}

@@ -1,0 +1,4 @@
+pub mod Endings
+pub mod LookedUp
+pub mod Orders
+pub mod Rows

@@ -1,0 +1,4 @@
+pub mod Places
+pub mod Names
+pub mod Deeds
+pub mod Checks

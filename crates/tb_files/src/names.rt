@@ -1,0 +1,56 @@
+//! What the ending of a path says of its file.
+ghost use Rattle.std.specs.Prelude.{◌≡◌, IfOk, string_bytes, codes};
+ghost use Rattle.tb_files.specs.Names.{ends_as, source_ending, image_ending, NamesPrg, IsUsualOut};
+
+use std::alloc::{AllocError, Global};
+
+// Whether a path ends in four bytes, in either case.
+#[tactic(auto, using(crate::proofs::Endings::decided))]
+fn ends_as(path: &str, ending: &[u8; 4]) -> bool
+    ensures { result ≡ ends_as path.now ending.now }
+{
+    let bytes = path.as_bytes();
+    bytes[bytes.len().saturating_sub(4)..].eq_ignore_ascii_case(ending)
+}
+
+/// The path that stands for standard input or standard output.
+pub const STANDARD: &str = "-";
+
+/// Whether a path ends as that of a source: in `.bas`, in either case.
+pub fn is_source_name(path: &str) -> bool
+    ensures { result ≡ ends_as path.now source_ending }
+{
+    ends_as(path, b".bas")
+}
+
+/// Whether a path ends as that of a disk image: in `.d64`, in either case.
+pub fn is_image_name(path: &str) -> bool
+    ensures { result ≡ ends_as path.now image_ending }
+{
+    ends_as(path, b".d64")
+}
+
+// The path of a source, with `.prg` in place of `.bas`.
+fn prg_name(alloc: Global, source: &str) -> Result<String, AllocError>
+    ensures { IfOk result (λ name. NamesPrg source.now (string_bytes name)) }
+{
+    let stem = match source.strip_suffix(".bas") {
+        Some(stem) => stem,
+        None => source,
+    };
+    let mut name = String::from_str(alloc, stem)?;
+    name.push_str(".prg")?;
+    Ok(name)
+}
+
+/// The path of what a build writes if no other is named: that of the source, with `.prg` in place of `.bas`. A source from
+/// standard input goes to standard output.
+pub fn usual_out(alloc: Global, source: &str) -> Result<String, AllocError>
+    ensures { IfOk result (λ out. IsUsualOut source.now (string_bytes out)) }
+{
+    if source == STANDARD {
+        String::from_str(alloc, STANDARD)
+    } else {
+        prg_name(alloc, source)
+    }
+}

@@ -1,0 +1,42 @@
+//! A system of files, of which only this is asked.
+ghost use Rattle.std.specs.Prelude.{ℕ, List, IfOk};
+ghost use Rattle.tb_files.specs.Deeds.{Deed, Opens, Saves};
+ghost use Rattle.tb_files.specs.declared.places.Place.{Place};
+
+use crate::places::Place;
+use std::alloc::{AllocError, Global};
+use std::io::Read;
+use tb_streams::Tracked;
+
+/// Why a file was not opened, or not written.
+#[derive(Clone, Copy, PartialEq, Eq, Debug, Drop)]
+pub enum Trouble {
+    /// The system refused.
+    Fault,
+    /// Memory ran out.
+    NoMemory,
+}
+
+/// A system of files.
+pub trait FileSystem {
+    /// A file that is opened for reading.
+    type Input: Read + Drop;
+
+    // where a path may lead
+    ghost leads: { Self → List ℕ → Place → Type 0 };
+
+    // what opening or writing a file makes of the system
+    ghost does: { Self → Deed → Self → Type 0 };
+
+    /// Where a path leads. Nothing is opened.
+    fn place(&self, alloc: Global, path: &str) -> Result<Place, AllocError>
+        ensures { IfOk result (leads self.now path.now) };
+
+    /// Opens a file for reading.
+    fn open(&mut self, path: &str) -> Result<Tracked<Self::Input>, Trouble>
+        ensures { does self.old (Opens path.now) self.new };
+
+    /// Opens a file for writing, and writes all bytes, or up to where that fails.
+    fn save(&mut self, path: &str, bytes: &[u8]) -> Result<(), Trouble>
+        ensures { does self.old (Saves path.now bytes.now) self.new };
+}

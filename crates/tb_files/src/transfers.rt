@@ -1,0 +1,96 @@
+//! Commands that read files and write others: nothing is opened for writing before all that is to be written was made.
+ghost use Rattle.std.specs.Prelude.{◌≡◌, ◌⊎◌, map, OnOk, OnErr};
+ghost use Rattle.tb_files.specs.Deeds.{Opens, Did, opened, saved, Opened, Saved, Transfers};
+
+use crate::system::{FileSystem, Trouble};
+use std::io::Read;
+use tb_streams::Tracked;
+
+/// The work of a command: it takes its inputs in, one after the other, and makes the texts of all its outputs.
+pub trait Work {
+    /// How the command ends if it doesn't do its work.
+    type End;
+
+    /// What is said of an input by its path alone, before it is opened.
+    fn look_at(&mut self, path: &str) -> Result<(), Self::End>;
+
+    /// Takes an input in.
+    fn take<R: Read>(&mut self, input: &mut Tracked<R>) -> Result<(), Self::End>;
+
+    /// Makes the texts of all outputs, in order.
+    fn make(&mut self) -> Result<Vec<Vec<u8>>, Self::End>;
+
+    /// The end if an input can't be opened.
+    fn unread(trouble: Trouble) -> Self::End;
+
+    /// The end if an output can't be written.
+    fn unwritten(trouble: Trouble) -> Self::End;
+}
+
+// Opens an input, and takes it in.
+fn take_one<F: FileSystem, W: Work>(files: &mut F, work: &mut W, path: &str) -> Result<(), W::End>
+    ensures done { OnOk result (F.does files.old (Opens path.now) files.new) }
+    ensures broken { OnErr result ((files.new ≡ files.old) ⊎ F.does files.old (Opens path.now) files.new) }
+{
+    work.look_at(path)?;
+    match files.open(path) {
+        Ok(mut input) => work.take(&mut input),
+        Err(trouble) => Err(W::unread(trouble)),
+    }
+}
+
+// Opens the inputs one after the other, and takes each in before the next one is opened.
+#[tactic(auto, using(crate::proofs::Orders::orders))]
+fn take_all<F: FileSystem, W: Work>(
+    files: &mut F,
+    work: &mut W,
+    inputs: &[&str],
+) -> Result<(), W::End>
+    ensures done { OnOk result (Did F.does files.old (opened (map (λ p. p.now) inputs.now)) files.new) }
+    ensures broken { OnErr result (Opened F.does files.old (map (λ p. p.now) inputs.now) files.new) }
+{
+    match inputs {
+        [] => Ok(()),
+        [first, rest @ ..] => {
+            take_one(files, work, first)?;
+            take_all(files, work, rest)
+        }
+    }
+}
+
+// Writes each output whole before the next one, up to the first that can't be written.
+#[tactic(auto, using(crate::proofs::Orders::orders))]
+fn save_all<F: FileSystem, W: Work>(
+    files: &mut F,
+    outputs: &[&str],
+    texts: &[Vec<u8>],
+) -> Result<(), W::End>
+    ensures done { OnOk result (Did F.does files.old (saved (map (λ p. p.now) outputs.now) (map (λ t. t.items) texts.now)) files.new) }
+    ensures broken { OnErr result (Saved F.does files.old (map (λ p. p.now) outputs.now) (map (λ t. t.items) texts.now) files.new) }
+{
+    let [path, paths @ ..] = outputs else {
+        return Ok(());
+    };
+    let [text, texts @ ..] = texts else {
+        return Ok(());
+    };
+    match files.save(path, text.as_slice()) {
+        Ok(()) => save_all::<F, W>(files, paths, texts),
+        Err(trouble) => Err(W::unwritten(trouble)),
+    }
+}
+
+/// Does the work of a command: it opens the inputs in order, makes the texts of all outputs, and then writes them in
+/// order. If something is wrong before all is made, nothing is opened for writing.
+pub fn transfer<F: FileSystem, W: Work>(
+    files: &mut F,
+    work: &mut W,
+    inputs: &[&str],
+    outputs: &[&str],
+) -> Result<(), W::End>
+    ensures { Transfers F.does files.old (map (λ p. p.now) inputs.now) (map (λ p. p.now) outputs.now) result files.new }
+{
+    take_all(files, work, inputs)?;
+    let texts = work.make()?;
+    save_all::<F, W>(files, outputs, texts.as_slice())
+}

@@ -1,0 +1,70 @@
+-- The files of a job: those that must be kept, and those that it writes.
+use Rattle.std.specs.Prelude.{ℕ, List, [], ◌∷◌, ◌++◌, map, Option, Some, None, codes, string_bytes, if◌then◌else◌}
+use Rattle.std.specs.Str.{bytes_eq}
+use Rattle.std.specs.declared.string.String.{String}
+use Rattle.tb_jobs.specs.declared.jobs.Typed.{Typed}
+use Rattle.tb_jobs.specs.declared.jobs.Typed.TheVariants.{Digits, File}
+use Rattle.tb_jobs.specs.declared.jobs.Runnable.{Runnable}
+use Rattle.tb_jobs.specs.declared.jobs.Runnable.TheVariants.{Source, Prg}
+use Rattle.tb_jobs.specs.declared.jobs.Job.{Job}
+use Rattle.tb_jobs.specs.declared.jobs.Job.TheVariants.{Build, Run, Play, Asm, Dis, Step, Debug, Profile, Disk, Check, Show}
+
+-- where standard input is found as a file
+abbrev pub standard_input : List ℕ
+standard_input = codes "/dev/stdin"
+
+-- where standard output is found as a file
+abbrev pub standard_output : List ℕ
+standard_output = codes "/dev/stdout"
+
+-- what the path of an input stands for: `-` is standard input
+abbrev pub input_path : List ℕ → List ℕ
+input_path path = if bytes_eq path (codes "-") then standard_input else path
+
+-- what the path of an output stands for: `-` is standard output
+abbrev pub output_path : List ℕ → List ℕ
+output_path path = if bytes_eq path (codes "-") then standard_output else path
+
+-- an output, if it is wanted
+abbrev pub wanted : {A : Type 0} → Option (String A) → List (List ℕ)
+wanted None = []
+wanted (Some out) = output_path (string_bytes out) ∷ []
+
+-- a key file, if there is one
+abbrev pub keys_of : Typed → List (List ℕ)
+keys_of (Digits digits) = []
+keys_of (File file) = input_path (string_bytes file) ∷ []
+
+-- what is run or played
+abbrev pub path_of : Runnable → List ℕ
+path_of (Source program) = string_bytes program
+path_of (Prg program) = string_bytes program
+
+-- what a job that writes files reads, and the standard streams that it uses
+abbrev pub kept_of : Job → List (List ℕ)
+kept_of (Build source out seed fit beside) = input_path (string_bytes source) ∷ []
+kept_of (Play what seed fit limit made) = input_path (path_of what) ∷ standard_input ∷ standard_output ∷ []
+kept_of (Asm text out at) = input_path (string_bytes text) ∷ []
+kept_of (Profile source settings rude html) = input_path (string_bytes source) ∷ standard_output ∷ keys_of settings.keys
+kept_of (Disk out files) = map (λ f. input_path (string_bytes f)) files.items
+kept_of (Run what settings rude) = []
+kept_of (Dis prg) = []
+kept_of (Step source settings) = []
+kept_of (Debug source settings rude) = []
+kept_of (Check sources) = []
+kept_of (Show text) = []
+
+-- the files that a job writes, in the order in which it writes them
+abbrev pub written_of : Job → List (List ℕ)
+written_of (Build source out seed fit beside) =
+    output_path (string_bytes out) ∷ wanted beside.labels ++ wanted beside.listing ++ wanted beside.map
+written_of (Play what seed fit limit made) = wanted made
+written_of (Asm text out at) = output_path (string_bytes out) ∷ []
+written_of (Profile source settings rude html) = wanted html
+written_of (Disk out files) = output_path (string_bytes out) ∷ []
+written_of (Run what settings rude) = []
+written_of (Dis prg) = []
+written_of (Step source settings) = []
+written_of (Debug source settings rude) = []
+written_of (Check sources) = []
+written_of (Show text) = []
