@@ -2,6 +2,7 @@
 ghost use Rattle.std.specs.Prelude.{◌≡◌, ◌≤◌, vec_len};
 ghost use Rattle.tb_streams.specs.Uses.{use_of, TakesInput};
 ghost use Rattle.tb_codegen.specs.Compiled.{prg_of, warnings_of};
+ghost use Rattle.tb_codegen.specs.Settings.{by_cost};
 ghost use Rattle.tb_engines.specs.Outcomes.{AnswersInput, Faults};
 ghost use Rattle.tb_engines.specs.Programs.{settings_of, StartsPrg};
 ghost use Rattle.tb_play.specs.Lines.{most_typed};
@@ -14,10 +15,10 @@ ghost use Rattle.tb_driver.specs.Starting.{IsLoadable, StartsLoadable};
 
 use std::alloc::Global;
 use std::io::{Read, Write};
-use tb_codegen::Compiled;
+use tb_codegen::{CompileSettings, Compiled};
 use tb_driver::{
-    CompiledSource, Outcome, Played, Report, build, compile_source, play_compiled, read_source,
-    run_text, start_program,
+    CompiledSource, Outcome, Played, Report, build, build_within, compile_source, play_compiled,
+    read_source, run_text, run_within, start_program,
 };
 use tb_engines::NoText;
 use tb_kernal::{Keyboard, Machine, Outside};
@@ -33,10 +34,14 @@ pub fn warnings_of_program(program: Compiled) -> Vec<Warning>
 }
 
 /// Calls `compile_source`.
-pub fn source_compiled(alloc: Global, text: Vec<u8>, seed: u16) -> Result<CompiledSource, NoText>
-    ensures { CompilesText seed text.items result }
+pub fn source_compiled(
+    alloc: Global,
+    text: Vec<u8>,
+    settings: CompileSettings,
+) -> Result<CompiledSource, NoText>
+    ensures { CompilesText settings text.items result }
 {
-    compile_source(alloc, text, seed)
+    compile_source(alloc, text, settings)
 }
 
 /// Calls `start_program`.
@@ -56,12 +61,12 @@ pub fn program_started(
 pub fn source_read<R: Read>(
     alloc: Global,
     reader: &mut Tracked<R>,
-    seed: u16,
+    settings: CompileSettings,
 ) -> Result<CompiledSource, Outcome>
-    ensures answers { ReadsSource seed result (use_of R.remaining reader.old reader.new) }
+    ensures answers { ReadsSource settings result (use_of R.remaining reader.old reader.new) }
     ensures taken { TakesInput (use_of R.remaining reader.old reader.new) }
 {
-    read_source(alloc, reader, seed)
+    read_source(alloc, reader, settings)
 }
 
 /// Calls `build`.
@@ -71,13 +76,29 @@ pub fn built<R: Read, W: Write>(
     writer: &mut Tracked<W>,
     seed: u16,
 ) -> Report
-    ensures answers { AnswersInput (FromSource seed IsFile result.warnings.items) result.outcome
+    ensures answers { AnswersInput (FromSource (by_cost seed) IsFile result.warnings.items) result.outcome
         (use_of R.remaining reader.old reader.new) (use_of W.contents writer.old writer.new) }
     ensures warned { WarnsOfRead result.outcome result.warnings.items }
     ensures faults { Faults result.outcome (use_of R.remaining reader.old reader.new) (use_of W.contents writer.old writer.new) }
     ensures taken { TakesInput (use_of R.remaining reader.old reader.new) }
 {
     build(alloc, reader, writer, seed)
+}
+
+/// Calls `build_within`.
+pub fn source_built<R: Read, W: Write>(
+    alloc: Global,
+    reader: &mut Tracked<R>,
+    writer: &mut Tracked<W>,
+    settings: CompileSettings,
+) -> Report
+    ensures answers { AnswersInput (FromSource settings IsFile result.warnings.items) result.outcome
+        (use_of R.remaining reader.old reader.new) (use_of W.contents writer.old writer.new) }
+    ensures warned { WarnsOfRead result.outcome result.warnings.items }
+    ensures faults { Faults result.outcome (use_of R.remaining reader.old reader.new) (use_of W.contents writer.old writer.new) }
+    ensures taken { TakesInput (use_of R.remaining reader.old reader.new) }
+{
+    build_within(alloc, reader, writer, settings)
 }
 
 /// Calls `run_text`.
@@ -90,15 +111,36 @@ pub fn ran<R: Read, W: Write, O: Outside>(
     limit: u64,
     outside: &mut O,
 ) -> Report
-    ensures answers { AnswersInput (RunsText (settings_of O.gives outside.old keyboard limit) seed result.warnings.items)
+    ensures answers { AnswersInput (RunsText (settings_of O.gives outside.old keyboard limit) (by_cost seed) result.warnings.items)
         result.outcome (use_of R.remaining reader.old reader.new) (use_of W.contents writer.old writer.new) }
-    ensures output { AnswersInput (RunsSource seed keyboard.text.items keyboard.answers.items)
+    ensures output { AnswersInput (RunsSource (by_cost seed) keyboard.text.items keyboard.answers.items)
         result.outcome (use_of R.remaining reader.old reader.new) (use_of W.contents writer.old writer.new) }
     ensures warned { WarnsOfRead result.outcome result.warnings.items }
     ensures faults { Faults result.outcome (use_of R.remaining reader.old reader.new) (use_of W.contents writer.old writer.new) }
     ensures taken { TakesInput (use_of R.remaining reader.old reader.new) }
 {
     run_text(alloc, reader, writer, seed, keyboard, limit, outside)
+}
+
+/// Calls `run_within`.
+pub fn source_ran<R: Read, W: Write, O: Outside>(
+    alloc: Global,
+    reader: &mut Tracked<R>,
+    writer: &mut Tracked<W>,
+    settings: CompileSettings,
+    keyboard: Keyboard,
+    limit: u64,
+    outside: &mut O,
+) -> Report
+    ensures answers { AnswersInput (RunsText (settings_of O.gives outside.old keyboard limit) settings result.warnings.items)
+        result.outcome (use_of R.remaining reader.old reader.new) (use_of W.contents writer.old writer.new) }
+    ensures output { AnswersInput (RunsSource settings keyboard.text.items keyboard.answers.items)
+        result.outcome (use_of R.remaining reader.old reader.new) (use_of W.contents writer.old writer.new) }
+    ensures warned { WarnsOfRead result.outcome result.warnings.items }
+    ensures faults { Faults result.outcome (use_of R.remaining reader.old reader.new) (use_of W.contents writer.old writer.new) }
+    ensures taken { TakesInput (use_of R.remaining reader.old reader.new) }
+{
+    run_within(alloc, reader, writer, settings, keyboard, limit, outside)
 }
 
 /// Calls `play_compiled`.
@@ -126,17 +168,17 @@ pub fn source_profiled<R: Read, W: Write, O: Outside>(
     alloc: Global,
     reader: &mut Tracked<R>,
     writer: &mut Tracked<W>,
-    seed: u16,
+    settings: CompileSettings,
     keyboard: Keyboard,
     limit: u32,
     outside: &mut O,
 ) -> Profiled
     ensures answers { AnswersInput
-        (ProfilesSource (settings_of O.gives outside.old keyboard limit) seed result.report.warnings.items result.page.items)
+        (ProfilesSource (settings_of O.gives outside.old keyboard limit) settings result.report.warnings.items result.page.items)
         result.report.outcome (use_of R.remaining reader.old reader.new) (use_of W.contents writer.old writer.new) }
     ensures warned { WarnsOfRead result.report.outcome result.report.warnings.items }
     ensures faults { Faults result.report.outcome (use_of R.remaining reader.old reader.new) (use_of W.contents writer.old writer.new) }
     ensures taken { TakesInput (use_of R.remaining reader.old reader.new) }
 {
-    profile_text(alloc, reader, writer, seed, keyboard, limit, outside)
+    profile_text(alloc, reader, writer, settings, keyboard, limit, outside)
 }

@@ -3,6 +3,7 @@ ghost use Rattle.std.specs.Prelude.{◌≡◌, ◌++◌, [], ◌∷◌, IfOk, On
 ghost use Rattle.tb_streams.specs.Uses.{use_of, TakesInput};
 ghost use Rattle.tb_kernal.specs.Machine.{state_of, SameKeyboard};
 ghost use Rattle.tb_codegen.specs.Compiled.{starts_of, table_of, line_in, start_in};
+ghost use Rattle.tb_codegen.specs.Settings.{by_cost};
 ghost use Rattle.tb_stepper.specs.History.{machines, Stepped, ReachesLine};
 ghost use Rattle.tb_commands.specs.Commands.{asked_of, asked_in};
 ghost use Rattle.tb_commands.specs.Lines.{lines_of};
@@ -13,8 +14,9 @@ ghost use Rattle.tb_driver.specs.Stepping.{AnswersBoth, FaultsOfBoth, StepsThrou
 
 use std::alloc::{AllocError, Global};
 use std::io::{Read, Write};
+use tb_codegen::CompileSettings;
 use tb_commands::{Command, answers, read_command};
-use tb_driver::{Report, step_text};
+use tb_driver::{Report, step_text, step_within};
 use tb_kernal::{Event, EventError, Keyboard, Machine, Outside, Status};
 use tb_stepper::{NothingBack, Reached, StepError, Stepper};
 use tb_streams::Tracked;
@@ -95,7 +97,7 @@ pub fn stepped_through<R: Read, C: Read, W: Write>(
     limit: u64,
 ) -> Report
     ensures answers { AnswersBoth
-        (StepsThrough (quietly keyboard.text.items keyboard.answers.items limit) seed result.warnings.items) result.outcome
+        (StepsThrough (quietly keyboard.text.items keyboard.answers.items limit) (by_cost seed) result.warnings.items) result.outcome
         (use_of R.remaining source.old source.new) (use_of C.remaining commands.old commands.new)
         (use_of W.contents writer.old writer.new) }
     ensures warned { WarnsOfRead result.outcome result.warnings.items }
@@ -106,4 +108,28 @@ pub fn stepped_through<R: Read, C: Read, W: Write>(
     ensures commands_taken { TakesInput (use_of C.remaining commands.old commands.new) }
 {
     step_text(alloc, source, commands, writer, seed, keyboard, limit)
+}
+
+/// Calls `step_within`.
+pub fn source_stepped<R: Read, C: Read, W: Write>(
+    alloc: Global,
+    source: &mut Tracked<R>,
+    commands: &mut Tracked<C>,
+    writer: &mut Tracked<W>,
+    settings: CompileSettings,
+    keyboard: Keyboard,
+    limit: u64,
+) -> Report
+    ensures answers { AnswersBoth
+        (StepsThrough (quietly keyboard.text.items keyboard.answers.items limit) settings result.warnings.items) result.outcome
+        (use_of R.remaining source.old source.new) (use_of C.remaining commands.old commands.new)
+        (use_of W.contents writer.old writer.new) }
+    ensures warned { WarnsOfRead result.outcome result.warnings.items }
+    ensures faults { FaultsOfBoth result.outcome
+        (use_of R.remaining source.old source.new) (use_of C.remaining commands.old commands.new)
+        (use_of W.contents writer.old writer.new) }
+    ensures source_taken { TakesInput (use_of R.remaining source.old source.new) }
+    ensures commands_taken { TakesInput (use_of C.remaining commands.old commands.new) }
+{
+    step_within(alloc, source, commands, writer, settings, keyboard, limit)
 }
