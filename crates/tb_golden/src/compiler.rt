@@ -1,4 +1,5 @@
 //! Rows of the compiler, its engines and the stepper.
+mod large;
 mod machines;
 mod programs;
 mod refusals;
@@ -18,7 +19,7 @@ pub fn put_answer<R: Files + AllocGlobal>(rt: &R, page: &mut Page, name: &str, r
         "start_of" | "line_at" | "code" => programs::put_place(page, name, rest),
         "warnings" => programs::put_warnings(page, rest),
         "compile_gives_up_for_memory" => programs::put_cuts(page, rest),
-        "run" => put_run(rt, page, rest),
+        "run" | "size" | "fit" => put_example(rt, page, name, rest),
         "compile" => refusals::put_compile(page, rest),
         "refused" => refusals::put_refused(page, rest),
         "commands" => steps::put_commands(page, rest),
@@ -26,15 +27,20 @@ pub fn put_answer<R: Files + AllocGlobal>(rt: &R, page: &mut Page, name: &str, r
     }
 }
 
-// Appends how a program in a file ends with the keys that are given after its name, and what it shows.
-fn put_run<R: Files + AllocGlobal>(rt: &R, page: &mut Page, row: &str) {
-    let (name, keys) = cut(row);
+// Appends something about a program in a file, whose name comes first: its size, or what comes of it with the keys that
+// are given after its name.
+fn put_example<R: Files + AllocGlobal>(rt: &R, page: &mut Page, name: &str, row: &str) {
+    let (file, keys) = cut(row);
     let mut path = Page::new(page.alloc());
     path.put("examples/");
-    path.put(name);
+    path.put(file);
     path.put(".bas");
     let source = fs::read_to_string(rt, path.text());
     if let Some(source) = page.held(source) {
-        programs::put_runs(page, source.as_bytes(), keys);
+        match name {
+            "size" => large::put_size(page, source.as_bytes()),
+            "fit" => large::put_played(page, source.as_bytes(), keys),
+            _ => programs::put_runs(page, source.as_bytes(), keys),
+        }
     }
 }

@@ -1,5 +1,6 @@
-//! Generated programs: each sends what its source sends.
+//! Generated programs, small and large: each sends what its source sends.
 mod grammar;
+mod large;
 mod played;
-mod programs;
-mod trials;
+pub mod programs;
+pub mod trials;

@@ -201,12 +201,16 @@ pub fn put_runs(page: &mut Page, source: &[u8], keys: &str) {
     let mut other = Tracked::new(Vec::new(alloc));
     let keyboard = keyboard_of(page, keys);
     let rude = ran(alloc, source, keyboard, &mut Rude::new(1), &mut other);
-    let is_same = screen.stream == other.stream;
-    page.put_debug(&outcome);
+    put_both(page, (&outcome, &screen.stream), (&rude, &other.stream));
+}
+
+/// Appends how two runs of a program ended, with a quiet ROM and with a rude one, and what they showed.
+pub fn put_both(page: &mut Page, quiet: (&Outcome, &[u8]), rude: (&Outcome, &[u8])) {
+    page.put_debug(quiet.0);
     page.put(", beside a rude ROM ");
-    page.put_debug(&rude);
+    page.put_debug(rude.0);
     page.put(", the same text: ");
-    page.put(is_same);
+    page.put(quiet.1 == rude.1);
     page.put("\n");
-    page.put_ascii(&screen.stream);
+    page.put_ascii(quiet.1);
 }

@@ -43,6 +43,22 @@ pub const SHORT: Kind = Kind {
     answers: b"",
 };
 
+/// The letter of the statements of large programs, and of those that are shorter, so that more of them fit.
+pub const LARGE: u8 = b'_';
+
+pub const LEAN: u8 = b'^';
+
+/// What stands in these statements for the number of a line that is farther on.
+pub const AHEAD: u8 = b'~';
+
+/// What comes before the statements of a large program.
+pub const LARGE_HEAD: &[u8] = b"1 A=b\n2 B=b\n3 C=b\n4 D=b\n";
+
+/// What comes after them: the way back to the first one, and a routine that they call.
+pub const LARGE_TAIL: &[u8] =
+    b"20000 E=E+1\n20010 PRINT A,B,C,D\n20020 IF E<3 GOTO 10\n20030 INPUT D\n20040 PRINT D\n\
+    20050 END\n30000 x\n30010 IF v r n RETURN\n30020 h\n30030 PRINT v;\n30040 RETURN\n";
+
 /// Nine lines in order.
 const STRAIGHT: &[u8] = b"10 s\n20 s\n30 s\n40 s\n50 s\n60 s\n70 s\n80 s\n90 s\n";
 
@@ -325,6 +341,45 @@ const POWER: [&[u8]; 16] = [
     b"512", b"16384",
 ];
 
+/// Short statements that seldom fault, with jumps ahead.
+const LARGE_STATEMENT: [&[u8]; 16] = [
+    b"x",
+    b"x",
+    b"x",
+    b"h",
+    b"v=v+n",
+    b"v=v-v",
+    b"v=q",
+    b"v=e",
+    b"PRINT v;",
+    b"PRINT \"AB\",v",
+    b"IF v r n x",
+    b"IF v r v GOTO ~",
+    b"IF v r n GOTO ~",
+    b"IF z GOTO ~",
+    b"GOTO ~+0*v",
+    b"GOSUB 30000",
+];
+
+const LEAN_STATEMENT: [&[u8]; 16] = [
+    b"x",
+    b"x",
+    b"x",
+    b"A=2*A",
+    b"B=-B",
+    b"v=n",
+    b"v=v",
+    b"v=v-v",
+    b"v=n-v",
+    b"PRINT v;",
+    b"PRINT \"AB\";",
+    b"IF v r 0 x",
+    b"IF v<0 GOTO ~",
+    b"IF v r n GOTO ~",
+    b"GOTO ~",
+    b"REM",
+];
+
 /// What a letter stands for, if it has a rule.
 pub fn rule(letter: u8) -> Option<&'static [&'static [u8]; 16]> {
     match letter {
@@ -355,6 +410,8 @@ pub fn rule(letter: u8) -> Option<&'static [&'static [u8]; 16]> {
         b'g' => Some(&STEP_CONSTANT),
         b'h' => Some(&HALF),
         b'u' => Some(&POWER),
+        LARGE => Some(&LARGE_STATEMENT),
+        LEAN => Some(&LEAN_STATEMENT),
         _ => None,
     }
 }

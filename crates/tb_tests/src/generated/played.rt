@@ -4,7 +4,7 @@ use crate::generated::programs::{Case, Choices};
 use crate::generated::trials::{AMPLE, Ran, SCANT, agrees, run_of};
 use std::alloc::{AllocError, Global};
 use std::test::Fail;
-use tb_driver::{Played, Tracked, play_compiled, read_source};
+use tb_driver::{CompileSettings, Played, Tracked, play_compiled, read_source};
 use tb_meaning::{RunEnd, SourceRun};
 
 /// How many programs are played.
@@ -67,7 +67,7 @@ fn limit_of(run: &SourceRun, lines: &[u8]) -> u64 {
 fn plays_as_its_source(alloc: Global, case: &Case) -> Result<bool, Fail> {
     let run = run_of(alloc, case)?;
     let mut reader = Tracked::new(case.source.as_slice());
-    let Ok(source) = read_source(alloc, &mut reader, case.seed) else {
+    let Ok(source) = read_source(alloc, &mut reader, CompileSettings::by_cost(case.seed)) else {
         return Ok(false);
     };
     let lines = lines_of(alloc, &case.keys)?;

@@ -60,8 +60,8 @@ impl Choices {
         Ok(())
     }
 
-    // A text that these symbols stand for.
-    fn text(&mut self, alloc: Global, of: &[u8]) -> Result<Vec<u8>, AllocError> {
+    /// A text that these symbols stand for.
+    pub fn text(&mut self, alloc: Global, of: &[u8]) -> Result<Vec<u8>, AllocError> {
         let mut symbols = Vec::new(alloc);
         push_reversed(&mut symbols, of)?;
         let mut text = Vec::new(alloc);

@@ -143,8 +143,8 @@ fn file_agrees(
     agrees(alloc, run, &ran)
 }
 
-// The same for both ROMs.
-fn file_agrees_twice(
+/// The same for both ROMs.
+pub fn file_agrees_twice(
     alloc: Global,
     file: &[u8],
     case: &Case,

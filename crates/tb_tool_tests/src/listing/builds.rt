@@ -2,6 +2,7 @@
 use std::alloc::Global;
 use std::test::Fail;
 use tb_build_engine::{BuildFiles, build_files};
+use tb_driver::CompileSettings;
 use tb_engines::{End, Outcome, Report};
 use tb_streams::Tracked;
 
@@ -22,7 +23,12 @@ fn in_memory(alloc: Global) -> BuildFiles<Vec<u8>> {
 }
 
 fn built(alloc: Global, source: &[u8], files: &mut BuildFiles<Vec<u8>>) -> Report {
-    build_files(alloc, &mut Tracked::new(source), files, 1)
+    build_files(
+        alloc,
+        &mut Tracked::new(source),
+        files,
+        CompileSettings::by_cost(1),
+    )
 }
 
 fn length(file: &Option<Tracked<Vec<u8>>>) -> usize {
@@ -72,7 +78,12 @@ fn files_after_a_fault_are_left(rt: HostRuntime) -> Result<(), Fail> {
         map: Some(Tracked::new(&mut map[..])),
     };
     let mut source = Tracked::new(SOURCE.as_bytes());
-    let report = build_files(rt.alloc(), &mut source, &mut files, 1);
+    let report = build_files(
+        rt.alloc(),
+        &mut source,
+        &mut files,
+        CompileSettings::by_cost(1),
+    );
     assert!(rt; report.outcome == Outcome::WriteFault);
     assert!(rt;
         files.out.stream.len() < 4096 && room(&files.labels) == 0 && room(&files.map) == 400

@@ -1,6 +1,7 @@
 //! The programs that are profiled, with their tables.
 use std::alloc::Global;
 use std::io::{Read, Write};
+use tb_driver::CompileSettings;
 use tb_kernal::Quiet;
 use tb_profile_engine::{Profiled, profile_text};
 use tb_streams::Tracked;
@@ -31,7 +32,7 @@ pub fn profiles<R: Read, W: Write>(
         alloc,
         reader,
         writer,
-        1,
+        CompileSettings::by_cost(1),
         keyboard,
         program.limit,
         &mut Quiet,
@@ -47,13 +48,13 @@ pub const LOOP: Program = Program {
     limit: 100_000,
     status: 0,
     table: " line      times instructions        cycles   share  statement
-start          1          192           634   35.5%
-   10          1            8            28    1.6%  LET I=1
-   20          5          250           815   45.6%  PRINT I
-   30          5           30           125    7.0%  LET I=I+1
-   40          5           50           164    9.2%  IF I<6 GOTO 20
+start          1          192           634   35.1%
+   10          1            8            29    1.6%  LET I=1
+   20          5          250           820   45.5%  PRINT I
+   30          5           30           130    7.2%  LET I=I+1
+   40          5           50           169    9.4%  IF I<6 GOTO 20
    50          1            5            22    1.2%  END
-  sum         17          535          1788  100.0%
+  sum         17          535          1804  100.0%
 ",
 };
 
@@ -67,13 +68,13 @@ static PROGRAMS: [Program; 8] = [
         status: 0,
         table: " line      times instructions        cycles   share  statement
 start          1          192           634   31.6%
-   10          1            8            28    1.4%  LET A=7
+   10          1            8            29    1.4%  LET A=7
    20          1           14            52    2.6%  GOSUB 100
    30          1           14            52    2.6%  GOSUB 100
    40          1            5            22    1.1%  END
-  100          2          334          1106   55.2%  PRINT A*A
+  100          2          334          1108   55.2%  PRINT A*A
   110          2           30           110    5.5%  RETURN
-  sum          8          597          2004  100.0%
+  sum          8          597          2007  100.0%
 ",
     },
     Program {
@@ -83,11 +84,11 @@ start          1          192           634   31.6%
         limit: 100_000,
         status: 0,
         table: " line      times instructions        cycles   share  statement
-start          1          192           634   52.3%
-   10          1            8            28    2.3%  LET A=0
-   20          1          161           551   45.4%  PRINT 1/A
+start          1          192           634   52.2%
+   10          1            8            29    2.4%  LET A=0
+   20          1          161           552   45.4%  PRINT 1/A
    30          0            0             0    0.0%  PRINT 2
-  sum          2          361          1213  100.0%
+  sum          2          361          1215  100.0%
 ",
     },
     Program {
@@ -99,9 +100,9 @@ start          1          192           634   52.3%
         table: " line      times instructions        cycles   share  statement
 start          1          192           634   36.0%
    10          1          116           473   26.8%  PRINT \"HOW MANY\"
-   20          1          188           655   37.2%  INPUT A,B
+   20          1          188           656   37.2%  INPUT A,B
    30          0            0             0    0.0%  PRINT A+B
-  sum          2          496          1762  100.0%
+  sum          2          496          1763  100.0%
 ",
     },
     Program {
@@ -124,12 +125,12 @@ start          1          100           331  100.0%
         limit: 100_000,
         status: 0,
         table: " line      times instructions        cycles   share  statement
-start          1          192           634   70.7%
+start          1          192           634   70.6%
    10          1            5            19    2.1%  GOTO 30
    20          0            0             0    0.0%  PRINT \"NO\"
-   30          1           56           222   24.7%  PRINT \"YES\"
-   40          1            5            22    2.5%  END
-  sum          3          258           897  100.0%
+   30          1           56           223   24.8%  PRINT \"YES\"
+   40          1            5            22    2.4%  END
+  sum          3          258           898  100.0%
 ",
     },
     Program {
@@ -139,10 +140,10 @@ start          1          192           634   70.7%
         limit: 5_000,
         status: 5,
         table: " line      times instructions        cycles   share  statement
-start          1          192           634    3.2%
-   10        437         2623         10930   55.0%  LET A=A+1
-   20        437         2185          8303   41.8%  GOTO 10
-  sum        874         5000         19867  100.0%
+start          1          192           634    3.1%
+   10        437         2623         11367   56.0%  LET A=A+1
+   20        437         2185          8303   40.9%  GOTO 10
+  sum        874         5000         20304  100.0%
 ",
     },
     Program {
@@ -152,12 +153,12 @@ start          1          192           634    3.2%
         limit: 100_000,
         status: 0,
         table: " line      times instructions        cycles   share  statement
-start          1          192           634   39.2%
-    5          1            4            16    1.0%  REM a b
-   10          1            8            28    1.7%  LET A = 1
-   20          1          241           919   56.8%  PRINT \"<A & 'B'>\",A
+start          1          192           634   39.1%
+    5          1            4            17    1.0%  REM a b
+   10          1            8            29    1.8%  LET A = 1
+   20          1          241           920   56.7%  PRINT \"<A & 'B'>\",A
    40          1            5            22    1.4%  END
-  sum          4          450          1619  100.0%
+  sum          4          450          1622  100.0%
 ",
     },
 ];

@@ -4,7 +4,7 @@ use std::alloc::Global;
 use std::io::{Read, Write};
 use std::test::Fail;
 use tb_debug_engine::{Rom, Setting, debug};
-use tb_driver::{CompiledSource, read_source};
+use tb_driver::{CompileSettings, CompiledSource, read_source};
 use tb_engines::Outcome;
 use tb_streams::Tracked;
 use tb_test_support::{CountingWriter, FailingReader, FailingWriter, HoldingWriter, no_keys};
@@ -31,9 +31,13 @@ pub fn debugs<R: Read, W: Write>(
 
 pub fn source_of(alloc: Global, source: &[u8]) -> Result<CompiledSource, Fail> {
     Ok(
-        read_source(alloc, &mut Tracked::new(source), 0)
-            .ok()
-            .ok_or("no source")?,
+        read_source(
+            alloc,
+            &mut Tracked::new(source),
+            CompileSettings::by_cost(0),
+        )
+        .ok()
+        .ok_or("no source")?,
     )
 }
 
@@ -99,7 +103,7 @@ fn reader_fails(alloc: Global, source: &CompiledSource, all: &[u8], until_fault:
 fn a_source_that_fails(rt: HostRuntime) -> Result<(), Fail> {
     for until_fault in 0..=LOOP.len() {
         let mut reader = Tracked::new(FailingReader::new(LOOP, until_fault, 3));
-        let source = read_source(rt.alloc(), &mut reader, 0);
+        let source = read_source(rt.alloc(), &mut reader, CompileSettings::by_cost(0));
         assert!(rt; matches!(source, Err(Outcome::ReadFault)), "{until_fault}");
     }
     Ok(())

@@ -4,22 +4,50 @@ use std::test::Fail;
 use tb_command_line::{Failure, job};
 
 /// Words, and the job that they become.
-static JOBS: [(&[&str], &str); 22] = [
+static JOBS: [(&[&str], &str); 33] = [
     (
         &["build", "a", "b"],
-        "Ok(Build { source: \"a\", out: \"b\", seed: 1, beside: BuildExtras { labels: None, listing: None, map: None } })",
+        "Ok(Build { source: \"a\", out: \"b\", seed: 1, fit: false, beside: BuildExtras { labels: None, listing: None, map: None } })",
+    ),
+    (
+        &["build", "f.d/a.bas"],
+        "Ok(Build { source: \"f.d/a.bas\", out: \"f.d/a.prg\", seed: 1, fit: false, beside: BuildExtras { labels: None, listing: None, map: None } })",
+    ),
+    (
+        &["build", "a.BAS"],
+        "Ok(Build { source: \"a.BAS\", out: \"a.BAS.prg\", seed: 1, fit: false, beside: BuildExtras { labels: None, listing: None, map: None } })",
+    ),
+    (
+        &["build", "a"],
+        "Ok(Build { source: \"a\", out: \"a.prg\", seed: 1, fit: false, beside: BuildExtras { labels: None, listing: None, map: None } })",
+    ),
+    (
+        &["build", "-"],
+        "Ok(Build { source: \"-\", out: \"-\", seed: 1, fit: false, beside: BuildExtras { labels: None, listing: None, map: None } })",
+    ),
+    (
+        &["build", "a", "-o", "b"],
+        "Ok(Build { source: \"a\", out: \"b\", seed: 1, fit: false, beside: BuildExtras { labels: None, listing: None, map: None } })",
+    ),
+    (
+        &["build", "-ob", "-"],
+        "Ok(Build { source: \"-\", out: \"b\", seed: 1, fit: false, beside: BuildExtras { labels: None, listing: None, map: None } })",
     ),
     (
         &["build", "--seed", "65535", "a", "b"],
-        "Ok(Build { source: \"a\", out: \"b\", seed: 65535, beside: BuildExtras { labels: None, listing: None, map: None } })",
+        "Ok(Build { source: \"a\", out: \"b\", seed: 65535, fit: false, beside: BuildExtras { labels: None, listing: None, map: None } })",
     ),
     (
         &["build", "a", "b", "--map=m", "--labels", "v", "--list", "s"],
-        "Ok(Build { source: \"a\", out: \"b\", seed: 1, beside: BuildExtras { labels: Some(\"v\"), listing: Some(\"s\"), map: Some(\"m\") } })",
+        "Ok(Build { source: \"a\", out: \"b\", seed: 1, fit: false, beside: BuildExtras { labels: Some(\"v\"), listing: Some(\"s\"), map: Some(\"m\") } })",
+    ),
+    (
+        &["build", "--fit", "a", "b"],
+        "Ok(Build { source: \"a\", out: \"b\", seed: 1, fit: true, beside: BuildExtras { labels: None, listing: None, map: None } })",
     ),
     (
         &["run", "a"],
-        "Ok(Run { what: Source(\"a\"), settings: Settings { seed: 1, keys: Digits(\"\"), answers: \"\", limit: Limit { events: 10000000 } }, rude: None })",
+        "Ok(Run { what: Source(\"a\"), settings: Settings { seed: 1, fit: false, keys: Digits(\"\"), answers: \"\", limit: Limit { events: 10000000 } }, rude: None })",
     ),
     (
         &[
@@ -33,34 +61,42 @@ static JOBS: [(&[&str], &str); 22] = [
             "--rude",
             "65535",
         ],
-        "Ok(Run { what: Source(\"a\"), settings: Settings { seed: 1, keys: Digits(\"330d\"), answers: \"00\", limit: Limit { events: 1000000000 } }, rude: Some(65535) })",
+        "Ok(Run { what: Source(\"a\"), settings: Settings { seed: 1, fit: false, keys: Digits(\"330d\"), answers: \"00\", limit: Limit { events: 1000000000 } }, rude: Some(65535) })",
     ),
     (
         &["run", "--prg", "p", "--seed", "0", "--limit", "1"],
-        "Ok(Run { what: Prg(\"p\"), settings: Settings { seed: 0, keys: Digits(\"\"), answers: \"\", limit: Limit { events: 1 } }, rude: None })",
+        "Ok(Run { what: Prg(\"p\"), settings: Settings { seed: 0, fit: false, keys: Digits(\"\"), answers: \"\", limit: Limit { events: 1 } }, rude: None })",
     ),
     (
         &["run", "a", "--keys-file", "k", "--answers", "03"],
-        "Ok(Run { what: Source(\"a\"), settings: Settings { seed: 1, keys: File(\"k\"), answers: \"03\", limit: Limit { events: 10000000 } }, rude: None })",
+        "Ok(Run { what: Source(\"a\"), settings: Settings { seed: 1, fit: false, keys: File(\"k\"), answers: \"03\", limit: Limit { events: 10000000 } }, rude: None })",
     ),
     (
         &["play", "a"],
-        "Ok(Play { what: Source(\"a\"), seed: 1, limit: Limit { events: 1000000000 }, record: None })",
+        "Ok(Play { what: Source(\"a\"), seed: 1, fit: false, limit: Limit { events: 1000000000 }, record: None })",
     ),
     (
         &[
             "play", "--prg=p", "--seed", "9", "--limit", "5", "--record", "r",
         ],
-        "Ok(Play { what: Prg(\"p\"), seed: 9, limit: Limit { events: 5 }, record: Some(\"r\") })",
+        "Ok(Play { what: Prg(\"p\"), seed: 9, fit: false, limit: Limit { events: 5 }, record: Some(\"r\") })",
+    ),
+    (
+        &["play", "a", "--fit"],
+        "Ok(Play { what: Source(\"a\"), seed: 1, fit: true, limit: Limit { events: 1000000000 }, record: None })",
     ),
     (
         &["asm", "a", "b", "--at", "c00"],
         "Ok(Asm { text: \"a\", out: \"b\", at: \"c00\" })",
     ),
+    (
+        &["asm", "a", "-o", "b", "--at", "c00"],
+        "Ok(Asm { text: \"a\", out: \"b\", at: \"c00\" })",
+    ),
     (&["dis", "a"], "Ok(Dis { prg: \"a\" })"),
     (
         &["debug", "a"],
-        "Ok(Debug { source: \"a\", settings: Settings { seed: 1, keys: Digits(\"\"), answers: \"\", limit: Limit { events: 10000000 } }, rude: None })",
+        "Ok(Debug { source: \"a\", settings: Settings { seed: 1, fit: false, keys: Digits(\"\"), answers: \"\", limit: Limit { events: 10000000 } }, rude: None })",
     ),
     (
         &[
@@ -73,11 +109,11 @@ static JOBS: [(&[&str], &str); 22] = [
             "--limit",
             "9",
         ],
-        "Ok(Debug { source: \"a\", settings: Settings { seed: 1, keys: File(\"k\"), answers: \"\", limit: Limit { events: 9 } }, rude: Some(7) })",
+        "Ok(Debug { source: \"a\", settings: Settings { seed: 1, fit: false, keys: File(\"k\"), answers: \"\", limit: Limit { events: 9 } }, rude: Some(7) })",
     ),
     (
         &["profile", "a"],
-        "Ok(Profile { source: \"a\", settings: Settings { seed: 1, keys: Digits(\"\"), answers: \"\", limit: Limit { events: 10000000 } }, rude: None, html: None })",
+        "Ok(Profile { source: \"a\", settings: Settings { seed: 1, fit: false, keys: Digits(\"\"), answers: \"\", limit: Limit { events: 10000000 } }, rude: None, html: None })",
     ),
     (
         &[
@@ -91,11 +127,15 @@ static JOBS: [(&[&str], &str); 22] = [
             "--limit",
             "9",
         ],
-        "Ok(Profile { source: \"a\", settings: Settings { seed: 1, keys: File(\"k\"), answers: \"\", limit: Limit { events: 9 } }, rude: Some(7), html: Some(\"p\") })",
+        "Ok(Profile { source: \"a\", settings: Settings { seed: 1, fit: false, keys: File(\"k\"), answers: \"\", limit: Limit { events: 9 } }, rude: Some(7), html: Some(\"p\") })",
     ),
     (
         &["disk", "o", "a"],
         "Ok(Disk { out: \"o\", files: [\"a\"] })",
+    ),
+    (
+        &["disk", "b", "-o", "o", "a"],
+        "Ok(Disk { out: \"o\", files: [\"b\", \"a\"] })",
     ),
     (
         &["disk", "o", "b", "--", "a", "-b"],
@@ -107,12 +147,16 @@ static JOBS: [(&[&str], &str); 22] = [
         "Ok(Check { sources: [\"a\", \"b\", \"-c\"] })",
     ),
     (
+        &["step", "a", "--fit", "--seed", "2"],
+        "Ok(Step { source: \"a\", settings: Settings { seed: 2, fit: true, keys: Digits(\"\"), answers: \"\", limit: Limit { events: 10000000 } } })",
+    ),
+    (
         &["step", "a"],
-        "Ok(Step { source: \"a\", settings: Settings { seed: 1, keys: Digits(\"\"), answers: \"\", limit: Limit { events: 10000000 } } })",
+        "Ok(Step { source: \"a\", settings: Settings { seed: 1, fit: false, keys: Digits(\"\"), answers: \"\", limit: Limit { events: 10000000 } } })",
     ),
     (
         &["step", "--keys-file=k", "a"],
-        "Ok(Step { source: \"a\", settings: Settings { seed: 1, keys: File(\"k\"), answers: \"\", limit: Limit { events: 10000000 } } })",
+        "Ok(Step { source: \"a\", settings: Settings { seed: 1, fit: false, keys: File(\"k\"), answers: \"\", limit: Limit { events: 10000000 } } })",
     ),
     (
         &[
@@ -127,13 +171,15 @@ static JOBS: [(&[&str], &str); 22] = [
             "--seed",
             "7",
         ],
-        "Ok(Step { source: \"a\", settings: Settings { seed: 7, keys: Digits(\"31\"), answers: \"03\", limit: Limit { events: 5 } } })",
+        "Ok(Step { source: \"a\", settings: Settings { seed: 7, fit: false, keys: Digits(\"31\"), answers: \"03\", limit: Limit { events: 5 } } })",
     ),
 ];
 
 /// Words that are refused.
-static REFUSED: [&[&str]; 26] = [
+static REFUSED: [&[&str]; 32] = [
     &[],
+    &["run", "a", "--fit=yes"],
+    &["dis", "a", "--fit"],
     &["jump"],
     &["run"],
     &["run", "a", "--prg", "b"],
@@ -146,7 +192,11 @@ static REFUSED: [&[&str]; 26] = [
     &["asm", "a", "b"],
     &["asm", "a", "--at", "c000"],
     &["dis"],
-    &["build", "a"],
+    &["build"],
+    &["build", "a", "b", "c"],
+    &["build", "a", "b", "-o", "c"],
+    &["asm", "a", "b", "-o", "c", "--at", "c000"],
+    &["disk", "a"],
     &["build", "a", "b", "--keys", "31"],
     &["step", "a", "--rude", "1"],
     &["step", "a", "--keys-file", "k", "--keys", "31"],
@@ -228,11 +278,14 @@ fn help_is_shown(rt: HostRuntime) -> Result<(), Fail> {
 #[test]
 fn failures_have_their_texts(rt: HostRuntime) -> Result<(), Fail> {
     let text = String::from_str(rt.alloc(), "error: no\n")?;
-    let rows: [(Failure, u8, &[u8]); 6] = [
+    let path = String::from_str(rt.alloc(), "b.bas")?;
+    let rows: [(Failure, u8, &[u8]); 8] = [
         (Failure::Words(text), 2, b"error: no\n"),
         (Failure::NotUtf8, 2, b"tbc: an argument is not UTF-8\n"),
         (Failure::BadKeys, 2, b"tbc: bad key list\n"),
         (Failure::BadAddress, 2, b"tbc: bad address\n"),
+        (Failure::SameFile, 2, b"tbc: same file twice\n"),
+        (Failure::IsSource(path), 2, b"tbc: b.bas is a source\n"),
         (Failure::ReadFault, 3, b"tbc: read fault\n"),
         (Failure::NoMemory, 4, b"tbc: out of memory\n"),
     ];

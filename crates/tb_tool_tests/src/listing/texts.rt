@@ -7,22 +7,27 @@ use tb_listing::make;
 const SOURCE: &str = "10 REM ONCE\n10 PRINT \"H\"\n20 gosub 3072\n3072 LET B=A*2\n3080 RETURN\n";
 
 /// The text of a PRINT, with the names of the addresses.
-const PRINTED: &str = "  BEQ at0C61 ; 0C05  F0 5A
-  LDA #<text0C1A ; 0C07  A9 1A
-  STA $FB ; 0C09  85 FB  left
-  LDA #>text0C1A ; 0C0B  A9 0C
-  STA $FC ; 0C0D  85 FC  left+1
-  LDA #$01 ; 0C0F  A9 01
-  STA $C06C ; 0C11  8D 6C C0  length
-  JSR text ; 0C14  20 88 09
-  JMP at0C1B ; 0C17  4C 1B 0C
-text0C1A:
-  .byte $48 ; 0C1A  H
-at0C1B:
-  LDA #$00 ; 0C1B  A9 00
-  STA $C034 ; 0C1D  8D 34 C0  column
-  LDA #$0D ; 0C20  A9 0D
-  JSR $FFD2 ; 0C22  20 D2 FF  chrout
+const PRINTED: &str = "  BNE at0C10 ; 0C05  D0 09
+  LDX #$0A ; 0C07  A2 0A
+  LDY #$00 ; 0C09  A0 00
+  LDA #$00 ; 0C0B  A9 00
+  JMP fault_line ; 0C0D  4C 9E 0B
+at0C10:
+  LDA #<text0C23 ; 0C10  A9 23
+  STA $FB ; 0C12  85 FB  left
+  LDA #>text0C23 ; 0C14  A9 0C
+  STA $FC ; 0C16  85 FC  left+1
+  LDA #$01 ; 0C18  A9 01
+  STA $C06C ; 0C1A  8D 6C C0  length
+  JSR text ; 0C1D  20 88 09
+  JMP at0C24 ; 0C20  4C 24 0C
+text0C23:
+  .byte $48 ; 0C23  H
+at0C24:
+  LDA #$00 ; 0C24  A9 00
+  STA $C034 ; 0C26  8D 34 C0  column
+  LDA #$0D ; 0C29  A9 0D
+  JSR $FFD2 ; 0C2B  20 D2 FF  chrout
 ; 20 gosub 3072
 line20:
 ";
@@ -47,28 +52,28 @@ line_table:
   .word $000A ; 0CF1  0A 00
   .word line10 ; 0CF3  00 0C
   .word $0014 ; 0CF5  14 00
-  .word line20 ; 0CF7  25 0C
+  .word line20 ; 0CF7  2E 0C
   .word $0C00 ; 0CF9  00 0C
   .word line3072 ; 0CFB  73 0C
   .word $0C08 ; 0CFD  08 0C
-  .word line3080 ; 0CFF  8D 0C
+  .word line3080 ; 0CFF  96 0C
 ";
 
 const LABELS: &str = "al C:0be4 .poll
 al C:0c00 .line10
-al C:0c25 .line20
+al C:0c2e .line20
 al C:0c73 .line3072
-al C:0c8d .line3080
+al C:0c96 .line3080
 al C:0cf1 .line_table
 al C:c000 .varA
 ";
 
 const MAP: &str = "part        addr   bytes    cost
 block       080D    1011      64
-line 10     0C00      37      61
-line 20     0C25      78     132
-line 3072   0C73      26     180
-line 3080   0C8D     100      84
+line 10     0C00      46      61
+line 20     0C2E      69     132
+line 3072   0C73      35     180
+line 3080   0C96      91      84
 line_table  0CF1      16       0
 sum         080D    1268     521
 left        0D01   37631   37367

@@ -24,6 +24,10 @@ const NAME_TWICE: DiskOutcome = DiskOutcome::Refused(DiskRefusal::NameTwice);
 
 const FULL: DiskOutcome = DiskOutcome::Refused(DiskRefusal::Full);
 
+const TEXT: DiskOutcome = DiskOutcome::Refused(DiskRefusal::Text);
+
+const NOT_RAM: DiskOutcome = DiskOutcome::Refused(DiskRefusal::NotRam);
+
 /// A PRG file that only returns.
 const PRG: &[u8] = &[0x00, 0xc0, 0x60];
 
@@ -153,13 +157,21 @@ fn refusal(alloc: Global, rows: &[(&str, &[u8])]) -> Option<DiskOutcome> {
 
 #[test]
 fn the_first_file_is_refused_first(rt: HostRuntime) -> Result<(), Fail> {
-    let rows: [(&[(&str, &[u8])], Option<DiskOutcome>); 12] = [
+    let rows: [(&[(&str, &[u8])], Option<DiskOutcome>); 20] = [
         (&[("a", PRG), ("b", PRG)], None),
         (&[("a+", PRG)], Some(BAD_NAME)),
         (&[("a", PRG), ("x/A.prg", PRG)], Some(NAME_TWICE)),
         (&[("a", SHORT)], Some(TOO_SHORT)),
         (&[("a", PAST)], Some(RUNS_PAST)),
+        (&[("a", b"10 PRINT 1\n")], Some(TEXT)),
+        (&[("a", b"LDA #$48\r\n\tRTS~")], Some(TEXT)),
+        (&[("a", b"10 PRINT \x7f\n")], None),
+        (&[("a", b"\x01\x08 a program")], None),
+        (&[("a", b"\xff\x9f\x60")], None),
+        (&[("a", b"\xff\x9f\x60\x60")], Some(NOT_RAM)),
+        (&[("a", b"\x00\xd0\x60")], Some(NOT_RAM)),
         // Several at once
+        (&[("a", PRG), ("a", b"10 END\n")], Some(NAME_TWICE)),
         (&[("a+", SHORT)], Some(BAD_NAME)),
         (&[("a+", PRG), ("a+", PRG)], Some(BAD_NAME)),
         (&[("a", PRG), ("a", PAST)], Some(NAME_TWICE)),
@@ -174,9 +186,26 @@ fn the_first_file_is_refused_first(rt: HostRuntime) -> Result<(), Fail> {
     Ok(())
 }
 
-// A PRG file of this many bytes.
+// Two files whose names were both looked at before either was taken in.
+fn taken_unseen(alloc: Global, first: &str, second: &str) -> Result<DiskFiles, DiskOutcome> {
+    let files = DiskFiles::new(alloc);
+    let names = (files.name(alloc, first)?, files.name(alloc, second)?);
+    let files = files.add(alloc, names.0, &mut Tracked::new(PRG))?;
+    files.add(alloc, names.1, &mut Tracked::new(PRG))
+}
+
+// Files are taken in one after another: a name that is taken is refused, whatever was asked before.
+#[test]
+fn no_name_is_taken_in_twice(rt: HostRuntime) -> Result<(), Fail> {
+    let alloc = rt.alloc();
+    assert!(rt; taken_unseen(alloc, "a.prg", "b.prg").is_ok());
+    assert!(rt; taken_unseen(alloc, "a.prg", "A").err() == Some(NAME_TWICE));
+    Ok(())
+}
+
+// A PRG file of this many bytes, at the place of a BASIC line.
 fn prg(alloc: Global, size: usize) -> Result<Vec<u8>, AllocError> {
-    let mut bytes = Vec::new(alloc);
+    let mut bytes = Vec::from_slice(alloc, &[0x01, 0x08])?;
     bytes.resize(size, 0)?;
     Ok(bytes)
 }
@@ -208,7 +237,7 @@ fn full(alloc: Global, count: usize, size: usize, last: (&str, &[u8])) -> Option
 fn a_full_disk_is_refused_last(rt: HostRuntime) -> Result<(), Fail> {
     let eight_blocks = prg(rt.alloc(), 8 * 254)?;
     let nine_blocks = prg(rt.alloc(), 8 * 254 + 1)?;
-    let most = prg(rt.alloc(), 65_538)?;
+    let most = prg(rt.alloc(), 63_489)?;
     let rows: [(usize, usize, (&str, &[u8]), Option<DiskOutcome>); 9] = [
         (144, 2, ("last", PRG), None),
         (145, 2, ("last", PRG), Some(FULL)),
@@ -218,9 +247,9 @@ fn a_full_disk_is_refused_last(rt: HostRuntime) -> Result<(), Fail> {
         (83, 8 * 254, ("last", eight_blocks.as_slice()), None),
         (83, 8 * 254, ("last", nine_blocks.as_slice()), Some(FULL)),
         (84, 8 * 254, ("last", PAST), Some(RUNS_PAST)),
-        // A file of all 65,536 bytes takes 259 blocks
-        (2, 65_538, ("last", most.as_slice()), None),
-        (3, 65_538, ("last", most.as_slice()), Some(FULL)),
+        // A file up to the end of memory takes 250 blocks
+        (2, 63_489, ("last", most.as_slice()), None),
+        (3, 63_489, ("last", most.as_slice()), Some(FULL)),
     ];
     for &(count, size, last, wanted) in &rows {
         assert_eq!(rt; full(rt.alloc(), count, size, last), wanted);

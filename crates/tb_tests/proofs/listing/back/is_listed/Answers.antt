@@ -1,5 +1,0 @@
--- The goals of `is_listed` in src/listing/back.rt.
-use Rattle.tb_tests.proofs.listing.back.is_listed.Goals as goal
-
-pub make-requires : goal.make-requires
-make-requires c = (1, c.in_ok-program.ensures.only)

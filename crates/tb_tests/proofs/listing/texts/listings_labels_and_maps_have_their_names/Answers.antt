@@ -1,5 +1,0 @@
--- The goals of `listings_labels_and_maps_have_their_names` in src/listing/texts.rt.
-use Rattle.tb_tests.proofs.listing.texts.listings_labels_and_maps_have_their_names.Goals as goal
-
-pub make-requires : goal.make-requires
-make-requires c after = (1, after.in_ok-program.ensures.only)
