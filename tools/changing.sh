@@ -11,7 +11,7 @@ page=$root/docs/CHANGING.md
 
 # Crates whose `Return` is another one, and those in which a statement needs no place of its own.
 others='tb_opcodes|tb_gate_[a-z]*|tb_refutations' # RTI and RTS; contracts once more; images
-tests='tb_test_support|tb_golden|tb_bench|tb_tests' # the section's last paragraph names what they need
+tests='tb_test_support|tb_golden|tb_bench|tb_tests|tb_tool_tests' # the section's last paragraph names what they need
 
 bad=0
 say() { echo "docs/CHANGING.md: $*"; bad=1; }

@@ -12,16 +12,18 @@ rows=0
 failed=0
 from=/dev/null
 to=shown
+out=out.prg # OUT, which holds another text before each row
+elsewhere=  # yes: a row writes another file than OUT
 by=() # what starts the program, if it is not the shell
 row() { # STATUS SAID SHOWN WORD..: SAID and SHOWN are patterns of standard error and output, without the last line end
     local status=0 made=new wanted=$1 said=$2 shown=$3 wanted_made=old
     shift 3
-    case $wanted:${1:-} in 0:build | 0:asm | 0:disk) wanted_made=new ;; esac
+    case $elsewhere$wanted:${1:-} in 0:build | 0:asm | 0:disk) wanted_made=new ;; esac
     rows=$((rows + 1))
-    printf old | tee old.prg >out.prg
+    printf old | tee old.prg >"$out"
     : >shown
     "${by[@]}" "$tbc" "$@" <"$from" >"$to" 2>said || status=$?
-    ! cmp -s old.prg out.prg || made=old
+    ! cmp -s old.prg "$out" || made=old
     [[ $status == "$wanted" && $(<said) == $said && $(<shown) == $shown && $made == "$wanted_made" ]] && return
     failed=$((failed + 1))
     printf 'tbc %s\n  status %s, wanted %s\n  said %q, wanted %q\n  shown %q, wanted %q\n  OUT is %s, wanted %s\n' \
@@ -113,23 +115,40 @@ for ((i = 1; i <= 145; i++)); do
     cp routine.prg "many$i.prg"
     echo "many$i.prg" >>many
 done
-row 0 '' '' disk out.prg routine.prg maze_1.prg
-row 0 '' '' disk out.prg $(head -n 144 many)
-row 1 'tbc: disk full' '' disk out.prg $(<many)
-head -c 63489 /dev/zero >large1.prg
+out=out.d64
+row 0 '' '' disk out.d64 routine.prg maze_1.prg
+row 0 '' '' disk out.d64 $(head -n 144 many)
+row 1 'tbc: disk full' '' disk out.d64 $(<many)
+{ printf '\x01\x08' && head -c 63487 /dev/zero; } >large1.prg
 for i in 2 3; do cp large1.prg large$i.prg; done
-row 0 '' '' disk out.prg large1.prg large2.prg
-row 1 'tbc: disk full' '' disk out.prg large1.prg large2.prg large3.prg
-row 1 'tbc: bad name' '' disk out.prg routine.prg bad+name.prg
-row 1 'tbc: name twice' '' disk out.prg routine.prg ./ROUTINE
-row 3 'tbc: read fault' '' disk out.prg routine.prg nowhere.prg maze_1+.prg
-row 3 'tbc: read fault' '' disk out.prg routine.prg folder
-row 1 'tbc: name twice' '' disk out.prg $(<many) ./many1.prg
-each 1 bad.prg disk out.prg routine.prg bad.prg bad+.prg <<'END'
+row 0 '' '' disk out.d64 large1.prg large2.prg
+row 1 'tbc: disk full' '' disk out.d64 large1.prg large2.prg large3.prg
+row 1 'tbc: bad name' '' disk out.d64 routine.prg bad+name.prg
+row 1 'tbc: name twice' '' disk out.d64 routine.prg ./ROUTINE
+row 3 'tbc: read fault' '' disk out.d64 routine.prg nowhere.prg maze_1+.prg
+row 3 'tbc: read fault' '' disk out.d64 routine.prg folder
+row 1 'tbc: name twice' '' disk out.d64 $(<many) ./many1.prg
+each 1 bad.prg disk out.d64 routine.prg bad.prg bad+.prg <<'END'
 not a PRG: too short|\x01
 not a PRG: runs past the end|\xff\xff\x60\x60
+not a PRG: text|10 PRINT "HELLO"\n20 END\n
+not a PRG: text|LDA #$48\r\n\tRTS ; ~
+not a PRG: not RAM|\x00\xd0\x60
+not a PRG: not RAM|\xff\x9f\x60\x60
 END
-row 2 'error: *' '' disk out.prg
+row 1 'tbc: not a PRG: text' '' disk out.d64 routine.prg hello.bas
+file low.prg '\xff\x9f\x60'
+row 0 '' '' disk out.d64 low.prg
+row 2 'error: *' '' disk out.d64
+row 2 'error: *' '' disk
+row 2 'error: *' '' disk -o out.d64
+row 0 '' '' disk -o out.d64 routine.prg maze_1.prg
+row 0 '' '' disk routine.prg -o out.d64 maze_1.prg
+out=out.D64
+row 0 '' '' disk out.D64 routine.prg
+out=out.prg
+for name in out.prg out.d64.prg d64 out.bas; do row 1 'tbc: bad name' '' disk $name maze_1.prg; done
+row 1 'tbc: bad name' '' disk out.prg nowhere.prg
 
 # Warnings come before anything else
 row 0 'tbc: warning: line 20: no line 30' '' build warn.bas out.prg
@@ -159,6 +178,55 @@ END
 refused_sources build SOURCE out.prg
 refused_sources run SOURCE
 
+# With --fit the memory is the limit, to the byte
+ends() { printf '1 PRINT "A%s"\n' "$2" && seq -f '%g END' 2 "$1"; } # LINES TEXT
+left_of() { # FILE: the bytes that its program leaves
+    "$tbc" build --fit "$1" left.prg --map left.map && awk '$1 == "left" { print $3 }' left.map
+}
+lines=1050
+while ends $lines '' >full.bas && left=$(left_of full.bas) && ((left > 200)); do lines=$((lines + left / 64 + 1)); done
+taken=$((37888 - $(left_of large.bas)))
+fill=$(printf "%${left}s" '' | tr ' ' X)
+ends $lines "$fill" >full.bas
+ends $lines "X$fill" >over.bas
+full_cost=$((88 + 1 + left + 36 * lines))
+row 0 '' '' build large.bas out.prg --fit
+row 0 '' A run --fit large.bas
+row 0 '' "A$fill" run full.bas --fit
+row 0 '' "A$fill" play full.bas --fit
+row 0 '' '*A*' debug full.bas --fit
+row 0 '' '' step full.bas --fit
+row 0 '' '*END*' profile full.bas --fit
+built "A$fill" full.bas out.prg --fit
+"$tbc" build large.bas left.prg --fit --map left.map
+row 1 'tbc: program too large (37889 bytes)' '' build large.bas out.prg --map out.map --labels none.vs
+same out.map left.map
+row 0 '' '' build --fit large.bas out.prg --map out.map
+same out.map left.map
+row 1 'tbc: program too large (37889 bytes)' '' build large.bas out.prg --map folder
+rows=$((rows + 1))
+[ ! -e none.vs ] || { failed=$((failed + 1)) && echo "a program that is refused has labels"; }
+for words in 'build over.bas out.prg' 'run over.bas' 'play over.bas' 'step over.bas' 'debug over.bas' 'profile over.bas'; do
+    row 1 'tbc: program too large (37889 bytes)' '' $words --fit
+    row 1 "tbc: program too large ($((full_cost + 1)) bytes)" '' $words
+done
+row 0 '' HELLO run hello.bas --fit
+row 0 '' '' build hello.bas out.prg
+cp out.prg built.prg
+row 0 '' '' build hello.bas out.prg --fit
+same built.prg out.prg
+
+# At a terminal a second line says what helps, if it does
+: >none.bas
+by=(python3 "$root/tools/at_a_terminal.py" --)
+for words in 'build large.bas out.prg' 'run large.bas' 'play large.bas' 'debug large.bas' 'profile large.bas'; do
+    row 1 '' "tbc: program too large (37889 bytes)"$'\n'"tbc: note: its code takes $taken bytes: --fit compiles it" $words
+done
+row 1 '' "tbc: program too large ($((full_cost + 1)) bytes)" run over.bas
+row 1 '' 'tbc: program too large (37889 bytes)' run over.bas --fit
+row 1 '' 'tbc: empty program' run none.bas
+by=()
+
 # Checks. What is said of which source is tried in tb_golden
 file slips.bas '10 FOR I=1 TO 10\n20 PRINT "\xe4"\n\n30 PRIMT I\n10 END\n'
 file dice.bas '10 PRINT RND(6)+1\n20 GOTO 100\n10 PRINT RND(6)/5000+1\n'
@@ -170,6 +238,7 @@ slips.bas:1:4: note: Tiny BASIC has no FOR; count with LET, IF and GOTO
 slips.bas:2:11: error: bad byte
     2 | 20 PRINT "?"
       |           ^
+slips.bas:2:11: note: a text holds letters, digits, spaces and the signs from ! to @
 slips.bas:4:7: error: syntax
     4 | 30 PRIMT I
       |       ^
@@ -180,7 +249,7 @@ dice.bas:1: warning: line 10 is replaced by line 3 of the file
     1 | 10 PRINT RND(6)+1
 dice.bas:2: warning: no line 100
     2 | 20 GOTO 100
-dice.bas:3: warning: RND(6) is odd and even in turns; RND(30000)/5000 is better
+dice.bas:3: warning: RND(6) is odd and even in turns; RND(32766)/5461 is better
     3 | 10 PRINT RND(6)/5000+1
 END
 row 0 '' '' check hello.bas
@@ -198,7 +267,7 @@ row 0 '' '' check hello.bas
 to=shown
 for source in "$root"/examples/*.bas; do
     cp "$source" example.bas
-    "$tbc" check example.bas >shown || { failed=$((failed + 1)); cat shown; }
+    [ "${source##*/}" = startrek.bas ] || "$tbc" check example.bas >shown || { failed=$((failed + 1)); cat shown; }
     rows=$((rows + 1))
 done
 
@@ -245,7 +314,10 @@ row 2 'tbc: bad address' '' asm nowhere.s out.prg --at wxyz
 row 2 'tbc: an argument is not UTF-8' '' run $'\xff'
 row 2 'error: *' ''
 row 2 'error: *' '' jump
-row 2 'error: *' '' build hello.bas
+row 2 'error: *' '' build
+row 2 'error: *' '' build hello.bas out.prg wait.bas
+row 2 'error: *' '' build hello.bas out.prg -o out.prg
+row 2 'error: *' '' asm routine.s out.prg -o out.prg --at c000
 row 2 'error: *' '' build hello.bas out.prg --seed 65536
 row 2 'error: *' '' run
 row 2 'error: *' '' run hello.bas --prg routine.prg
@@ -270,8 +342,10 @@ done
 for name in /dev/full nowhere/out.prg folder; do
     row 3 'tbc: write fault' '' build hello.bas $name
     row 3 'tbc: write fault' '' asm routine.s $name --at c000
-    row 3 'tbc: write fault' '' disk $name routine.prg
 done
+mkdir folder.d64
+ln -s /dev/full full.d64
+for name in full.d64 nowhere/out.d64 folder.d64; do row 3 'tbc: write fault' '' disk $name routine.prg; done
 to=/dev/full
 row 3 'tbc: write fault' '' run hello.bas
 row 3 'tbc: write fault' '' run --prg routine.prg
@@ -281,8 +355,8 @@ row 3 'tbc: write fault' '' --version
 to=shown
 
 # What a build writes in addition to the PRG file
-beside() { # NAME: rows: the listing of NAME.bas has its lines by name, and assembles to the bytes after the BASIC line
-    row 0 '*' '' build $1.bas out.prg --labels out.vs --list out.s --map out.map
+beside() { # NAME OPTION..: rows: the listing of NAME.bas has its lines by name, and assembles to the bytes after the BASIC line
+    row 0 '*' '' build $1.bas out.prg --labels out.vs --list out.s --map out.map "${@:2}"
     cp out.prg built.prg
     rows=$((rows + 1))
     grep -q '^line[0-9]*:$' out.s || { failed=$((failed + 1)) && echo "the listing of $1.bas has no names"; }
@@ -297,8 +371,8 @@ same built.prg plain.prg
 holds out.map "$(cat <<'END'
 part        addr   bytes    cost
 block       080D    1011      64
-line 10     0C00      41      65
-line 20     0C29      56      36
+line 10     0C00      50      65
+line 20     0C32      47      36
 line_table  0C61       8       0
 sum         080D    1116     165
 left        0C69   37783   37723
@@ -307,7 +381,7 @@ END
 for name in wait forever warn both ask far; do beside $name; done
 for source in "$root"/examples/*.bas; do
     cp "$source" example.bas
-    beside example
+    beside example --fit
 done
 awk 'BEGIN { for (n = 1; n <= 1050; n++) print n " REM \x01\xff\t" n }' >dense.bas
 awk 'BEGIN { for (n = 1; n <= 127; n++) { printf "%d PRINT \"", n; for (k = 0; k < 236; k++) printf "%c", 97 + k % 26; print "\"" } }' >texts.bas
@@ -348,6 +422,134 @@ done
 row 2 'tbc: same file twice' '' build out.prg out.prg --map a
 row 2 'tbc: same file twice' '' build nowhere.bas nowhere.bas --map a
 [ ! -e a ] || failed=$((failed + 1))
+
+# No file is lost: none that is read is written, and none is written twice, however their paths are spelled
+lost_files() {
+    local path
+    file a.bas '10 PRINT "A"\n20 END\n'
+    file b.bas '10 PRINT "B"\n20 END\n'
+    cp a.bas a.kept
+    cp b.bas b.kept
+    mkdir in
+    ln -s .. in/up
+    ln -s a.bas link.prg
+    ln -s ../link.prg in/link.prg
+    ln a.bas hard.prg
+    for path in a.bas ./a.bas in/../a.bas in/up/a.bas in//.././a.bas "$PWD/a.bas" link.prg in/link.prg hard.prg; do
+        row 2 'tbc: same file twice' '' build a.bas "$path"
+        row 2 'tbc: same file twice' '' build "$path" -o a.bas
+        row 2 'tbc: same file twice' '' build "$path" hard.prg
+        for option in --labels --list --map; do
+            row 2 'tbc: same file twice' '' build a.bas out.prg $option "$path"
+            row 2 'tbc: same file twice' '' build b.bas a.bas $option "$path"
+        done
+        row 2 'tbc: same file twice' '' build b.bas out.prg --map a.bas --list "$path"
+        row 2 'tbc: same file twice' '' asm a.bas "$path" --at c000
+        row 2 'tbc: same file twice' '' asm "$path" -o in/up/a.bas --at c000
+        row 2 'tbc: same file twice' '' play a.bas --record "$path"
+        row 2 'tbc: same file twice' '' profile a.bas --html "$path"
+        row 2 'tbc: same file twice' '' profile b.bas --keys-file a.bas --html "$path"
+        from=a.bas
+        row 2 'tbc: same file twice' '' build - "$path"
+        row 2 'tbc: same file twice' '' asm - "$path" --at c000
+        row 2 'tbc: same file twice' '' play b.bas --record "$path"
+        from=/dev/null
+        rows=$((rows + 1))
+        cmp -s a.bas a.kept || { failed=$((failed + 1)) && echo "a.bas was written by its name $path" && cp a.kept a.bas; }
+    done
+    row 2 'tbc: same file twice' '' play b.bas --record shown
+    row 2 'tbc: same file twice' '' profile b.bas --html ./shown
+    row 2 'tbc: same file twice' '' build b.bas - --map shown
+    row 2 'tbc: same file twice' '' build b.bas - --map -
+    row 2 'tbc: same file twice' '' profile b.bas --html -
+    row 2 'tbc: same file twice' '' play b.bas --record -
+    cp routine.prg image.d64
+    ln -s image.d64 disk.D64
+    row 2 'tbc: same file twice' '' disk image.d64 image.d64
+    row 2 'tbc: same file twice' '' disk disk.D64 routine.prg ./image.d64
+    row 2 'tbc: same file twice' '' disk -o disk.D64 image.d64
+    same image.d64 routine.prg
+
+    # Nor files that are not there yet
+    ln -s new.map soon.map
+    ln -s ../soon.map in/soon.map
+    for path in new.map ./new.map in/../new.map in/up/new.map "$PWD/new.map" soon.map in/soon.map; do
+        row 2 'tbc: same file twice' '' build b.bas out.prg --list new.map --map "$path"
+        row 2 'tbc: same file twice' '' build b.bas "$path" --map new.map
+        [ ! -e new.map ] || { failed=$((failed + 1)) && echo "new.map was written" && rm new.map; }
+    done
+    row 0 '' '' build b.bas out.prg --list in/new.map --map soon.map
+    grep -q '^part ' new.map || { failed=$((failed + 1)) && echo 'a link to no file was not followed'; }
+
+    # A source that is there is never written
+    cp b.bas B.BAS
+    row 2 'tbc: b.bas is a source' '' build a.bas b.bas
+    row 2 'tbc: ./b.bas is a source' '' build a.bas -o ./b.bas
+    row 2 'tbc: B.BAS is a source' '' build a.bas out.prg --map B.BAS
+    row 2 'tbc: b.bas is a source' '' asm routine.s b.bas --at c000
+    row 2 'tbc: b.bas is a source' '' play a.bas --record b.bas
+    row 2 'tbc: b.bas is a source' '' profile a.bas --html b.bas
+    same b.bas b.kept
+    same a.bas a.kept
+    elsewhere=yes
+    row 0 '' '' build a.bas new.bas
+    [ -s new.bas ] || failed=$((failed + 1))
+
+    # Where nothing is named: the source's name, with .prg. `-` is standard input or output
+    cp a.bas in/some.name.bas
+    "$tbc" build a.bas a.wanted
+    for path in in/some.name.bas in/some.name; do
+        cp a.bas in/some.name
+        row 0 '' '' build $path
+        same in/some.name.prg a.wanted
+        rm in/some.name.prg
+    done
+    elsewhere=
+    row 0 '' '' build a.bas -o out.prg
+    same out.prg a.wanted
+    row 0 '' '' asm routine.s -o out.prg --at c000
+    same out.prg routine.prg
+    from=a.bas
+    row 0 '' '' build - out.prg
+    same out.prg a.wanted
+    row 0 '' A run -
+    row 0 '' '*sum *' profile -
+    row 0 '' '' check -
+    from=slips.bas
+    row 1 '' "$(sed 's/^slips.bas:/-:/' slips.said)" check -
+    from=routine.s
+    row 0 '' '' asm - out.prg --at c000
+    same out.prg routine.prg
+    from=routine.prg
+    row 0 '' H run --prg -
+    row 0 '' $'LDA #$48 ; C000\nJSR $FFD2 ; C002\nRTS ; C005' dis -
+    out=out.d64
+    row 0 '' '' disk out.d64 - maze_1.prg
+    out=out.prg
+    from=some.keys
+    file some.keys 32310d
+    row 0 '' $'A\n? \n42\n\n!7 AT 30' run wait.bas --keys-file -
+    from=/dev/null
+    row 1 'tbc: empty program' '' build -
+    "$tbc" build - <a.bas >shown
+    same shown a.wanted
+    "$tbc" build a.bas - >shown
+    same shown a.wanted
+    "$tbc" build a.bas -o - | cat >shown
+    same shown a.wanted
+    "$tbc" asm - - --at c000 <routine.s >shown
+    same shown routine.prg
+    "$tbc" disk -o - routine.prg >shown
+    "$tbc" disk out.d64 routine.prg
+    rows=$((rows + 1))
+    [ "$(stat -c %s shown)" = "$(stat -c %s out.d64)" ] || failed=$((failed + 1))
+    "$tbc" build b.bas new.prg --map - >shown
+    same shown new.map
+    to=/dev/full
+    row 3 'tbc: write fault' '' build a.bas -
+    to=shown
+}
+lost_files
 row 2 'error: *' '' build hello.bas out.prg --labels
 row 1 'tbc: empty program' '' build most.bas out.prg --labels a --list b --map c
 row 3 'tbc: read fault' '' build nowhere.bas out.prg --labels a --list b --map c

@@ -64,7 +64,10 @@ def add_controls(crate):
         if pairs[0][0] not in text:
             sys.exit(f"controls: {file} has no such line as {control.stem} changes: {pairs[0][0]}")
         found = sibling(crate, file, control.stem, text, pairs)
-        (added if found else in_place).setdefault(file, []).extend([found] if found else pairs)
+        if found:
+            added.setdefault(file, []).append(found)
+        else:  # (two edits of one table may have the same control)
+            in_place.setdefault(file, {}).update(dict.fromkeys(pairs))
     for file in {*added, *in_place}:
         text = (crate / file).read_text()
         for at, body in sorted(added.get(file, []), reverse=True):

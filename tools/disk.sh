@@ -94,7 +94,7 @@ judge() { # NAME: each tool finds what it must
 }
 mkdir programs
 for source in "$root"/examples/*.bas; do
-    "$tbc" build "$source" "programs/$(basename "$source" .bas).prg"
+    "$tbc" build --fit "$source" "programs/$(basename "$source" .bas).prg"
 done
 so 'tbc disk fails' make examples programs/*.prg
 judge examples

@@ -33,11 +33,11 @@ same() { # MACHINE NAME KEYS STATUS: NAME.prg sends what NAME.wanted shows, and 
 }
 typed() { printf "$1" | od -An -v -tx1 | tr -d ' \n'; } # TEXT: its bytes as hexadecimal digits
 
-program() { # SOURCE KEYS: a row for each machine
+program() { # SOURCE KEYS OPTION..: a row for each machine; the options are those of `tbc build`
     local name keys status=0 machine
     name=$(basename "$(dirname "$1")")_$(basename "$1" .bas)
     keys=$(typed "$2")
-    "$tbc" build "$1" "$name.prg"
+    "$tbc" build "$1" "$name.prg" "${@:3}"
     "$tbc" run --prg "$name.prg" --keys "$keys" --limit 100000000 >"$name.wanted" 2>said || status=$?
     rows=$((rows + 1))
     case $status in
@@ -72,6 +72,21 @@ program "$root/examples/lander.bas" '0\r0\r5\r10\r20\r30\r30\r20\r10\r10\r10\r10
 program "$root/examples/primes.bas" ''
 program "$root/examples/times.bas" ''
 for source in "$root"/tools/bench/*.bas; do program "$source" ''; done
+# Programs that fit only by what they take: a game, with the keys of its rows, and one that calls from each line, up to
+# the last byte of a program's memory.
+for keys in $(sed -n 's/^fit startrek //p' "$root/crates/tb_golden/data/compiler/programs.txt"); do
+    program "$root/examples/startrek.bas" "$(sed 's/../\\x&/g' <<<"$keys")" --fit
+done
+{
+    printf '1 PRINT "AAA"\n'
+    seq -f '%g GOSUB 32000' 10 10 5170
+    printf '32000 RETURN\n'
+} >full.bas
+program "$work/full.bas" '' --fit
+if [ "$(wc -c <"$(basename "$work")_full.prg")" != $((2 + 0xa000 - 0x0801)) ]; then
+    failed=$((failed + 1))
+    echo 'full.bas does not end at $9FFF'
+fi
 spoilt examples_hello '' 0
 spoilt examples_collatz '27\r7\r' 6
 

@@ -3,14 +3,16 @@
 # process to its end, and prints the processor time of both, and what part of cc65's time tbc takes.
 #
 #   tools/measure_compiler.sh [ROUNDS]          default: 40 rounds; needs cc65
-#   tools/measure_compiler.sh --instructions    instructions of this processor in place of time; needs valgrind too
+#   tools/measure_compiler.sh --instructions    instructions of this processor in place of time; needs valgrind too; ends
+#                                               with status 1 if sources that compile take more than they should
 #
 # 200 mixed lines are about the most that a program may cost. With 1,000 such lines tbc does everything but lay the
 # code, and then refuses them as too large; 1,000 lines of PRINT and REM compile. cc65's time for a function grows
-# faster than its length, so its statements are tried with ten in each function, and with all in one.
+# faster than its length, so its statements are tried with ten in each function, and with all in one. With --fit, 912
+# lines whose jumps are all far fill the memory; a half and a quarter of them show how the time grows.
 . "$(dirname "${BASH_SOURCE[0]}")/setup.sh"
 needs_program
-needs cc65
+installs cc65 cc65
 
 write_mixed() { # NAME LINES EACH: NAME.bas, and NAME.c with EACH lines in each function
     awk -v name="$1" -v lines="$2" -v each="$3" '
@@ -63,28 +65,51 @@ write_cheap cheap1000 1000
 rounds=${1:-40}
 unit=ms
 if [ "$rounds" = --instructions ]; then
-    needs valgrind
+    installs valgrind valgrind
     unit=million
 fi
 cost() { # WORD..
     if [ "$unit" = ms ]; then processor_time "$rounds" "$@"; else counted "$@" | awk '{ print $1 / 1e6 }'; fi
 }
 
-measure() { # NAME STATUS WHAT
-    local status=0
+failed=0
+measure() { # NAME STATUS WHAT [MOST]: of instructions, in millions
+    local status=0 own
     "$tbc" build "$1.bas" made.prg 2>said || status=$?
     [ "$status" = "$2" ] || { echo "tbc build $1.bas: status $status, $(cat said)" >&2; exit 1; }
-    awk -v a="$(cost "$tbc" build "$1.bas" made.prg)" -v b="$(cost cc65 -O -t c64 "$1.c" -o made.s)" \
+    own=$(cost "$tbc" build "$1.bas" made.prg)
+    awk -v a="$own" -v b="$(cost cc65 -O -t c64 "$1.c" -o made.s)" \
         -v start="$start" -v cc65_start="$cc65_start" -v what="$3" -v unit="$unit" \
         'BEGIN { printf "%s: tbc %.2f %s, cc65 %.2f %s, 1/%.1f; without the start of the process 1/%.1f\n",
             what, a, unit, b, unit, b / a, (b - cc65_start) / (a - start) }'
+    judge "$1.bas" "$own" "${4:-$own}"
+}
+
+judge() { # FILE INSTRUCTIONS MOST
+    if [ "$unit" = million ] && awk -v own="$2" -v most="$3" 'BEGIN { exit !(own > most) }'; then
+        echo "$1: $2 million instructions, and should take $3 at most" >&2
+        failed=1
+    fi
+}
+
+measure_fit() { # LINES [MOST]: lines whose jumps are all far
+    local own
+    awk -v lines="$1" 'BEGIN { for (n = 1; n <= lines; n++) print n, "IF A=" n " GOTO " (2 * n > lines ? 1 : lines) }' >far.bas
+    "$tbc" build --fit far.bas made.prg
+    own=$(cost "$tbc" build --fit far.bas made.prg)
+    echo "$1 lines whose jumps are all far, a PRG of $(wc -c <made.prg) bytes: tbc $own $unit"
+    judge far.bas "$own" "${2:-$own}"
 }
 
 start=$(cost "$tbc" --version)
 cc65_start=$(cost cc65 --version)
 echo "the start of a process: tbc $start $unit, cc65 $cc65_start $unit"
-measure mixed200 0 "200 mixed lines, ten in a function"
+measure mixed200 0 "200 mixed lines, ten in a function" 2.9
 measure joint200 0 "200 mixed lines, in one function"
-measure cheap1000 0 "1,000 lines of PRINT and REM"
+measure cheap1000 0 "1,000 lines of PRINT and REM" 8
 measure mixed1000 1 "1,000 mixed lines, ten in a function, refused"
 measure joint1000 1 "1,000 mixed lines, in one function, refused"
+measure_fit 228
+measure_fit 456
+measure_fit 912 60
+exit "$failed"

@@ -1,15 +1,18 @@
 #!/usr/bin/env bash
-# Measures compiled programs: the programs of tools/bench, each in BASIC and in C, the C by `cl65 -t sim6502 -Oirs`.
+# Measures compiled programs: the programs of tools/bench, each in BASIC, in C by `cl65 -t sim6502 -Oirs`, and by hand. A
+# program by hand is a floor: it keeps the same rules, a poll a line, and the variables and the number of notes in memory
+# at each line's beginning.
 #
-#   tools/measure_generated.sh [NAME ..]    default: all; needs cc65
+#   tools/measure_generated.sh [NAME ..]    default: all; needs cc65 and 64tass
 #
 # For each it prints the bytes of the PRG file, the events that it takes on the test machine until it returns (quiet
-# ROM), and the cycles that sim65 counts for it and for the C program. In sim65 CHROUT is an RTS and GETIN says that no
-# key is down; in C a sent byte is a store. Both must print the same.
+# ROM), and the cycles that sim65 counts for it, for the C program and for the floor; at the end the geometric means. In
+# sim65 CHROUT is an RTS and GETIN says that no key is down; in C a sent byte is a store. All must print the same.
 . "$(dirname "${BASH_SOURCE[0]}")/setup.sh"
 needs_program
-needs cl65 sim65
-cp "$root"/tools/bench/* .
+needs cl65 sim65 64tass
+set -o pipefail
+cp "$root"/tools/bench/*.* "$root"/tools/bench/floors/* .
 
 events() { # PRG: the lowest limit with which it returns
     local low=0 high=1000000 middle
@@ -51,7 +54,14 @@ for name; do
     "$tbc" run --prg "$name.prg" >ours
     sim65 "$name.show" >theirs
     cmp ours theirs || { echo "$name prints something else in C" >&2; exit 1; }
-    awk -v name="$name" -v bytes="$(wc -c <"$name.prg")" -v events="$(events "$name.prg")" \
-        -v a="$(cycles "$name.sim")" -v b="$(cycles "$name.c65")" \
-        'BEGIN { printf "%s: %d bytes, %d events, %d cycles, cc65 %d cycles, ratio %.2f\n", name, bytes, events, a, b, a / b }'
-done
+    64tass -q -o "$name.floor" "$name.asm"
+    image "$name.floor" >"$name.lowest"
+    "$tbc" run --prg "$name.floor" | cmp ours - || { echo "$name prints something else by hand" >&2; exit 1; }
+    echo "$name $(wc -c <"$name.prg") $(events "$name.prg") $(cycles "$name.sim") $(cycles "$name.c65") $(cycles "$name.lowest")"
+done | awk '
+    {
+        printf "%s: %d bytes, %d events, %d cycles, cc65 %d, floor %d, ratios %.2f and %.2f\n", $1, $2, $3, $4, $5, $6, $4 / $5, $4 / $6
+        cc65 += log($4 / $5)
+        floor += log($4 / $6)
+    }
+    END { printf "geometric means: %.3f of cc65, %.3f of the floor\n", exp(cc65 / NR), exp(floor / NR) }'

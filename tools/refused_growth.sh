@@ -138,9 +138,14 @@ printf '10\n' >empty.bas
 check build hello.bas out.prg
 check build all.bas out.prg --seed 7
 check build all.bas out.prg --labels beside.vs --list beside.s --map beside.map
+check build hello.bas hello.bas
+check build hello.bas out.prg --map ./out.prg
+check build hello.bas there.bas
+check build hello.bas -o -
 check build bad.bas out.prg
 check build deep.bas out.prg
 check build large.bas out.prg
+check build large.bas out.prg --fit
 check build empty.bas out.prg
 check build nowhere.bas out.prg
 check build hello.bas nowhere/out.prg
@@ -149,6 +154,7 @@ check run there.bas
 check run astray.bas
 check run below.bas
 check run warned.bas
+check run large.bas --fit
 check run all.bas --keys 332c350d --rude 1
 check run all.bas --keys 332c350d --limit 900
 check run all.bas --keys 33
@@ -194,12 +200,16 @@ check play --prg nowhere.prg
 : >commands
 cp hello.prg maze_1.prg
 printf '\001' >short.prg
-check disk out.prg hello.prg maze_1.prg
-check disk out.prg hello.prg hello.prg
-check disk out.prg hello.prg bad+.prg
-check disk out.prg short.prg
-check disk out.prg nowhere.prg
-check disk nowhere/out.prg hello.prg
+printf '\000\320\140' >high.prg
+check disk beside.d64 hello.prg maze_1.prg
+check disk beside.d64 hello.prg hello.prg
+check disk beside.d64 hello.prg bad+.prg
+check disk beside.d64 short.prg
+check disk beside.d64 nowhere.prg
+check disk nowhere/out.d64 hello.prg
+check disk out.prg hello.prg
+check disk beside.d64 hello.bas
+check disk beside.d64 high.prg
 check disk
 printf '10 FOR I=1 TO 10\n20 PRIMT "X"\n30 PRINT "Y\nEND\n' >slips.bas
 printf '10 PRINT RND(6)\n20 IF A=1 GOTO 99\n10 REM\n' >dice.bas

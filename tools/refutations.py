@@ -31,7 +31,7 @@ ROOT = pathlib.Path(__file__).resolve().parent.parent
 SPECS = ROOT / "crates/tb_refutations/specs"
 BASIC_START = 0x0801
 LINES_AT = 0x0C00
-POLL = "20 e4 ff c9 03 f0 .."
+POLL = "20 e4 ff c9 03 f0 .."  # of a line that ends away
 
 
 class Image(NamedTuple):
@@ -137,8 +137,8 @@ CHANGES = [
     Change("last_entry_skipped", "the search is told of one line of two", "goes_to_sum", [
         ("a9 02 8d 6a c0", ".. 01 .. .. .."),
     ]),
-    Change("poll_at_jump_alone", "NOPs instead of the poll of line 10, which doesn't jump", "prints_forever", [
-        ("line10: " + POLL, "ea " * 7),
+    Change("poll_at_jump_alone", "JMP over the poll of line 10, which doesn't jump, and what is done for the STOP key", "prints_forever", [
+        ("line10: 20 e4 ff c9 03 d0 09", "4c @+16" + " .." * 4),
     ]),
     Change("poll_after_if", "the text's call goes by way of one more poll, in the free bytes", "prints_if_zero", [
         ("break10", "a2 0a a0 00 a9 00 4c fault_line", ".. " * 9),

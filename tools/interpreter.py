@@ -1,0 +1,398 @@
+#!/usr/bin/env python3
+"""An interpreter of Tiny BASIC, written from docs/LANGUAGE.md alone, with which compiled programs are compared.
+
+  tools/interpreter.py SOURCE [--keys HEX] [--answers HEX] [--seed N] [--lines N]
+      writes what the source sends as `tbc run` shows it; status 0 if it ended, 5 after N lines (a million), 6 if it waits
+  tools/interpreter.py --check
+      plays each example with the keys of each of its rows (crates/tb_golden/data/compiler/programs.txt), and compares
+      with the stored answer (crates/tb_golden/stdout); the cost of one that is too large is worked out as well
+"""
+import argparse, pathlib, re, sys
+
+TOP = pathlib.Path(__file__).resolve().parent.parent
+GOLDEN = TOP / "crates" / "tb_golden"
+RELATIONS = {
+    "=": lambda a, b: a == b, "<>": lambda a, b: a != b, "><": lambda a, b: a != b, "<": lambda a, b: a < b,
+    "<=": lambda a, b: a <= b, ">": lambda a, b: a > b, ">=": lambda a, b: a >= b,
+}
+CARRIAGE_RETURN, STOP, MOST_RETURNS = 13, 3, 500
+
+
+class Syntax(Exception):
+    """A text that the grammar doesn't have."""
+
+
+class Fault(Exception):
+    """A fault, with its number."""
+
+
+class Waits(Exception):
+    """The keyboard's text has ended where a key is wanted."""
+
+
+def signed(number):
+    """A number as a word, read as -32768 to 32767."""
+    return (number + 0x8000) % 0x10000 - 0x8000
+
+
+# Reading a source. An expression is ("number", n), ("variable", v), ("negative", e), ("random", e) or (operator, e, e).
+
+
+def squeezed(line):
+    """A line without spaces, in upper case; a text keeps its spaces, and a remark is cut off after REM."""
+    text, quoted = "", False
+    for sign in line:
+        if sign == '"':
+            quoted = not quoted
+        if quoted or sign != " ":
+            text += sign.upper()
+        if not quoted and text.endswith("REM") and '"' not in text[-3:]:
+            break
+    return text
+
+
+class Reader:
+    """Reads a squeezed text from the left."""
+
+    def __init__(self, text):
+        self.text, self.at = text, 0
+
+    def takes(self, word):
+        found = self.text.startswith(word, self.at)
+        self.at += len(word) if found else 0
+        return found
+
+    def wants(self, word):
+        if not self.takes(word):
+            raise Syntax(f"{word} is wanted at {self.text[self.at:]!r}")
+
+    def match(self, pattern):
+        found = re.compile(pattern).match(self.text, self.at)
+        self.at = found.end() if found else self.at
+        return found and found[0]
+
+    def variable(self):
+        return self.match("[A-Z]") or self.wants("a variable")
+
+    def expression(self):
+        sign = self.match("[+-]")
+        value = self.term()
+        if sign == "-":
+            value = ("negative", value)
+        while operator := self.match("[+-]"):
+            value = (operator, value, self.term())
+        return value
+
+    def term(self):
+        value = self.factor()
+        while operator := self.match("[*/]"):
+            value = (operator, value, self.factor())
+        return value
+
+    def factor(self):
+        if digits := self.match("[0-9]+"):
+            if int(digits) > 0xFFFF:
+                raise Syntax(f"{digits} is too large")
+            return ("number", signed(int(digits)))
+        if self.takes("RND("):
+            value = ("random", self.expression())
+        elif self.takes("("):
+            value = self.expression()
+        else:
+            return ("variable", self.variable())
+        self.wants(")")
+        return value
+
+    def items(self):
+        """The items of PRINT: texts as strings, expressions, and the separators between them."""
+        items = []
+        while self.at < len(self.text):
+            text = self.match('"[^"]*"')
+            items.append(("text", text[1:-1]) if text is not None else ("value", self.expression()))
+            if self.at < len(self.text):
+                items.append((self.match("[,;]") or self.wants("a separator"),))
+        return items
+
+    def condition(self):
+        left = self.expression()
+        relation = self.match("<=|>=|<>|><|[=<>]") or self.wants("a relation")
+        right = self.expression()
+        self.takes("THEN")
+        return ("IF", RELATIONS[relation], left, right, self.statement())
+
+    def statement(self):
+        if name := self.match("[A-Z](?==)") or (self.takes("LET") and self.variable()):
+            self.wants("=")
+            return ("LET", name, self.expression())
+        if self.takes("PRINT") or self.takes("PR"):
+            return ("PRINT", self.items())
+        if self.takes("INPUT"):
+            names = [self.variable()]
+            while self.takes(","):
+                names.append(self.variable())
+            return ("INPUT", names)
+        if self.takes("IF"):
+            return self.condition()
+        if word := self.match("GOTO|GOSUB"):
+            return (word, self.expression())
+        if word := self.match("RETURN|END|REM"):
+            return (word,)
+        raise Syntax(f"a statement is wanted at {self.text[self.at:]!r}")
+
+
+def program_of(source):
+    """The statements of a source by their numbers."""
+    program = {}
+    for line in re.split("\r\n|\r|\n", source):
+        reader = Reader(squeezed(line))
+        if not reader.text:
+            continue
+        number = int(reader.match("[0-9]+") or reader.wants("a line number"))
+        if not 1 <= number <= 32767:
+            raise Syntax(f"{number} is no line number")
+        program.pop(number, None)
+        if reader.at < len(reader.text):
+            program[number] = reader.statement()
+        if reader.at < len(reader.text):
+            raise Syntax(f"line {number} should end before {reader.text[reader.at:]!r}")
+    if not program:
+        raise Syntax("the program is empty")
+    return program
+
+
+# Running it.
+
+
+class Run:
+    """A run of a program: what it has sent, and how it ended."""
+
+    def __init__(self, program, seed=1, keys=b"", answers=b""):
+        self.program, self.numbers = program, sorted(program)
+        self.after = dict(zip(self.numbers, self.numbers[1:]))  # None follows the highest line
+        self.seed, self.keys, self.answers = seed, list(keys), list(answers)
+        self.variables = dict.fromkeys("ABCDEFGHIJKLMNOPQRSTUVWXYZ", 0)
+        self.returns, self.sent, self.column = [], bytearray(), 0
+        self.is_line_open = False
+
+    def send(self, text):
+        for byte in text.encode("latin-1"):
+            self.sent.append(byte)
+            self.column = 0 if byte == CARRIAGE_RETURN else self.column + 1
+
+    def value(self, expression):
+        kind = expression[0]
+        if kind == "number":
+            return expression[1]
+        if kind == "variable":
+            return self.variables[expression[1]]
+        if kind == "negative":
+            return signed(-self.value(expression[1]))
+        if kind == "random":
+            return self.random(self.value(expression[1]))
+        left, right = self.value(expression[1]), self.value(expression[2])
+        if kind == "/":
+            return self.quotient(left, right)
+        return signed({"+": left + right, "-": left - right, "*": left * right}[kind])
+
+    def quotient(self, left, right):
+        if right == 0:
+            raise Fault(2)
+        size = abs(left) // abs(right)
+        return signed(size if (left < 0) == (right < 0) else -size)
+
+    def random(self, bound):
+        if bound < 1:
+            raise Fault(3)
+        self.seed = (25173 * self.seed + 13849) % 0x10000
+        return self.seed % bound
+
+    def key(self):
+        """The next key that isn't a space; it is taken off."""
+        while self.keys and self.keys[0] == ord(" "):
+            self.keys.pop(0)
+        if not self.keys:
+            raise Waits
+        return self.keys.pop(0)
+
+    def input(self):
+        """A number that is typed."""
+        if not self.is_line_open:
+            self.send("? ")
+            self.is_line_open = True
+        key, sign, digits = self.key(), 1, ""
+        if key in b"+-":
+            sign = -1 if key == ord("-") else 1
+            key = self.key()
+        while key in b"0123456789":
+            digits += chr(key)
+            key = self.key()
+        if not digits or key not in b",\r":
+            raise Fault(6)
+        if key == CARRIAGE_RETURN:
+            self.send("\r")
+            self.is_line_open = False
+        return signed(sign * int(digits))
+
+    def print(self, items):
+        for item in items:
+            if item[0] == "text":
+                self.send(item[1])
+            elif item[0] == "value":
+                self.send(str(self.value(item[1])))
+            elif item[0] == ",":
+                self.send(" " * (8 - self.column % 8))
+        if not items or items[-1][0] not in ",;":
+            self.send("\r")
+
+    def target(self, expression):
+        line = self.value(expression)
+        if line not in self.program:
+            raise Fault(1)
+        return line
+
+    def executed(self, statement, following):
+        """The number of the line that comes after a statement, None for that after the highest one, 0 for the end."""
+        kind = statement[0]
+        if kind == "LET":
+            self.variables[statement[1]] = self.value(statement[2])
+        elif kind == "PRINT":
+            self.print(statement[1])
+        elif kind == "INPUT":
+            for name in statement[1]:
+                self.variables[name] = self.input()
+        elif kind == "IF":
+            left, right = self.value(statement[2]), self.value(statement[3])
+            if statement[1](left, right):
+                return self.executed(statement[4], following)
+        elif kind == "GOTO":
+            return self.target(statement[1])
+        elif kind == "GOSUB":
+            line = self.target(statement[1])
+            if len(self.returns) == MOST_RETURNS:
+                raise Fault(4)
+            self.returns.append(following)
+            return line
+        elif kind == "RETURN":
+            if not self.returns:
+                raise Fault(5)
+            return self.returns.pop()
+        elif kind == "END":
+            return 0
+        return following
+
+    def run(self, most_lines):
+        """Runs up to so many lines: `ended`, `waits` or `goes on`."""
+        line = self.numbers[0]
+        try:
+            for _ in range(most_lines):
+                if line is None:
+                    line = self.numbers[-1]
+                    raise Fault(7)
+                if self.answers and self.answers.pop(0) == STOP:
+                    raise Fault(0)
+                line = self.executed(self.program[line], self.after.get(line)) if line else 0
+                if line == 0:
+                    return "ended"
+        except Fault as fault:
+            self.send(f"\r!{fault} AT {line}\r")
+            return "ended"
+        except Waits:
+            return "waits"
+        return "goes on"
+
+
+def host_form(sent):
+    """What was sent, as a terminal shows it."""
+    shown = lambda byte: "\n" if byte == 13 else chr(byte) if 32 <= byte <= 90 else f"{{{byte:02X}}}"
+    return "".join(map(shown, sent))
+
+
+def ran(path, keys=b"", answers=b"", seed=1, lines=1_000_000):
+    """How a source's run ends, and what it shows."""
+    run = Run(program_of(path.read_text("latin-1")), seed, keys, answers)
+    ending = run.run(lines)
+    return ending, host_form(run.sent)
+
+
+# What a program costs.
+
+
+def nodes(expression):
+    return 1 + sum(nodes(part) for part in expression[1:] if isinstance(part, tuple))
+
+
+def cost(statement):
+    """What a statement costs, without its line."""
+    kind = statement[0]
+    if kind == "LET":
+        return 48 * nodes(statement[2])
+    if kind == "PRINT":
+        items = [item for item in statement[1] if item[0] not in ",;"]
+        return sum(24 + (len(item[1]) if item[0] == "text" else 48 * nodes(item[1])) for item in items)
+    if kind == "INPUT":
+        return 32 * len(statement[1])
+    if kind == "IF":
+        return 64 + 48 * (nodes(statement[2]) + nodes(statement[3])) + cost(statement[4])
+    if kind in ("GOTO", "GOSUB"):
+        return 48 + 48 * nodes(statement[1])
+    return 48 if kind == "RETURN" else 0
+
+
+# Comparing the examples.
+
+
+def wanted_of(row):
+    """The answer to a row, as a pattern; for a size, its bytes are any."""
+    call, name, *keys = row.split()
+    path = TOP / "examples" / f"{name}.bas"
+    if call == "size":
+        program = program_of(path.read_text())
+        return f"costs {64 + sum(36 + cost(it) for it in program.values())} and takes [0-9]+ bytes\n"
+    ending, shown = ran(path, bytes.fromhex("".join(keys)))
+    end = {"ended": "Done", "waits": "WaitsForKey", "goes on": "StepLimit"}[ending]
+    return re.escape(f"Ended({end}), beside a rude ROM Ended({end}), the same text: true\n{shown}")
+
+
+def check():
+    """Compares each example with its stored answers, each of which ends where the next row begins."""
+    rows = (GOLDEN / "data" / "compiler" / "programs.txt").read_text().split("\n")
+    answers = (GOLDEN / "stdout").read_text("latin-1")
+    wrong, played = 0, set()
+    for row, following in zip(rows, rows[1:]):
+        if not re.match("(run|fit|size) ", row):
+            continue
+        played.add(row.split()[1])
+        if not re.search("\n" + re.escape(f"{row} => ") + wanted_of(row) + (re.escape(following) or "\n"), answers):
+            wrong += 1
+            print(f"the stored answer to {row[:60]!r} is another one than the interpreter's", file=sys.stderr)
+    for name in {path.stem for path in (TOP / "examples").glob("*.bas")} - played:
+        wrong += 1
+        print(f"no row plays {name}.bas", file=sys.stderr)
+    print(f"{len(played)} examples, {wrong} other than the interpreter has them")
+    return 1 if wrong or not played else 0
+
+
+def main():
+    parser = argparse.ArgumentParser(description="An interpreter of Tiny BASIC.")
+    parser.add_argument("source", nargs="?", type=pathlib.Path)
+    parser.add_argument("--keys", type=bytes.fromhex, default=b"")
+    parser.add_argument("--answers", type=bytes.fromhex, default=b"")
+    parser.add_argument("--seed", type=int, default=1)
+    parser.add_argument("--lines", type=int, default=1_000_000)
+    parser.add_argument("--check", action="store_true")
+    given = parser.parse_args()
+    if given.check:
+        return check()
+    if not given.source:
+        parser.error("a source is wanted")
+    try:
+        ending, shown = ran(given.source, given.keys, given.answers, given.seed, given.lines)
+    except Syntax as error:
+        print(error, file=sys.stderr)
+        return 1
+    sys.stdout.write(shown)
+    return {"ended": 0, "goes on": 5, "waits": 6}[ending]
+
+
+if __name__ == "__main__":
+    sys.exit(main())

@@ -1,0 +1,79 @@
+#!/usr/bin/env bash
+# Makes two packages of the proved program in a folder: tbc_VERSION_amd64.deb and tbc-VERSION-x86_64-linux.tar.gz. Each
+# has the program, a man page, completions for bash, zsh and fish, syntax files, documents and examples. The same commit
+# and program give the same bytes.
+#
+#     tools/package.sh DIR
+[ $# = 1 ] || { echo "tools/package.sh takes a folder" >&2; exit 2; }
+mkdir -p "$1"
+to=$(cd "$1" && pwd)
+. "$(dirname "${BASH_SOURCE[0]}")/setup.sh"
+needs_program
+needs python3 dpkg-deb gzip tar strip
+version=$("$tbc" --version | cut -d ' ' -f 2)
+SOURCE_DATE_EPOCH=$(git -C "$root" log -1 --format=%ct)
+export SOURCE_DATE_EPOCH
+
+put() { # FILE PLACE: copies a file to a place below the package's root
+    mkdir -p "tree/$(dirname "$2")"
+    install -m 644 "$1" "tree/$2"
+}
+
+text() { # PLACE: what is read becomes a file there
+    cat >text
+    put text "$1"
+}
+
+packed() { # PLACE: the same, compressed
+    gzip -9n >text
+    put text "$1"
+}
+
+share=usr/share
+put "$tbc" usr/bin/tbc
+strip tree/usr/bin/tbc
+chmod 755 tree/usr/bin/tbc
+"$root/tools/man_page.py" | packed $share/man/man1/tbc.1.gz
+"$root/tools/completions.py" bash | text $share/bash-completion/completions/tbc
+"$root/tools/completions.py" zsh | text $share/zsh/vendor-completions/_tbc
+"$root/tools/completions.py" fish | text $share/fish/vendor_completions.d/tbc.fish
+for part in syntax ftdetect; do put "$root/editors/vim/$part/tinybasic.vim" $share/vim/vimfiles/$part/tinybasic.vim; done
+put "$root/editors/vscode/syntaxes/tinybasic.tmLanguage.json" $share/tbc/tinybasic.tmLanguage.json
+put "$root/README.md" $share/doc/tbc/README.md
+for it in "$root"/docs/*.md; do put "$it" "$share/doc/tbc/docs/${it##*/}"; done
+for it in "$root"/examples/*; do put "$it" "$share/doc/tbc/examples/${it##*/}"; done
+packed $share/doc/tbc/changelog.gz <"$root/CHANGELOG.md"
+text $share/doc/tbc/copyright <<'END'
+Format: https://www.debian.org/doc/packaging-manuals/copyright-format/1.0/
+Upstream-Name: tbc
+
+Files: *
+Copyright: 2026 Hakvorn maintainers
+License: none
+ No licence has been granted yet: ask the maintainers before you hand this on.
+END
+
+find tree -exec touch -hd "@$SOURCE_DATE_EPOCH" {} +
+tar --sort=name --owner=0 --group=0 --numeric-owner --mtime="@$SOURCE_DATE_EPOCH" \
+    --transform "s#^tree#tbc-$version#" -cf - tree | gzip -9n >"$to/tbc-$version-x86_64-linux.tar.gz"
+
+mkdir tree/DEBIAN
+cat >tree/DEBIAN/control <<END
+Package: tbc
+Version: $version
+Architecture: amd64
+Maintainer: Hakvorn maintainers <maintainers@users.noreply.hakvorn.example>
+Section: devel
+Priority: optional
+Depends: libc6
+Installed-Size: $(du -sk --apparent-size tree/usr | cut -f 1)
+Description: verified Tiny BASIC cross compiler for the Commodore 64
+ Compiles Tom Pittman's Tiny BASIC to PRG files for the Commodore 64, plays,
+ debugs both ways, profiles and checks programs. With an assembler, a
+ disassembler, a test machine, a stepper and disk images. It is proved that a
+ compiled program sends what its source prints.
+END
+(cd tree && find usr -type f -exec md5sum {} + | LC_ALL=C sort -k 2 >DEBIAN/md5sums)
+find tree -exec touch -hd "@$SOURCE_DATE_EPOCH" {} +
+dpkg-deb --root-owner-group -Zxz --build tree "$to/tbc_${version}_amd64.deb" >/dev/null
+ls "$to/tbc_${version}_amd64.deb" "$to/tbc-$version-x86_64-linux.tar.gz"
