@@ -8,7 +8,7 @@ pub const SEARCH_SIZE: u16 = 21;
 pub const FAULT_SIZE: u16 = 9;
 
 /// How many bytes the block takes, which lies before the lines.
-pub const BLOCK_SIZE: u16 = 996;
+pub const BLOCK_SIZE: u16 = 1011;
 
 /// How many bytes a row of the line table takes, and each of its two words.
 pub const ROW_SIZE: u16 = 4;

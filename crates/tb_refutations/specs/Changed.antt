@@ -14,9 +14,9 @@ changed bytes a new = take (a - BASIC_START) bytes ++ new ++ drop (a - BASIC_STA
 abbrev pub loop_that_returns : List ℕ
 loop_that_returns = changed goto_itself_image 0x0c07 (0x60 ∷ [])
 
--- if no break comes, a loop in the free bytes instead of RTS: two NOP and a JMP
+-- if no break comes, a loop in place of the unused Poll instead of RTS: two NOP and a JMP
 abbrev pub end_that_loops : List ℕ
-end_that_loops = changed (changed ends_image 0x0c05 (0xd0 ∷ 0xea ∷ 0xea ∷ [])) 0x0bf1 (0xea ∷ 0xea ∷ 0x4c ∷ 0xf1 ∷ 0x0b ∷ [])
+end_that_loops = changed (changed ends_image 0x0c05 (0xd0 ∷ 0xec ∷ 0xea ∷ [])) 0x0bf3 (0xea ∷ 0xea ∷ 0x4c ∷ 0xf3 ∷ 0x0b ∷ [])
 
 -- two NOP instead of the branch at a break
 abbrev pub end_without_break : List ℕ
@@ -43,19 +43,19 @@ abbrev pub quotient_before_text : List ℕ
 quotient_before_text = changed prints_and_faults_image 0x0c11 (
     0x0a ∷ 0x8d ∷ 0x3a ∷ 0xc0 ∷ 0xa9 ∷ 0x00 ∷ 0x8d ∷ 0x3b ∷ 0xc0 ∷ 0xa9 ∷ 0x01 ∷ 0x85 ∷ 0xfb ∷ 0xa9 ∷ 0x00 ∷ 0x85 ∷ 0xfc ∷ 0xa9 ∷ 0x00 ∷ 0x85 ∷
     0xfd ∷ 0xa9 ∷ 0x00 ∷ 0x85 ∷ 0xfe ∷ 0x20 ∷ 0x57 ∷ 0x08 ∷ 0xa5 ∷ 0xfb ∷ 0x8d ∷ 0x40 ∷ 0xc0 ∷ 0xa5 ∷ 0xfc ∷ 0x8d ∷ 0x41 ∷ 0xc0 ∷ 0xa9 ∷ 0x4a ∷
-    0x85 ∷ 0xfb ∷ 0xa9 ∷ 0x0c ∷ 0x85 ∷ 0xfc ∷ 0xa9 ∷ 0x01 ∷ 0x8d ∷ 0x6c ∷ 0xc0 ∷ 0x20 ∷ 0x88 ∷ 0x09 ∷ 0x4c ∷ 0x4b ∷ 0x0c ∷ 0x41 ∷ [])
+    0x85 ∷ 0xfb ∷ 0xa9 ∷ 0x0c ∷ 0x85 ∷ 0xfc ∷ 0xa9 ∷ 0x01 ∷ 0x8d ∷ 0x6c ∷ 0xc0 ∷ 0x20 ∷ 0xac ∷ 0x09 ∷ 0x4c ∷ 0x4b ∷ 0x0c ∷ 0x41 ∷ [])
 
 -- 0 instead of 1, and three NOP instead of the division
 abbrev pub folded_to_zero : List ℕ
 folded_to_zero = changed (changed prints_and_faults_image 0x0c2f (0x00 ∷ [])) 0x0c3e (0xea ∷ 0xea ∷ 0xea ∷ [])
 
--- two NOP instead of each INC that sets a bit of the quotient
+-- STY and STX, of 0, instead of each last ROL that completes a byte of the quotient
 abbrev pub quotient_left_zero : List ℕ
-quotient_left_zero = changed (changed prints_quotient_image 0x08ab (0xea ∷ 0xea ∷ [])) 0x08dc (0xea ∷ 0xea ∷ [])
+quotient_left_zero = changed (changed prints_quotient_image 0x08c4 (0x94 ∷ [])) 0x08f7 (0x86 ∷ [])
 
 -- complements instead of the negations before and after a division of a negative number
 abbrev pub quotient_rounded_down : List ℕ
-quotient_rounded_down = changed (changed prints_negative_quotient_image 0x0867 (0xf4 ∷ 0x0b ∷ 0x4c ∷ 0xf1 ∷ 0x0b ∷ [])) 0x0bf1 (0x20 ∷ 0x7c ∷ 0x08 ∷ 0xa2 ∷ 0x00 ∷ 0x18 ∷ 0x4c ∷ 0x6f ∷ 0x08 ∷ [])
+quotient_rounded_down = changed (changed prints_negative_quotient_image 0x086e (0xf6 ∷ 0x0b ∷ 0x4c ∷ 0xf3 ∷ 0x0b ∷ [])) 0x0bf4 (0x88 ∷ 0x08 ∷ 0xa2 ∷ 0x00 ∷ 0x18 ∷ 0x4c ∷ 0x76 ∷ 0x08 ∷ [])
 
 -- four NOP instead of BVC and EOR, which mend the sign of a difference that does not fit
 abbrev pub difference_wrapped : List ℕ
@@ -63,20 +63,20 @@ difference_wrapped = changed compares_far_image 0x0c3e (0xea ∷ 0xea ∷ 0xea �
 
 -- the fault's digit at $026D, which the ROM may write, instead of $C06D
 abbrev pub digit_in_rom_memory : List ℕ
-digit_in_rom_memory = changed (changed goes_nowhere_image 0x0ba9 (0x02 ∷ [])) 0x0bba (0x02 ∷ [])
+digit_in_rom_memory = changed (changed goes_nowhere_image 0x0bb8 (0x02 ∷ [])) 0x0bc9 (0x02 ∷ [])
 
 -- the fault's digit at $0180, below S, instead of $C06D
 abbrev pub digit_below_s : List ℕ
-digit_below_s = changed (changed goes_nowhere_image 0x0ba8 (0x80 ∷ 0x01 ∷ [])) 0x0bb9 (0x80 ∷ 0x01 ∷ [])
+digit_below_s = changed (changed goes_nowhere_image 0x0bb7 (0x80 ∷ 0x01 ∷ [])) 0x0bc8 (0x80 ∷ 0x01 ∷ [])
 
 -- LDX and DEX instead of LDA and DEC: the bytes left are counted in X over CHROUT
 abbrev pub text_counted_in_x : List ℕ
-text_counted_in_x = changed (changed prints_two_image 0x0988 (0xae ∷ [])) 0x099a (0xca ∷ 0xea ∷ 0xea ∷ [])
+text_counted_in_x = changed (changed prints_two_image 0x09ac (0xae ∷ [])) 0x09be (0xca ∷ 0xea ∷ 0xea ∷ [])
 
--- a comma drops the rest of the line by a loop in the free bytes, and ends it
+-- a comma drops the rest of the line by a loop in place of the unused Poll, and ends it
 abbrev pub line_dropped_at_comma : List ℕ
-line_dropped_at_comma = changed (changed inputs_two_image 0x0a74 (0x4c ∷ 0xf1 ∷ 0x0b ∷ 0xea ∷ [])) 0x0bf1 (
-    0xc9 ∷ 0x0d ∷ 0xf0 ∷ 0x06 ∷ 0x20 ∷ 0xcf ∷ 0xff ∷ 0x4c ∷ 0xf1 ∷ 0x0b ∷ 0x4c ∷ 0x78 ∷ 0x0a ∷ [])
+line_dropped_at_comma = changed (changed inputs_two_image 0x0a83 (0x4c ∷ 0xf3 ∷ 0x0b ∷ 0xea ∷ [])) 0x0bf3 (
+    0xc9 ∷ 0x0d ∷ 0xf0 ∷ 0x06 ∷ 0x20 ∷ 0xcf ∷ 0xff ∷ 0x4c ∷ 0xf3 ∷ 0x0b ∷ 0x4c ∷ 0x87 ∷ 0x0a ∷ [])
 
 -- JSR to the line instead of a note: the return is kept on the stack
 abbrev pub calls_by_jsr : List ℕ
@@ -94,10 +94,9 @@ last_entry_skipped = changed goes_to_sum_image 0x0c60 (0x01 ∷ [])
 abbrev pub poll_at_jump_alone : List ℕ
 poll_at_jump_alone = changed prints_forever_image 0x0c00 (0x4c ∷ 0x10 ∷ 0x0c ∷ [])
 
--- the text's call goes by way of one more poll, in the free bytes
+-- the text's call goes by way of one more poll, in place of the unused Poll
 abbrev pub poll_after_if : List ℕ
-poll_after_if = changed (changed prints_if_zero_image 0x0c2c (0xf1 ∷ 0x0b ∷ [])) 0x0bf1 (
-    0x20 ∷ 0xe4 ∷ 0xff ∷ 0xc9 ∷ 0x03 ∷ 0xf0 ∷ 0x03 ∷ 0x4c ∷ 0x88 ∷ 0x09 ∷ 0x4c ∷ 0x07 ∷ 0x0c ∷ [])
+poll_after_if = changed (changed prints_if_zero_image 0x0c2c (0xf3 ∷ 0x0b ∷ [])) 0x0bf9 (0x03 ∷ 0x4c ∷ 0xac ∷ 0x09 ∷ 0x4c ∷ 0x07 ∷ 0x0c ∷ [])
 
 -- where the line table of END begins, as if its line began there
 abbrev pub line_table : ℕ → ℕ

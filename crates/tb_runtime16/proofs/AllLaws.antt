@@ -109,7 +109,7 @@ module _ (table seed_option : ℕ) (numbers : List ℕ) (start : ℕ → ℕ) (f
         (λ w k. k));
     divide = λ l h m text answers a b left right some.
         from_here f _ _ m text answers _ [] (limit_by keys) (λ x y z n v i c d.
-        beside f own _ _ _ _ _ _ [] 316 (limit_by keys) (omega arith)
+        beside f own _ _ _ _ _ _ [] 210 (limit_by keys) (omega arith)
         (divide_law (under f own) (omega (arith, fits)) block l h text answers m x y z n v i c d a b left right (⊎_elim (λ e. absurd (some e)) (λ e. e) (zero_or b)))
         (λ w k. k));
     divide_by_zero = λ l h m text answers a j left right line e.
@@ -179,8 +179,8 @@ module _ (table seed_option : ℕ) (numbers : List ℕ) (start : ℕ → ℕ) (f
         let g = not_zero a range in
         let now = seed_at m seed_option seed stored_at in
         from_here f _ _ m text answers _ [] (limit_by keys) (λ x y z n v i c d.
-        beside f own _ _ _ _ _ _ [] 549 (limit_by keys) (omega arith)
-        (subst (λ s. Comes (under f own) (view x y z n v i c d RANDOM_AT (l ∷ h ∷ []) m text answers) (Back l h text answers (Drawn m a s)) [] 549) now.2
+        beside f own _ _ _ _ _ _ [] 437 (limit_by keys) (omega arith)
+        (subst (λ s. Comes (under f own) (view x y z n v i c d RANDOM_AT (l ∷ h ∷ []) m text answers) (Back l h text answers (Drawn m a s)) [] 437) now.2
         (random_law (under f own) (omega (arith, fits)) block l h text answers m x y z n v i c d a seed_option now.0 left right now.1 g.0 g.1))
         (λ w k. k));
     random_fails = λ l h m text answers a j left range line e.

@@ -130,11 +130,11 @@ module _ (f : Setup) (room : ℕ) (most : 13 ≤ room) (fits : Fits f room) (blo
 
   -- fault 6
   bad : (a x y : ℕ) (n v i z c : Bool) (m : ℕ → ℕ) (text : List ℕ) → Changes is_changed m0 m
-      → Comes f (view a x y n v i z c (INPUT_AT + 0xA0) (lo ∷ hi ∷ own) m text answers) (IsHome f) (fault_text 6 line) (84 + 458)
+      → Comes f (view a x y n v i z c (INPUT_AT + 0x8B) (lo ∷ hi ∷ own) m text answers) (IsHome f) (fault_text 6 line) (84 + 458)
   bad a x y n v i z c m text k =
       let here : Entered f hlo hhi m = record { homed = entered.homed; kept = ap (λ s. s + 2) (k HOME_S refl) ∙ entered.kept } in
       looser f _ _ _ (fault_text 6 line) (2 + (82 + 458)) (84 + 458) (omega arith) (λ w h. h)
-      (after_on f own 4 free input_part st 1 (view a x y n v i z c (INPUT_AT + 0xA0) (lo ∷ hi ∷ []) m text answers) _ _ (82 + 458) refl
+      (after_on f own 4 free input_part st 1 (view a x y n v i z c (INPUT_AT + 0x8B) (lo ∷ hi ∷ []) m text answers) _ _ (82 + 458) refl
       (fault_law f room most fits block hlo hhi (lo ∷ hi ∷ above) (omega (arith, deep)) text answers m here line
       (same_place m0 m LINE line is_line (k LINE refl) (k (LINE + 1) refl)) 6 _ _ _ _ _ _ _ (omega arith)))
 
@@ -147,15 +147,15 @@ module _ (f : Setup) (room : ℕ) (most : 13 ≤ room) (fits : Fits f room) (blo
     others : Changes is_changed m0 m
 
   finish : (value : ℕ) (stays : Bool) (a x y : ℕ) (n v i z c : Bool) (m : ℕ → ℕ) (text : List ℕ) → Read value m → compares_same (m BYTE) 44 ≡ stays
-      → Comes f (view a x y n v i z c (INPUT_AT + 0xC4) (lo ∷ hi ∷ own) m text answers) (Goal (Got value stays text)) (sends (Got value stays text)) 14
+      → Comes f (view a x y n v i z c (INPUT_AT + 0xAF) (lo ∷ hi ∷ own) m text answers) (Goal (Got value stays text)) (sends (Got value stays text)) 14
   finish value true a x y n v i z c m text h e =
       looser f _ _ _ [] (3 + 1) 14 (omega arith) (λ w h. h)
-      (after_on f own 4 free input_part st 2 (view a x y n v i z c (INPUT_AT + 0xC4) (lo ∷ hi ∷ []) m text answers) _ _ 1 refl
-      (rw e (ending_on f own 4 free input_part st 0 (view _ _ _ _ _ _ _ _ (INPUT_AT + 0xD5) (lo ∷ hi ∷ []) m text answers) _ refl
+      (after_on f own 4 free input_part st 2 (view a x y n v i z c (INPUT_AT + 0xAF) (lo ∷ hi ∷ []) m text answers) _ _ 1 refl
+      (rw e (ending_on f own 4 free input_part st 0 (view _ _ _ _ _ _ _ _ (INPUT_AT + 0xC0) (lo ∷ hi ∷ []) m text answers) _ refl
       (leaves_now refl (record { gives = record { result = holds_word m RESULT value h.is_word h.value_is; others = h.others }; line_open = h.line_open; column_is = h.column })))))
   finish value false a x y n v i z c m text h e =
-      after_on f own 4 free input_part st 2 (view a x y n v i z c (INPUT_AT + 0xC4) (lo ∷ hi ∷ []) m text answers) _ _ (4 + 7) refl
-      (rw e (after_on f own 4 free input_part st 3 (view _ _ _ _ _ _ _ _ (INPUT_AT + 0xCB) (lo ∷ hi ∷ []) m text answers) _ _ 7 refl
+      after_on f own 4 free input_part st 2 (view a x y n v i z c (INPUT_AT + 0xAF) (lo ∷ hi ∷ []) m text answers) _ _ (4 + 7) refl
+      (rw e (after_on f own 4 free input_part st 3 (view _ _ _ _ _ _ _ _ (INPUT_AT + 0xB6) (lo ∷ hi ∷ []) m text answers) _ _ 7 refl
       (looser f _ _ _ (13 ∷ []) 7 7 (omega arith) (λ w g. subst (Goal (Got value false text)) g.2
       (record {
         pc = g.1.pc;
@@ -178,29 +178,29 @@ module _ (f : Setup) (room : ℕ) (most : 13 ≤ room) (fits : Fits f room) (blo
 
   -- the number ends
   done : (r : Reading) (stays : Bool) (a x y : ℕ) (n v i z c : Bool) (m : ℕ → ℕ) (text : List ℕ) → Held r m → compares_same (m BYTE) 44 ≡ stays
-      → Comes f (view a x y n v i z c (INPUT_AT + 0xA5) (lo ∷ hi ∷ own) m text answers) (Goal (number_end r stays text)) (sends (number_end r stays text)) (87 + 458)
+      → Comes f (view a x y n v i z c (INPUT_AT + 0x90) (lo ∷ hi ∷ own) m text answers) (Goal (number_end r stays text)) (sends (number_end r stays text)) (87 + 458)
   done Nothing stays a x y n v i z c m text h e =
       let t : compares_same (m SCRATCH) 2 ≡ false = ne_eqb _ _ (λ e. omega (arith, h.seen, e)) in
       looser f _ _ _ (fault_text 6 line) (3 + (84 + 458)) (87 + 458) (omega arith) (λ w h. h)
-      (after_on f own 4 free input_part st 2 (view a x y n v i z c (INPUT_AT + 0xA5) (lo ∷ hi ∷ []) m text answers) _ _ (84 + 458) refl
+      (after_on f own 4 free input_part st 2 (view a x y n v i z c (INPUT_AT + 0x90) (lo ∷ hi ∷ []) m text answers) _ _ (84 + 458) refl
       (rw t (bad _ _ _ _ _ _ _ _ m text h.others)))
   done (Sign negative) stays a x y n v i z c m text h e =
       let t : compares_same (m SCRATCH) 2 ≡ false = ne_eqb _ _ (λ e. omega (arith, h.seen, e)) in
       looser f _ _ _ (fault_text 6 line) (3 + (84 + 458)) (87 + 458) (omega arith) (λ w h. h)
-      (after_on f own 4 free input_part st 2 (view a x y n v i z c (INPUT_AT + 0xA5) (lo ∷ hi ∷ []) m text answers) _ _ (84 + 458) refl
+      (after_on f own 4 free input_part st 2 (view a x y n v i z c (INPUT_AT + 0x90) (lo ∷ hi ∷ []) m text answers) _ _ (84 + 458) refl
       (rw t (bad _ _ _ _ _ _ _ _ m text h.others)))
   done (Digits false k) stays a x y n v i z c m text h e =
       let t : compares_same (m SCRATCH) 2 ≡ true = eq-eqb _ _ (omega (arith, h.seen)) in
       looser f _ _ _ (sends (Got (k % 65536) stays text)) (3 + (3 + 14)) (87 + 458) (omega arith) (λ w h. h)
-      (after_on f own 4 free input_part st 2 (view a x y n v i z c (INPUT_AT + 0xA5) (lo ∷ hi ∷ []) m text answers) _ _ (3 + 14) refl
-      (rw t (after_on f own 4 free input_part st 2 (view _ _ _ _ _ _ _ _ (INPUT_AT + 0xAC) (lo ∷ hi ∷ []) m text answers) _ _ 14 refl
+      (after_on f own 4 free input_part st 2 (view a x y n v i z c (INPUT_AT + 0x90) (lo ∷ hi ∷ []) m text answers) _ _ (3 + 14) refl
+      (rw t (after_on f own 4 free input_part st 2 (view _ _ _ _ _ _ _ _ (INPUT_AT + 0x97) (lo ∷ hi ∷ []) m text answers) _ _ 14 refl
       (rw h.minus (finish (k % 65536) stays _ _ _ _ _ _ _ _ m text (record { is_word = h.is_word; value_is = h.value; line_open = h.line_open; column = h.column; others = h.others }) e)))))
   done (Digits true k) stays a x y n v i z c m text h e =
       let t : compares_same (m SCRATCH) 2 ≡ true = eq-eqb _ _ (omega (arith, h.seen)) in
       looser f _ _ _ (sends (Got ((65536 - k % 65536) % 65536) stays text)) (3 + (3 + (7 + 14))) (87 + 458) (omega arith) (λ w h. h)
-      (after_on f own 4 free input_part st 2 (view a x y n v i z c (INPUT_AT + 0xA5) (lo ∷ hi ∷ []) m text answers) _ _ (3 + (7 + 14)) refl
-      (rw t (after_on f own 4 free input_part st 2 (view _ _ _ _ _ _ _ _ (INPUT_AT + 0xAC) (lo ∷ hi ∷ []) m text answers) _ _ (7 + 14) refl
-      (rw h.minus (after_on f own 4 free input_part st 6 (view _ _ _ _ _ _ _ _ (INPUT_AT + 0xB3) (lo ∷ hi ∷ []) m text answers) _ _ 14 refl
+      (after_on f own 4 free input_part st 2 (view a x y n v i z c (INPUT_AT + 0x90) (lo ∷ hi ∷ []) m text answers) _ _ (3 + (7 + 14)) refl
+      (rw t (after_on f own 4 free input_part st 2 (view _ _ _ _ _ _ _ _ (INPUT_AT + 0x97) (lo ∷ hi ∷ []) m text answers) _ _ (7 + 14) refl
+      (rw h.minus (after_on f own 4 free input_part st 6 (view _ _ _ _ _ _ _ _ (INPUT_AT + 0x9E) (lo ∷ hi ∷ []) m text answers) _ _ 14 refl
       (finish ((65536 - k % 65536) % 65536) stays _ _ _ _ _ _ _ _ _ text
       (record {
         is_word = (small_byte _, small_byte _);
@@ -217,14 +217,14 @@ module _ (f : Setup) (room : ℕ) (most : 13 ≤ room) (fits : Fits f room) (blo
 
   -- a sign
   at_sign : (r : Reading) (negative : Bool) (a x y : ℕ) (n v i z c : Bool) (m : ℕ → ℕ) (text : List ℕ) → Reads text → Held r m
-      → compares_same (m BYTE) 45 ≡ negative → AreBytes text → Comes f (view a x y n v i z c (INPUT_AT + 0x8D) (lo ∷ hi ∷ own) m text answers)
+      → compares_same (m BYTE) 45 ≡ negative → AreBytes text → Comes f (view a x y n v i z c (INPUT_AT + 0x79) (lo ∷ hi ∷ own) m text answers)
       (Goal (signed_turn r (turn (Sign negative) text))) (sends (signed_turn r (turn (Sign negative) text))) (45 * length text + (109 + 458))
   unfolding Reads
   at_sign Nothing negative a x y n v i z c m text go h e bs =
       let t : eqb (m SCRATCH) 0 ≡ true = eq-eqb _ _ h.seen in
       looser f _ _ _ (sends (turn (Sign negative) text)) (2 + (5 + (45 * length text + (102 + 458)))) (45 * length text + (109 + 458)) (omega arith) (λ w h. h)
-      (after_on f own 4 free input_part st 1 (view a x y n v i z c (INPUT_AT + 0x8D) (lo ∷ hi ∷ []) m text answers) _ _ (5 + (45 * length text + (102 + 458))) refl
-      (rw t (after_on f own 4 free input_part st 4 (view _ _ _ _ _ _ _ _ (INPUT_AT + 0x92) (lo ∷ hi ∷ []) m text answers) _ _ (45 * length text + (102 + 458)) refl
+      (after_on f own 4 free input_part st 1 (view a x y n v i z c (INPUT_AT + 0x79) (lo ∷ hi ∷ []) m text answers) _ _ (5 + (45 * length text + (102 + 458))) refl
+      (rw t (after_on f own 4 free input_part st 4 (view _ _ _ _ _ _ _ _ (INPUT_AT + 0x7E) (lo ∷ hi ∷ []) m text answers) _ _ (45 * length text + (102 + 458)) refl
       (go (Sign negative) _ _ _ _ _ _ _ _ _
       (record {
         seen = refl;
@@ -238,12 +238,12 @@ module _ (f : Setup) (room : ℕ) (most : 13 ≤ room) (fits : Fits f room) (blo
   at_sign (Sign before) negative a x y n v i z c m text go h e bs =
       let t : eqb (m SCRATCH) 0 ≡ false = ne_eqb _ _ (λ e. omega (arith, h.seen, e)) in
       looser f _ _ _ (fault_text 6 line) (2 + (84 + 458)) (45 * length text + (109 + 458)) (omega arith) (λ w h. h)
-      (after_on f own 4 free input_part st 1 (view a x y n v i z c (INPUT_AT + 0x8D) (lo ∷ hi ∷ []) m text answers) _ _ (84 + 458) refl
+      (after_on f own 4 free input_part st 1 (view a x y n v i z c (INPUT_AT + 0x79) (lo ∷ hi ∷ []) m text answers) _ _ (84 + 458) refl
       (rw t (bad _ _ _ _ _ _ _ _ m text h.others)))
   at_sign (Digits before k) negative a x y n v i z c m text go h e bs =
       let t : eqb (m SCRATCH) 0 ≡ false = ne_eqb _ _ (λ e. omega (arith, h.seen, e)) in
       looser f _ _ _ (fault_text 6 line) (2 + (84 + 458)) (45 * length text + (109 + 458)) (omega arith) (λ w h. h)
-      (after_on f own 4 free input_part st 1 (view a x y n v i z c (INPUT_AT + 0x8D) (lo ∷ hi ∷ []) m text answers) _ _ (84 + 458) refl
+      (after_on f own 4 free input_part st 1 (view a x y n v i z c (INPUT_AT + 0x79) (lo ∷ hi ∷ []) m text answers) _ _ (84 + 458) refl
       (rw t (bad _ _ _ _ _ _ _ _ m text h.others)))
 
   -- a digit, which BYTE holds
@@ -253,7 +253,8 @@ module _ (f : Setup) (room : ℕ) (most : 13 ≤ room) (fits : Fits f room) (blo
   unfolding Reads
   at_digit r d a x y n v i z c m text go h e small bs =
       let ten = times_ten (m RESULT) (m (RESULT + 1)) (m BYTE) h.is_word.0 h.is_word.1 (omega (arith, e)) in
-      after_on f own 4 free input_part st 26 (view a x y n v i z c (INPUT_AT + 0x46) (lo ∷ hi ∷ []) m text answers) _ _ (45 * length text + (102 + 458)) refl
+      looser f _ _ _ (sends (turn (with_digit r d) text)) (25 + (45 * length text + (102 + 458))) (27 + (45 * length text + (102 + 458))) (omega arith) (λ w h. h)
+      (after_on f own 4 free input_part st 24 (view a x y n v i z c (INPUT_AT + 0x46) (lo ∷ hi ∷ []) m text answers) _ _ (45 * length text + (102 + 458)) refl
       (go (with_digit r d) _ _ _ _ _ _ _ _ _
       (record {
         seen = state_digit r d;
@@ -267,9 +268,8 @@ module _ (f : Setup) (room : ℕ) (most : 13 ≤ room) (fits : Fits f room) (blo
             let e2 : eqb a (RESULT + 1) ≡ false = apart a (RESULT + 1) t refl in
             let e3 : eqb a RESULT ≡ false = apart a RESULT t refl in
             let e4 : eqb a (LEFT + 1) ≡ false = apart a (LEFT + 1) t refl in
-            let e5 : eqb a LEFT ≡ false = apart a LEFT t refl in
-            rw e1 (rw e2 (rw e3 (rw e4 (rw e5 (h.others a t)))));
-      }) bs)
+            rw e1 (rw e2 (rw e3 (rw e4 (h.others a t))));
+      }) bs))
 
   -- ---- a byte was read
   abbrev Byte : ℕ → List ℕ → Reading → Type 0

@@ -32,11 +32,11 @@ module _ (f : Setup) (fits : Fits f 6) (block : Holds block_part f.code) (lo hi 
 
   -- the division, with the new state in LEFT and SEED
   draw : (a x y : ℕ) (n v i z c : Bool) (m : ℕ → ℕ) (seed : ℕ) → IsWord m LEFT → word_in m LEFT ≡ seed_after seed → m RIGHT ≡ m0 LEFT → m (RIGHT + 1)
-      ≡ m0 (LEFT + 1) → IsWord m SEED → word_in m SEED ≡ seed_after seed → m SEEDED ≡ 1 → Rest m → Goal seed (view a x y n v i z c unsigned_at (lo ∷ hi ∷ []) m text answers) 268
+      ≡ m0 (LEFT + 1) → IsWord m SEED → word_in m SEED ≡ seed_after seed → m SEEDED ≡ 1 → Rest m → Goal seed (view a x y n v i z c unsigned_at (lo ∷ hi ∷ []) m text answers) 156
   unfolding Rest
   draw a x y n v i z c m seed l le low high s se set r =
       let same : word_in m RIGHT ≡ word_in m0 LEFT = omega (arith, low, high) in
-      back_looser f _ lo hi text answers _ _ [] 268 268 (omega arith)
+      back_looser f _ lo hi text answers _ _ [] 156 156 (omega arith)
       (unsigned_law f (omega (arith, fits)) block lo hi text answers m a x y n v i z c (seed_after seed) (word_in m0 LEFT)
       (holds_word m LEFT (seed_after seed) l le) (holds_word m RIGHT (word_in m0 LEFT) (omega (arith, low, p), omega (arith, high, p)) same) least (omega (arith, most)))
       (λ w g. record {
@@ -58,12 +58,12 @@ module _ (f : Setup) (fits : Fits f 6) (block : Holds block_part f.code) (lo hi 
       (new_high (w RESULT) (w (RESULT + 1)))) (LEFT + 1) (new_high (w RESULT) (w (RESULT + 1)))
 
   store : (a x y : ℕ) (n v i z c : Bool) (w : ℕ → ℕ) (seed : ℕ) → IsWord w RESULT → word_in w RESULT ≡ 25173 * seed % 65536 → w SEEDED ≡ 1 → Rest w
-      → Goal seed (view a x y n v i z c (RANDOM_AT + 52) (m0 (LEFT + 1) ∷ m0 LEFT ∷ lo ∷ hi ∷ []) w text answers) (14 + 268)
+      → Goal seed (view a x y n v i z c (RANDOM_AT + 52) (m0 (LEFT + 1) ∷ m0 LEFT ∷ lo ∷ hi ∷ []) w text answers) (14 + 156)
   unfolding Rest
   store a x y n v i z c w seed k e set r =
       let s = added (w RESULT) (w (RESULT + 1)) 25 54 k.0 k.1 (omega arith) (omega arith) in
       let total : new_low (w RESULT) + 256 * new_high (w RESULT) (w (RESULT + 1)) ≡ seed_after seed = s ∙ ap (λ x. (x + 13849) % 65536) e ∙ mod-add-mod (25173 * seed) 65536 13849 in
-      after f 6 fits random_part (random_in f.code block) 13 (view a x y n v i z c (RANDOM_AT + 52) (m0 (LEFT + 1) ∷ m0 LEFT ∷ lo ∷ hi ∷ []) w text answers) _ _ 268 refl
+      after f 6 fits random_part (random_in f.code block) 13 (view a x y n v i z c (RANDOM_AT + 52) (m0 (LEFT + 1) ∷ m0 LEFT ∷ lo ∷ hi ∷ []) w text answers) _ _ 156 refl
       (draw _ _ _ _ _ _ _ _ (with_byte (with_byte (stored w) (RIGHT + 1) (m0 (LEFT + 1))) RIGHT (m0 LEFT)) seed (
         small_byte (w RESULT + 25 + 0),
         small_byte (w (RESULT + 1) + 54 + bit (nat_lt 255 (w RESULT + 25 + 0))),
@@ -84,15 +84,15 @@ module _ (f : Setup) (fits : Fits f 6) (block : Holds block_part f.code) (lo hi 
 
   -- the old state is in RIGHT
   advance : (a x y : ℕ) (n v i z c : Bool) (m : ℕ → ℕ) (seed : ℕ) → m LEFT ≡ m0 LEFT → m (LEFT + 1) ≡ m0 (LEFT + 1) → IsWord m RIGHT → word_in m RIGHT
-      ≡ seed → Rest m → Goal seed (view a x y n v i z c (RANDOM_AT + 30) (lo ∷ hi ∷ []) m text answers) (11 + (245 + (14 + 268)))
+      ≡ seed → Rest m → Goal seed (view a x y n v i z c (RANDOM_AT + 30) (lo ∷ hi ∷ []) m text answers) (11 + (245 + (14 + 156)))
   unfolding Rest
   advance a x y n v i z c m seed low high k e r =
       let w = with_byte (with_byte (with_byte m SEEDED 1) LEFT 85) (LEFT + 1) 98 in
-      after f 6 fits random_part (random_in f.code block) 10 (view a x y n v i z c (RANDOM_AT + 30) (lo ∷ hi ∷ []) m text answers) _ _ (245 + (14 + 268)) refl
-      (calls f (m (LEFT + 1) ∷ m LEFT ∷ lo ∷ hi ∷ []) _ _ _ _ _ _ _ _ MULTIPLY_AT ((RANDOM_AT + 51) % 256) ((RANDOM_AT + 51) / 256) w text answers _ _ [] [] 245 (14 + 268)
+      after f 6 fits random_part (random_in f.code block) 10 (view a x y n v i z c (RANDOM_AT + 30) (lo ∷ hi ∷ []) m text answers) _ _ (245 + (14 + 156)) refl
+      (calls f (m (LEFT + 1) ∷ m LEFT ∷ lo ∷ hi ∷ []) _ _ _ _ _ _ _ _ MULTIPLY_AT ((RANDOM_AT + 51) % 256) ((RANDOM_AT + 51) / 256) w text answers _ _ [] [] 245 (14 + 156)
       (multiply_law (under f (m (LEFT + 1) ∷ m LEFT ∷ lo ∷ hi ∷ [])) (omega (arith, fits)) block ((RANDOM_AT + 51) % 256) ((RANDOM_AT + 51) / 256)
       text answers w _ _ _ _ _ _ _ _ 25173 seed (record { low = refl; high = refl; small = omega arith }) (holds_word w RIGHT seed k e))
-      (λ a x y n v i z c u g. subst (λ s. Goal seed (view a x y n v i z c (RANDOM_AT + 52) s u text answers) (14 + 268))
+      (λ a x y n v i z c u g. subst (λ s. Goal seed (view a x y n v i z c (RANDOM_AT + 52) s u text answers) (14 + 156))
       (ap (λ h. h ∷ m0 LEFT ∷ lo ∷ hi ∷ []) (sym high) ∙ ap (λ l. m (LEFT + 1) ∷ l ∷ lo ∷ hi ∷ []) (sym low))
       (store a x y n v i z c u seed (bytes_of u RESULT (word (25173 * seed)) g.result) (value u RESULT (word (25173 * seed)) g.result) (g.others SEEDED refl)
       (λ a b d e. g.others a b ∙ skip is_argument (with_byte (with_byte m SEEDED 1) LEFT 85) (LEFT + 1) 98 a refl b
@@ -100,39 +100,39 @@ module _ (f : Setup) (fits : Fits f 6) (block : Holds block_part f.code) (lo hi 
 
   -- ---- which state
   seeding : (a x y : ℕ) (n v i z c : Bool) (seed : ℕ) → seed ≡ seed_of m0 (word_in m0 RIGHT) (word_in m0 SEED) → IsWord m0 RIGHT → IsWord m0 SEED
-      → Goal seed (view a x y n v i z c (RANDOM_AT + 15) (lo ∷ hi ∷ []) m0 text answers) (2 + (4 + (11 + (245 + (14 + 268)))))
+      → Goal seed (view a x y n v i z c (RANDOM_AT + 15) (lo ∷ hi ∷ []) m0 text answers) (2 + (4 + (11 + (245 + (14 + 156)))))
   unfolding Rest
   seeding a x y n v i z c seed e q s =
       ⊎_elim
       (λ none. let b : eqb (m0 SEEDED) 0 ≡ true = eq-eqb _ _ none in
-      looser f _ _ _ [] (2 + (11 + (245 + (14 + 268)))) (2 + (4 + (11 + (245 + (14 + 268))))) (omega arith) (λ w h. h)
-      (after f 6 fits random_part (random_in f.code block) 1 (view a x y n v i z c (RANDOM_AT + 15) (lo ∷ hi ∷ []) m0 text answers) _ _ (11 + (245 + (14 + 268))) refl
+      looser f _ _ _ [] (2 + (11 + (245 + (14 + 156)))) (2 + (4 + (11 + (245 + (14 + 156))))) (omega arith) (λ w h. h)
+      (after f 6 fits random_part (random_in f.code block) 1 (view a x y n v i z c (RANDOM_AT + 15) (lo ∷ hi ∷ []) m0 text answers) _ _ (11 + (245 + (14 + 156))) refl
       (rw b (advance _ _ _ _ _ _ _ _ m0 seed refl refl q (sym (e ∙ ap (λ b. if b then word_in m0 RIGHT else word_in m0 SEED) b)) (λ a b d e. refl)))))
       (λ some. let b : eqb (m0 SEEDED) 0 ≡ false = ne_eqb _ _ some in
-      after f 6 fits random_part (random_in f.code block) 1 (view a x y n v i z c (RANDOM_AT + 15) (lo ∷ hi ∷ []) m0 text answers) _ _ (4 + (11 + (245 + (14 + 268)))) refl
-      (rw b (after f 6 fits random_part (random_in f.code block) 3 (view _ _ _ _ _ _ _ _ (RANDOM_AT + 20) (lo ∷ hi ∷ []) m0 text answers) _ _ (11 + (245 + (14 + 268))) refl
+      after f 6 fits random_part (random_in f.code block) 1 (view a x y n v i z c (RANDOM_AT + 15) (lo ∷ hi ∷ []) m0 text answers) _ _ (4 + (11 + (245 + (14 + 156)))) refl
+      (rw b (after f 6 fits random_part (random_in f.code block) 3 (view _ _ _ _ _ _ _ _ (RANDOM_AT + 20) (lo ∷ hi ∷ []) m0 text answers) _ _ (11 + (245 + (14 + 156))) refl
       (advance _ _ _ _ _ _ _ _ (with_byte (with_byte m0 RIGHT (m0 SEED)) (RIGHT + 1) (m0 (SEED + 1))) seed refl refl s (sym (e ∙ ap (λ b. if b then word_in m0 RIGHT else word_in m0 SEED) b))
       (λ a b d e. skip is_argument (with_byte m0 RIGHT (m0 SEED)) (RIGHT + 1) (m0 (SEED + 1)) a refl b ∙ skip is_argument m0 RIGHT (m0 SEED) a refl b)))))
       (cases_eq (m0 SEEDED) 0)
 
   whole : (a x y : ℕ) (n v i z c : Bool) → IsWord m0 RIGHT → IsWord m0 SEED → Goal (seed_of m0 (word_in m0 RIGHT) (word_in m0 SEED))
-      (view a x y n v i z c RANDOM_AT (lo ∷ hi ∷ []) m0 text answers) 549
+      (view a x y n v i z c RANDOM_AT (lo ∷ hi ∷ []) m0 text answers) 437
   whole a x y n v i z c q s =
       let sign : eqb (m0 (LEFT + 1) / 128 % 2) 1 ≡ false = ne_eqb _ _ (λ e. omega (arith, most, e)) in
       ⊎_elim
       (λ none. let b : eqb (m0 (LEFT + 1)) 0 ≡ true = eq-eqb _ _ none in
       let b' : eqb (m0 LEFT) 0 ≡ false = ne_eqb _ _ (λ h. omega (arith, none, h, least)) in
-      looser f _ _ _ [] (2 + (1 + (2 + (2 + (4 + (11 + (245 + (14 + 268)))))))) 549 (omega arith) (λ w h. h)
-      (after f 6 fits random_part (random_in f.code block) 1 (view a x y n v i z c RANDOM_AT (lo ∷ hi ∷ []) m0 text answers) _ _ (1 + (2 + (2 + (4 + (11 + (245 + (14 + 268))))))) refl
+      looser f _ _ _ [] (2 + (1 + (2 + (2 + (4 + (11 + (245 + (14 + 156)))))))) 437 (omega arith) (λ w h. h)
+      (after f 6 fits random_part (random_in f.code block) 1 (view a x y n v i z c RANDOM_AT (lo ∷ hi ∷ []) m0 text answers) _ _ (1 + (2 + (2 + (4 + (11 + (245 + (14 + 156))))))) refl
       (rw sign (after f 6 fits random_part (random_in f.code block) 0 (view (m0 (LEFT + 1)) x y _ v i (eqb (m0 (LEFT + 1)) 0) c (RANDOM_AT + 4)
-      (lo ∷ hi ∷ []) m0 text answers) _ _ (2 + (2 + (4 + (11 + (245 + (14 + 268)))))) refl
-      (rw b (after f 6 fits random_part (random_in f.code block) 1 (view _ _ _ _ _ _ _ _ (RANDOM_AT + 6) (lo ∷ hi ∷ []) m0 text answers) _ _ (2 + (4 + (11 + (245 + (14 + 268))))) refl
+      (lo ∷ hi ∷ []) m0 text answers) _ _ (2 + (2 + (4 + (11 + (245 + (14 + 156)))))) refl
+      (rw b (after f 6 fits random_part (random_in f.code block) 1 (view _ _ _ _ _ _ _ _ (RANDOM_AT + 6) (lo ∷ hi ∷ []) m0 text answers) _ _ (2 + (4 + (11 + (245 + (14 + 156))))) refl
       (rw b' (seeding _ _ _ _ _ _ _ _ (seed_of m0 (word_in m0 RIGHT) (word_in m0 SEED)) refl q s))))))))
       (λ some. let b : eqb (m0 (LEFT + 1)) 0 ≡ false = ne_eqb _ _ some in
-      looser f _ _ _ [] (2 + (1 + (2 + (4 + (11 + (245 + (14 + 268))))))) 549 (omega arith) (λ w h. h)
-      (after f 6 fits random_part (random_in f.code block) 1 (view a x y n v i z c RANDOM_AT (lo ∷ hi ∷ []) m0 text answers) _ _ (1 + (2 + (4 + (11 + (245 + (14 + 268)))))) refl
+      looser f _ _ _ [] (2 + (1 + (2 + (4 + (11 + (245 + (14 + 156))))))) 437 (omega arith) (λ w h. h)
+      (after f 6 fits random_part (random_in f.code block) 1 (view a x y n v i z c RANDOM_AT (lo ∷ hi ∷ []) m0 text answers) _ _ (1 + (2 + (4 + (11 + (245 + (14 + 156)))))) refl
       (rw sign (after f 6 fits random_part (random_in f.code block) 0 (view (m0 (LEFT + 1)) x y _ v i (eqb (m0 (LEFT + 1)) 0) c (RANDOM_AT + 4)
-      (lo ∷ hi ∷ []) m0 text answers) _ _ (2 + (4 + (11 + (245 + (14 + 268))))) refl
+      (lo ∷ hi ∷ []) m0 text answers) _ _ (2 + (4 + (11 + (245 + (14 + 156))))) refl
       (rw b (seeding _ _ _ _ _ _ _ _ (seed_of m0 (word_in m0 RIGHT) (word_in m0 SEED)) refl q s))))))
       (cases_eq (m0 (LEFT + 1)) 0)
 
@@ -141,9 +141,9 @@ pub random_law : RandomLaw
 random_law f fits block lo hi text answers m a x y n v i z c bound option stored p q s least most =
     let start = view a x y n v i z c RANDOM_AT (lo ∷ hi ∷ []) m text answers in
     let same = value m LEFT bound p in
-    of_word (λ b. Comes f start (Back lo hi text answers (Drawn m b (seed_of m option stored))) [] 549) m LEFT bound p
-    (of_word (λ o. Comes f start (Back lo hi text answers (Drawn m (word_in m LEFT) (seed_of m o stored))) [] 549) m RIGHT option q
-    (of_word (λ t. Comes f start (Back lo hi text answers (Drawn m (word_in m LEFT) (seed_of m (word_in m RIGHT) t))) [] 549) m SEED stored s
+    of_word (λ b. Comes f start (Back lo hi text answers (Drawn m b (seed_of m option stored))) [] 437) m LEFT bound p
+    (of_word (λ o. Comes f start (Back lo hi text answers (Drawn m (word_in m LEFT) (seed_of m o stored))) [] 437) m RIGHT option q
+    (of_word (λ t. Comes f start (Back lo hi text answers (Drawn m (word_in m LEFT) (seed_of m (word_in m RIGHT) t))) [] 437) m SEED stored s
     (whole f fits block lo hi text answers m (bytes_of m LEFT bound p) (omega (arith, same, least)) (omega (arith, same, most)) a x y n v i z c
     (bytes_of m RIGHT option q) (bytes_of m SEED stored s))))
 

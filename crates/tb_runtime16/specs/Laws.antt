@@ -117,7 +117,7 @@ MultiplyLaw =
 
 -- the entry of the division without signs, inside Divide
 abbrev pub unsigned_at : ℕ
-unsigned_at = DIVIDE_AT + 52
+unsigned_at = DIVIDE_AT + 64
 
 -- memory after the division without signs: quotient q at LEFT, remainder r at RESULT, and all else unchanged
 pub record Parted (m0 : ℕ → ℕ) (q r : ℕ) (m : ℕ → ℕ) : Type 0 where
@@ -130,20 +130,20 @@ abbrev pub UnsignedLaw : Type 0
 UnsignedLaw =
     (f : Setup) → Fits f 2 → Holds block_part f.code → (lo hi : ℕ) (text answers : List ℕ) (m : ℕ → ℕ) (a x y : ℕ) (n v i z c : Bool) (left right : ℕ)
     → WordAt m LEFT left → WordAt m RIGHT right → 1 ≤ right → right ≤ 32768 →
-    Comes f (view a x y n v i z c unsigned_at (lo ∷ hi ∷ []) m text answers) (Back lo hi text answers (Parted m (left / right) (left % right))) [] 268
+    Comes f (view a x y n v i z c unsigned_at (lo ∷ hi ∷ []) m text answers) (Back lo hi text answers (Parted m (left / right) (left % right))) [] 156
 
 -- ---- Divide
 
 -- the entry of what negates LEFT, inside Divide
 abbrev pub negate_left_at : ℕ
-negate_left_at = DIVIDE_AT + 21
+negate_left_at = DIVIDE_AT + 28
 
--- Divide gives the quotient of signed words, truncated toward zero, and the remainder's size, within 316 Go events
+-- Divide gives the quotient of signed words, truncated toward zero, and the remainder's size, within 210 Go events
 abbrev pub DivideLaw : Type 0
 DivideLaw =
     (f : Setup) → Fits f 6 → Holds block_part f.code → (lo hi : ℕ) (text answers : List ℕ) (m : ℕ → ℕ) (a x y : ℕ) (n v i z c : Bool) (left right : ℕ)
     → WordAt m LEFT left → WordAt m RIGHT right → 1 ≤ right →
-    Comes f (view a x y n v i z c DIVIDE_AT (lo ∷ hi ∷ []) m text answers) (Back lo hi text answers (Parts is_argument m (quotient left right) (magnitude left % magnitude right))) [] 316
+    Comes f (view a x y n v i z c DIVIDE_AT (lo ∷ hi ∷ []) m text answers) (Back lo hi text answers (Parts is_argument m (quotient left right) (magnitude left % magnitude right))) [] 210
 
 -- by 0, Divide goes to Fault with 2, with memory unchanged
 abbrev pub DivideByZeroLaw : Type 0
@@ -182,7 +182,7 @@ abbrev pub RandomLaw : Type 0
 RandomLaw =
     (f : Setup) → Fits f 6 → Holds block_part f.code → (lo hi : ℕ) (text answers : List ℕ) (m : ℕ → ℕ) (a x y : ℕ) (n v i z c : Bool)
     (bound option stored : ℕ) → WordAt m LEFT bound → WordAt m RIGHT option → WordAt m SEED stored → 1 ≤ bound → bound < 32768 →
-    Comes f (view a x y n v i z c RANDOM_AT (lo ∷ hi ∷ []) m text answers) (Back lo hi text answers (Drawn m bound (seed_of m option stored))) [] 549
+    Comes f (view a x y n v i z c RANDOM_AT (lo ∷ hi ∷ []) m text answers) (Back lo hi text answers (Drawn m bound (seed_of m option stored))) [] 437
 
 -- for a bound below 1, Random goes to Fault with 3, with memory unchanged
 abbrev pub RandomRangeLaw : Type 0

@@ -60,7 +60,7 @@ pub const SEND_LENGTH: usize = 15;
 /// Bytes of Multiply.
 pub const MULTIPLY_LENGTH: usize = 41;
 /// Bytes of Divide.
-pub const DIVIDE_LENGTH: usize = 139;
+pub const DIVIDE_LENGTH: usize = 175;
 /// Bytes of Random.
 pub const RANDOM_LENGTH: usize = 82;
 /// Bytes of Number.
@@ -70,7 +70,7 @@ pub const TEXT_LENGTH: usize = 24;
 /// Bytes of Zone.
 pub const ZONE_LENGTH: usize = 13;
 /// Bytes of Input.
-pub const INPUT_LENGTH: usize = 214;
+pub const INPUT_LENGTH: usize = 193;
 /// Bytes of Search.
 pub const SEARCH_LENGTH: usize = 186;
 /// Bytes of Push.

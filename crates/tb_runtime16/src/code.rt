@@ -12,8 +12,8 @@ use crate::addresses::{
     SEARCH_LENGTH, SEND_LENGTH, TEXT_LENGTH, ZONE_LENGTH,
 };
 use crate::targets::{
-    DIVIDEBY, FAULT, LINES, MULTIPLY, NEGATE, NUMBER, OPPOSITE, POWERS_HIGH, POWERS_LOW, READ,
-    SEARCH, SEND, STORE, UNSIGNED,
+    DIVIDEBY, FAULT, LINES, MULTIPLY, NEGATE, NUMBER, OPPOSITE, POWERS_HIGH, POWERS_LOW, SEARCH,
+    SEND, STORE, UNSIGNED,
 };
 
 // The prologue: decimal mode off, $C000 to $C03D cleared, S kept at HOME_S, and on to the first line.
@@ -83,70 +83,95 @@ macro_rules! divide {
         $next!([$($before)*
         0xa5, 0xfd, // 0 DIVIDE: LDA RIGHT
         0x05, 0xfe, // 2: ORA RIGHT+1
-        0xd0, 0x05, // 4: BNE DIVIDESIGNED
-        0xa9, 0x02, // 6: LDA #$02
-        0x4c, FAULT.0, FAULT.1, // 8: JMP FAULT
-        0xa5, 0xfc, // 11 DIVIDESIGNED: LDA LEFT+1
-        0x10, 0x16, // 13: BPL DIVIDEBY
-        0x20, OPPOSITE.0, OPPOSITE.1, // 15: JSR NEGATELEFT
-        0x20, DIVIDEBY.0, DIVIDEBY.1, // 18: JSR DIVIDEBY
-        0xa2, 0x00, // 21 NEGATELEFT: LDX #$00
-        0x38, // 23 NEGATE: SEC
-        0xa9, 0x00, // 24: LDA #$00
-        0xf5, 0xfb, // 26: SBC LEFT,X
-        0x95, 0xfb, // 28: STA LEFT,X
-        0xa9, 0x00, // 30: LDA #$00
-        0xf5, 0xfc, // 32: SBC LEFT+1,X
-        0x95, 0xfc, // 34: STA LEFT+1,X
-        0x60, // 36: RTS
-        0xa5, 0xfe, // 37 DIVIDEBY: LDA RIGHT+1
-        0x10, 0x0b, // 39: BPL UNSIGNED
-        0xa2, 0x02, // 41: LDX #$02
-        0x20, NEGATE.0, NEGATE.1, // 43: JSR NEGATE
-        0x20, UNSIGNED.0, UNSIGNED.1, // 46: JSR UNSIGNED
-        0x4c, OPPOSITE.0, OPPOSITE.1, // 49: JMP NEGATELEFT
-        0xa5, 0xfe, // 52 UNSIGNED: LDA RIGHT+1
-        0xd0, 0x25, // 54: BNE WIDE
-        0xa5, 0xfd, // 56: LDA RIGHT
-        0x30, 0x21, // 58: BMI WIDE
-        0xa5, 0xfc, // 60: LDA LEFT+1
-        0xc5, 0xfd, // 62: CMP RIGHT
-        0xb0, 0x1b, // 64: BCS WIDE
-        0xa2, 0x00, // 66: LDX #$00
-        0x86, 0xfc, // 68: STX LEFT+1
-        0x8e, 0x67, 0xc0, // 70: STX RESULT+1
-        0xa2, 0x08, // 73: LDX #$08
-        0x06, 0xfb, // 75 NARROW: ASL LEFT
-        0x2a, // 77: ROL A
-        0xc5, 0xfd, // 78: CMP RIGHT
-        0x90, 0x04, // 80: BCC NARROWLESS
-        0xe5, 0xfd, // 82: SBC RIGHT
-        0xe6, 0xfb, // 84: INC LEFT
-        0xca, // 86 NARROWLESS: DEX
-        0xd0, 0xf2, // 87: BNE NARROW
-        0x8d, 0x66, 0xc0, // 89: STA RESULT
-        0x60, // 92: RTS
-        0xa9, 0x00, // 93 WIDE: LDA #$00
-        0x8d, 0x66, 0xc0, // 95: STA RESULT
-        0x8d, 0x67, 0xc0, // 98: STA RESULT+1
-        0xa0, 0x10, // 101: LDY #$10
-        0x06, 0xfb, // 103 WIDENEXT: ASL LEFT
-        0x26, 0xfc, // 105: ROL LEFT+1
-        0x2e, 0x66, 0xc0, // 107: ROL RESULT
-        0x2e, 0x67, 0xc0, // 110: ROL RESULT+1
-        0xad, 0x66, 0xc0, // 113: LDA RESULT
-        0x38, // 116: SEC
-        0xe5, 0xfd, // 117: SBC RIGHT
-        0xaa, // 119: TAX
-        0xad, 0x67, 0xc0, // 120: LDA RESULT+1
-        0xe5, 0xfe, // 123: SBC RIGHT+1
-        0x90, 0x08, // 125: BCC WIDELESS
-        0x8e, 0x66, 0xc0, // 127: STX RESULT
-        0x8d, 0x67, 0xc0, // 130: STA RESULT+1
-        0xe6, 0xfb, // 133: INC LEFT
-        0x88, // 135 WIDELESS: DEY
-        0xd0, 0xdd, // 136: BNE WIDENEXT
-        0x60, // 138: RTS
+        0xf0, 0x26, // 4: BEQ DIVIDEZERO
+        0x30, 0x0a, // 6: BMI DIVIDESIGNED
+        0xa6, 0xfe, // 8: LDX RIGHT+1
+        0xd0, 0x06, // 10: BNE DIVIDESIGNED
+        0xa5, 0xfc, // 12: LDA LEFT+1
+        0xc5, 0xfd, // 14: CMP RIGHT
+        0x90, 0x42, // 16: BCC BYTEFEW
+        0xa5, 0xfc, // 18 DIVIDESIGNED: LDA LEFT+1
+        0x10, 0x1b, // 20: BPL DIVIDEBY
+        0x20, OPPOSITE.0, OPPOSITE.1, // 22: JSR NEGATELEFT
+        0x20, DIVIDEBY.0, DIVIDEBY.1, // 25: JSR DIVIDEBY
+        0xa2, 0x00, // 28 NEGATELEFT: LDX #$00
+        0x38, // 30 NEGATE: SEC
+        0xa9, 0x00, // 31: LDA #$00
+        0xf5, 0xfb, // 33: SBC LEFT,X
+        0x95, 0xfb, // 35: STA LEFT,X
+        0xa9, 0x00, // 37: LDA #$00
+        0xf5, 0xfc, // 39: SBC LEFT+1,X
+        0x95, 0xfc, // 41: STA LEFT+1,X
+        0x60, // 43: RTS
+        0xa9, 0x02, // 44 DIVIDEZERO: LDA #$02
+        0x4c, FAULT.0, FAULT.1, // 46: JMP FAULT
+        0xa5, 0xfe, // 49 DIVIDEBY: LDA RIGHT+1
+        0x10, 0x0b, // 51: BPL UNSIGNED
+        0xa2, 0x02, // 53: LDX #$02
+        0x20, NEGATE.0, NEGATE.1, // 55: JSR NEGATE
+        0x20, UNSIGNED.0, UNSIGNED.1, // 58: JSR UNSIGNED
+        0x4c, OPPOSITE.0, OPPOSITE.1, // 61: JMP NEGATELEFT
+        0xa2, 0x00, // 64 UNSIGNED: LDX #$00
+        0xe4, 0xfe, // 66: CPX RIGHT+1
+        0xd0, 0x39, // 68: BNE WIDE
+        0xa5, 0xfc, // 70: LDA LEFT+1
+        0xc5, 0xfd, // 72: CMP RIGHT
+        0xa4, 0xfd, // 74: LDY RIGHT
+        0x30, 0x2b, // 76: BMI WIDEHALF
+        0x90, 0x04, // 78: BCC BYTEFEW
+        0x8a, // 80: TXA
+        0xe8, // 81: INX
+        0xd0, 0x02, // 82: BNE BYTE
+        0x86, 0xfc, // 84 BYTEFEW: STX LEFT+1
+        0xa0, 0x04, // 86 BYTE: LDY #$04
+        0x36, 0xfb, // 88 BYTENEXT: ROL LEFT,X
+        0x2a, // 90: ROL A
+        0xc5, 0xfd, // 91: CMP RIGHT
+        0x90, 0x02, // 93: BCC BYTELESS
+        0xe5, 0xfd, // 95: SBC RIGHT
+        0x36, 0xfb, // 97 BYTELESS: ROL LEFT,X
+        0x2a, // 99: ROL A
+        0xc5, 0xfd, // 100: CMP RIGHT
+        0x90, 0x02, // 102: BCC BYTELESS2
+        0xe5, 0xfd, // 104: SBC RIGHT
+        0x88, // 106 BYTELESS2: DEY
+        0xd0, 0xeb, // 107: BNE BYTENEXT
+        0x36, 0xfb, // 109: ROL LEFT,X
+        0xca, // 111: DEX
+        0x10, 0xe4, // 112: BPL BYTE
+        0x8d, 0x66, 0xc0, // 114: STA RESULT
+        0x8c, 0x67, 0xc0, // 117: STY RESULT+1
+        0x60, // 120: RTS
+        0x90, 0x04, // 121 WIDEHALF: BCC WIDE
+        0xe5, 0xfd, // 123: SBC RIGHT
+        0x85, 0xfc, // 125: STA LEFT+1
+        0x8a, // 127 WIDE: TXA
+        0xa2, 0x08, // 128: LDX #$08
+        0x26, 0xfb, // 130 WIDENEXT: ROL LEFT
+        0x26, 0xfc, // 132: ROL LEFT+1
+        0x2a, // 134: ROL A
+        0xc5, 0xfe, // 135: CMP RIGHT+1
+        0x90, 0x12, // 137: BCC WIDELESS
+        0xd0, 0x06, // 139: BNE WIDEMORE
+        0xa4, 0xfc, // 141: LDY LEFT+1
+        0xc4, 0xfd, // 143: CPY RIGHT
+        0x90, 0x0a, // 145: BCC WIDELESS
+        0xa8, // 147 WIDEMORE: TAY
+        0xa5, 0xfc, // 148: LDA LEFT+1
+        0xe5, 0xfd, // 150: SBC RIGHT
+        0x85, 0xfc, // 152: STA LEFT+1
+        0x98, // 154: TYA
+        0xe5, 0xfe, // 155: SBC RIGHT+1
+        0xca, // 157 WIDELESS: DEX
+        0xd0, 0xe2, // 158: BNE WIDENEXT
+        0x26, 0xfb, // 160: ROL LEFT
+        0x8d, 0x67, 0xc0, // 162: STA RESULT+1
+        0xa5, 0xfc, // 165: LDA LEFT+1
+        0x8d, 0x66, 0xc0, // 167: STA RESULT
+        0x8a, // 170: TXA
+        0x2a, // 171: ROL A
+        0x85, 0xfc, // 172: STA LEFT+1
+        0x60, // 174: RTS
         ] $($others)*)
     };
 }
@@ -298,75 +323,73 @@ macro_rules! input {
         0xc9, 0x20, // 40: CMP #$20
         0xf0, 0xf6, // 42: BEQ READ
         0xc9, 0x2b, // 44: CMP #$2B
-        0xf0, 0x5d, // 46: BEQ SIGN
+        0xf0, 0x49, // 46: BEQ SIGN
         0xc9, 0x2d, // 48: CMP #$2D
-        0xf0, 0x59, // 50: BEQ SIGN
+        0xf0, 0x45, // 50: BEQ SIGN
         0xc9, 0x2c, // 52: CMP #$2C
-        0xf0, 0x6d, // 54: BEQ DONE
+        0xf0, 0x58, // 54: BEQ DONE
         0xc9, 0x0d, // 56: CMP #$0D
-        0xf0, 0x69, // 58: BEQ DONE
+        0xf0, 0x54, // 58: BEQ DONE
         0x38, // 60: SEC
         0xe9, 0x30, // 61: SBC #$30
         0x8d, 0x6d, 0xc0, // 63: STA BYTE
         0xc9, 0x0a, // 66: CMP #$0A
-        0xb0, 0x5a, // 68: BCS BAD
-        0xad, 0x66, 0xc0, // 70: LDA RESULT
-        0x85, 0xfb, // 73: STA LEFT
-        0xad, 0x67, 0xc0, // 75: LDA RESULT+1
-        0x85, 0xfc, // 78: STA LEFT+1
-        0x0e, 0x66, 0xc0, // 80: ASL RESULT
-        0x2e, 0x67, 0xc0, // 83: ROL RESULT+1
-        0x0e, 0x66, 0xc0, // 86: ASL RESULT
-        0x2e, 0x67, 0xc0, // 89: ROL RESULT+1
-        0x18, // 92: CLC
-        0xad, 0x66, 0xc0, // 93: LDA RESULT
-        0x65, 0xfb, // 96: ADC LEFT
-        0x8d, 0x66, 0xc0, // 98: STA RESULT
-        0xad, 0x67, 0xc0, // 101: LDA RESULT+1
-        0x65, 0xfc, // 104: ADC LEFT+1
-        0x8d, 0x67, 0xc0, // 106: STA RESULT+1
-        0x0e, 0x66, 0xc0, // 109: ASL RESULT
-        0x2e, 0x67, 0xc0, // 112: ROL RESULT+1
-        0x18, // 115: CLC
-        0xad, 0x66, 0xc0, // 116: LDA RESULT
-        0x6d, 0x6d, 0xc0, // 119: ADC BYTE
-        0x8d, 0x66, 0xc0, // 122: STA RESULT
-        0xad, 0x67, 0xc0, // 125: LDA RESULT+1
-        0x69, 0x00, // 128: ADC #$00
-        0x8d, 0x67, 0xc0, // 130: STA RESULT+1
-        0xa9, 0x02, // 133: LDA #$02
-        0x8d, 0x6e, 0xc0, // 135: STA SCRATCH
-        0x4c, READ.0, READ.1, // 138: JMP READ
-        0xad, 0x6e, 0xc0, // 141 SIGN: LDA SCRATCH
-        0xd0, 0x0e, // 144: BNE BAD
-        0xad, 0x6d, 0xc0, // 146: LDA BYTE
-        0x8d, 0x6f, 0xc0, // 149: STA SCRATCH+1
-        0xa9, 0x01, // 152: LDA #$01
-        0x8d, 0x6e, 0xc0, // 154: STA SCRATCH
-        0x4c, READ.0, READ.1, // 157: JMP READ
-        0xa9, 0x06, // 160 BAD: LDA #$06
-        0x4c, FAULT.0, FAULT.1, // 162: JMP FAULT
-        0xad, 0x6e, 0xc0, // 165 DONE: LDA SCRATCH
-        0xc9, 0x02, // 168: CMP #$02
-        0xd0, 0xf4, // 170: BNE BAD
-        0xad, 0x6f, 0xc0, // 172: LDA SCRATCH+1
-        0xc9, 0x2d, // 175: CMP #$2D
-        0xd0, 0x11, // 177: BNE DONE1
-        0x38, // 179: SEC
-        0xa9, 0x00, // 180: LDA #$00
-        0xed, 0x66, 0xc0, // 182: SBC RESULT
-        0x8d, 0x66, 0xc0, // 185: STA RESULT
-        0xa9, 0x00, // 188: LDA #$00
-        0xed, 0x67, 0xc0, // 190: SBC RESULT+1
-        0x8d, 0x67, 0xc0, // 193: STA RESULT+1
-        0xad, 0x6d, 0xc0, // 196 DONE1: LDA BYTE
-        0xc9, 0x2c, // 199: CMP #$2C
-        0xf0, 0x0a, // 201: BEQ DONE2
-        0xa9, 0x00, // 203: LDA #$00
-        0x8d, 0x35, 0xc0, // 205: STA OPEN
-        0xa9, 0x0d, // 208: LDA #$0D
-        0x4c, SEND.0, SEND.1, // 210: JMP SEND
-        0x60, // 213 DONE2: RTS
+        0xb0, 0x45, // 68: BCS BAD
+        0xad, 0x67, 0xc0, // 70: LDA RESULT+1
+        0x85, 0xfc, // 73: STA LEFT+1
+        0xad, 0x66, 0xc0, // 75: LDA RESULT
+        0x0a, // 78: ASL A
+        0x26, 0xfc, // 79: ROL LEFT+1
+        0x0a, // 81: ASL A
+        0x26, 0xfc, // 82: ROL LEFT+1
+        0x18, // 84: CLC
+        0x6d, 0x66, 0xc0, // 85: ADC RESULT
+        0xaa, // 88: TAX
+        0xa5, 0xfc, // 89: LDA LEFT+1
+        0x6d, 0x67, 0xc0, // 91: ADC RESULT+1
+        0x85, 0xfc, // 94: STA LEFT+1
+        0x8a, // 96: TXA
+        0x0a, // 97: ASL A
+        0x26, 0xfc, // 98: ROL LEFT+1
+        0x18, // 100: CLC
+        0x6d, 0x6d, 0xc0, // 101: ADC BYTE
+        0x8d, 0x66, 0xc0, // 104: STA RESULT
+        0xa5, 0xfc, // 107: LDA LEFT+1
+        0x69, 0x00, // 109: ADC #$00
+        0x8d, 0x67, 0xc0, // 111: STA RESULT+1
+        0xa9, 0x02, // 114: LDA #$02
+        0x8d, 0x6e, 0xc0, // 116: STA SCRATCH
+        0xd0, 0xa9, // 119: BNE READ
+        0xad, 0x6e, 0xc0, // 121 SIGN: LDA SCRATCH
+        0xd0, 0x0d, // 124: BNE BAD
+        0xad, 0x6d, 0xc0, // 126: LDA BYTE
+        0x8d, 0x6f, 0xc0, // 129: STA SCRATCH+1
+        0xa9, 0x01, // 132: LDA #$01
+        0x8d, 0x6e, 0xc0, // 134: STA SCRATCH
+        0xd0, 0x97, // 137: BNE READ
+        0xa9, 0x06, // 139 BAD: LDA #$06
+        0x4c, FAULT.0, FAULT.1, // 141: JMP FAULT
+        0xad, 0x6e, 0xc0, // 144 DONE: LDA SCRATCH
+        0xc9, 0x02, // 147: CMP #$02
+        0xd0, 0xf4, // 149: BNE BAD
+        0xad, 0x6f, 0xc0, // 151: LDA SCRATCH+1
+        0xc9, 0x2d, // 154: CMP #$2D
+        0xd0, 0x11, // 156: BNE DONE1
+        0x38, // 158: SEC
+        0xa9, 0x00, // 159: LDA #$00
+        0xed, 0x66, 0xc0, // 161: SBC RESULT
+        0x8d, 0x66, 0xc0, // 164: STA RESULT
+        0xa9, 0x00, // 167: LDA #$00
+        0xed, 0x67, 0xc0, // 169: SBC RESULT+1
+        0x8d, 0x67, 0xc0, // 172: STA RESULT+1
+        0xad, 0x6d, 0xc0, // 175 DONE1: LDA BYTE
+        0xc9, 0x2c, // 178: CMP #$2C
+        0xf0, 0x0a, // 180: BEQ DONE2
+        0xa9, 0x00, // 182: LDA #$00
+        0x8d, 0x35, 0xc0, // 184: STA OPEN
+        0xa9, 0x0d, // 187: LDA #$0D
+        0x4c, SEND.0, SEND.1, // 189: JMP SEND
+        0x60, // 192 DONE2: RTS
         ] $($others)*)
     };
 }
