@@ -1,5 +1,5 @@
 -- What becomes of a source and what is told of it, by what was read.
-use Rattle.std.proofs.Common.{◌≡◌, ℕ, ◌<◌, List, [], Result, Ok, Err, ap, sym, ◌∙◌, subst}
+use Rattle.std.proofs.Common.{◌≡◌, ◌≢◌, ℕ, ◌<◌, List, [], Result, Ok, Err, ap, sym, ◌∙◌, subst}
 use Rattle.std.specs.Prelude.{IfOk}
 use Rattle.tb_syntax.specs.PlainData.{lines_of}
 use Rattle.tb_syntax.specs.Source.{Program}
@@ -8,6 +8,7 @@ use Rattle.tb_meaning.specs.Cost.{cost}
 use Rattle.tb_parser.specs.Files.{at_end}
 use Rattle.tb_parser.specs.Lines.{lines_of_file}
 use Rattle.tb_codegen.specs.Answers.{LinesMake}
+use Rattle.tb_codegen.specs.declared.settings.SizeLimit.{SizeLimit}
 use Rattle.tb_check.specs.BadLines.{BadLinesAre, FirstIs}
 use Rattle.tb_check.specs.Entries.{DeepLinesAre}
 use Rattle.tb_check.specs.Findings.{AreFindings, Tells, WarningsAre}
@@ -31,18 +32,23 @@ module _ (source : List ℕ) (lines : SourceLines) (read : AreRead source lines)
   pub small : lines.bad.items ≡ [] → cost (lines_of lines.program) < 4294967296
   small none = made_small source (lines_of lines.program) (made source lines read none)
 
-  judged : (v : Verdict) → JudgesLines lines.bad.items lines.program v → Judges source v
+  -- if no line is bad and one is left, the lines make the program
+  pub made_some : lines.bad.items ≡ [] → lines.program ≢ [] → LinesMake source (Ok (lines_of lines.program))
+  made_some none some = some_left source lines.program some (made source lines read none)
+
+module _ (size : SizeLimit) (source : List ℕ) (lines : SourceLines) (read : AreRead source lines) where
+  judged : (v : Verdict) → JudgesLines size lines.bad.items lines.program v → Judges size source v
   judged (BadLines found) j = (
     subst (BadLinesAre 1 (lines_of_file source)) (sym j.0) read.bad,
     subst (FirstIs source) (sym j.0) (first_is source lines.bad.items read.bad),
     λ none. j.1 (sym j.0 ∙ none),
   )
   judged Empty j = let Family : List (ℕ × Statement) → Type 0 = λ p. LinesMake source (at_end (lines_of p)) in subst Family j.1 (made source lines read j.0)
-  judged (Refused f) j = (lines_of lines.program, some_left source lines.program j.1 (made source lines read j.0), j.2)
-  judged (Accepted p) j = (lines_of lines.program, some_left source lines.program j.1 (made source lines read j.0), j.2)
+  judged (Refused f) j = (lines_of lines.program, made_some source lines read j.0 j.1, j.2)
+  judged (Accepted p) j = (lines_of lines.program, made_some source lines read j.0 j.1, j.2)
 
   -- the clause `judged` of `judge`
-  pub judged_on : {E : Type 0} (r : Result Verdict E) → IfOk r (JudgesLines lines.bad.items lines.program) → IfOk r (Judges source)
+  pub judged_on : {E : Type 0} (r : Result Verdict E) → IfOk r (JudgesLines size lines.bad.items lines.program) → IfOk r (Judges size source)
   judged_on (Ok v) j = judged v j
   judged_on (Err e) j = tt
 
@@ -63,7 +69,7 @@ module _ (source : List ℕ) (lines : SourceLines) (read : AreRead source lines)
   abbrev Warned : Program → List LineWarning → Type 0
   Warned p found = found ≡ warnings_on p lines.numbered.items
 
-  told : (v : Verdict) (f : Findings) → JudgesLines lines.bad.items lines.program v → Tells (lines_of_file source) Remain Warned v f
+  told : (v : Verdict) (f : Findings) → JudgesLines size lines.bad.items lines.program v → Tells (lines_of_file source) Remain Warned v f
       → Tells (lines_of_file source) AreDeep (WarningsAre source) v f
   told (BadLines errors) (findings.BadLines bad) j t = t
   told (BadLines errors) findings.Empty j t = t
@@ -87,7 +93,7 @@ module _ (source : List ℕ) (lines : SourceLines) (read : AreRead source lines)
 
   -- the clause `findings` of `examine`
   pub found_on : (v : Verdict) (f : Findings) (texts : List (List ℕ)) (numbered : List NumberedLine) → texts ≡ texts_of lines → numbered ≡ lines.numbered.items
-      → JudgesLines lines.bad.items lines.program v → ToldBy texts numbered v f → AreFindings source f
+      → JudgesLines size lines.bad.items lines.program v → ToldBy texts numbered v f → AreFindings size source f
   found_on v f texts numbered written same j t =
       let here = subst (λ ls. ToldBy ls numbered v f) (written ∙ read.texts) t in
       (v, judged v j, told v f j (subst (λ ns. ToldBy (lines_of_file source) ns v f) same here))

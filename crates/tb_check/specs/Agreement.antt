@@ -9,15 +9,16 @@ use Rattle.tb_parser.specs.Readings.{Refusal, at_column}
 use Rattle.tb_compile_errors.specs.declared.refusals.CompileError.TheVariants.{Source, Lower, TooLarge, NoMemory}
 use Rattle.tb_compile_errors.specs.declared.refusals.CompileError.{CompileError}
 use Rattle.tb_codegen.specs.Answers.{LinesMake, OutcomeAnswer, RefusalAnswer}
-use Rattle.tb_codegen.specs.Settings.{by_cost}
 use Rattle.tb_codegen.specs.declared.compiled.Compiled.{Compiled}
+use Rattle.tb_codegen.specs.declared.settings.CompileSettings.{CompileSettings}
+use Rattle.tb_codegen.specs.declared.settings.SizeLimit.{SizeLimit}
 use Rattle.tb_check.specs.declared.judging.ProgramFaults.{ProgramFaults}
 use Rattle.tb_check.specs.declared.judging.Verdict.{Verdict}
 use Rattle.tb_check.specs.declared.judging.Verdict.TheVariants.{BadLines, Empty, Refused, Accepted}
 
 -- what the compiler promises of its answer for a source
-abbrev pub Compiles : ℕ → List ℕ → Result Compiled CompileError → Type 0
-Compiles seed source answer = (outcome : Outcome) → LinesMake source outcome → OutcomeAnswer (by_cost seed) outcome answer
+abbrev pub Compiles : CompileSettings → List ℕ → Result Compiled CompileError → Type 0
+Compiles settings source answer = (outcome : Outcome) → LinesMake source outcome → OutcomeAnswer settings outcome answer
 
 -- the compiler's refusal is the first of the bad lines
 abbrev pub RefusesFirst : List SourceError → Result Compiled CompileError → Type 0
@@ -28,7 +29,7 @@ abbrev pub first_of : List ℕ → Option ℕ
 first_of [] = None
 first_of (n ∷ ns) = Some n
 
--- the compiler's refusal is one of a program's faults: the lowest line that is too deep, else the cost
+-- the compiler's refusal is one of a program's faults: the lowest line that is too deep, else the size
 abbrev pub RefusesProgram : ProgramFaults → Result Compiled CompileError → Type 0
 RefusesProgram f (Ok c) = ⊥
 RefusesProgram f (Err (Source e)) = ⊥
@@ -52,6 +53,7 @@ AgreesWith Empty answer = RefusalAnswer (refused_at 0 (at_column kind.Empty 0)) 
 AgreesWith (Refused f) answer = RefusesProgram f answer
 AgreesWith (Accepted p) answer = Accepts answer
 
--- whatever the compiler may answer for a source agrees with a verdict
-abbrev pub Agrees : List ℕ → Verdict → Type 0
-Agrees source v = (seed : ℕ) (answer : Result Compiled CompileError) → Compiles seed source answer → AgreesWith v answer
+-- whatever the compiler may answer for a source, with any seed, agrees with a verdict
+abbrev pub Agrees : SizeLimit → List ℕ → Verdict → Type 0
+Agrees size source v =
+    (seed : ℕ) (answer : Result Compiled CompileError) → Compiles (record { seed = seed; size = size }) source answer → AgreesWith v answer

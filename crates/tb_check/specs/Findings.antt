@@ -12,6 +12,7 @@ use Rattle.tb_check.specs.Verdicts.{Judges}
 use Rattle.tb_check.specs.Warnings.{warnings_on}
 use Rattle.tb_check.specs.declared.judging.Verdict.{Verdict}
 use Rattle.tb_check.specs.declared.judging.Verdict.TheVariants as verdict
+use Rattle.tb_codegen.specs.declared.settings.SizeLimit.{SizeLimit}
 use Rattle.tb_check.specs.declared.examination.BadLine.{BadLine}
 use Rattle.tb_check.specs.declared.examination.Findings.{Findings}
 use Rattle.tb_check.specs.declared.examination.Findings.TheVariants.{BadLines, Empty, Refused, Accepted}
@@ -35,7 +36,7 @@ Tells _ _ _ _ _ = ⊥
 abbrev pub WarningsAre : List ℕ → Program → List LineWarning → Type 0
 WarningsAre source p found = (es : List Entry) × EntriesAre 1 (lines_of_file source) es × (found ≡ warnings_on p (map numbered_of es))
 
--- findings of a source
-abbrev pub AreFindings : List ℕ → Findings → Type 0
-AreFindings source f =
-    (v : Verdict) × Judges source v × Tells (lines_of_file source) (λ numbers deep. DeepLinesAre source deep) (WarningsAre source) v f
+-- findings of a source, by when its program is too large
+abbrev pub AreFindings : SizeLimit → List ℕ → Findings → Type 0
+AreFindings size source f =
+    (v : Verdict) × Judges size source v × Tells (lines_of_file source) (λ numbers deep. DeepLinesAre source deep) (WarningsAre source) v f

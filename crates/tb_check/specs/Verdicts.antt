@@ -1,15 +1,21 @@
 -- What becomes of a source, with all the reasons.
-use Rattle.std.specs.Prelude.{◌≡◌, ◌≢◌, ℕ, nat_le, List, [], ◌∷◌, Option, Some, None, Ok, if◌then◌else◌}
+use Rattle.std.specs.Prelude.{◌≡◌, ◌≢◌, ℕ, ◌+◌, ◌≤◌, nat_le, List, [], ◌∷◌, map, Option, Some, None, Ok, if◌then◌else◌}
+use Rattle.tb_asm.specs.Layout.{size}
+use Rattle.tb_asm.specs.Settle.{Form, Settles, items_from, kept}
 use Rattle.tb_syntax.specs.Source.{Program}
 use Rattle.tb_syntax.specs.PlainData.{lines_of}
 use Rattle.tb_syntax.specs.declared.statements.Statement.{Statement}
-use Rattle.tb_meaning.specs.Cost.{cost}
+use Rattle.tb_lower.specs.Lowered as lowered
 use Rattle.tb_lower.specs.Need.{statement_need}
 use Rattle.tb_parser.specs.declared.errors.SourceError.{SourceError}
 use Rattle.tb_parser.specs.Files.{at_end}
 use Rattle.tb_parser.specs.Lines.{lines_of_file}
+use Rattle.tb_runtime16.specs.Addresses.{PROLOGUE_AT}
+use Rattle.tb_templates.specs.Program.{program_code}
 use Rattle.tb_codegen.specs.Answers.{LinesMake}
-use Rattle.tb_codegen.specs.Compiled.{most_cost}
+use Rattle.tb_codegen.specs.Refusals.{IsExcess, IsTooLarge}
+use Rattle.tb_codegen.specs.declared.settings.SizeLimit.{SizeLimit}
+use Rattle.tb_codegen.specs.declared.settings.SizeLimit.TheVariants.{Cost, Memory}
 use Rattle.tb_check.specs.BadLines.{BadLinesAre, FirstIs}
 use Rattle.tb_check.specs.declared.judging.ProgramFaults.{ProgramFaults}
 use Rattle.tb_check.specs.declared.judging.Verdict.{Verdict}
@@ -20,37 +26,56 @@ abbrev pub deep_lines : Program → List ℕ
 deep_lines [] = []
 deep_lines (line ∷ lines) = if nat_le (statement_need line.content) 16 then deep_lines lines else line.number ∷ deep_lines lines
 
--- a cost that is too much
-abbrev pub excess : ℕ → Option ℕ
-excess n = if nat_le n most_cost then None else Some n
+-- once it is settled, a program's code with its line table ends by $9FFF
+pub record FitsMemory (seed : ℕ) (program : Program) : Type 0 where
+  pub forms : List Form
+  pub rounds : Settles PROLOGUE_AT (map kept (program_code seed (lowered.program_code program))) forms
+  pub ends : PROLOGUE_AT + size (items_from PROLOGUE_AT forms) ≤ 0xA000
+
+-- Whether a program is too large, and the number that tells it. By the memory that is so whatever the seed; a program with
+-- a line that is too deep has no code, so nothing is told of its size.
+abbrev pub TellsSize : SizeLimit → Program → Option ℕ → Type 0
+TellsSize Cost program found = IsExcess Cost program found
+TellsSize Memory program (Some n) = (deep_lines program ≡ []) × ((seed : ℕ) → IsTooLarge Memory seed program n)
+TellsSize Memory program None = deep_lines program ≡ [] → (seed : ℕ) → FitsMemory seed program
+
+-- what is told of the size of the program that the lines of a source make
+abbrev pub TellsSizeOf : SizeLimit → List ℕ → Option ℕ → Type 0
+TellsSizeOf size source found = (program : Program) → LinesMake source (Ok program) → TellsSize size program found
+
+-- the lines of a source make a program without a line that is too deep
+pub record MakesShallow (source : List ℕ) : Type 0 where
+  pub program : Program
+  pub made : LinesMake source (Ok program)
+  pub shallow : deep_lines program ≡ []
 
 -- what is wrong with a program: all of it
-pub record HasFaults (program : Program) (f : ProgramFaults) : Type 0 where
+pub record HasFaults (size : SizeLimit) (program : Program) (f : ProgramFaults) : Type 0 where
   pub deep : f.deep.items ≡ deep_lines program
-  pub large : f.too_large ≡ excess (cost program)
+  pub large : TellsSize size program f.too_large
 
 -- nothing is wrong with a program
-pub record IsGood (program : Program) : Type 0 where
+pub record IsGood (size : SizeLimit) (program : Program) : Type 0 where
   pub shallow : deep_lines program ≡ []
-  pub small : excess (cost program) ≡ None
+  pub small : TellsSize size program None
 
 -- what becomes of a program
-abbrev pub JudgesProgram : Program → Verdict → Type 0
-JudgesProgram program (BadLines found) = ⊥
-JudgesProgram program Empty = ⊥
-JudgesProgram program (Refused f) = HasFaults program f × ¬ (IsGood program)
-JudgesProgram program (Accepted p) = (lines_of p ≡ program) × IsGood program
+abbrev pub JudgesProgram : SizeLimit → Program → Verdict → Type 0
+JudgesProgram size program (BadLines found) = ⊥
+JudgesProgram size program Empty = ⊥
+JudgesProgram size program (Refused f) = HasFaults size program f × ¬ (IsGood size program)
+JudgesProgram size program (Accepted p) = (lines_of p ≡ program) × IsGood size program
 
 -- what becomes of bad lines and of the program that the other lines make
-abbrev pub JudgesLines : List SourceError → List (ℕ × Statement) → Verdict → Type 0
-JudgesLines bad program (BadLines found) = (found.items ≡ bad) × (bad ≢ [])
-JudgesLines bad program Empty = (bad ≡ []) × (program ≡ [])
-JudgesLines bad program (Refused f) = (bad ≡ []) × (program ≢ []) × JudgesProgram (lines_of program) (Refused f)
-JudgesLines bad program (Accepted p) = (bad ≡ []) × (program ≢ []) × JudgesProgram (lines_of program) (Accepted p)
+abbrev pub JudgesLines : SizeLimit → List SourceError → List (ℕ × Statement) → Verdict → Type 0
+JudgesLines size bad program (BadLines found) = (found.items ≡ bad) × (bad ≢ [])
+JudgesLines size bad program Empty = (bad ≡ []) × (program ≡ [])
+JudgesLines size bad program (Refused f) = (bad ≡ []) × (program ≢ []) × JudgesProgram size (lines_of program) (Refused f)
+JudgesLines size bad program (Accepted p) = (bad ≡ []) × (program ≢ []) × JudgesProgram size (lines_of program) (Accepted p)
 
 -- what becomes of a source: its bad lines, or that no line is left, or what is wrong with its program, or the program
-abbrev pub Judges : List ℕ → Verdict → Type 0
-Judges source (BadLines found) = BadLinesAre 1 (lines_of_file source) found.items × FirstIs source found.items × (found.items ≢ [])
-Judges source Empty = LinesMake source (at_end [])
-Judges source (Refused f) = (program : Program) × LinesMake source (Ok program) × JudgesProgram program (Refused f)
-Judges source (Accepted p) = (program : Program) × LinesMake source (Ok program) × JudgesProgram program (Accepted p)
+abbrev pub Judges : SizeLimit → List ℕ → Verdict → Type 0
+Judges size source (BadLines found) = BadLinesAre 1 (lines_of_file source) found.items × FirstIs source found.items × (found.items ≢ [])
+Judges size source Empty = LinesMake source (at_end [])
+Judges size source (Refused f) = (program : Program) × LinesMake source (Ok program) × JudgesProgram size program (Refused f)
+Judges size source (Accepted p) = (program : Program) × LinesMake source (Ok program) × JudgesProgram size program (Accepted p)

@@ -11,6 +11,7 @@ use crate::notes::{Note, note_of};
 use crate::remaining::remaining_lines;
 use crate::warnings::{LineWarning, warnings};
 use std::alloc::{AllocError, Global};
+use tb_codegen::SizeLimit;
 use tb_parser::SourceError;
 
 /// A bad line's first fault, with a note if there is one.
@@ -31,7 +32,7 @@ pub enum Findings {
     Refused {
         /// The lines of the file, from 1, with an expression that is too deep, which no later line replaces or takes out.
         deep: Vec<usize>,
-        /// What the program costs, if that is too much.
+        /// What tells the program's size, if that is too much: its cost, or by the memory the bytes that it takes.
         too_large: Option<u32>,
     },
     /// It is compiled. The warnings are in the order of the file.
@@ -46,13 +47,13 @@ pub struct Examined<'a> {
     pub findings: Findings,
 }
 
-/// Looks at a source. Fails only if memory runs out.
-pub fn examine(alloc: Global, source: &[u8]) -> Result<Examined<'_>, AllocError>
+/// Looks at a source, whose program is too large by this limit. Fails only if memory runs out.
+pub fn examine(alloc: Global, source: &[u8], size: SizeLimit) -> Result<Examined<'_>, AllocError>
     ensures lines { IfOk result (λ seen. map (λ t. t.now) seen.lines.items ≡ lines_of_file source.now) }
-    ensures findings { IfOk result (λ seen. AreFindings source.now seen.findings) }
+    ensures findings { IfOk result (λ seen. AreFindings size source.now seen.findings) }
 {
     let lines = read_lines(alloc, source)?;
-    let verdict = verdict_on(alloc, lines.bad, lines.program)?;
+    let verdict = verdict_on(alloc, source, lines.bad, lines.program, size)?;
     let findings = findings_by(alloc, &lines.texts, &lines.numbered, &verdict)?;
     Ok(Examined {
         lines: lines.texts,

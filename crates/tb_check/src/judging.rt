@@ -1,13 +1,16 @@
 //! Whether a source is compiled, and if not, all the reasons.
-ghost use Rattle.std.specs.Prelude.{◌≡◌, ◌<◌, [], IfOk};
+ghost use Rattle.std.specs.Prelude.{◌≡◌, ◌≢◌, ◌<◌, ◌↔◌, [], None, Ok, IfOk, IsTrue};
 ghost use Rattle.tb_syntax.specs.PlainData.{lines_of};
 ghost use Rattle.tb_meaning.specs.Cost as costs;
 ghost use Rattle.tb_check.specs.Agreement.{Agrees};
-ghost use Rattle.tb_check.specs.Verdicts.{HasFaults, Judges, JudgesLines, JudgesProgram, deep_lines, excess};
+ghost use Rattle.tb_codegen.specs.Answers.{LinesMake};
+ghost use Rattle.tb_codegen.specs.Refusals.{IsExcess};
+ghost use Rattle.tb_codegen.specs.declared.settings.SizeLimit.TheVariants.{Cost, Memory};
+ghost use Rattle.tb_check.specs.Verdicts.{HasFaults, Judges, JudgesLines, JudgesProgram, MakesShallow, TellsSizeOf, deep_lines};
 
 use crate::lines::read_lines;
 use std::alloc::{AllocError, Global};
-use tb_codegen::{MOST_COST, cost};
+use tb_codegen::{CompileError, CompileSettings, MOST_COST, SizeLimit, compile_within, cost};
 use tb_lower::{SLOT_COUNT, statement_need};
 use tb_parser::SourceError;
 use tb_syntax::Program;
@@ -17,8 +20,18 @@ use tb_syntax::Program;
 pub struct ProgramFaults {
     /// The numbers of the lines with an expression that is too deep.
     pub deep: Vec<u16>,
-    /// What the program costs, if that is too much.
+    /// What tells the program's size, if that is too much: its cost; or, by the memory, the bytes that its code and line
+    /// table take, which only a program without such lines has.
     pub too_large: Option<u32>,
+}
+
+impl ProgramFaults {
+    // Whether nothing is wrong.
+    fn is_empty(&self) -> bool
+        ensures { IsTrue result ↔ ((self.now.deep.items ≡ []) × (self.now.too_large ≡ None)) }
+    {
+        self.deep.is_empty() && self.too_large.is_none()
+    }
 }
 
 /// What becomes of a source.
@@ -34,54 +47,75 @@ pub enum Verdict {
     Accepted(Program),
 }
 
-/// Judges a source. Fails only if memory runs out.
-pub fn judge(alloc: Global, source: &[u8]) -> Result<Verdict, AllocError>
-    ensures judged { IfOk result (Judges source.now) }
+/// The seed that sizes are measured with: with any other they are the same.
+const SEED: u16 = 1;
+
+/// Judges a source, whose program is too large by this limit. Fails only if memory runs out.
+pub fn judge(alloc: Global, source: &[u8], size: SizeLimit) -> Result<Verdict, AllocError>
+    ensures judged { IfOk result (Judges size source.now) }
     // What the compiler answers agrees with it.
-    ensures agrees { IfOk result (Agrees source.now) }
+    ensures agrees { IfOk result (Agrees size source.now) }
 {
     let lines = read_lines(alloc, source)?;
-    verdict_on(alloc, lines.bad, lines.program)
+    verdict_on(alloc, source, lines.bad, lines.program, size)
 }
 
 /// Judges the bad lines of a source and the program that its other lines make.
 pub fn verdict_on(
     alloc: Global,
+    source: &[u8],
     bad: Vec<SourceError>,
     program: Program,
+    size: SizeLimit,
 ) -> Result<Verdict, AllocError>
-    requires { bad.items ≡ [] → costs.cost (lines_of program) < 4294967296 }
-    ensures { IfOk result (JudgesLines bad.items program) }
+    requires small { bad.items ≡ [] → costs.cost (lines_of program) < 4294967296 }
+    requires made { bad.items ≡ [] → program ≢ [] → LinesMake source.now (Ok (lines_of program)) }
+    ensures { IfOk result (JudgesLines size bad.items program) }
 {
     if !bad.is_empty() {
         Ok(Verdict::BadLines(bad))
     } else if program.is_empty() {
         Ok(Verdict::Empty)
     } else {
-        judge_program(alloc, program)
+        judge_program(alloc, source, program, size)
     }
 }
 
-fn judge_program(alloc: Global, program: Program) -> Result<Verdict, AllocError>
-    requires { costs.cost (lines_of program) < 4294967296 }
-    ensures { IfOk result (JudgesProgram (lines_of program)) }
+fn judge_program(
+    alloc: Global,
+    source: &[u8],
+    program: Program,
+    size: SizeLimit,
+) -> Result<Verdict, AllocError>
+    requires small { costs.cost (lines_of program) < 4294967296 }
+    requires made { LinesMake source.now (Ok (lines_of program)) }
+    ensures { IfOk result (JudgesProgram size (lines_of program)) }
 {
-    let faults = faults_of(alloc, &program)?;
-    Ok(if faults.deep.is_empty() && faults.too_large.is_none() {
+    let faults = faults_of(alloc, source, &program, size)?;
+    Ok(if faults.is_empty() {
         Verdict::Accepted(program)
     } else {
         Verdict::Refused(faults)
     })
 }
 
-fn faults_of(alloc: Global, program: &Program) -> Result<ProgramFaults, AllocError>
-    requires { costs.cost (lines_of program.now) < 4294967296 }
-    ensures { IfOk result (HasFaults (lines_of program.now)) }
+fn faults_of(
+    alloc: Global,
+    source: &[u8],
+    program: &Program,
+    size: SizeLimit,
+) -> Result<ProgramFaults, AllocError>
+    requires small { costs.cost (lines_of program.now) < 4294967296 }
+    requires made { LinesMake source.now (Ok (lines_of program.now)) }
+    ensures { IfOk result (HasFaults size (lines_of program.now)) }
 {
-    Ok(ProgramFaults {
-        deep: deep_lines(alloc, program)?,
-        too_large: excess(program),
-    })
+    let deep = deep_lines(alloc, program)?;
+    let too_large = match size {
+        SizeLimit::Cost => excess(program),
+        SizeLimit::Memory if deep.is_empty() => overrun(alloc, source)?,
+        SizeLimit::Memory => None,
+    };
+    Ok(ProgramFaults { deep, too_large })
 }
 
 // The lines with an expression that is too deep.
@@ -100,8 +134,23 @@ fn deep_lines(alloc: Global, program: &Program) -> Result<Vec<u16>, AllocError>
 // What a program costs, if that is too much.
 fn excess(program: &Program) -> Option<u32>
     requires { costs.cost (lines_of program.now) < 4294967296 }
-    ensures { result ≡ excess (costs.cost (lines_of program.now)) }
+    ensures { IsExcess Cost (lines_of program.now) result }
 {
     let cost = cost(program);
     if cost > MOST_COST { Some(cost) } else { None }
+}
+
+// The bytes that a source's program takes, if those are too many. What the compiler promises is of sources, so the source
+// is read once more.
+fn overrun(alloc: Global, source: &[u8]) -> Result<Option<u32>, AllocError>
+    requires { MakesShallow source.now }
+    ensures { IfOk result (TellsSizeOf Memory source.now) }
+{
+    match compile_within(alloc, source, CompileSettings::by_memory(SEED)) {
+        Ok(_) => Ok(None),
+        Err(CompileError::TooLarge(bytes)) => Ok(Some(bytes)),
+        Err(CompileError::NoMemory) => Err(AllocError),
+        Err(CompileError::Source(_)) => unreachable!(),
+        Err(CompileError::Lower(_)) => unreachable!(),
+    }
 }

@@ -21,16 +21,18 @@ is_refused (findings.Accepted warnings) = false
 -- a source was looked at under a name: what is said of it follows what was said before, and a refusal is kept
 pub record LooksAt (old : Checked) (name source : List ℕ) (new : Checked) : Type 0 where
   pub found : Findings
-  pub are : AreFindings source found
+  pub are : AreFindings old.size source found
   pub text : new.text.items ≡ old.text.items ++ report name (lines_of_file source) found
   pub kept : new.is_refused ≡ (is_refused found || old.is_refused)
   pub unread : new.is_unread ≡ old.is_unread
+  pub size : new.size ≡ old.size
 
 -- a source could not be read
 pub record PassesOver (old new : Checked) : Type 0 where
   pub text : new.text.items ≡ old.text.items
   pub refused : new.is_refused ≡ old.is_refused
   pub unread : new.is_unread ≡ true
+  pub size : new.size ≡ old.size
 
 -- a reader's source was looked at, or the reader failed in this call, by its count of failures, or gave too many bytes
 abbrev pub Adds : Checked → List ℕ → Option (List ℕ) → ℕ → ℕ → Result Checked CheckOutcome → Type 0

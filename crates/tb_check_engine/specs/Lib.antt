@@ -1,5 +1,6 @@
 pub mod Checks
 pub mod Outcomes
+pub mod Refusals
 pub mod Reports
 pub mod Rows
 pub mod Texts

@@ -10,6 +10,7 @@ use crate::reports::{Source, push_report};
 use std::alloc::Global;
 use std::io::{Read, Write};
 use tb_check::{Findings, examine};
+use tb_codegen::SizeLimit;
 use tb_streams::{InputError, Tracked, read_input, write_output};
 
 /// Sources that were looked at, and what there is to say of them.
@@ -20,6 +21,8 @@ pub struct Checked {
     is_refused: bool,
     // Whether one of them could not be read.
     is_unread: bool,
+    // When a program is too large.
+    size: SizeLimit,
 }
 
 // Whether a source is not compiled, by what there is to say of it.
@@ -30,15 +33,17 @@ fn is_refused(findings: &Findings) -> bool
 }
 
 impl Checked {
-    /// No sources.
-    pub fn new(alloc: Global) -> Checked
+    /// No sources, whose programs are too large by this limit.
+    pub fn new(alloc: Global, size: SizeLimit) -> Checked
         ensures text { result.text.items ≡ [] }
         ensures accepted { (result.is_refused ≡ false) × (result.is_unread ≡ false) }
+        ensures limit { result.size ≡ size }
     {
         Checked {
             text: Vec::new(alloc),
             is_refused: false,
             is_unread: false,
+            size,
         }
     }
 
@@ -79,7 +84,7 @@ impl Checked {
     ) -> Result<Checked, CheckOutcome>
         ensures { MatchResult result (LooksAt self name.now source.now) (λ e. e ≡ NoMemory) }
     {
-        let seen = examine(alloc, source)?;
+        let seen = examine(alloc, source, self.size)?;
         let shown = Source {
             name,
             lines: seen.lines.as_slice(),

@@ -3,10 +3,12 @@
 
 mod engine;
 mod outcome;
+mod refusals;
 mod reports;
 mod rows;
 mod texts;
 
 pub use engine::Checked;
 pub use outcome::CheckOutcome;
-pub use rows::push_caret;
+pub use refusals::refusal_text;
+pub use rows::{push_caret, push_line};

@@ -91,7 +91,7 @@ fn push_bad_lines(
     Ok(())
 }
 
-fn push_bad_line(
+pub fn push_bad_line(
     alloc: Global,
     text: &mut Vec<u8>,
     source: &Source<'_>,
@@ -189,7 +189,7 @@ fn too_deep() -> &'static str
     TOO_DEEP
 }
 
-fn push_deep_line(
+pub fn push_deep_line(
     alloc: Global,
     text: &mut Vec<u8>,
     source: &Source<'_>,

@@ -15,6 +15,7 @@ use std::alloc::{AllocError, Global};
 use std::io::{Read, Write};
 use tb_check::{Examined, SourceError, Verdict, bad_lines, examine, judge};
 use tb_check_engine::{CheckOutcome, Checked, push_caret};
+use tb_codegen::SizeLimit;
 use tb_streams::Tracked;
 
 /// Calls `bad_lines`.
@@ -26,19 +27,19 @@ pub fn lines_that_are_bad(alloc: Global, source: &[u8]) -> Result<Vec<SourceErro
 }
 
 /// Calls `judge`.
-pub fn judged(alloc: Global, source: &[u8]) -> Result<Verdict, AllocError>
-    ensures judged { IfOk result (Judges source.now) }
-    ensures agrees { IfOk result (Agrees source.now) }
+pub fn judged(alloc: Global, source: &[u8], size: SizeLimit) -> Result<Verdict, AllocError>
+    ensures judged { IfOk result (Judges size source.now) }
+    ensures agrees { IfOk result (Agrees size source.now) }
 {
-    judge(alloc, source)
+    judge(alloc, source, size)
 }
 
 /// Calls `examine`.
-pub fn examined(alloc: Global, source: &[u8]) -> Result<Examined<'_>, AllocError>
+pub fn examined(alloc: Global, source: &[u8], size: SizeLimit) -> Result<Examined<'_>, AllocError>
     ensures lines { IfOk result (λ seen. map (λ t. t.now) seen.lines.items ≡ lines_of_file source.now) }
-    ensures findings { IfOk result (λ seen. AreFindings source.now seen.findings) }
+    ensures findings { IfOk result (λ seen. AreFindings size source.now seen.findings) }
 {
-    examine(alloc, source)
+    examine(alloc, source, size)
 }
 
 /// Calls `Checked::add`.

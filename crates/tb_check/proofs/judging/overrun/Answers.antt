@@ -1,0 +1,31 @@
+-- The goals of `overrun` in src/judging.rt.
+use Rattle.std.proofs.Common.{subst, sym}
+use Rattle.std.specs.Prelude.{IfOk}
+use Rattle.tb_codegen.specs.declared.settings.SizeLimit.TheVariants.{Memory}
+use Rattle.tb_check.specs.Verdicts.{TellsSizeOf}
+use Rattle.tb_check.proofs.Measured.{no_bad_line, no_deep_line, fits_all, takes_all}
+use Rattle.tb_check.proofs.judging.overrun.Goals as goal
+use Rattle.tb_check.proofs.judging.overrun.Goals.{in-Ok, in-Err-TooLarge, in-Err-NoMemory}
+
+pub unreachable-requires : goal.unreachable-requires
+unreachable-requires c =
+    let e = c.in-Err-Source in
+    no_bad_line c.args.source.now c.by_memory.result c.by_memory.ensures e.field-0-0 e.field-0-is c.requires e.ensures.only
+
+pub unreachable-requires-in-Err-Lower : goal.unreachable-requires-in-Err-Lower
+unreachable-requires-in-Err-Lower c =
+    let e = c.in-Err-Lower in
+    no_deep_line c.args.source.now c.by_memory.result c.by_memory.ensures e.field-0-0 e.field-0-is c.requires e.ensures.only
+
+pub returns : goal.returns
+returns c =
+    let source = c.args.source.now in
+    elim c.match-compile_within.branch [
+      | in-Ok w ↦ subst (λ r. IfOk r (TellsSizeOf Memory source)) (sym w.result-is)
+          (fits_all source c.by_memory.result c.by_memory.ensures w.in-Ok.field-0 w.in-Ok.ensures.only)
+      | in-Err-TooLarge w ↦
+          let e = w.in-Err-TooLarge in
+          subst (λ r. IfOk r (TellsSizeOf Memory source)) (sym w.result-is)
+          (takes_all source c.by_memory.result c.by_memory.ensures e.bytes e.field-0-is e.ensures.only)
+      | in-Err-NoMemory w ↦ subst (λ r. IfOk r (TellsSizeOf Memory source)) (sym w.result-is) tt
+    ]
