@@ -1,4 +1,4 @@
--- Which files may be written.
+-- Which files may be written. A file whose text is replaced by one that is made of it (`replace`) is no subject of this.
 use Rattle.std.specs.Prelude.{◌≡◌, ℕ, Bool, true, false, ◌&&◌, List, map, All, Some, None, find, option_map, Result, Ok, Err, ⊤}
 use Rattle.tb_files.specs.Names.{ends_as, source_ending}
 use Rattle.tb_files.specs.Places.{clashes}

@@ -65,7 +65,7 @@ fn judged<'a>(kept: &[Named<'a>], written: &[Named<'a>]) -> Result<(), Barred<'a
 }
 
 /// Whether a command may write files: none of them may be one of those that must be kept, be written twice, or be a
-/// source that is there.
+/// source that is there. A file of which the text is replaced by one that is made of it (`replace`) is among neither.
 pub fn may_write<'a, F: FileSystem>(
     alloc: Global,
     files: &F,

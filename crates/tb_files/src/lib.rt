@@ -12,4 +12,4 @@ pub use checks::{Barred, may_write};
 pub use names::{STANDARD, is_image_name, is_source_name, usual_out};
 pub use places::{Named, Node, Place, clashes};
 pub use system::{FileSystem, Trouble};
-pub use transfers::{Work, transfer};
+pub use transfers::{Work, replace, transfer};

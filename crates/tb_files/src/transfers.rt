@@ -1,5 +1,5 @@
 //! Commands that read files and write others: nothing is opened for writing before all that is to be written was made.
-ghost use Rattle.std.specs.Prelude.{◌≡◌, ◌⊎◌, map, OnOk, OnErr};
+ghost use Rattle.std.specs.Prelude.{◌≡◌, ◌⊎◌, [], ◌∷◌, map, OnOk, OnErr};
 ghost use Rattle.tb_files.specs.Deeds.{Opens, Did, opened, saved, Opened, Saved, Transfers};
 
 use crate::system::{FileSystem, Trouble};
@@ -93,4 +93,17 @@ pub fn transfer<F: FileSystem, W: Work>(
     take_all(files, work, inputs)?;
     let texts = work.make()?;
     save_all::<F, W>(files, outputs, texts.as_slice())
+}
+
+/// Puts the text that a work makes of a file in the place of the file's own. It is the one way in which a command writes
+/// what it reads, or a source that is there: the file is opened for writing only after the text was made, and only if the
+/// work makes one.
+pub fn replace<F: FileSystem, W: Work>(
+    files: &mut F,
+    work: &mut W,
+    path: &str,
+) -> Result<(), W::End>
+    ensures { Transfers F.does files.old (path.now ∷ []) (path.now ∷ []) result files.new }
+{
+    transfer(files, work, &[path], &[path])
 }

@@ -5,7 +5,7 @@
 //! is the promise alone.
 #![tactic(auto)]
 
-ghost use Rattle.std.specs.Prelude.{◌≡◌, IfOk, map, string_bytes};
+ghost use Rattle.std.specs.Prelude.{◌≡◌, [], ◌∷◌, IfOk, map, string_bytes};
 ghost use Rattle.tb_files.specs.Places.{clashes};
 ghost use Rattle.tb_files.specs.Checks.{Judges};
 ghost use Rattle.tb_files.specs.Deeds.{Transfers};
@@ -43,6 +43,17 @@ pub fn transferred<F: FileSystem, W: Work>(
     ensures { Transfers F.does files.old (map (λ p. p.now) inputs.now) (map (λ p. p.now) outputs.now) result files.new }
 {
     tb_files::transfer(files, work, inputs, outputs)
+}
+
+/// Calls `replace`.
+pub fn replaced<F: FileSystem, W: Work>(
+    files: &mut F,
+    work: &mut W,
+    path: &str,
+) -> Result<(), W::End>
+    ensures { Transfers F.does files.old (path.now ∷ []) (path.now ∷ []) result files.new }
+{
+    tb_files::replace(files, work, path)
 }
 
 /// Calls `is_source_name`.

@@ -1,0 +1,16 @@
+-- ── a line ──
+-- what is kept of a line, byte by byte
+pub mod Keeping
+-- what is kept of a line has a line's end only where the line has it, and decides its squeezed bytes
+pub mod KeptBytes
+-- where a condition ends, byte by byte
+pub mod ConditionEnds
+-- what comes of a line, by what was found of it
+pub mod LineCases
+-- ── a text ──
+-- as many lines, each saying the same
+pub mod SameText
+-- the tidy text, line by line
+pub mod TextSteps
+-- a tidy text is its own tidy text
+pub mod Twice
