@@ -1,8 +1,11 @@
 //! Assembling the text of a file.
-use crate::saving::{unread, unwritten};
+ghost use Rattle.std.specs.Prelude.{◌∷◌, []};
+ghost use Rattle.tb_file_engine.specs.Outcomes.{Ends};
+
+use crate::saving::{Stop, made_in_memory, outcome_of, unread, unwritten};
 use std::alloc::Global;
 use std::io::Read;
-use tb_engines::{End, Outcome, asm_text};
+use tb_engines::{Outcome, Refusal, asm_text};
 use tb_files::{FileSystem, Trouble, Work, transfer};
 use tb_streams::Tracked;
 
@@ -15,53 +18,49 @@ struct Assembly {
 }
 
 impl Work for Assembly {
-    type End = Outcome;
+    type End = Stop<Refusal>;
 
-    fn look_at(&mut self, _path: &str) -> Result<(), Outcome> {
+    fn look_at(&mut self, _path: &str) -> Result<(), Stop<Refusal>> {
         Ok(())
     }
 
-    fn take<R: Read>(&mut self, input: &mut Tracked<R>) -> Result<(), Outcome> {
+    fn take<R: Read>(&mut self, input: &mut Tracked<R>) -> Result<(), Stop<Refusal>> {
         let mut image = Tracked::new(Vec::new(self.alloc));
-        match asm_text(self.alloc, input, &mut image, self.at) {
-            Outcome::Ended(End::Done) => match self.made.push(image.stream) {
-                Ok(()) => Ok(()),
-                Err(_) => Err(Outcome::NoMemory),
-            },
-            // Only memory is wanting to a writer in memory.
-            Outcome::WriteFault => Err(Outcome::NoMemory),
-            outcome => Err(outcome),
+        made_in_memory(asm_text(self.alloc, input, &mut image, self.at))?;
+        match self.made.push(image.stream) {
+            Ok(()) => Ok(()),
+            Err(_) => Err(Stop::NoMemory),
         }
     }
 
-    fn make(&mut self) -> Result<Vec<Vec<u8>>, Outcome> {
+    fn make(&mut self) -> Result<Vec<Vec<u8>>, Stop<Refusal>> {
         Ok(std::mem::replace(&mut self.made, Vec::new(self.alloc)))
     }
 
-    fn unread(trouble: Trouble) -> Outcome {
+    fn unread(trouble: Trouble) -> Stop<Refusal> {
         unread(trouble)
     }
 
-    fn unwritten(trouble: Trouble) -> Outcome {
+    fn unwritten(trouble: Trouble) -> Stop<Refusal> {
         unwritten(trouble)
     }
 }
 
-/// Assembles the text of a file at an address, and writes the PRG file.
+/// Assembles the text of a file at an address, and writes the PRG file. The text is opened first, and the PRG file only
+/// after all of it was made.
 pub fn assemble_file<F: FileSystem>(
     alloc: Global,
     files: &mut F,
     text: &str,
     out: &str,
     at: u16,
-) -> Outcome {
+) -> Outcome
+    ensures { Ends F.does files.old (text.now ∷ []) (out.now ∷ []) result files.new }
+{
     let mut work = Assembly {
         alloc,
         at,
         made: Vec::new(alloc),
     };
-    match transfer(files, &mut work, &[text], &[out]) {
-        Ok(()) => Outcome::Ended(End::Done),
-        Err(outcome) => outcome,
-    }
+    outcome_of(transfer(files, &mut work, &[text], &[out]))
 }

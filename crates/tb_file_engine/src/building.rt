@@ -1,10 +1,13 @@
 //! Building a source's file: the PRG file, and the files of the texts that tell of its program.
-use crate::saving::{unread, unwritten};
+ghost use Rattle.std.specs.Prelude.{◌≡◌, ◌++◌, IfOk, map, option_map};
+ghost use Rattle.tb_file_engine.specs.Builds.{Builds, Maps, costs_too_much, outputs_of, wanted};
+
+use crate::saving::{Stop, made_in_memory, outcome_of, unread, unwritten};
 use std::alloc::{AllocError, Global};
 use std::io::Read;
 use tb_build_engine::{BuildFiles, build_files, map_source};
 use tb_driver::{CompileError, CompileSettings, Refusal, SizeLimit, build_within};
-use tb_engines::{End, Outcome, Report};
+use tb_engines::{Outcome, Report};
 use tb_files::{FileSystem, Trouble, Work, transfer};
 use tb_streams::Tracked;
 
@@ -47,16 +50,29 @@ fn texts_of(alloc: Global, files: BuildFiles<Vec<u8>>) -> Result<Vec<Vec<u8>>, A
     Ok(texts)
 }
 
-// The paths that are wanted, in the same order.
-fn paths_of<'a>(alloc: Global, names: &BuildNames<'a>) -> Result<Vec<&'a str>, AllocError> {
-    let mut paths = Vec::new(alloc);
-    paths.push(names.out)?;
-    for name in [names.labels, names.listing, names.map] {
-        if let Some(name) = name {
-            paths.push(name)?;
-        }
+// Paths, and another one behind them, if it is wanted.
+fn with_wanted<'a>(
+    mut paths: Vec<&'a str>,
+    path: Option<&'a str>,
+) -> Result<Vec<&'a str>, AllocError>
+    ensures { IfOk result (λ r. map (λ p. p.now) r.items ≡ map (λ p. p.now) paths.entry.items ++ wanted (option_map (λ p. p.now) path.entry)) }
+{
+    if let Some(path) = path {
+        paths.push(path)?;
     }
     Ok(paths)
+}
+
+// The paths that are wanted, in the same order.
+fn paths_of<'a>(alloc: Global, names: BuildNames<'a>) -> Result<Vec<&'a str>, AllocError>
+    ensures { IfOk result (λ r. map (λ p. p.now) r.items ≡ outputs_of names.entry) }
+{
+    let mut paths = Vec::new(alloc);
+    paths.push(names.out)?;
+    with_wanted(
+        with_wanted(with_wanted(paths, names.labels)?, names.listing)?,
+        names.map,
+    )
 }
 
 impl Build<'_> {
@@ -67,13 +83,13 @@ impl Build<'_> {
 }
 
 impl Work for Build<'_> {
-    type End = Outcome;
+    type End = Stop<Refusal>;
 
-    fn look_at(&mut self, _path: &str) -> Result<(), Outcome> {
+    fn look_at(&mut self, _path: &str) -> Result<(), Stop<Refusal>> {
         Ok(())
     }
 
-    fn take<R: Read>(&mut self, input: &mut Tracked<R>) -> Result<(), Outcome> {
+    fn take<R: Read>(&mut self, input: &mut Tracked<R>) -> Result<(), Stop<Refusal>> {
         let mut files = BuildFiles {
             out: Tracked::new(Vec::new(self.alloc)),
             labels: in_memory(self.alloc, self.names.labels),
@@ -85,31 +101,26 @@ impl Work for Build<'_> {
         } else {
             build_files(self.alloc, input, &mut files, self.settings)
         };
-        match report.outcome {
-            Outcome::Ended(End::Done) => {}
-            // Only memory is wanting to a writer in memory.
-            Outcome::WriteFault => return Err(Outcome::NoMemory),
-            outcome => return Err(outcome),
-        }
+        made_in_memory(report.outcome)?;
         self.told = Some(report);
         match texts_of(self.alloc, files) {
             Ok(texts) => {
                 self.made = texts;
                 Ok(())
             }
-            Err(_) => Err(Outcome::NoMemory),
+            Err(_) => Err(Stop::NoMemory),
         }
     }
 
-    fn make(&mut self) -> Result<Vec<Vec<u8>>, Outcome> {
+    fn make(&mut self) -> Result<Vec<Vec<u8>>, Stop<Refusal>> {
         Ok(std::mem::replace(&mut self.made, Vec::new(self.alloc)))
     }
 
-    fn unread(trouble: Trouble) -> Outcome {
+    fn unread(trouble: Trouble) -> Stop<Refusal> {
         unread(trouble)
     }
 
-    fn unwritten(trouble: Trouble) -> Outcome {
+    fn unwritten(trouble: Trouble) -> Stop<Refusal> {
         unwritten(trouble)
     }
 }
@@ -123,36 +134,32 @@ struct Map {
 }
 
 impl Work for Map {
-    type End = Outcome;
+    type End = Stop<Refusal>;
 
-    fn look_at(&mut self, _path: &str) -> Result<(), Outcome> {
+    fn look_at(&mut self, _path: &str) -> Result<(), Stop<Refusal>> {
         Ok(())
     }
 
-    fn take<R: Read>(&mut self, input: &mut Tracked<R>) -> Result<(), Outcome> {
+    fn take<R: Read>(&mut self, input: &mut Tracked<R>) -> Result<(), Stop<Refusal>> {
         let mut map = Tracked::new(Vec::new(self.alloc));
-        match map_source(self.alloc, input, &mut map, self.settings).outcome {
-            Outcome::Ended(End::Done) => {
-                self.made = map.stream;
-                Ok(())
-            }
-            outcome => Err(outcome),
-        }
+        made_in_memory(map_source(self.alloc, input, &mut map, self.settings).outcome)?;
+        self.made = map.stream;
+        Ok(())
     }
 
-    fn make(&mut self) -> Result<Vec<Vec<u8>>, Outcome> {
+    fn make(&mut self) -> Result<Vec<Vec<u8>>, Stop<Refusal>> {
         let mut made = Vec::new(self.alloc);
         match made.push(std::mem::replace(&mut self.made, Vec::new(self.alloc))) {
             Ok(()) => Ok(made),
-            Err(_) => Err(Outcome::NoMemory),
+            Err(_) => Err(Stop::NoMemory),
         }
     }
 
-    fn unread(trouble: Trouble) -> Outcome {
+    fn unread(trouble: Trouble) -> Stop<Refusal> {
         unread(trouble)
     }
 
-    fn unwritten(trouble: Trouble) -> Outcome {
+    fn unwritten(trouble: Trouble) -> Stop<Refusal> {
         unwritten(trouble)
     }
 }
@@ -165,7 +172,9 @@ fn map_refused<F: FileSystem>(
     source: &str,
     seed: u16,
     map: Option<&str>,
-) {
+)
+    ensures { Maps F.does files.old source.now (option_map (λ p. p.now) map.entry) files.new }
+{
     if let Some(map) = map {
         let mut work = Map {
             alloc,
@@ -177,7 +186,9 @@ fn map_refused<F: FileSystem>(
 }
 
 // Whether a source is refused by its cost.
-fn costs_too_much(settings: CompileSettings, outcome: Outcome) -> bool {
+fn costs_too_much(settings: CompileSettings, outcome: Outcome) -> bool
+    ensures { result ≡ costs_too_much settings.size outcome }
+{
     settings.size == SizeLimit::Cost
         && matches!(
             outcome,
@@ -193,8 +204,10 @@ pub fn build_file<F: FileSystem>(
     source: &str,
     settings: CompileSettings,
     names: BuildNames<'_>,
-) -> Report {
-    let Ok(paths) = paths_of(alloc, &names) else {
+) -> Report
+    ensures { Builds F.does files.old source.now names.entry settings.size result.outcome files.new }
+{
+    let Ok(paths) = paths_of(alloc, names) else {
         return Report::new(alloc, Outcome::NoMemory);
     };
     let mut work = Build {
@@ -204,10 +217,7 @@ pub fn build_file<F: FileSystem>(
         made: Vec::new(alloc),
         told: None,
     };
-    let outcome = match transfer(files, &mut work, &[source], paths.as_slice()) {
-        Ok(()) => Outcome::Ended(End::Done),
-        Err(outcome) => outcome,
-    };
+    let outcome = outcome_of(transfer(files, &mut work, &[source], paths.as_slice()));
     if costs_too_much(settings, outcome) {
         map_refused(alloc, files, source, settings.seed, names.map);
     }

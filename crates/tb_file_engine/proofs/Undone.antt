@@ -1,0 +1,34 @@
+-- Commands that end before any file is opened.
+use Rattle.std.proofs.Common.{◌≡◌, ℕ, List, Err, inl, refl, sym, subst}
+use Rattle.tb_files.specs.Deeds.{Deed}
+use Rattle.tb_codegen.specs.declared.settings.SizeLimit.{SizeLimit}
+use Rattle.tb_codegen.specs.declared.settings.SizeLimit.TheVariants.{Cost, Memory}
+use Rattle.tb_engines.specs.declared.outcome.Outcome.{Outcome}
+use Rattle.tb_engines.specs.declared.outcome.Outcome.TheVariants as outcome
+use Rattle.tb_disk_engine.specs.declared.outcome.DiskOutcome.TheVariants as disk
+use Rattle.tb_disk_engine.specs.declared.outcome.DiskRefusal.{DiskRefusal}
+use Rattle.tb_file_engine.specs.Outcomes.{EndsDisk}
+use Rattle.tb_file_engine.specs.Builds.{Builds}
+use Rattle.tb_file_engine.specs.declared.building.BuildNames.{BuildNames}
+use Rattle.tb_file_engine.specs.declared.saving.Stop.TheVariants.{Refused, NoMemory}
+
+module _ {F : Type 0} (does : F → Deed → F → Type 0) (f : F) where
+  -- a disk was refused
+  pub disk_refused : (inputs outputs : List (List ℕ)) (e : DiskRefusal) → EndsDisk does f inputs outputs (disk.Refused e) f
+  disk_refused inputs outputs e = (Err (Refused e), refl, inl (0, refl))
+
+  -- there was no memory for a disk
+  pub disk_unmade : (inputs outputs : List (List ℕ)) → EndsDisk does f inputs outputs disk.NoMemory f
+  disk_unmade inputs outputs = (Err NoMemory, refl, inl (0, refl))
+
+  -- there was no memory for a build, whatever limits its size
+  nothing_built : (source : List ℕ) (names : BuildNames) (size : SizeLimit) → Builds does f source names size outcome.NoMemory f
+  nothing_built source names Cost = (Err NoMemory, refl, inl (0, refl))
+  nothing_built source names Memory = (Err NoMemory, refl, inl (0, refl))
+
+  pub not_built : (source : List ℕ) (names : BuildNames) (size : SizeLimit) (ends : Outcome) → ends ≡ outcome.NoMemory
+      → Builds does f source names size ends f
+  not_built source names size ends is = subst (λ o. Builds does f source names size o f) (sym is) (nothing_built source names size)
+
+-- a disk was not made
+pub ruleset undone = (disk_refused, disk_unmade)

@@ -1,0 +1,152 @@
+//! Running a source, with what the machine tells at the end.
+ghost use Rattle.std.specs.Prelude.{◌≡◌, ℕ, List, OnOk, IfSome, MatchResult, Ok, Some};
+ghost use Rattle.tb_kernal.specs.Machine.{state_of, status};
+ghost use Rattle.tb_kernal.specs.Runs.{RanOver};
+ghost use Rattle.tb_streams.specs.Uses.{use_of, TakesInput};
+ghost use Rattle.tb_engines.specs.Outcomes.{AnswersInput, Faults};
+ghost use Rattle.tb_engines.specs.Delivery.{Makes};
+ghost use Rattle.tb_engines.specs.Programs.{settings_of, RunsOn, RunsPrg};
+ghost use Rattle.tb_codegen.specs.Compiled.{prg_of};
+ghost use Rattle.tb_codegen.specs.declared.settings.CompileSettings.{CompileSettings};
+ghost use Rattle.tb_driver.specs.Sources.{RunsText, WarnsOfRead};
+ghost use Rattle.tb_driver.specs.Output.{KeepsSource, RunsSource};
+ghost use Rattle.tb_run_notes.specs.Notes.{end_note};
+ghost use Rattle.tb_run_notes.specs.Runs.{NotesEnd, NotesRun};
+
+use crate::notes::{EndNote, end_note};
+use std::alloc::Global;
+use std::io::{Read, Write};
+use tb_codegen::{CompileSettings, Compiled};
+use tb_driver::{are_bytes, read_source, start_program};
+use tb_engines::{NoText, Report, Text, deliver, end_of};
+use tb_kernal::{Keyboard, Machine, Outside, run};
+use tb_streams::{Tracked, host_form};
+
+/// A run of a source: how it ended, and what the machine told then.
+#[derive(Debug, Drop)]
+pub struct NotedRun {
+    pub report: Report,
+    pub note: Option<EndNote>,
+}
+
+// What was made by a run, and what the machine told at its end.
+#[derive(Drop)]
+struct Ran {
+    made: Result<Text, NoText>,
+    note: Option<EndNote>,
+}
+
+// Runs a machine, and shows what it sent.
+fn run_machine<O: Outside>(
+    alloc: Global,
+    machine: &mut Machine,
+    limit: u64,
+    outside: &mut O,
+) -> Result<Text, NoText>
+    ensures made { Makes (RunsOn O.gives outside.old machine.old limit) result }
+    ensures ran { OnOk result ((t : _) × RanOver O.gives outside.old machine.old limit (Ok t) outside.new machine.new) }
+{
+    let Ok(status) = run(machine, outside, limit) else {
+        return Err(NoText::NoMemory);
+    };
+    let end = end_of(status, machine.regs().pc);
+    match host_form(alloc, machine.sent()) {
+        Ok(bytes) => Ok(Text { bytes, end }),
+        Err(_) => Err(NoText::NoMemory),
+    }
+}
+
+// Runs a compiled program.
+fn run_program<O: Outside>(
+    alloc: Global,
+    program: &Compiled,
+    keyboard: Keyboard,
+    limit: u64,
+    outside: &mut O,
+) -> Ran
+    ensures machine { Makes (RunsPrg (settings_of O.gives outside.old keyboard limit) (prg_of program.now)) result.made }
+    ensures note { NotesEnd (settings_of O.gives outside.old keyboard limit) program.now result.note }
+{
+    let mut machine = match start_program(alloc, program, keyboard) {
+        Ok(machine) => machine,
+        Err(stop) => return Ran {
+            made: Err(stop),
+            note: None,
+        },
+    };
+    let made = run_machine(alloc, &mut machine, limit, outside);
+    let note = note_after(alloc, &made, &machine, program);
+    Ran { made, note }
+}
+
+// What a machine tells after its run, unless memory ran out.
+fn note_after(
+    alloc: Global,
+    made: &Result<Text, NoText>,
+    machine: &Machine,
+    program: &Compiled,
+) -> Option<EndNote>
+    ensures { IfSome result (λ note. MatchResult made.now
+        (λ _. end_note program.now (status (state_of machine.now)) machine.now ≡ Some note) (λ _. ⊥)) }
+{
+    match made {
+        Ok(_) => end_note(alloc, machine, program).unwrap_or(None),
+        Err(_) => None,
+    }
+}
+
+// Runs the program of a source.
+fn run_compiled<O: Outside>(
+    alloc: Global,
+    program: &Compiled,
+    keyboard: Keyboard,
+    limit: u64,
+    outside: &mut O,
+) -> Ran
+    ensures machine { Makes (RunsPrg (settings_of O.gives outside.old keyboard limit) (prg_of program.now)) result.made }
+    ensures output { (settings : CompileSettings) (source : List ℕ) → KeepsSource settings.seed source (prg_of program.now)
+        → Makes (RunsSource settings keyboard.text.items keyboard.answers.items source) result.made }
+    ensures note { NotesEnd (settings_of O.gives outside.old keyboard limit) program.now result.note }
+{
+    are_bytes(program.prg());
+    are_bytes(keyboard.text.as_slice());
+    are_bytes(keyboard.answers.as_slice());
+    run_program(alloc, program, keyboard, limit, outside)
+}
+
+/// Compiles a source by any settings and runs it, as `run_within` does, and tells at which line it stopped or waits, or by
+/// which fault its program ended.
+pub fn run_noted<R: Read, W: Write, O: Outside>(
+    alloc: Global,
+    reader: &mut Tracked<R>,
+    writer: &mut Tracked<W>,
+    settings: CompileSettings,
+    keyboard: Keyboard,
+    limit: u64,
+    outside: &mut O,
+) -> NotedRun
+    ensures answers { AnswersInput (RunsText (settings_of O.gives outside.old keyboard limit) settings result.report.warnings.items)
+        result.report.outcome (use_of R.remaining reader.old reader.new) (use_of W.contents writer.old writer.new) }
+    ensures output { AnswersInput (RunsSource settings keyboard.text.items keyboard.answers.items)
+        result.report.outcome (use_of R.remaining reader.old reader.new) (use_of W.contents writer.old writer.new) }
+    ensures warned { WarnsOfRead result.report.outcome result.report.warnings.items }
+    ensures note { NotesRun (settings_of O.gives outside.old keyboard limit) settings (use_of R.remaining reader.old reader.new) result.note }
+    ensures faults { Faults result.report.outcome (use_of R.remaining reader.old reader.new) (use_of W.contents writer.old writer.new) }
+    ensures taken { TakesInput (use_of R.remaining reader.old reader.new) }
+{
+    let source = match read_source(alloc, reader, settings) {
+        Ok(source) => source,
+        Err(outcome) => return NotedRun {
+            report: Report::new(alloc, outcome),
+            note: None,
+        },
+    };
+    let ran = run_compiled(alloc, &source.program, keyboard, limit, outside);
+    NotedRun {
+        report: Report {
+            outcome: deliver(writer, ran.made),
+            warnings: source.program.into_warnings(),
+        },
+        note: ran.note,
+    }
+}
