@@ -22,6 +22,8 @@ pub enum Form {
     FileUnless(&'static str),
     /// An option without a value.
     Flag,
+    /// An option without a value that excludes the argument of this name.
+    FlagInPlaceOf(&'static str),
     /// A file that is named by its place, if it is named at all.
     FileIfNamed,
     /// The option `-o`, which names what is written.
@@ -34,6 +36,8 @@ pub enum Form {
     FileOption,
     /// An option that names a file, and excludes the argument of this name.
     FileInPlaceOf(&'static str),
+    /// An option of a text, and excludes the arguments of these names.
+    TextInPlaceOf(&'static [&'static str]),
     /// An option of hexadecimal digits, none if it is missing.
     Digits,
     /// An option of hexadecimal digits that must be there.
@@ -65,9 +69,13 @@ const PRG_NAME: &str = "prg";
 
 const KEYS_NAME: &str = "keys";
 
+const KEY_FILE_NAME: &str = "keys-file";
+
 const OUT_NAME: &str = "OUT";
 
 const OUTPUT_NAME: &str = "output";
+
+const IN_PLACE_NAME: &str = "in-place";
 
 pub const SOURCE: Argument = Argument {
     name: SOURCE_NAME,
@@ -160,9 +168,15 @@ pub const KEYS: Argument = Argument {
 };
 
 pub const KEY_FILE: Argument = Argument {
-    name: "keys-file",
+    name: KEY_FILE_NAME,
     help: "A file of what is typed, as pairs of hexadecimal digits",
     form: Form::FileInPlaceOf(KEYS_NAME),
+};
+
+pub const TYPE: Argument = Argument {
+    name: "type",
+    help: "What is typed, as a text: 5\\n is a 5 and return",
+    form: Form::TextInPlaceOf(&[KEYS_NAME, KEY_FILE_NAME]),
 };
 
 pub const ANSWERS: Argument = Argument {
@@ -217,6 +231,18 @@ pub const RECORD: Argument = Argument {
     name: "record",
     help: "Write all that was typed to this file at the end, for run --keys-file",
     form: Form::FileOption,
+};
+
+pub const IN_PLACE: Argument = Argument {
+    name: IN_PLACE_NAME,
+    help: "Write the file itself, in place of standard output",
+    form: Form::Flag,
+};
+
+pub const ONLY_CHECK: Argument = Argument {
+    name: "check",
+    help: "Write only the file's name, if it is not tidy, and end with status 1 then",
+    form: Form::FlagInPlaceOf(IN_PLACE_NAME),
 };
 
 pub const PAGE: Argument = Argument {

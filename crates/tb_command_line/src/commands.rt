@@ -3,9 +3,9 @@ ghost use Rattle.std.specs.Prelude.{◌≡◌};
 ghost use Rattle.tb_command_line.specs.Table.{NamesEach, command_of};
 
 use crate::arguments::{
-    ANSWERS, AT, Argument, BUILD_OUT, DISK_OUT, DISK_OUTPUT, FIT, KEY_FILE, KEYS, LABELS, LIMIT,
-    LIST, MAP, OUT, OUTPUT, PAGE, PLAY_LIMIT, PRG, PRG_FILE, PRG_FILES, RECORD, RUDE, SEED, SOURCE,
-    SOURCE_OR_PRG, SOURCES, TEXT,
+    ANSWERS, AT, Argument, BUILD_OUT, DISK_OUT, DISK_OUTPUT, FIT, IN_PLACE, KEY_FILE, KEYS, LABELS,
+    LIMIT, LIST, MAP, ONLY_CHECK, OUT, OUTPUT, PAGE, PLAY_LIMIT, PRG, PRG_FILE, PRG_FILES, RECORD,
+    RUDE, SEED, SOURCE, SOURCE_OR_PRG, SOURCES, TEXT, TYPE,
 };
 
 /// A command of `tbc`.
@@ -21,6 +21,8 @@ pub enum CommandName {
     Profile,
     Disk,
     Check,
+    Format,
+    Version,
 }
 
 /// What the command line says of a command.
@@ -43,7 +45,7 @@ pub fn rows() -> &'static [CommandRow]
     &COMMANDS
 }
 
-static COMMANDS: [CommandRow; 10] = [
+static COMMANDS: [CommandRow; 12] = [
     CommandRow {
         command: CommandName::Build,
         name: "build",
@@ -63,6 +65,7 @@ static COMMANDS: [CommandRow; 10] = [
             FIT,
             KEYS,
             KEY_FILE,
+            TYPE,
             ANSWERS,
             LIMIT,
             RUDE,
@@ -94,14 +97,16 @@ static COMMANDS: [CommandRow; 10] = [
         name: "step",
         help: "Step through a source by commands from standard input",
         usage: None,
-        arguments: &[SOURCE, SEED, FIT, KEYS, KEY_FILE, ANSWERS, LIMIT],
+        arguments: &[SOURCE, SEED, FIT, KEYS, KEY_FILE, TYPE, ANSWERS, LIMIT],
     },
     CommandRow {
         command: CommandName::Debug,
         name: "debug",
         help: "Debug a source forth and back by commands from standard input; h lists them",
         usage: None,
-        arguments: &[SOURCE, SEED, FIT, KEYS, KEY_FILE, ANSWERS, LIMIT, RUDE],
+        arguments: &[
+            SOURCE, SEED, FIT, KEYS, KEY_FILE, TYPE, ANSWERS, LIMIT, RUDE,
+        ],
     },
     CommandRow {
         command: CommandName::Profile,
@@ -109,7 +114,7 @@ static COMMANDS: [CommandRow; 10] = [
         help: "Run a source, and show what each of its lines took",
         usage: None,
         arguments: &[
-            SOURCE, SEED, FIT, KEYS, KEY_FILE, ANSWERS, LIMIT, RUDE, PAGE,
+            SOURCE, SEED, FIT, KEYS, KEY_FILE, TYPE, ANSWERS, LIMIT, RUDE, PAGE,
         ],
     },
     CommandRow {
@@ -124,7 +129,21 @@ static COMMANDS: [CommandRow; 10] = [
         name: "check",
         help: "Show everything that is wrong with sources, and what helps",
         usage: None,
-        arguments: &[SOURCES],
+        arguments: &[SOURCES, FIT],
+    },
+    CommandRow {
+        command: CommandName::Format,
+        name: "format",
+        help: "Write a source with tidy lines",
+        usage: None,
+        arguments: &[SOURCE, IN_PLACE, ONLY_CHECK],
+    },
+    CommandRow {
+        command: CommandName::Version,
+        name: "version",
+        help: "Print version",
+        usage: None,
+        arguments: &[],
     },
 ];
 

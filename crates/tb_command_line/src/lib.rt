@@ -7,5 +7,7 @@ mod parser;
 mod values;
 mod words;
 
-pub use tb_jobs::{BuildExtras, Failure, Job, JobError, Limit, Runnable, Settings, Typed};
+pub use tb_jobs::{
+    BuildExtras, Failure, FormatTarget, Job, JobError, Limit, Runnable, Settings, Typed, typed_keys,
+};
 pub use words::job;

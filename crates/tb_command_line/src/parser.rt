@@ -5,16 +5,18 @@ use clap::{Arg, ArgAction, Command, value_parser};
 use std::alloc::{AllocError, Global};
 use tb_jobs::MOST_EVENTS;
 
+/// The version of the program.
+pub const VERSION: &str = "1.0.0";
+
 /// The parser of all words after the program's own name.
 pub fn parser<'a>(alloc: Global) -> Result<Command<'a>, AllocError> {
     let mut parser = Command::new(alloc, "tbc")
         .about(
             "Compiles Tiny BASIC for the Commodore 64, assembles, lists, runs, plays, steps, debugs, profiles and checks",
         )
-        .version("1.0.0")
+        .version(VERSION)
         .no_binary_name(true)
         .bin_name("tbc")?
-        .disable_help_subcommand(true)
         .subcommand_required(true);
     for row in rows() {
         parser = with_subcommand(parser, subcommand(alloc, row))?;
@@ -56,7 +58,18 @@ fn clap_argument<'a>(alloc: Global, argument: &Argument) -> Result<Arg<'a>, Allo
         Form::Files => Ok(plain.required(true).num_args(1..)),
         Form::FileUnless(option) => plain.required_unless_present(option),
         Form::FileInPlaceOf(excluded) => option(plain, argument, "FILE").conflicts_with(excluded),
+        Form::TextInPlaceOf(excluded) => {
+            option(plain, argument, "TEXT")
+                .allow_hyphen_values(true)
+                .conflicts_with_all(excluded)
+        }
         Form::Flag => Ok(plain.long(argument.name).action(ArgAction::SetTrue)),
+        Form::FlagInPlaceOf(excluded) => {
+            plain
+                .long(argument.name)
+                .action(ArgAction::SetTrue)
+                .conflicts_with(excluded)
+        }
         Form::FileIfNamed => Ok(plain),
         Form::FilesUnless(option) => plain.num_args(1..).required_unless_present(option),
         Form::Output => Ok(output_option(plain)),

@@ -1,11 +1,11 @@
 //! The values of arguments that the parser found.
 use crate::arguments::{
-    ANSWERS, Argument, FIT, KEY_FILE, KEYS, LABELS, LIMIT, LIST, MAP, PRG, RUDE, SEED,
-    SOURCE_OR_PRG,
+    ANSWERS, Argument, FIT, IN_PLACE, KEY_FILE, KEYS, LABELS, LIMIT, LIST, MAP, ONLY_CHECK, PRG,
+    RUDE, SEED, SOURCE_OR_PRG, TYPE,
 };
 use clap::ArgMatches;
 use std::alloc::{AllocError, Global};
-use tb_jobs::{BuildExtras, Limit, Runnable, Settings, Typed, USUAL_SEED};
+use tb_jobs::{BuildExtras, FormatTarget, Limit, Runnable, Settings, Typed, USUAL_SEED};
 
 /// A copy of the text of an argument, or an empty one if the parser let it be missing.
 pub fn text(
@@ -64,6 +64,17 @@ pub fn fit_of(found: &ArgMatches<'_>) -> bool {
     found.get_flag(FIT.name)
 }
 
+/// Where the tidy text of a source goes. The parser lets at most one of the two options through.
+pub fn target_of(found: &ArgMatches<'_>) -> FormatTarget {
+    if found.get_flag(IN_PLACE.name) {
+        FormatTarget::InPlace
+    } else if found.get_flag(ONLY_CHECK.name) {
+        FormatTarget::Check
+    } else {
+        FormatTarget::Output
+    }
+}
+
 /// The seed of rude events, if they are wanted.
 pub fn rude_of(found: &ArgMatches<'_>) -> Option<u16> {
     found.get_one::<u16>(RUDE.name)
@@ -89,6 +100,9 @@ pub fn settings_of(alloc: Global, found: &ArgMatches<'_>) -> Result<Settings, Al
 }
 
 fn typed_of(alloc: Global, found: &ArgMatches<'_>) -> Result<Typed, AllocError> {
+    if let Some(typed) = optional_text(alloc, found, &TYPE)? {
+        return Ok(Typed::Text(typed));
+    }
     Ok(match optional_text(alloc, found, &KEY_FILE)? {
         Some(file) => Typed::File(file),
         None => Typed::Digits(text(alloc, found, &KEYS)?),

@@ -7,10 +7,10 @@ use crate::arguments::{
     RECORD, SOURCE, SOURCES, TEXT,
 };
 use crate::commands::{CommandName, command_named, rows};
-use crate::parser::parser;
+use crate::parser::{VERSION, parser};
 use crate::values::{
     extras_of, first_text, fit_of, limit_of, optional_text, rude_of, runnable_of, seed_of,
-    settings_of, text, texts,
+    settings_of, target_of, text, texts,
 };
 use clap::ArgMatches;
 use clap::error::ErrorKind;
@@ -74,6 +74,8 @@ fn job_of(alloc: Global, command: CommandName, found: &ArgMatches<'_>) -> Result
         CommandName::Profile => profile_job(alloc, found),
         CommandName::Disk => disk_job(alloc, found),
         CommandName::Check => check_job(alloc, found),
+        CommandName::Format => format_job(alloc, found),
+        CommandName::Version => version_job(alloc),
     }
 }
 
@@ -188,5 +190,24 @@ fn check_job(alloc: Global, found: &ArgMatches<'_>) -> Result<Job, AllocError>
 {
     Ok(Job::Check {
         sources: texts(alloc, found, &SOURCES)?,
+        fit: fit_of(found),
     })
+}
+
+fn format_job(alloc: Global, found: &ArgMatches<'_>) -> Result<Job, AllocError>
+    ensures { IfOk result IsWithinLimit }
+{
+    Ok(Job::Format {
+        source: text(alloc, found, &SOURCE)?,
+        target: target_of(found),
+    })
+}
+
+fn version_job(alloc: Global) -> Result<Job, AllocError>
+    ensures { IfOk result IsWithinLimit }
+{
+    let mut text = String::from_str(alloc, "tbc ")?;
+    text.push_str(VERSION)?;
+    text.push_str("\n")?;
+    Ok(Job::Show { text })
 }

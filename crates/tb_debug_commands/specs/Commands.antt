@@ -1,6 +1,6 @@
 -- The debugger's commands, and the lines that spell them.
-use Rattle.std.specs.Prelude.{ℕ, ◌+◌, ◌-◌, ◌*◌, ◌==◌, ◌&&◌, nat_le, List, [], ◌∷◌, length, Option, Some, None, if◌then◌else◌}
-use Rattle.std.specs.Option.{option_and_then}
+use Rattle.std.specs.Prelude.{ℕ, ◌+◌, ◌-◌, ◌*◌, ◌==◌, ◌&&◌, nat_le, List, [], ◌∷◌, length, codes, Option, Some, None, option_map, if◌then◌else◌}
+use Rattle.std.specs.Option.{option_and_then, option_or}
 use Rattle.tb_words.specs.Letters.{letter_index}
 use Rattle.tb_debug_commands.specs.Parts.{number_of, variable_in}
 use Rattle.tb_debug_commands.specs.declared.command.Command.{Command}
@@ -149,8 +149,36 @@ with_text c text =
 abbrev pub words : ℕ → ℕ → List ℕ → Asked
 words c next text = if next == 32 then with_text c text else if c == 114 && next == 99 && length text == 0 then ReverseContinue else Unknown
 
+-- a letter, and the rest of its line
+abbrev pub spelled : ℕ → List ℕ → Asked
+spelled c [] = alone c
+spelled c (next ∷ text) = words c next text
+
+-- what follows a word at the beginning of a line
+abbrev pub behind : List ℕ → List ℕ → Option (List ℕ)
+behind [] line = Some line
+behind (b ∷ word) [] = None
+behind (b ∷ word) (c ∷ line) = if b == c then behind word line else None
+
+-- the letter for which a line may have a word, and what follows the word
+abbrev pub letter_for : List ℕ → Option (ℕ × List ℕ)
+letter_for line =
+    option_or (option_map (λ rest. (110, rest)) (behind (codes "next") line))
+    (option_or (option_map (λ rest. (112, rest)) (behind (codes "back") line))
+    (option_or (option_map (λ rest. (104, rest)) (behind (codes "help") line))
+    (option_or (option_map (λ rest. (113, rest)) (behind (codes "quit") line))
+    (option_map (λ rest. (99, rest)) (behind (codes "continue") line)))))
+
+-- a line that begins with no such word
+abbrev pub asked_by_letter : List ℕ → Asked
+asked_by_letter [] = Unknown
+asked_by_letter (c ∷ rest) = spelled c rest
+
 -- a line
+abbrev pub asked_as : Option (ℕ × List ℕ) → List ℕ → Asked
+asked_as (Some (c, rest)) line = spelled c rest
+asked_as None line = asked_by_letter line
+
+-- what a line asks for
 abbrev pub asked_in : List ℕ → Asked
-asked_in [] = Unknown
-asked_in (c ∷ []) = alone c
-asked_in (c ∷ next ∷ text) = words c next text
+asked_in line = asked_as (letter_for line) line

@@ -1,8 +1,9 @@
 //! The debugger's commands, as lines spell them.
-ghost use Rattle.std.specs.Prelude.{◌≡◌, ◌≤◌, ◌<◌, length, IfSome};
+ghost use Rattle.std.specs.Prelude.{◌≡◌, ◌≤◌, ◌<◌, length, option_map, IfSome};
 ghost use Rattle.tb_debug_commands.specs.Parts.{number_of};
 ghost use Rattle.tb_grammar.specs.Grammar.{word_of};
 ghost use Rattle.tb_debug_commands.specs.Commands.{asked_of, asked_in, alone, words, with_text, with_number, counting};
+ghost use Rattle.tb_debug_commands.specs.Commands.{spelled, letter_for, behind};
 ghost use Rattle.tb_debug_commands.specs.Commands.{memory_in, memory_at, address_of, digit_of, most_digits};
 
 use crate::parts::{number, variable};
@@ -74,10 +75,59 @@ pub enum Command<'a> {
 pub fn read_command(line: &[u8]) -> Command<'_>
     ensures { asked_of result ≡ asked_in line.now }
 {
-    match line {
-        [] => Command::Unknown,
-        [letter] => alone(*letter),
-        [letter, next, text @ ..] => words(*letter, *next, text),
+    match (letter_for(line), line) {
+        (Some((letter, rest)), _) => spelled(letter, rest),
+        (None, [letter, rest @ ..]) => spelled(*letter, rest),
+        (None, []) => Command::Unknown,
+    }
+}
+
+// The letter for which a line has a word, and what follows that word.
+fn letter_for(line: &[u8]) -> Option<(u8, &[u8])>
+    ensures { option_map (λ p. (p.0, p.1.now)) result ≡ letter_for line.now }
+{
+    if let Some(rest) = behind(b"next", line) {
+        return Some((b'n', rest));
+    }
+    if let Some(rest) = behind(b"back", line) {
+        return Some((b'p', rest));
+    }
+    if let Some(rest) = behind(b"help", line) {
+        return Some((b'h', rest));
+    }
+    if let Some(rest) = behind(b"quit", line) {
+        return Some((b'q', rest));
+    }
+    match behind(b"continue", line) {
+        Some(rest) => Some((b'c', rest)),
+        None => None,
+    }
+}
+
+// What follows a word at the beginning of a line.
+fn behind<'a>(word: &[u8], line: &'a [u8]) -> Option<&'a [u8]>
+    ensures { option_map (λ rest. rest.now) result ≡ behind word.now line.now }
+{
+    match word {
+        [] => Some(line),
+        [first, word @ ..] => match line {
+            [] => None,
+            [next, line @ ..] => if *first == *next {
+                behind(word, line)
+            } else {
+                None
+            },
+        },
+    }
+}
+
+// A letter, and the rest of its line.
+fn spelled(letter: u8, rest: &[u8]) -> Command<'_>
+    ensures { asked_of result ≡ spelled letter rest.now }
+{
+    match rest {
+        [] => alone(letter),
+        [next, text @ ..] => words(letter, *next, text),
     }
 }
 

@@ -3,11 +3,11 @@ use Rattle.std.specs.Prelude.{ℕ, List, [], ◌∷◌, ◌++◌, map, Option, S
 use Rattle.std.specs.Str.{bytes_eq}
 use Rattle.std.specs.declared.string.String.{String}
 use Rattle.tb_jobs.specs.declared.jobs.Typed.{Typed}
-use Rattle.tb_jobs.specs.declared.jobs.Typed.TheVariants.{Digits, File}
+use Rattle.tb_jobs.specs.declared.jobs.Typed.TheVariants.{Digits, File, Text}
 use Rattle.tb_jobs.specs.declared.jobs.Runnable.{Runnable}
 use Rattle.tb_jobs.specs.declared.jobs.Runnable.TheVariants.{Source, Prg}
 use Rattle.tb_jobs.specs.declared.jobs.Job.{Job}
-use Rattle.tb_jobs.specs.declared.jobs.Job.TheVariants.{Build, Run, Play, Asm, Dis, Step, Debug, Profile, Disk, Check, Show}
+use Rattle.tb_jobs.specs.declared.jobs.Job.TheVariants.{Build, Run, Play, Asm, Dis, Step, Debug, Profile, Disk, Check, Format, Show}
 
 -- where standard input is found as a file
 abbrev pub standard_input : List ℕ
@@ -34,6 +34,7 @@ wanted (Some out) = output_path (string_bytes out) ∷ []
 abbrev pub keys_of : Typed → List (List ℕ)
 keys_of (Digits digits) = []
 keys_of (File file) = input_path (string_bytes file) ∷ []
+keys_of (Text text) = []
 
 -- what is run or played
 abbrev pub path_of : Runnable → List ℕ
@@ -51,10 +52,12 @@ kept_of (Run what settings rude) = []
 kept_of (Dis prg) = []
 kept_of (Step source settings) = []
 kept_of (Debug source settings rude) = []
-kept_of (Check sources) = []
+kept_of (Check sources fit) = []
+kept_of (Format source target) = []
 kept_of (Show text) = []
 
--- the files that a job writes, in the order in which it writes them
+-- The files that a job writes, in the order in which it writes them. The tidy text of a source takes the source's own
+-- place, so it is none of these.
 abbrev pub written_of : Job → List (List ℕ)
 written_of (Build source out seed fit beside) =
     output_path (string_bytes out) ∷ wanted beside.labels ++ wanted beside.listing ++ wanted beside.map
@@ -66,5 +69,6 @@ written_of (Run what settings rude) = []
 written_of (Dis prg) = []
 written_of (Step source settings) = []
 written_of (Debug source settings rude) = []
-written_of (Check sources) = []
+written_of (Check sources fit) = []
+written_of (Format source target) = []
 written_of (Show text) = []

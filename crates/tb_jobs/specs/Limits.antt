@@ -3,7 +3,7 @@ use Rattle.std.specs.Prelude.{◌≤◌, ⊤}
 use Rattle.tb_jobs.specs.declared.jobs.TheConstants.{MOST_EVENTS}
 use Rattle.tb_jobs.specs.declared.jobs.Limit.{Limit}
 use Rattle.tb_jobs.specs.declared.jobs.Job.{Job}
-use Rattle.tb_jobs.specs.declared.jobs.Job.TheVariants.{Build, Run, Play, Asm, Dis, Step, Debug, Profile, Disk, Check, Show}
+use Rattle.tb_jobs.specs.declared.jobs.Job.TheVariants.{Build, Run, Play, Asm, Dis, Step, Debug, Profile, Disk, Check, Format, Show}
 
 -- a limit of 1 to MOST_EVENTS events
 abbrev pub IsWithin : Limit → Type 0
@@ -20,5 +20,6 @@ IsWithinLimit (Step source settings) = IsWithin settings.limit
 IsWithinLimit (Debug source settings rude) = IsWithin settings.limit
 IsWithinLimit (Profile source settings rude html) = IsWithin settings.limit
 IsWithinLimit (Disk out files) = ⊤
-IsWithinLimit (Check sources) = ⊤
+IsWithinLimit (Check sources fit) = ⊤
+IsWithinLimit (Format source target) = ⊤
 IsWithinLimit (Show text) = ⊤

@@ -69,6 +69,8 @@ pub enum Typed {
     Digits(String),
     /// A file of them, by its name.
     File(String),
+    /// A text, in which `\n` is a return.
+    Text(String),
 }
 
 /// How a program is run.
@@ -93,6 +95,17 @@ pub struct BuildExtras {
     pub listing: Option<String>,
     /// The map.
     pub map: Option<String>,
+}
+
+/// Where the tidy text of a source goes.
+#[derive(Clone, Copy, Debug, PartialEq, Eq)]
+pub enum FormatTarget {
+    /// To standard output.
+    Output,
+    /// Into the file of the source, in place of the source.
+    InPlace,
+    /// Nowhere: only the name of a source that isn't tidy is shown.
+    Check,
 }
 
 /// A command with its words. File names, key lists and addresses are still texts.
@@ -170,6 +183,13 @@ pub enum Job {
     Check {
         /// The sources, in order.
         sources: Vec<String>,
+        /// Whether a source is refused as too large only if it doesn't fit the memory.
+        fit: bool,
+    },
+    /// Writes the tidy text of a source.
+    Format {
+        source: String,
+        target: FormatTarget,
     },
     /// A help text or the version, to be shown.
     Show {

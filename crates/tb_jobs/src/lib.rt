@@ -4,9 +4,11 @@
 mod failure;
 mod files;
 mod jobs;
+mod typing;
 
 pub use failure::Failure;
 pub use jobs::{
-    BuildExtras, Job, JobError, Limit, MOST_EVENTS, Runnable, Settings, Typed, USUAL_EVENTS,
-    USUAL_SEED,
+    BuildExtras, FormatTarget, Job, JobError, Limit, MOST_EVENTS, Runnable, Settings, Typed,
+    USUAL_EVENTS, USUAL_SEED,
 };
+pub use typing::typed_keys;

@@ -1,4 +1,5 @@
 //! Debugging: commands come from standard input, and each is answered on standard output before the next one is read.
+use crate::host::Host;
 use crate::reading::{read_warned, settings_of};
 use std::io;
 use std::rt::Files;
@@ -9,14 +10,15 @@ use tb_kernal::Keyboard;
 
 /// Debugs a source. Its warnings come before the first stop.
 pub fn debug_file<R: Files + Print + Eprint + Input + AllocGlobal>(
-    rt: &R,
+    host: &mut Host<'_, R>,
     source: &str,
     settings: &Settings,
     keyboard: Keyboard,
     rude: Option<u16>,
     prompts: bool,
 ) -> Outcome {
-    match read_warned(rt, source, settings_of(settings.seed, settings.fit)) {
+    let rt = host.rt;
+    match read_warned(host, source, settings_of(settings.seed, settings.fit)) {
         Ok(source) => {
             let setting = Setting {
                 rom: rom(rude),

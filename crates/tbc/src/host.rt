@@ -9,15 +9,29 @@ use std::path::Path;
 use std::rt::Files;
 use std::{fs, io};
 use tb_driver::{Tracked, write_output};
+use tb_file_reasons::Purpose;
 use tb_files::{FileSystem, Node, Place, STANDARD, Trouble};
 
 /// The most links that lead one to the next.
 const MOST_LINKS: u32 = 40;
 
-/// The files of the system.
+/// The files of the system, and which of them was asked for last.
 #[derive(Drop)]
 pub struct Host<'a, R> {
-    rt: &'a R,
+    pub rt: &'a R,
+    /// How many were opened for reading.
+    pub opened: usize,
+    /// None as well if memory didn't suffice for its path.
+    pub last: Option<Asked>,
+}
+
+/// A file that was asked for.
+#[derive(Drop)]
+pub struct Asked {
+    pub path: String,
+    pub purpose: Purpose,
+    /// The error of opening it, or of writing it.
+    pub error: Option<io::ErrorKind>,
 }
 
 /// A file that is opened for reading, or standard input.
@@ -36,13 +50,59 @@ impl<R: Files + Input> Read for Source<R> {
     }
 }
 
-impl<'a, R> Host<'a, R> {
-    pub fn new(rt: &'a R) -> Host<'a, R> {
-        Host { rt }
+// A writer, and the error that ended its writing.
+#[derive(Drop)]
+struct Ended<W> {
+    stream: W,
+    error: Option<io::ErrorKind>,
+}
+
+impl<W: Write> Write for Ended<W> {
+    fn write(&mut self, buf: &[u8]) -> io::Result<usize> {
+        match self.stream.write(buf) {
+            Ok(count) => Ok(count),
+            Err(error) => {
+                self.error = Some(error.kind());
+                Err(error)
+            }
+        }
+    }
+
+    fn flush(&mut self) -> io::Result<()> {
+        match self.stream.flush() {
+            Ok(()) => Ok(()),
+            Err(error) => {
+                self.error = Some(error.kind());
+                Err(error)
+            }
+        }
     }
 }
 
-impl<R: Files + Input + Print> FileSystem for Host<'_, R> {
+impl<'a, R> Host<'a, R> {
+    pub fn new(rt: &'a R) -> Host<'a, R> {
+        Host {
+            rt,
+            opened: 0,
+            last: None,
+        }
+    }
+}
+
+impl<R: AllocGlobal> Host<'_, R> {
+    fn asks(&mut self, path: &str, purpose: Purpose, error: Option<io::ErrorKind>) {
+        self.last = match String::from_str(self.rt.alloc(), path) {
+            Ok(path) => Some(Asked {
+                path,
+                purpose,
+                error,
+            }),
+            Err(_) => None,
+        };
+    }
+}
+
+impl<R: Files + Input + Print + AllocGlobal> FileSystem for Host<'_, R> {
     type Input = Source<R>;
 
     ghost leads = { λ _ _ _. ⊤ };
@@ -62,22 +122,29 @@ impl<R: Files + Input + Print> FileSystem for Host<'_, R> {
     }
 
     fn open(&mut self, path: &str) -> Result<Tracked<Source<R>>, Trouble> {
-        if path == STANDARD {
-            return Ok(Tracked::new(Source::Standard(self.rt.reader())));
-        }
-        match fs::open(self.rt, path) {
-            Ok(file) => Ok(Tracked::new(Source::File(file))),
-            Err(error) => Err(trouble(&error)),
+        match source_at(self.rt, path) {
+            Ok(source) => {
+                self.asks(path, Purpose::Input, None);
+                self.opened = self.opened.saturating_add(1);
+                Ok(Tracked::new(source))
+            }
+            Err(error) => {
+                self.asks(path, Purpose::Input, Some(error.kind()));
+                Err(trouble(error.kind()))
+            }
         }
     }
 
     fn save(&mut self, path: &str, bytes: &[u8]) -> Result<(), Trouble> {
-        if path == STANDARD {
-            return written(io::writer(self.rt), bytes);
-        }
-        match fs::create(self.rt, path) {
-            Ok(file) => written(file, bytes),
-            Err(error) => Err(trouble(&error)),
+        match saved(self.rt, path, bytes) {
+            Ok(()) => {
+                self.asks(path, Purpose::Output, None);
+                Ok(())
+            }
+            Err((trouble, error)) => {
+                self.asks(path, Purpose::Output, error);
+                Err(trouble)
+            }
         }
     }
 }
@@ -89,17 +156,42 @@ fn node(found: &Metadata) -> Node {
     }
 }
 
-fn trouble(error: &io::Error) -> Trouble {
-    match error.kind() {
+fn source_at<R: Files + Input>(rt: &R, path: &str) -> io::Result<Source<R>> {
+    if path == STANDARD {
+        Ok(Source::Standard(rt.reader()))
+    } else {
+        Ok(Source::File(fs::open(rt, path)?))
+    }
+}
+
+fn trouble(error: io::ErrorKind) -> Trouble {
+    match error {
         io::ErrorKind::OutOfMemory => Trouble::NoMemory,
         _ => Trouble::Fault,
     }
 }
 
-fn written<W: Write + Drop>(writer: W, bytes: &[u8]) -> Result<(), Trouble> {
-    match write_output(&mut Tracked::new(writer), bytes) {
+// Why a file was not written, with the error, if it is known.
+type Unwritten = (Trouble, Option<io::ErrorKind>);
+
+fn saved<R: Files + Print>(rt: &R, path: &str, bytes: &[u8]) -> Result<(), Unwritten> {
+    if path == STANDARD {
+        return written(io::writer(rt), bytes);
+    }
+    match fs::create(rt, path) {
+        Ok(file) => written(file, bytes),
+        Err(error) => Err((trouble(error.kind()), Some(error.kind()))),
+    }
+}
+
+fn written<W: Write + Drop>(stream: W, bytes: &[u8]) -> Result<(), Unwritten> {
+    let mut writer = Tracked::new(Ended {
+        stream,
+        error: None,
+    });
+    match write_output(&mut writer, bytes) {
         Ok(()) => Ok(()),
-        Err(_) => Err(Trouble::Fault),
+        Err(_) => Err((Trouble::Fault, writer.stream.error)),
     }
 }
 

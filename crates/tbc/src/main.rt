@@ -4,14 +4,20 @@
 mod checking;
 mod debugging;
 mod ending;
+mod formatting;
+mod hinting;
 mod host;
 mod noting;
+mod places;
 mod playing;
 mod profiling;
 mod reading;
+mod refusals;
 mod tasks;
 
 use ending::Ending;
+use hinting::hint;
+use host::Host;
 use noting::note;
 use std::io::IsTerminal;
 use std::process::ExitCode;
@@ -20,7 +26,7 @@ use std::{env, io};
 use tb_command_line::{Failure, Job, job};
 
 // The words after the program's own name.
-fn words<R: Env + AllocGlobal>(rt: &R) -> Result<Vec<String>, Failure> {
+pub fn words<R: Env + AllocGlobal>(rt: &R) -> Result<Vec<String>, Failure> {
     match env::args(rt) {
         Ok(args) => Ok(args.skip(1).collect(rt.alloc())?),
         Err(error) if error.kind() == io::ErrorKind::OutOfMemory => Err(Failure::NoMemory),
@@ -32,30 +38,50 @@ fn job_of_words<R: Env + AllocGlobal>(rt: &R) -> Result<Job, Failure> {
     Ok(job(rt.alloc(), words(rt)?.as_slice())?)
 }
 
+// Does what the words ask for, and says how it ended: the exit status.
 fn start<R: Files + Env + Print + Eprint + Input + AllocGlobal>(
     rt: &R,
     prompts: bool,
     notes: bool,
-) -> Result<Ending, Failure> {
-    let job = job_of_words(rt)?;
-    let ending = tasks::perform(rt, &job, prompts)?;
-    // Nobody can be told that standard error fails.
-    let _ = eprint!(rt; "{ending}");
+) -> u8 {
+    let job = match job_of_words(rt) {
+        Ok(job) => job,
+        Err(failure) => return refused(rt, failure, notes),
+    };
+    let mut host = Host::new(rt);
+    let done = tasks::perform(&mut host, &job, prompts);
+    let status = told(rt, &done);
     if notes {
-        note(rt, &job, &ending);
+        note(&mut host, &job, &done);
     }
-    Ok(ending)
+    status
+}
+
+// Says why there is no job, and what may have been meant.
+fn refused<R: Env + Eprint + AllocGlobal>(rt: &R, failure: Failure, notes: bool) -> u8 {
+    let _ = eprint!(rt; "{failure}");
+    if notes {
+        hint(rt, &failure);
+    }
+    failure.status()
+}
+
+// Says how a job ended. Nobody can be told that standard error fails.
+fn told<R: Eprint>(rt: &R, done: &Result<Ending, Failure>) -> u8 {
+    match done {
+        Ok(ending) => {
+            let _ = eprint!(rt; "{ending}");
+            ending.status()
+        }
+        Err(failure) => {
+            let _ = eprint!(rt; "{failure}");
+            failure.status()
+        }
+    }
 }
 
 fn main(rt: HostRuntime) -> ExitCode {
     let prompts = rt.stdin().is_terminal() && rt.stdout().is_terminal();
     let notes = rt.stderr().is_terminal();
-    let status = match start(&rt, prompts, notes) {
-        Ok(ending) => ending.status(),
-        Err(failure) => {
-            let _ = eprint!(rt; "{failure}");
-            failure.status()
-        }
-    };
-    ExitCode::from(status)
+    ExitCode::from(start(&rt, prompts, notes))
 }

@@ -1,81 +1,97 @@
-//! A note for a person at a terminal: a source that costs too much may fit the memory.
+//! Notes for a person at a terminal: which file, which line, and what helps.
 use crate::ending::Ending;
 use crate::host::Host;
+use crate::places::{clash, file_note, noted_sources};
+use crate::refusals::note_source;
+use std::fmt;
 use std::rt::Files;
-use tb_command_line::{Job, Runnable};
-use tb_driver::{CompileError, Outcome, Refusal, bytes_to_fit};
-use tb_file_engine::opened;
+use tb_check_engine::CheckOutcome;
+use tb_command_line::{Failure, Job};
+use tb_disk_engine::DiskOutcome;
+use tb_driver::{End, Outcome, Refusal};
+use tb_file_reasons::{FileNote, Purpose, disk_note, prg_reason};
+use tb_format_engine::FormatOutcome;
+use tb_run_notes::EndNote;
 
-/// Says that `--fit` compiles the source, if it is refused by its cost alone.
-pub fn note<R: Files + Print + Eprint + Input + AllocGlobal>(rt: &R, job: &Job, ending: &Ending) {
-    let Ending::Report(report) = ending else {
-        return;
-    };
-    let (true, Some((source, seed))) = (is_too_large(report.outcome), limited_by_cost(job)) else {
-        return;
-    };
-    if let Some(bytes) = bytes_in(rt, source, seed) {
-        // Nobody can be told that standard error fails.
-        let _ = eprintln!(rt; "tbc: note: its code takes {bytes} bytes: --fit compiles it");
+/// Says a note. Nobody can be told that standard error fails.
+pub fn say<R: Eprint, D: fmt::Display + Drop>(rt: &R, note: D) {
+    let _ = eprintln!(rt; "tbc: note: {note}");
+}
+
+/// Says what helps with how a job ended.
+pub fn note<R: Files + Print + Eprint + Input + AllocGlobal>(
+    host: &mut Host<'_, R>,
+    job: &Job,
+    done: &Result<Ending, Failure>,
+) {
+    match done {
+        Ok(Ending::Run(run)) => match run.note {
+            Some(note) => say(host.rt, note),
+            None => note_outcome(host, job, run.report.outcome),
+        },
+        Ok(Ending::Report(report)) => note_outcome(host, job, report.outcome),
+        Ok(Ending::Disk(outcome)) => note_disk(host, job, *outcome),
+        Ok(Ending::Check(CheckOutcome::ReadFault)) => noted_sources(host, job),
+        Ok(Ending::Check(_)) => {}
+        Ok(Ending::Format(FormatOutcome::ReadFault | FormatOutcome::WriteFault)) => {
+            file_note(host, None)
+        }
+        Ok(Ending::Format(_)) => {}
+        Err(Failure::SameFile) => clash(host, job),
+        Err(Failure::ReadFault) => file_note(host, Some(Purpose::Keys)),
+        Err(_) => {}
     }
 }
 
-// Whether a source is refused as too large.
-fn is_too_large(outcome: Outcome) -> bool {
-    matches!(
-        outcome,
-        Outcome::Refused(Refusal::Source(CompileError::TooLarge(_)))
-    )
-}
-
-// The source of a job that refuses it by its cost, and its first state of RND.
-fn limited_by_cost(job: &Job) -> Option<(&str, u16)> {
-    let (source, seed, fit) = match job {
-        Job::Build {
-            source,
-            seed,
-            fit,
-            ..
-        } => (source, *seed, *fit),
-        Job::Play {
-            what: Runnable::Source(source),
-            seed,
-            fit,
-            ..
-        } => (source, *seed, *fit),
-        Job::Run {
-            what: Runnable::Source(source),
-            settings,
-            ..
-        }
-        | Job::Step { source, settings }
-        | Job::Debug {
-            source,
-            settings,
-            ..
-        }
-        | Job::Profile {
-            source,
-            settings,
-            ..
-        } => (source, settings.seed, settings.fit),
-        _ => return None,
-    };
-    if fit {
-        None
-    } else {
-        Some((source.as_str(), seed))
+fn note_outcome<R: Files + Print + Eprint + Input + AllocGlobal>(
+    host: &mut Host<'_, R>,
+    job: &Job,
+    outcome: Outcome,
+) {
+    match outcome {
+        Outcome::Refused(Refusal::Source(error)) => note_source(host, job, error),
+        Outcome::Refused(refusal) => note_prg(host, refusal),
+        Outcome::ReadFault | Outcome::WriteFault => file_note(host, None),
+        Outcome::Ended(end) => note_end(host, job, end),
+        Outcome::NoMemory => {}
     }
 }
 
-// The source is read once more, since an engine keeps none that it refuses.
-fn bytes_in<R: Files + Print + Input + AllocGlobal>(
-    rt: &R,
-    source: &str,
-    seed: u16,
-) -> Option<usize> {
-    match opened(&mut Host::new(rt), source) {
-        Ok(mut file) => bytes_to_fit(rt.alloc(), &mut file, seed),
-        Err(_) => None,
+// Of the file that was read last.
+fn note_prg<R: Eprint>(host: &Host<'_, R>, refusal: Refusal) {
+    if let (Some(file), Some(reason)) = (&host.last, prg_reason(refusal)) {
+        say(
+            host.rt,
+            FileNote {
+                path: file.path.as_str(),
+                reason,
+            },
+        );
+    }
+}
+
+// A player who gives no more keys needs no note.
+fn note_end<R: Eprint>(host: &Host<'_, R>, job: &Job, end: End) {
+    match (job, end) {
+        (Job::Play { .. }, End::WaitsForKey) => {}
+        (_, End::WaitsForKey) => say(host.rt, EndNote::Waits(None)),
+        (_, End::StepLimit) => say(host.rt, EndNote::Running(None)),
+        (_, End::Done | End::WentWrong { .. }) => {}
+    }
+}
+
+fn note_disk<R: Files + Print + Eprint + Input + AllocGlobal>(
+    host: &mut Host<'_, R>,
+    job: &Job,
+    outcome: DiskOutcome,
+) {
+    match (outcome, job) {
+        (DiskOutcome::Refused(refusal), Job::Disk { out, files }) => {
+            if let Some(note) = disk_note(out, files.as_slice(), host.opened, refusal) {
+                say(host.rt, note);
+            }
+        }
+        (DiskOutcome::ReadFault | DiskOutcome::WriteFault, _) => file_note(host, None),
+        _ => {}
     }
 }

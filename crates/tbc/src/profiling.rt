@@ -11,14 +11,15 @@ use tb_profile_engine::{Profiled, profile_text};
 
 /// Profiles a source, and writes the page if there is a table and the page is wanted.
 pub fn profile_file<R: Files + Print + Input + AllocGlobal, O: Outside>(
-    rt: &R,
+    host: &mut Host<'_, R>,
     source: &str,
     settings: &Settings,
     keyboard: Keyboard,
     outside: &mut O,
     html: Option<&str>,
 ) -> Report {
-    let mut file = match opened(&mut Host::new(rt), source) {
+    let rt = host.rt;
+    let mut file = match opened(host, source) {
         Ok(file) => file,
         Err(outcome) => return Report::new(rt.alloc(), outcome),
     };
@@ -33,20 +34,20 @@ pub fn profile_file<R: Files + Print + Input + AllocGlobal, O: Outside>(
     );
     match (report.outcome, html) {
         (Outcome::Ended(_), Some(path)) => Report {
-            outcome: write_page(rt, path, page.as_slice(), report.outcome),
+            outcome: write_page(host, path, page.as_slice(), report.outcome),
             warnings: report.warnings,
         },
         _ => report,
     }
 }
 
-fn write_page<R: Files + Print + Input>(
-    rt: &R,
+fn write_page<R: Files + Print + Input + AllocGlobal>(
+    host: &mut Host<'_, R>,
     path: &str,
     page: &[u8],
     ended: Outcome,
 ) -> Outcome {
-    match save(&mut Host::new(rt), path, page) {
+    match save(host, path, page) {
         Outcome::Ended(_) => ended,
         outcome => outcome,
     }

@@ -1,25 +1,34 @@
 //! Sources that are read and compiled, of which a person is warned before they run.
 use crate::host::Host;
 use std::rt::Files;
-use tb_driver::{CompileSettings, CompiledSource, Outcome, Warnings, read_source};
+use tb_driver::{CompileSettings, CompiledSource, Outcome, SizeLimit, Warnings, read_source};
 use tb_file_engine::opened;
 
-/// How a source is compiled: its size is limited by the cost, or by the memory.
-pub fn settings_of(seed: u16, fit: bool) -> CompileSettings {
+/// When a program is too large: by what it costs, or only if it doesn't fit the memory.
+pub fn size_limit(fit: bool) -> SizeLimit {
     if fit {
-        CompileSettings::by_memory(seed)
+        SizeLimit::Memory
     } else {
-        CompileSettings::by_cost(seed)
+        SizeLimit::Cost
+    }
+}
+
+/// How a source is compiled.
+pub fn settings_of(seed: u16, fit: bool) -> CompileSettings {
+    CompileSettings {
+        seed,
+        size: size_limit(fit),
     }
 }
 
 /// Reads and compiles a source, and writes its warnings.
 pub fn read_warned<R: Files + Print + Eprint + Input + AllocGlobal>(
-    rt: &R,
+    host: &mut Host<'_, R>,
     path: &str,
     settings: CompileSettings,
 ) -> Result<CompiledSource, Outcome> {
-    let source = read_source(rt.alloc(), &mut opened(&mut Host::new(rt), path)?, settings)?;
+    let rt = host.rt;
+    let source = read_source(rt.alloc(), &mut opened(host, path)?, settings)?;
     let warnings = Warnings(source.program.warnings());
     // Nobody can be told that standard error fails.
     let _ = eprint!(rt; "{warnings}");

@@ -2,49 +2,50 @@
 use crate::checking::check_files;
 use crate::debugging::debug_file;
 use crate::ending::Ending;
+use crate::formatting::format_file;
 use crate::host::Host;
 use crate::playing::play;
 use crate::profiling::profile_file;
-use crate::reading::settings_of;
+use crate::reading::{settings_of, size_limit};
 use std::alloc::Global;
 use std::io;
 use std::rt::Files;
-use tb_command_line::{BuildExtras, Failure, Job, Runnable, Settings, Typed};
+use tb_command_line::{BuildExtras, Failure, Job, Runnable, Settings, Typed, typed_keys};
 use tb_driver::{
     CompileSettings, End, KeyError, KeyFileError, Outcome, Report, Tracked, address, dis_text,
-    key_list, read_key_file, run_prg, run_within, step_within, write_output,
+    key_list, read_key_file, run_prg, step_within, write_output,
 };
 use tb_file_engine::{BuildNames, assemble_file, build_file, disk_file, opened};
 use tb_files::{Barred, may_write};
 use tb_kernal::{Keyboard, Outside, Quiet, Rude};
+use tb_run_notes::{NotedRun, run_noted};
 
 /// Does what the words ask for, if the files that are to be written may be. A prompt is shown before a debugger's command
 /// where that is wanted.
 pub fn perform<R: Files + Print + Eprint + Input + AllocGlobal>(
-    rt: &R,
+    host: &mut Host<'_, R>,
     job: &Job,
     prompts: bool,
 ) -> Result<Ending, Failure> {
-    look_at_files(rt, job)?;
-    match job {
-        Job::Build {
-            source,
-            out,
-            seed,
-            fit,
-            beside,
-        } => Ok(Ending::Report(build(
-            rt,
-            source.as_str(),
-            out.as_str(),
-            settings_of(*seed, *fit),
-            beside,
-        ))),
+    look_at_files(host, job)?;
+    match run_job(host, job, prompts)? {
+        Some(ending) => Ok(ending),
+        None => other_job(host, job),
+    }
+}
+
+// Does a job that runs a program; None for any other job.
+fn run_job<R: Files + Print + Eprint + Input + AllocGlobal>(
+    host: &mut Host<'_, R>,
+    job: &Job,
+    prompts: bool,
+) -> Result<Option<Ending>, Failure> {
+    Ok(Some(match job {
         Job::Run {
             what,
             settings,
             rude,
-        } => Ok(Ending::Report(run_beside(rt, what, settings, *rude)?)),
+        } => Ending::Run(run_beside(host, what, settings, *rude)?),
         Job::Play {
             what,
             seed,
@@ -53,55 +54,82 @@ pub fn perform<R: Files + Print + Eprint + Input + AllocGlobal>(
             record,
         } => {
             let settings = settings_of(*seed, *fit);
-            let outcome = play(rt, what, settings, u64::from(limit.events), name_of(record));
-            Ok(plain_ending(rt, outcome))
+            let outcome = play(
+                host,
+                what,
+                settings,
+                u64::from(limit.events),
+                name_of(record),
+            );
+            plain_ending(host.rt, outcome)
         }
-        Job::Asm { text, out, at } => { assemble_at(rt, text.as_str(), out.as_str(), at.as_str()) }
-        Job::Dis { prg } => Ok(plain_ending(rt, list_file(rt, prg.as_str()))),
-        Job::Disk { out, files } => Ok(Ending::Disk(disk_file(
-            rt.alloc(),
-            &mut Host::new(rt),
-            out.as_str(),
-            files.as_slice(),
-        ))),
-        Job::Check { sources } => Ok(Ending::Check(check_files(rt, sources.as_slice()))),
-        Job::Show { text } => Ok(plain_ending(rt, show(rt, text.as_str()))),
         Job::Profile {
             source,
             settings,
             rude,
             html,
-        } => Ok(Ending::Report(profile_beside(
-            rt,
-            source.as_str(),
-            settings,
-            *rude,
-            name_of(html),
-        )?)),
+        } => Ending::Report(profile_beside(host, source, settings, *rude, name_of(html))?),
         Job::Debug {
             source,
             settings,
             rude,
-        } => {
-            let keyboard = keyboard(rt, settings)?;
-            let outcome = debug_file(rt, source.as_str(), settings, keyboard, *rude, prompts);
-            Ok(plain_ending(rt, outcome))
+        } => debug_beside(host, source, settings, *rude, prompts)?,
+        Job::Step { source, settings } => Ending::Report(step_file(host, source, settings)?),
+        Job::Build { .. }
+        | Job::Asm { .. }
+        | Job::Dis { .. }
+        | Job::Disk { .. }
+        | Job::Check { .. }
+        | Job::Format { .. }
+        | Job::Show { .. } => return Ok(None),
+    }))
+}
+
+// Does a job that runs no program. One that runs a program is done already.
+fn other_job<R: Files + Print + Input + AllocGlobal>(
+    host: &mut Host<'_, R>,
+    job: &Job,
+) -> Result<Ending, Failure> {
+    let rt = host.rt;
+    match job {
+        Job::Build {
+            source,
+            out,
+            seed,
+            fit,
+            beside,
+        } => Ok(build(host, source, out, settings_of(*seed, *fit), beside)),
+        Job::Asm { text, out, at } => assemble_at(host, text, out, at),
+        Job::Dis { prg } => Ok(plain_ending(rt, list_file(host, prg))),
+        Job::Disk { out, files } => {
+            Ok(Ending::Disk(disk_file(rt.alloc(), host, out, files.as_slice())))
         }
-        Job::Step { source, settings } => {
-            Ok(Ending::Report(step_file(rt, source.as_str(), settings)?))
+        Job::Check { sources, fit } => {
+            let checked = check_files(host, sources.as_slice(), size_limit(*fit));
+            Ok(Ending::Check(checked))
         }
+        Job::Format { source, target } => Ok(Ending::Format(format_file(host, source, *target))),
+        Job::Show { text } => Ok(plain_ending(rt, show(rt, text))),
+        Job::Run { .. }
+        | Job::Play { .. }
+        | Job::Profile { .. }
+        | Job::Debug { .. }
+        | Job::Step { .. } => Ok(plain_ending(rt, Outcome::Ended(End::Done))),
     }
 }
 
 // Whether the files that a job writes may be written. Nothing is opened for that.
-fn look_at_files<R: Files + Print + Input + AllocGlobal>(rt: &R, job: &Job) -> Result<(), Failure> {
-    let alloc = rt.alloc();
+fn look_at_files<R: Files + Print + Input + AllocGlobal>(
+    host: &Host<'_, R>,
+    job: &Job,
+) -> Result<(), Failure> {
+    let alloc = host.rt.alloc();
     let written = job.written(alloc)?;
     if written.is_empty() {
         return Ok(());
     }
     let kept = job.kept(alloc)?;
-    match may_write(alloc, &Host::new(rt), kept.as_slice(), written.as_slice()) {
+    match may_write(alloc, host, kept.as_slice(), written.as_slice()) {
         Ok(()) => Ok(()),
         Err(Barred::SameFile) => Err(Failure::SameFile),
         Err(Barred::Source(path)) => Err(Failure::IsSource(String::from_str(alloc, path)?)),
@@ -117,23 +145,23 @@ fn name_of(file: &Option<String>) -> Option<&str> {
 }
 
 fn build<R: Files + Print + Input + AllocGlobal>(
-    rt: &R,
+    host: &mut Host<'_, R>,
     source: &str,
     out: &str,
     settings: CompileSettings,
     beside: &BuildExtras,
-) -> Report {
+) -> Ending {
     let names = BuildNames {
         out,
         labels: name_of(&beside.labels),
         listing: name_of(&beside.listing),
         map: name_of(&beside.map),
     };
-    build_file(rt.alloc(), &mut Host::new(rt), source, settings, names)
+    Ending::Report(build_file(host.rt.alloc(), host, source, settings, names))
 }
 
 fn assemble_at<R: Files + Print + Input + AllocGlobal>(
-    rt: &R,
+    host: &mut Host<'_, R>,
     text: &str,
     out: &str,
     at: &str,
@@ -141,37 +169,49 @@ fn assemble_at<R: Files + Print + Input + AllocGlobal>(
     let Some(at) = address(at) else {
         return Err(Failure::BadAddress);
     };
-    let outcome = assemble_file(rt.alloc(), &mut Host::new(rt), text, out, at);
-    Ok(plain_ending(rt, outcome))
+    let outcome = assemble_file(host.rt.alloc(), host, text, out, at);
+    Ok(plain_ending(host.rt, outcome))
 }
 
 // A run with a rude ROM, if one is asked for.
 fn run_beside<R: Files + Print + Input + AllocGlobal>(
-    rt: &R,
+    host: &mut Host<'_, R>,
     what: &Runnable,
     settings: &Settings,
     rude: Option<u16>,
-) -> Result<Report, Failure> {
-    let keyboard = keyboard(rt, settings)?;
+) -> Result<NotedRun, Failure> {
+    let keyboard = keyboard(host, settings)?;
     Ok(match rude {
-        Some(rude) => run_file(rt, what, settings, keyboard, &mut Rude::new(rude)),
-        None => run_file(rt, what, settings, keyboard, &mut Quiet),
+        Some(rude) => run_file(host, what, settings, keyboard, &mut Rude::new(rude)),
+        None => run_file(host, what, settings, keyboard, &mut Quiet),
     })
 }
 
 // A profile with a rude ROM, if one is asked for.
 fn profile_beside<R: Files + Print + Input + AllocGlobal>(
-    rt: &R,
+    host: &mut Host<'_, R>,
     source: &str,
     settings: &Settings,
     rude: Option<u16>,
     html: Option<&str>,
 ) -> Result<Report, Failure> {
-    let keyboard = keyboard(rt, settings)?;
+    let keyboard = keyboard(host, settings)?;
     Ok(match rude {
-        Some(rude) => { profile_file(rt, source, settings, keyboard, &mut Rude::new(rude), html) }
-        None => profile_file(rt, source, settings, keyboard, &mut Quiet, html),
+        Some(rude) => profile_file(host, source, settings, keyboard, &mut Rude::new(rude), html),
+        None => profile_file(host, source, settings, keyboard, &mut Quiet, html),
     })
+}
+
+fn debug_beside<R: Files + Print + Eprint + Input + AllocGlobal>(
+    host: &mut Host<'_, R>,
+    source: &str,
+    settings: &Settings,
+    rude: Option<u16>,
+    prompts: bool,
+) -> Result<Ending, Failure> {
+    let keyboard = keyboard(host, settings)?;
+    let outcome = debug_file(host, source, settings, keyboard, rude, prompts);
+    Ok(plain_ending(host.rt, outcome))
 }
 
 // An outcome with no warnings.
@@ -185,20 +225,25 @@ fn plain_ending<R: AllocGlobal>(rt: &R, outcome: Outcome) -> Ending {
 
 // What the words say is looked at before the key file is opened.
 fn keyboard<R: Files + Print + Input + AllocGlobal>(
-    rt: &R,
+    host: &mut Host<'_, R>,
     settings: &Settings,
 ) -> Result<Keyboard, Failure> {
-    let answers = key_list(rt.alloc(), settings.answers.as_str()).map_err(of_keys)?;
+    let alloc = host.rt.alloc();
+    let answers = key_list(alloc, settings.answers.as_str()).map_err(of_keys)?;
     let text = match &settings.keys {
-        Typed::Digits(digits) => key_list(rt.alloc(), digits.as_str()).map_err(of_keys)?,
-        Typed::File(path) => keys_in(rt, path.as_str())?,
+        Typed::Digits(digits) => key_list(alloc, digits.as_str()).map_err(of_keys)?,
+        Typed::File(path) => keys_in(host, path.as_str())?,
+        Typed::Text(text) => typed_keys(alloc, text.as_str())?,
     };
     Ok(Keyboard { text, answers })
 }
 
-fn keys_in<R: Files + Print + Input + AllocGlobal>(rt: &R, path: &str) -> Result<Vec<u8>, Failure> {
-    let mut file = opened(&mut Host::new(rt), path).map_err(of_file)?;
-    read_key_file(rt.alloc(), &mut file).map_err(of_key_file)
+fn keys_in<R: Files + Print + Input + AllocGlobal>(
+    host: &mut Host<'_, R>,
+    path: &str,
+) -> Result<Vec<u8>, Failure> {
+    let mut file = opened(host, path).map_err(of_file)?;
+    read_key_file(host.rt.alloc(), &mut file).map_err(of_key_file)
 }
 
 fn of_keys(error: KeyError) -> Failure {
@@ -231,24 +276,30 @@ fn show<R: Print>(rt: &R, text: &str) -> Outcome {
     }
 }
 
+// A run of which nothing more is told.
+fn untold(report: Report) -> NotedRun {
+    NotedRun { report, note: None }
+}
+
 fn run_file<R: Files + Print + Input + AllocGlobal, O: Outside>(
-    rt: &R,
+    host: &mut Host<'_, R>,
     what: &Runnable,
     settings: &Settings,
     keyboard: Keyboard,
     outside: &mut O,
-) -> Report {
+) -> NotedRun {
     let (Runnable::Source(path) | Runnable::Prg(path)) = what;
-    let mut file = match opened(&mut Host::new(rt), path.as_str()) {
+    let rt = host.rt;
+    let mut file = match opened(host, path.as_str()) {
         Ok(file) => file,
-        Err(outcome) => return plain(rt, outcome),
+        Err(outcome) => return untold(plain(rt, outcome)),
     };
     let mut screen = Tracked::new(io::writer(rt));
     let alloc = rt.alloc();
     let limit = u64::from(settings.limit.events);
     match what {
         Runnable::Source(_) => {
-            run_within(
+            run_noted(
                 alloc,
                 &mut file,
                 &mut screen,
@@ -260,19 +311,20 @@ fn run_file<R: Files + Print + Input + AllocGlobal, O: Outside>(
         }
         Runnable::Prg(_) => {
             let outcome = run_prg(alloc, &mut file, &mut screen, keyboard, limit, outside);
-            plain(rt, outcome)
+            untold(plain(rt, outcome))
         }
     }
 }
 
 // The commands come from standard input.
 fn step_file<R: Files + Print + Input + AllocGlobal>(
-    rt: &R,
+    host: &mut Host<'_, R>,
     source: &str,
     settings: &Settings,
 ) -> Result<Report, Failure> {
-    let keyboard = keyboard(rt, settings)?;
-    let mut file = match opened(&mut Host::new(rt), source) {
+    let rt = host.rt;
+    let keyboard = keyboard(host, settings)?;
+    let mut file = match opened(host, source) {
         Ok(file) => file,
         Err(outcome) => return Ok(plain(rt, outcome)),
     };
@@ -289,8 +341,12 @@ fn step_file<R: Files + Print + Input + AllocGlobal>(
     ))
 }
 
-fn list_file<R: Files + Print + Input + AllocGlobal>(rt: &R, path: &str) -> Outcome {
-    match opened(&mut Host::new(rt), path) {
+fn list_file<R: Files + Print + Input + AllocGlobal>(
+    host: &mut Host<'_, R>,
+    path: &str,
+) -> Outcome {
+    let rt = host.rt;
+    match opened(host, path) {
         Ok(mut file) => dis_text(rt.alloc(), &mut file, &mut Tracked::new(io::writer(rt))),
         Err(outcome) => outcome,
     }

@@ -1,0 +1,40 @@
+//! Formatting a source: its tidy text goes to standard output, or takes the source's place.
+use crate::host::Host;
+use std::io;
+use std::rt::Files;
+use tb_command_line::FormatTarget;
+use tb_driver::{Outcome, Tracked};
+use tb_file_engine::{format_in_place, opened};
+use tb_format_engine::{FormatOutcome, Formatted};
+
+/// Formats a source's file.
+pub fn format_file<R: Files + Print + Input + AllocGlobal>(
+    host: &mut Host<'_, R>,
+    path: &str,
+    target: FormatTarget,
+) -> FormatOutcome {
+    if target == FormatTarget::InPlace {
+        return format_in_place(host.rt.alloc(), host, path);
+    }
+    let formatted = match read(host, path) {
+        Ok(formatted) => formatted,
+        Err(outcome) => return outcome,
+    };
+    let mut screen = Tracked::new(io::writer(host.rt));
+    if target == FormatTarget::Check {
+        formatted.tell(host.rt.alloc(), path, &mut screen)
+    } else {
+        formatted.write(&mut screen)
+    }
+}
+
+fn read<R: Files + Print + Input + AllocGlobal>(
+    host: &mut Host<'_, R>,
+    path: &str,
+) -> Result<Formatted, FormatOutcome> {
+    match opened(host, path) {
+        Ok(mut file) => Formatted::read(host.rt.alloc(), &mut file),
+        Err(Outcome::NoMemory) => Err(FormatOutcome::NoMemory),
+        Err(_) => Err(FormatOutcome::ReadFault),
+    }
+}

@@ -1,0 +1,16 @@
+//! A hint for a person at a terminal: a first word that is no command may be a source.
+use crate::words;
+use std::rt::Env;
+use tb_command_line::Failure;
+use tb_files::is_source_name;
+
+/// Says how a source is run, if the first word is one in place of a command.
+pub fn hint<R: Env + Eprint + AllocGlobal>(rt: &R, failure: &Failure) {
+    let (Failure::Words(_), Ok(words)) = (failure, words(rt)) else {
+        return;
+    };
+    if let Some(word) = words.first().filter(|word| is_source_name(word.as_str())) {
+        // Nobody can be told that standard error fails.
+        let _ = eprintln!(rt; "tbc: note: to run a source: tbc run {word}");
+    }
+}
