@@ -4,12 +4,14 @@ mod failing;
 mod prefixes;
 
 use crate::page::Page;
+use tb_codegen::SizeLimit;
 
 /// Appends the answer of a row.
 pub fn put_answer(page: &mut Page, name: &str, given: &str) {
     let files = checks::files_of(page, given);
     match name {
-        "check" => checks::put_check(page, &files),
+        "check" => checks::put_check(page, &files, SizeLimit::Cost),
+        "check-fit" => checks::put_check(page, &files, SizeLimit::Memory),
         "cuts" => prefixes::put_cuts(page, &files),
         "reader-fails" => failing::put_readers(page, &files),
         "writer-fails" => failing::put_writers(page, &files),

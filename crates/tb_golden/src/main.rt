@@ -6,6 +6,7 @@
 
 mod check;
 mod compiler;
+mod format;
 mod machine;
 mod notation;
 mod page;
@@ -34,6 +35,7 @@ enum Subject {
     Engines,
     Keys,
     Checks,
+    Formats,
     Programs,
 }
 
@@ -47,7 +49,7 @@ enum Contents {
     Steps,
 }
 
-const FILES: [(&str, Contents); 25] = [
+const FILES: [(&str, Contents); 26] = [
     ("machine/words.txt", Contents::Rows(Subject::Words)),
     ("machine/opcodes.txt", Contents::Rows(Subject::Opcodes)),
     ("machine/memory.txt", Contents::Rows(Subject::Memory)),
@@ -62,6 +64,7 @@ const FILES: [(&str, Contents); 25] = [
     ("source/refusals.txt", Contents::Rows(Subject::Sources)),
     ("source/parsing.txt", Contents::Rows(Subject::Sources)),
     ("source/runs.txt", Contents::Rows(Subject::Sources)),
+    ("source/format.txt", Contents::Rows(Subject::Formats)),
     ("text/assembly.txt", Contents::Rows(Subject::Assembly)),
     ("text/block.asm", Contents::Block),
     ("text/listings.txt", Contents::Rows(Subject::Listings)),
@@ -82,9 +85,11 @@ const FILES: [(&str, Contents); 25] = [
 fn frame(subject: Subject) -> (&'static str, &'static str, &'static str) {
     match subject {
         Subject::Sources => (" =>", "\n", "\n"),
-        Subject::Assembly | Subject::Listings | Subject::Engines | Subject::Keys => {
-            (" => ", "\n", "")
-        }
+        Subject::Assembly
+        | Subject::Listings
+        | Subject::Engines
+        | Subject::Keys
+        | Subject::Formats => (" => ", "\n", ""),
         Subject::Checks => ("\n", "", ""),
         Subject::Programs => (" => ", "", "\n"),
         _ => (" =>", "\n", ""),
@@ -113,6 +118,7 @@ fn put_answer<R: Files + AllocGlobal>(
         Subject::Engines => text::engines::put_answer(page, word, rest, row),
         Subject::Keys => text::keys::put_answer(page, word, rest),
         Subject::Checks => check::put_answer(page, word, rest),
+        Subject::Formats => format::put_answer(page, word, rest),
         Subject::Programs => compiler::put_answer(rt, page, word, rest),
     }
 }

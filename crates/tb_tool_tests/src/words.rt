@@ -4,7 +4,7 @@ use std::test::Fail;
 use tb_command_line::{Failure, job};
 
 /// Words, and the job that they become.
-static JOBS: [(&[&str], &str); 33] = [
+static JOBS: [(&[&str], &str); 36] = [
     (
         &["build", "a", "b"],
         "Ok(Build { source: \"a\", out: \"b\", seed: 1, fit: false, beside: BuildExtras { labels: None, listing: None, map: None } })",
@@ -141,10 +141,25 @@ static JOBS: [(&[&str], &str); 33] = [
         &["disk", "o", "b", "--", "a", "-b"],
         "Ok(Disk { out: \"o\", files: [\"b\", \"a\", \"-b\"] })",
     ),
-    (&["check", "a"], "Ok(Check { sources: [\"a\"] })"),
+    (
+        &["check", "a"],
+        "Ok(Check { sources: [\"a\"], fit: false })",
+    ),
+    (
+        &["format", "a"],
+        "Ok(Format { source: \"a\", target: Output })",
+    ),
+    (
+        &["format", "--in-place", "a"],
+        "Ok(Format { source: \"a\", target: InPlace })",
+    ),
+    (
+        &["format", "a", "--check"],
+        "Ok(Format { source: \"a\", target: Check })",
+    ),
     (
         &["check", "a", "b", "--", "-c"],
-        "Ok(Check { sources: [\"a\", \"b\", \"-c\"] })",
+        "Ok(Check { sources: [\"a\", \"b\", \"-c\"], fit: false })",
     ),
     (
         &["step", "a", "--fit", "--seed", "2"],
@@ -176,7 +191,9 @@ static JOBS: [(&[&str], &str); 33] = [
 ];
 
 /// Words that are refused.
-static REFUSED: [&[&str]; 32] = [
+static REFUSED: [&[&str]; 34] = [
+    &["format"],
+    &["format", "a", "--check", "--in-place"],
     &[],
     &["run", "a", "--fit=yes"],
     &["dis", "a", "--fit"],

@@ -1,6 +1,6 @@
 ; The routine block: the machine code that every compiled program shares.
 ;
-; It lies at $080D, right behind the BASIC line "10 SYS2061", takes 996 bytes and is the same in every program.
+; It lies at $080D, right behind the BASIC line "10 SYS2061", takes 1,011 bytes and is the same in every program.
 ; The program's own lines begin at $0C00 and call these routines.
 ;
 ; This text is the source of the bytes that tb_runtime16 holds. A program of the gate (tb_golden) assembles it and compares;
@@ -125,13 +125,20 @@ MULTIPLY2:
 ; In:      LEFT, RIGHT.
 ; Out:     LEFT, RESULT. -32768 / -1 gives -32768: as a word it is its own negative, and all three negations keep it.
 ; Fault:   2 where RIGHT is 0.
-; Stack:   4.  Time: 316, and 5 up to the fault.
+; Stack:   4.  Time: 210, and 5 up to the fault.
+;
+; The frequent case comes first: where RIGHT is 1 to 127 and LEFT's high byte, without a sign, is below it, neither is
+; negative and the quotient fits a byte. A is LEFT's high byte then, and X is 0.
 DIVIDE:
         LDA $FD                 ; RIGHT
         ORA $FE
+        BEQ DIVIDEZERO
+        BMI DIVIDESIGNED
+        LDX $FE
         BNE DIVIDESIGNED
-        LDA #$02
-        JMP FAULT
+        LDA $FC                 ; LEFT
+        CMP $FD
+        BCC BYTEFEW
 
 ; A negative LEFT is negated before, and the quotient after: that is what follows.
 DIVIDESIGNED:
@@ -154,6 +161,9 @@ NEGATE:
         SBC $FC,X
         STA $FC,X
         RTS
+DIVIDEZERO:
+        LDA #$02
+        JMP FAULT
 
 ; LEFT = LEFT / RIGHT, where LEFT is 0 to 32768 and RIGHT is signed. A negative RIGHT is negated before, and the
 ; quotient after.
@@ -166,65 +176,91 @@ DIVIDEBY:
         JMP NEGATELEFT
 
 ; LEFT = LEFT / RIGHT, RESULT = the remainder, without signs, for RIGHT from 1 to 32768. RIGHT stands.
-; Divide and Random divide by it. Stack: 0. Time: 268.
+; Divide and Random divide by it. Stack: 0. Time: 156.
 ;
-; Where RIGHT is below 128 and LEFT's high byte below RIGHT, the quotient fits a byte: then that high byte is the
-; remainder of the first eight rounds, and stays in A, with eight rounds left on LEFT's low byte. A is below RIGHT at
-; the head of a round, so it fits a byte when it is doubled and takes a bit more. X counts the rounds.
+; Where RIGHT is below 128, LEFT's bytes are divided one after the other, the high one first, by eight rounds each,
+; with the rest in A: X is 1 for the high byte, 0 for the low one. Where the high byte is below RIGHT, it is the rest
+; of its own division already, and its quotient is 0.
 UNSIGNED:
-        LDA $FE                 ; RIGHT
+        LDX #$00
+        CPX $FE                 ; C clear where RIGHT's high byte is not 0
         BNE WIDE
-        LDA $FD
-        BMI WIDE
         LDA $FC                 ; LEFT
         CMP $FD
-        BCS WIDE
-        LDX #$00
+        LDY $FD                 ; leaves C
+        BMI WIDEHALF
+        BCC BYTEFEW
+        TXA
+        INX
+        BNE BYTE                ; always
+BYTEFEW:
         STX $FC
-        STX $C067               ; RESULT
-        LDX #$08
-NARROW:
-        ASL $FB                 ; LEFT, its highest bit into A
+
+; The byte at LEFT + X, with the rest above it in A, which is below RIGHT: so it fits a byte when it is doubled and
+; takes a bit more. A round moves the byte's highest bit into A, and leaves in C whether RIGHT went into A, which the
+; next shift moves into the byte: so what was in C before the first round comes out at the last shift. A turn of two
+; rounds, counted in Y.
+BYTE:
+        LDY #$04
+BYTENEXT:
+        ROL $FB,X               ; LEFT + X
         ROL A
         CMP $FD                 ; RIGHT
-        BCC NARROWLESS
+        BCC BYTELESS
         SBC $FD
-        INC $FB
-NARROWLESS:
+BYTELESS:
+        ROL $FB,X
+        ROL A
+        CMP $FD
+        BCC BYTELESS2
+        SBC $FD
+BYTELESS2:
+        DEY
+        BNE BYTENEXT
+        ROL $FB,X
         DEX
-        BNE NARROW
-        STA $C066
+        BPL BYTE
+        STA $C066               ; RESULT
+        STY $C067
         RTS
 
-; The same by sixteen rounds, whatever the words. Time: 261.
-;
-; The rounds are counted in Y, since no service is called. Each moves the highest bit of LEFT into the lowest of
-; RESULT, and where RIGHT goes into RESULT, takes it off and sets the lowest bit of LEFT, which the shift made 0.
-; So the quotient comes into LEFT from below while the dividend leaves it above. RESULT is below RIGHT at the head
-; of a round, so it fits a word when it is doubled and takes a bit more.
-WIDE:
-        LDA #$00
-        STA $C066               ; RESULT = 0
-        STA $C067
-        LDY #$10
-WIDENEXT:
-        ASL $FB                 ; LEFT
-        ROL $FC
-        ROL $C066               ; RESULT
-        ROL $C067
-        LDA $C066               ; RESULT - RIGHT in A and X, C clear where RIGHT is greater
-        SEC
+; RIGHT is 128 or more: the quotient's high byte is 1 where RIGHT is a byte and LEFT's high byte not below it, else 0.
+; C has that bit, and LEFT's high byte less RIGHT or as it is is the rest for eight rounds on the low byte, with the
+; rest in A and LEFT + 1. As above, C comes out again at the last shift. X counts the rounds.
+WIDEHALF:
+        BCC WIDE
         SBC $FD
-        TAX
-        LDA $C067
-        SBC $FE
+        STA $FC
+WIDE:
+        TXA
+        LDX #$08
+WIDENEXT:
+        ROL $FB                 ; LEFT
+        ROL $FC
+        ROL A
+        CMP $FE                 ; the rest - RIGHT
         BCC WIDELESS
-        STX $C066
-        STA $C067
-        INC $FB                 ; LEFT
+        BNE WIDEMORE
+        LDY $FC
+        CPY $FD
+        BCC WIDELESS
+WIDEMORE:
+        TAY                     ; C is set
+        LDA $FC
+        SBC $FD
+        STA $FC
+        TYA
+        SBC $FE
 WIDELESS:
-        DEY
+        DEX
         BNE WIDENEXT
+        ROL $FB
+        STA $C067               ; RESULT
+        LDA $FC
+        STA $C066
+        TXA
+        ROL A
+        STA $FC
         RTS
 
 ; ---- Random: RESULT = the next RND state modulo LEFT
@@ -233,7 +269,7 @@ WIDELESS:
 ; Out:     RESULT: 0 to LEFT - 1.
 ; Changes: SEED: 25173 times the state before, plus 13849, modulo 65,536; SEEDED: 1; SCRATCH.
 ; Fault:   3 where LEFT is below 1.
-; Stack:   4.  Time: 549, and 7 up to the fault.
+; Stack:   4.  Time: 437, and 7 up to the fault.
 ;
 ; The bound waits on the stack while Multiply has LEFT and RIGHT. The state is read without a sign, as Unsigned
 ; does, and the remainder that Unsigned leaves in RESULT is the answer.
@@ -418,33 +454,31 @@ READ:
         STA $C06D               ; BYTE: the digit's value, where it is one
         CMP #$0A
         BCS BAD
-        LDA $C066               ; LEFT = RESULT
-        STA $FB
-        LDA $C067
+        LDA $C067               ; LEFT + 1 and A: RESULT * 4
         STA $FC
-        ASL $C066               ; RESULT = RESULT * 4
-        ROL $C067
-        ASL $C066
-        ROL $C067
+        LDA $C066
+        ASL A
+        ROL $FC
+        ASL A
+        ROL $FC
         CLC
-        LDA $C066               ; RESULT = RESULT + LEFT: 5 times
-        ADC $FB
-        STA $C066
-        LDA $C067
-        ADC $FC
-        STA $C067
-        ASL $C066               ; 10 times
-        ROL $C067
+        ADC $C066               ; RESULT added, 5 times: the low byte in X
+        TAX
+        LDA $FC
+        ADC $C067
+        STA $FC
+        TXA
+        ASL A                   ; 10 times
+        ROL $FC
         CLC
-        LDA $C066               ; RESULT = RESULT + BYTE
-        ADC $C06D
+        ADC $C06D               ; RESULT = that + BYTE
         STA $C066
-        LDA $C067
+        LDA $FC
         ADC #$00
         STA $C067
         LDA #$02
         STA $C06E               ; SCRATCH: digits seen
-        JMP READ
+        BNE READ                ; always
 SIGN:
         LDA $C06E               ; SCRATCH: a sign stands only before all else
         BNE BAD
@@ -452,7 +486,7 @@ SIGN:
         STA $C06F
         LDA #$01
         STA $C06E               ; SCRATCH: a sign seen
-        JMP READ
+        BNE READ                ; always
 BAD:
         LDA #$06
         JMP FAULT

@@ -5,6 +5,7 @@ use std::alloc::Global;
 use std::io::Read;
 use std::str;
 use tb_check_engine::{CheckOutcome, Checked};
+use tb_codegen::SizeLimit;
 use tb_streams::Tracked;
 
 /// What the sources of a row are called.
@@ -56,9 +57,9 @@ pub fn with_reader<R: Read + Drop>(
     checked.add(alloc, name, &mut Tracked::new(reader))
 }
 
-/// A check of sources.
-pub fn checked(alloc: Global, files: &[File]) -> Result<Checked, CheckOutcome> {
-    let mut checked = Checked::new(alloc);
+/// A check of sources, whose programs are too large by this limit.
+pub fn checked(alloc: Global, files: &[File], size: SizeLimit) -> Result<Checked, CheckOutcome> {
+    let mut checked = Checked::new(alloc, size);
     for file in files {
         checked = with_file(alloc, checked, file)?;
     }
@@ -76,8 +77,8 @@ pub fn ending_of(alloc: Global, checked: &Checked) -> Ending {
 }
 
 /// Appends what a check of sources writes, and how it ends.
-pub fn put_check(page: &mut Page, files: &[File]) {
-    let checked = checked(page.alloc(), files);
+pub fn put_check(page: &mut Page, files: &[File], size: SizeLimit) {
+    let checked = checked(page.alloc(), files, size);
     if let Some(checked) = page.held(checked) {
         let ending = ending_of(page.alloc(), &checked);
         put_ending(page, &ending);

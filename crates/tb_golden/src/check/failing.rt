@@ -3,6 +3,7 @@ use crate::check::checks::{Ending, File, checked, ending_of, put_outcome, with_f
 use crate::page::Page;
 use std::alloc::Global;
 use tb_check_engine::{CheckOutcome, Checked};
+use tb_codegen::SizeLimit;
 use tb_streams::Tracked;
 use tb_test_support::{FailingReader, FailingWriter};
 
@@ -17,7 +18,12 @@ fn over_reader(
     most: usize,
 ) -> Result<Checked, CheckOutcome> {
     let reader = FailingReader::new(FIRST, until_fault, most);
-    let mut checked = with_reader(alloc, Checked::new(alloc), "first.bas", reader)?;
+    let mut checked = with_reader(
+        alloc,
+        Checked::new(alloc, SizeLimit::Cost),
+        "first.bas",
+        reader,
+    )?;
     for file in files {
         checked = with_file(alloc, checked, file)?;
     }
@@ -44,7 +50,7 @@ fn reader_fails(
 /// Appends what a check writes whose first source comes from a reader that fails anywhere: always the same, namely what
 /// is said of the other sources.
 pub fn put_readers(page: &mut Page, files: &[File]) {
-    let checked = checked(page.alloc(), files);
+    let checked = checked(page.alloc(), files, SizeLimit::Cost);
     if let Some(checked) = page.held(checked) {
         let whole = ending_of(page.alloc(), &checked);
         put_failing_readers(page, files, &whole);
@@ -85,7 +91,7 @@ fn is_prefix(
 
 /// Appends how many failing writers took a prefix of what a check writes, or the first that did not.
 pub fn put_writers(page: &mut Page, files: &[File]) {
-    let checked = checked(page.alloc(), files);
+    let checked = checked(page.alloc(), files, SizeLimit::Cost);
     if let Some(checked) = page.held(checked) {
         let whole = ending_of(page.alloc(), &checked);
         put_failing_writers(page, &checked, &whole);

@@ -3,19 +3,28 @@ use crate::check::checks::File;
 use crate::page::Page;
 use std::alloc::{AllocError, Global};
 use tb_check::{Findings, SourceErrorKind, examine};
-use tb_codegen::{CompileError, Options, compile};
+use tb_codegen::{CompileError, CompileSettings, SizeLimit, compile_within};
 use tb_lower::LowerError;
 
 /// The seed of RND, on which nothing depends here.
 const SEED: u16 = 1;
 
-// Whether the check and the compiler agree on a source.
+// Whether the check and the compiler agree on a source, by either limit.
 fn agrees(alloc: Global, source: &[u8]) -> Result<bool, AllocError> {
-    let found = examine(alloc, source)?.findings;
-    Ok(match compile(alloc, source, Options { seed: SEED }) {
-        Ok(_) => matches!(&found, Findings::Accepted(_)),
-        Err(error) => is_refusal(&found, error),
-    })
+    Ok(
+        agrees_within(alloc, source, SizeLimit::Cost)?
+            && agrees_within(alloc, source, SizeLimit::Memory)?,
+    )
+}
+
+fn agrees_within(alloc: Global, source: &[u8], size: SizeLimit) -> Result<bool, AllocError> {
+    let found = examine(alloc, source, size)?.findings;
+    Ok(
+        match compile_within(alloc, source, CompileSettings { seed: SEED, size }) {
+            Ok(_) => matches!(&found, Findings::Accepted(_)),
+            Err(error) => is_refusal(&found, error),
+        },
+    )
 }
 
 // Whether the compiler's refusal is the first one that was found. Of lines that are too deep, any may come first.

@@ -11,7 +11,7 @@ const PRINTED: &str = "  BNE at0C10 ; 0C05  D0 09
   LDX #$0A ; 0C07  A2 0A
   LDY #$00 ; 0C09  A0 00
   LDA #$00 ; 0C0B  A9 00
-  JMP fault_line ; 0C0D  4C 9E 0B
+  JMP fault_line ; 0C0D  4C AD 0B
 at0C10:
   LDA #<text0C23 ; 0C10  A9 23
   STA $FB ; 0C12  85 FB  left
@@ -19,7 +19,7 @@ at0C10:
   STA $FC ; 0C16  85 FC  left+1
   LDA #$01 ; 0C18  A9 01
   STA $C06C ; 0C1A  8D 6C C0  length
-  JSR text ; 0C1D  20 88 09
+  JSR text ; 0C1D  20 AC 09
   JMP at0C24 ; 0C20  4C 24 0C
 text0C23:
   .byte $48 ; 0C23  H
@@ -37,7 +37,7 @@ const AFTER_LINES: &str = "past:
   LDX #$08 ; 0CD3  A2 08
   LDY #$0C ; 0CD5  A0 0C
   LDA #$07 ; 0CD7  A9 07
-  JMP fault_line ; 0CD9  4C 9E 0B
+  JMP fault_line ; 0CD9  4C AD 0B
 find:
   LDA #<line_table ; 0CDC  A9 F1
   STA $FD ; 0CDE  85 FD  right
@@ -47,7 +47,7 @@ find:
   STA $C06A ; 0CE6  8D 6A C0  count
   LDA #$00 ; 0CE9  A9 00
   STA $C06B ; 0CEB  8D 6B C0  count+1
-  JMP search ; 0CEE  4C 83 0A
+  JMP search ; 0CEE  4C 92 0A
 line_table:
   .word $000A ; 0CF1  0A 00
   .word line10 ; 0CF3  00 0C
@@ -59,7 +59,7 @@ line_table:
   .word line3080 ; 0CFF  96 0C
 ";
 
-const LABELS: &str = "al C:0be4 .poll
+const LABELS: &str = "al C:0bf3 .poll
 al C:0c00 .line10
 al C:0c2e .line20
 al C:0c73 .line3072

@@ -84,11 +84,11 @@ start          1          192           634   31.6%
         limit: 100_000,
         status: 0,
         table: " line      times instructions        cycles   share  statement
-start          1          192           634   52.2%
+start          1          192           634   52.1%
    10          1            8            29    2.4%  LET A=0
-   20          1          161           552   45.4%  PRINT 1/A
+   20          1          161           553   45.5%  PRINT 1/A
    30          0            0             0    0.0%  PRINT 2
-  sum          2          361          1215  100.0%
+  sum          2          361          1216  100.0%
 ",
     },
     Program {
@@ -98,11 +98,11 @@ start          1          192           634   52.2%
         limit: 100_000,
         status: 6,
         table: " line      times instructions        cycles   share  statement
-start          1          192           634   36.0%
-   10          1          116           473   26.8%  PRINT \"HOW MANY\"
-   20          1          188           656   37.2%  INPUT A,B
+start          1          192           634   37.1%
+   10          1          116           473   27.7%  PRINT \"HOW MANY\"
+   20          1          184           603   35.3%  INPUT A,B
    30          0            0             0    0.0%  PRINT A+B
-  sum          2          496          1763  100.0%
+  sum          2          492          1710  100.0%
 ",
     },
     Program {
