@@ -95,6 +95,31 @@ row 0 '' $'LDA #$48 ; C000\nJSR $FFD2 ; C002\nRTS ; C005' dis routine.prg
 row 0 '' 'tbc 1.0.0' --version
 row 0 '' 'Compiles Tiny BASIC*Usage: tbc *' --help
 row 0 '' '*Usage: tbc run *SOURCE*--prg*' run --help
+row 0 '' '*Usage: tbc run *SOURCE*--prg*' help run
+row 0 '' 'Compiles Tiny BASIC*Usage: tbc *' help
+row 0 '' 'tbc 1.0.0' version
+row 2 "error: unrecognized subcommand 'jump'*" '' help jump
+
+# A text is typed as it is spelled: small letters as capitals, a backslash and an n as return
+row 0 '' $'A\n? \n42\n\n!7 AT 30' run wait.bas --type '2 1\n'
+row 0 '' $'A\n? \n42\n\n!7 AT 30' run wait.bas --type=$'21\n'
+row 0 '' $'A\n? \n-10\n\n!7 AT 30' run wait.bas --type '-5\n'
+row 6 'tbc: waits for a key' $'A\n\\? ' run wait.bas --type 21
+row 6 'tbc: waits for a key' $'A\n\\? ' run wait.bas --type ''
+row 6 'tbc: waits for a key' $'AZ@{5B}\nN{5C}NN0' run --prg echo.prg --type 'az@[\nn\Nn0\n\n'
+row 0 '' $'{5C}' run --prg once.prg --type '\'
+row 2 'error: *' '' run wait.bas --type 1 --keys 31
+row 2 'error: *' '' run wait.bas --keys-file nowhere.keys --type 1
+row 2 'error: *' '' play wait.bas --type 1
+
+# At a terminal a first word that is a source in place of a command gets a hint
+by=(python3 "$root/tools/at_a_terminal.py" --)
+row 2 '' "*unrecognized subcommand 'hello.bas'*tbc: note: to run a source: tbc run hello.bas" hello.bas
+row 2 '' "*unrecognized subcommand 'a/B.BAS'*tbc: note: to run a source: tbc run a/B.BAS" a/B.BAS --seed 2
+row 2 '' "*unrecognized subcommand 'hello.prg'*try '--help'." hello.prg
+row 2 '' "*try '--help'." run hello.bas --hello
+by=()
+row 2 "error: unrecognized subcommand 'hello.bas'*try '--help'." '' hello.bas
 
 # What is built is the whole program: its last line is found in the table at the end. RND starts from the seed
 built HELLO hello.bas out.prg
@@ -110,15 +135,15 @@ row 0 '' '.{E6}' run --prg spoilt.prg --rude 3
 
 # Disk images; tools/disk.sh looks at their bytes
 cp routine.prg maze_1.prg
-: >many
+many=()
 for ((i = 1; i <= 145; i++)); do
     cp routine.prg "many$i.prg"
-    echo "many$i.prg" >>many
+    many+=("many$i.prg")
 done
 out=out.d64
 row 0 '' '' disk out.d64 routine.prg maze_1.prg
-row 0 '' '' disk out.d64 $(head -n 144 many)
-row 1 'tbc: disk full' '' disk out.d64 $(<many)
+row 0 '' '' disk out.d64 "${many[@]:0:144}"
+row 1 'tbc: disk full' '' disk out.d64 "${many[@]}"
 { printf '\x01\x08' && head -c 63487 /dev/zero; } >large1.prg
 for i in 2 3; do cp large1.prg large$i.prg; done
 row 0 '' '' disk out.d64 large1.prg large2.prg
@@ -127,7 +152,7 @@ row 1 'tbc: bad name' '' disk out.d64 routine.prg bad+name.prg
 row 1 'tbc: name twice' '' disk out.d64 routine.prg ./ROUTINE
 row 3 'tbc: read fault' '' disk out.d64 routine.prg nowhere.prg maze_1+.prg
 row 3 'tbc: read fault' '' disk out.d64 routine.prg folder
-row 1 'tbc: name twice' '' disk out.d64 $(<many) ./many1.prg
+row 1 'tbc: name twice' '' disk out.d64 "${many[@]}" ./many1.prg
 each 1 bad.prg disk out.d64 routine.prg bad.prg bad+.prg <<'END'
 not a PRG: too short|\x01
 not a PRG: runs past the end|\xff\xff\x60\x60
@@ -225,7 +250,64 @@ done
 row 1 '' "tbc: program too large ($((full_cost + 1)) bytes)" run over.bas
 row 1 '' 'tbc: program too large (37889 bytes)' run over.bas --fit
 row 1 '' 'tbc: empty program' run none.bas
+
+# There an error names its file and its line, and says why
+file bad.bas '10 REM count\n20 A=0\n10 FOR I=1 TO 10\n'
+bad=$'tbc: 3:4: syntax\nbad.bas:3:4: error: syntax\n    3 | 10 FOR I=1 TO 10\n      |    ^\n'
+bad+='bad.bas:3:4: note: Tiny BASIC has no FOR; count with LET, IF and GOTO'
+for words in 'build bad.bas out.prg' 'run bad.bas' 'play bad.bas' 'debug bad.bas' 'profile bad.bas'; do
+    row 1 '' "$bad" $words
+done
+file nested.bas '20 END\n10 A=1+(1+(1+(1+(1+(1+(1+(1+(1+(1+(1+(1+(1+(1+(1+(1+(1+B))))))))))))))))\n'
+row 1 '' $'tbc: line 10: expression too deep\nnested.bas:2: error: expression too deep\n    2 | 10 A=1+*B))))))))))))))))' run nested.bas
+mkfifo pipe.bas # what it gave is gone
+cat bad.bas >pipe.bas &
+row 1 '' 'tbc: 3:4: syntax' run pipe.bas
+noted() { # STATUS TEXT NOTE WORD..
+    row "$1" '' "tbc: $2"$'\n'"tbc: note: $3" "${@:4}"
+}
+file short.prg '\x01'
+file past.prg '\xff\xff\x60\x60'
+file closed.prg '\x00\xd0\x60'
+file 'a#b.prg' '\x01\x08\x60'
+head -c 1048577 /dev/zero >huge.bas
+head -c 2097155 /dev/zero >long.keys
+for word in run build play step debug profile check dis; do
+    noted 3 'read fault' 'nowhere.bas: no such file' $word nowhere.bas
+done
+noted 3 'read fault' 'nowhere.bas: no such file' check hello.bas nowhere.bas
+noted 3 'read fault' 'hello.bas/a.bas: no such file' run hello.bas/a.bas
+noted 3 'read fault' 'folder: is a folder' run folder
+noted 3 'read fault' 'huge.bas: longer than 1,048,576 bytes' run huge.bas
+noted 3 'read fault' 'nowhere: no such file' asm nowhere out.prg --at C000
+noted 3 'read fault' 'nowhere: no such file' run hello.bas --keys-file nowhere
+noted 3 'read fault' 'nowhere.prg: no such file' disk games.d64 routine.prg nowhere.prg
+noted 3 'write fault' 'nowhere/a.prg: no such folder' build hello.bas nowhere/a.prg
+noted 3 'write fault' 'folder: is a folder' build hello.bas folder
+noted 3 'write fault' '/dev/full: disk full' asm routine.s /dev/full --at C000
+noted 1 'not a PRG: too short' 'short.prg: a PRG file has two bytes or more' run --prg short.prg
+noted 1 'not a PRG: runs past the end' 'past.prg: its bytes end past 65,536' dis past.prg
+noted 1 'not a PRG: not RAM' 'closed.prg: a byte of it would lie outside of RAM' play --prg closed.prg
+noted 1 'bad name' 'games.img: the name of a disk image ends in .d64' disk games.img routine.prg
+noted 1 'bad name' 'a#b.prg: a name on a disk is 1 to 16 of A to Z, 0 to 9, space, - and .' disk games.d64 routine.prg 'a#b.prg'
+noted 1 'name twice' './routine.prg: an earlier file has this name on the disk' disk games.d64 routine.prg ./routine.prg
+noted 1 'not a PRG: too short' 'short.prg: a PRG file has two bytes or more' disk games.d64 routine.prg short.prg
+noted 1 'not a PRG: text' 'hello.bas: this is a text' disk games.d64 hello.bas
+noted 2 'same file twice' './hello.bas: the same file as hello.bas' build hello.bas ./hello.bas
+noted 2 'same file twice' 'out.prg: the same file as folder/../out.prg' build hello.bas out.prg --map folder/../out.prg
+row 5 '' $'A\ntbc: step limit\ntbc: note: line 20 was begun last; --limit N allows more events' run forever.bas --limit 5000
+row 5 '' $'tbc: step limit\ntbc: note: --limit N allows more events' run forever.bas --limit 1
+row 6 '' $'A\n\\? tbc: waits for a key\ntbc: note: line 20 waits; tbc play takes keys from the keyboard' run wait.bas
+file wild.bas '110 A=1150\n120 GOTO A+1\n'
+row 0 '' $'\n!1 AT 120\ntbc: note: fault 1 at line 120: no line 1151' run wild.bas
+file part.bas '10 A=0\n20 PRINT 1/A\n'
+row 0 '' $'\n!2 AT 20\ntbc: note: fault 2 at line 20: a divisor is 0' run part.bas
+file alike.bas '10 PRINT "!2 AT 10"\n20 END\n'
+row 0 '' '!2 AT 10' run alike.bas
 by=()
+row 1 'tbc: 3:4: syntax' '' run bad.bas
+row 3 'tbc: read fault' '' run nowhere.bas
+row 0 '' $'\n!2 AT 20' run part.bas
 
 # Checks. What is said of which source is tried in tb_golden
 file slips.bas '10 FOR I=1 TO 10\n20 PRINT "\xe4"\n\n30 PRIMT I\n10 END\n'
@@ -257,6 +339,10 @@ row 0 '' "$(<dice.said)" check dice.bas hello.bas
 row 1 '' "$(<slips.said)" check slips.bas
 row 1 '' "$(cat dice.said slips.said dice.said)" check dice.bas hello.bas slips.bas dice.bas
 row 1 '' 'large.bas: error: program too large (37889 bytes)' check large.bas
+row 0 '' '' check --fit large.bas
+row 0 '' '' check full.bas --fit
+row 1 '' 'over.bas: error: program too large (37889 bytes)' check --fit over.bas hello.bas
+row 1 '' "$(<slips.said)" check slips.bas --fit
 row 3 'tbc: read fault' "$(cat slips.said dice.said)" check nowhere.bas slips.bas folder dice.bas
 row 3 'tbc: read fault' '' check hello.bas nowhere.bas nowhere.bas
 row 2 'error: *' '' check
@@ -267,8 +353,68 @@ row 0 '' '' check hello.bas
 to=shown
 for source in "$root"/examples/*.bas; do
     cp "$source" example.bas
-    [ "${source##*/}" = startrek.bas ] || "$tbc" check example.bas >shown || { failed=$((failed + 1)); cat shown; }
+    "$tbc" check --fit example.bas >shown || { failed=$((failed + 1)); cat shown; }
     rows=$((rows + 1))
+done
+
+# Tidy sources
+file wild.bas '10print"Hi ";a\n  \n20if a<5goto10\r\n30 for\n'
+file tidy.bas '10 PRINT "Hi ";A\n\n20 IF A<5 GOTO 10\r\n30 for\n'
+cp wild.bas copy.bas
+row 0 '' "$(<tidy.bas)" format wild.bas
+row 1 '' wild.bas format wild.bas --check
+same wild.bas copy.bas
+row 0 '' '' format tidy.bas --check
+row 0 '' '' format copy.bas --in-place
+same copy.bas tidy.bas
+touch -d 2001-01-01 tidy.bas
+row 0 '' '' format --in-place tidy.bas
+holds <(date -r tidy.bas +%Y) '2001\n'
+for option in '' --check --in-place; do
+    # shellcheck disable=SC2086 # none or one word
+    row 3 'tbc: read fault' '' format nowhere.bas $option
+done
+row 3 'tbc: read fault' '' format folder
+row 2 'error: *' '' format
+row 2 'error: *' '' format wild.bas --in-place --check
+to=/dev/full
+row 3 'tbc: write fault' '' format wild.bas
+row 3 'tbc: write fault' '' format wild.bas --check
+row 0 '' '' format tidy.bas --check
+to=shown
+from=wild.bas
+row 0 '' "$(<tidy.bas)" format -
+row 0 '' "$(<tidy.bas)" format - --in-place
+row 1 '' - format - --check
+from=/dev/null
+# A tidy example is the same program, and it is the tidy form of the example with its spaces and letters changed
+respelled() { # SOURCE SEED
+    python3 - "$1" "$2" <<'END'
+import random, sys
+random.seed(int(sys.argv[2]))
+for line in open(sys.argv[1]).read().split("\n")[:-1]:
+    parts = line.split('"')
+    if "REM" in "".join(parts[::2]).replace(" ", ""):
+        print(line)
+        continue
+    for at in range(0, len(parts), 2):
+        letters = [random.choice([it, it.lower()]) for it in parts[at].replace(" ", "")]
+        parts[at] = "".join(it + " " * (random.random() < 0.3) for it in letters)
+    changed = '"'.join(parts)
+    print(changed if len(changed) <= 255 else line)
+END
+}
+for source in "$root"/examples/*.bas; do
+    "$tbc" format "$source" >tidy.bas
+    for seed in 1 2 3; do
+        respelled "$source" $seed >wild.bas
+        "$tbc" format wild.bas >shown
+        same shown tidy.bas
+    done
+    row 0 '' '' format tidy.bas --check
+    "$tbc" build "$source" --fit -o one.prg 2>/dev/null || true
+    "$tbc" build tidy.bas --fit -o two.prg 2>/dev/null || true
+    same two.prg one.prg
 done
 
 # vim's default errorformat reads each line that names a place, in what is written here and in all rows, and no others
@@ -747,6 +893,7 @@ step_rows() {
     steps $'what\\?\nwhat\\?\nwhat\\?\nwhat\\?\nat 20' 'g 65536\ng 000020\ng  20\nss\ng 00020' let.bas
     steps waits 'g 30\n' wait.bas
     steps $'at 30\n12' 'g 30\nv A\n' wait.bas --keys 31320d
+    steps $'at 30\n12' 'g 30\nv A\n' wait.bas --type '12\n'
     steps '' '' let.bas
     file commands ''
     row 0 'tbc: warning: line 20: no line 30' '' step warn.bas
@@ -769,6 +916,7 @@ profile_rows() {
     row 0 '' $' line *statement\nstart *\n   10 *\n  sum *100.0%' profile let.bas
     row 5 'tbc: step limit' $' line *\n  sum *' profile let.bas --limit 5
     row 6 'tbc: waits for a key' $' line *\n  sum *' profile wait.bas
+    row 0 '' $' line *\n  sum *' profile wait.bas --type '12\n'
     row 0 '' $' line *\n  sum *' profile let.bas --rude 7
     file less.bas '10 PRINT "<&>"\n20 GOTO 40\n30 PRINT\n40 END\n'
     row 0 '' $'*\n   30          0            0             0    0.0%  PRINT\n   40 *' profile less.bas --html page.html
@@ -792,6 +940,8 @@ debug_rows() {
     from=commands
     row 0 '' $'10 A=5\n20 END\nA=5\nreturned\n10 A=5\n10 A=5\n0C00 A=* 10 running\nwhat\\?' debug let.bas
     row 0 '' $'10 A=5\n20 END\nA=5\nreturned\n10 A=5\n10 A=5\n0C00 A=* 10 running\nwhat\\?' debug let.bas --rude 7
+    file commands 'next\nback\nnext 2\nback 1\ncontinue\nnexts\nnext x\nhelp\nquit\nn\n'
+    row 0 '' $'10 A=5\n20 END\n10 A=5\nreturned\n20 END\nreturned\nwhat\\?\nwhat\\?\nn \\[K\\] *\nq          end*' debug let.bas
     file commands 'c\nc\nk 5\nb 40\nc\nrc\n'
     row 0 '' $'*\nwaits\nwaits\ntyped\n*' debug wait.bas
     row 0 '' $'*\nlimit\n*' debug forever.bas --limit 500

@@ -35,7 +35,9 @@ def read():
     commands = []
     for name, short in rows(parts["--help"], "Commands"):
         text = parts.get(f"{name} --help")
-        if text:
+        if not text:  # the library's own, which says no more of itself
+            commands.append(Command(name, short, [f"tbc {name} [COMMAND]"], [], []))
+        else:
             usage = [it.strip() for it in re.search(r"^Usage: ((?:.*\n)+?)\n", text, re.M)[1].splitlines()]
             options = [option_of(*it) for it in rows(text, "Options")]
             commands.append(Command(name, short, usage, rows(text, "Arguments"), options))

@@ -52,6 +52,7 @@ def sibling(crate, file, name, text, pairs):
         shutil.copytree(proof / was, proof / name)
         for answers in (proof / name).iterdir():
             answers.write_text(answers.read_text().replace(f".{was}.", f".{name}."))
+    body = re.sub(r"(?m)^#\[cycle\(\w+\)\]\n", "", body)  # nothing calls the copy
     return span[1], "\n" + re.sub(rf"\bfn {was}\b", f"fn {name}", body, count=1)
 
 

@@ -7,7 +7,7 @@
 # is taken from a PRG that is an RTS alone.
 #
 # sim65 (of cc65 2.19) judges a branch that is taken by the page of its own first byte, and not by that of the next
-# instruction, so a program in which a byte like a branch's opcode is at the end of a page is left out, and counted.
+# instruction, so a program that takes a branch at the end of a page is left out, and counted.
 #
 #   tools/cycles.sh [COUNT] [SEED]    how many random programs; 30 by default
 . "$(dirname "${BASH_SOURCE[0]}")/setup.sh"
@@ -49,15 +49,30 @@ image empty.prg '' >empty.sim
 read -r around _ < <(counts empty.sim)
 around=$((around - 6))
 
-ends_a_page() { # PRG: whether one of the last two bytes of a page may be a branch's opcode
-    python3 - "$1" <<'END'
+# Writes a PRG with each branch in the last two bytes of a page turned into one to its own second byte, $FF, which is no
+# opcode: whoever takes it stops. Fails if there is no such branch.
+stopped_at_page_ends() { # PRG TO
+    "$tbc" dis "$1" >branches.s
+    python3 - "$1" "$2" <<'END'
+import re
 import sys
 from pathlib import Path
 
-code = Path(sys.argv[1]).read_bytes()[2:]
-ends = (at for at in range(len(code)) if (0x0801 + at) % 256 >= 0xFE)
-sys.exit(0 if any(code[at] & 0x1F == 0x10 for at in ends) else 1)
+file = bytearray(Path(sys.argv[1]).read_bytes())
+found = re.findall(r"^(?:B(?:CC|CS|EQ|MI|NE|PL|VC|VS)) .* ; ([0-9A-F]{2}F[EF])$", Path("branches.s").read_text(), re.M)
+ends = [int(at, 16) for at in found if int(at, 16) % 256 >= 0xFE]
+for at in ends:
+    file[2 + at + 1 - 0x0801] = 0xFF
+Path(sys.argv[2]).write_bytes(file)
+sys.exit(0 if ends else 1)
 END
+}
+
+takes_branch_at_page_end() { # NAME KEYS
+    stopped_at_page_ends "$1.prg" stopped.prg || return
+    image "$1.prg" "$2" >as_it_is.sim
+    image stopped.prg "$2" >stopped.sim
+    [ "$(counts as_it_is.sim)" != "$(counts stopped.sim)" ]
 }
 
 agrees() { # NAME KEYS TIMES CYCLES: sim65 counts as many for NAME.prg as `profile`
@@ -80,7 +95,7 @@ program() { # SOURCE KEYS
     "$tbc" profile "$1" --keys "$typed" --limit 100000000 >"$name.table" 2>said || status=$?
     [ "$status" = 0 ] || { echo "$name does not end: $(<said)" >&2; failed=$((failed + 1)); return; }
     read -r _ times _ cycles _ < <(tail -n 1 "$name.table")
-    if ends_a_page "$name.prg"; then
+    if takes_branch_at_page_end "$name" "$2"; then
         left_out=$((left_out + 1))
         return
     fi

@@ -1,11 +1,12 @@
 #!/usr/bin/env bash
 # Makes disk images with the built program and hands them to other tools: `cc1541`, which lists images and makes them, a
-# small walker in this script, and `c1541` if VICE is there, which lists, reads and validates them. Each must find the
-# same files, and each is shown one image that is wrong.
+# small walker in this script, and `c1541` of VICE, where that can be had, which lists, reads and validates them. Each
+# must find the same files, and each is shown one image that is wrong.
 . "$(dirname "${BASH_SOURCE[0]}")/setup.sh"
 needs_program
 needs python3
 installs cc1541 cc1541
+finds_vice || true
 
 failed=0
 rows=0

@@ -12,8 +12,10 @@ log=$(realpath "$1")
 shift
 cd "$(dirname "${BASH_SOURCE[0]}")/.."
 
-function_at() { # FILE LINE: the function of the file that has the line
-    head -n "$2" "$1" | grep -E '^ *(pub(\([a-z]*\))? )?(const )?fn ' | tail -1 | sed 's/.*fn \([a-z_0-9]*\).*/\1/' || true
+function_at() { # FILE LINE: the function of the file that has the line, or that has this attribute
+    local line
+    line=$(awk -v from="$2" 'NR >= from && !/^ *#\[/ { print NR; exit }' "$1")
+    head -n "${line:-$2}" "$1" | grep -E '^ *(pub(\([a-z]*\))? )?(const )?fn ' | tail -1 | sed 's/.*fn \([a-z_0-9]*\).*/\1/' || true
 }
 
 bad=0

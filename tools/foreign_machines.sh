@@ -3,7 +3,8 @@
 #
 #   every example and every program of tools/bench, with keys, in sim65 (of cc65): each sends byte for byte what `tbc run`
 #     shows, and ends the same way; each service spoils every register and bytes of the ROM's memory (foreign/sim65.asm);
-#   the same programs on the Commodore 64 of VICE, if x64sc is there, with a ROM of our own (foreign/kernal.asm);
+#   the same programs on the Commodore 64 of VICE, with a ROM of our own (foreign/kernal.asm). If x64sc is not there, it is
+#     unpacked (get_vice.sh); if it can't be had, these runs are left out, and that is said;
 #   random PRGs of 64 bytes here and in sim65: registers and memory are the same (foreign/random_programs.py).
 #
 # Each run has a negative case: a wrong wanted byte must be found.
@@ -21,7 +22,7 @@ rows=0
 failed=0
 machines=(sim65)
 "$tbc" asm "$foreign/sim65.asm" sim65.prg --at A000
-if command -v x64sc >/dev/null; then
+if finds_vice; then
     machines+=(vice)
     "$tbc" asm "$foreign/kernal.asm" vice.prg --at E000
 else

@@ -28,7 +28,10 @@ def main():
     for command in table:
         for usage in command.usage:
             words = usage.split()
-            print(f".B tbc {words[1]}\n{roff(' '.join(words[2:]))}\n.br")
+            print(f".B tbc {words[1]}")
+            if words[2:]:
+                print(roff(" ".join(words[2:])))
+            print(".br")
     print(".SH COMMANDS")
     for command in table:
         print(f".SS {command.name}\n{roff(command.about)}.")

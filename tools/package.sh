@@ -40,9 +40,10 @@ chmod 755 tree/usr/bin/tbc
 for part in syntax ftdetect; do put "$root/editors/vim/$part/tinybasic.vim" $share/vim/vimfiles/$part/tinybasic.vim; done
 put "$root/editors/vscode/syntaxes/tinybasic.tmLanguage.json" $share/tbc/tinybasic.tmLanguage.json
 put "$root/README.md" $share/doc/tbc/README.md
+for it in "$root"/docs/pictures/*; do put "$it" "$share/doc/tbc/docs/pictures/${it##*/}"; done
 for it in "$root"/docs/*.md; do put "$it" "$share/doc/tbc/docs/${it##*/}"; done
 for it in "$root"/examples/*; do put "$it" "$share/doc/tbc/examples/${it##*/}"; done
-packed $share/doc/tbc/changelog.gz <"$root/CHANGELOG.md"
+"$root/tools/debian_changelog.py" "$version" "$SOURCE_DATE_EPOCH" | packed $share/doc/tbc/changelog.gz
 text $share/doc/tbc/copyright <<'END'
 Format: https://www.debian.org/doc/packaging-manuals/copyright-format/1.0/
 Upstream-Name: tbc

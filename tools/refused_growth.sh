@@ -1,10 +1,10 @@
 #!/usr/bin/env bash
 # Runs each command of the built program with the first, the second, .. growth of its memory refused, until a run
-# meets no refusal. Each run must end with status 4, `tbc: out of memory` and nothing written (of a program that is
-# played, debugged or profiled, its warnings and a prefix of what it shows), or answer exactly what the command answers
-# with ample memory; if no growth was refused, it must not run out of memory. The same holds for the calls that no
-# command makes or shows, each a name after `tb_bench call`. The refusing malloc is preloaded, so this needs a C compiler
-# (cc) and glibc.
+# meets no refusal; of a large program, with each hundredth or so. Each run must end with status 4,
+# `tbc: out of memory` and nothing written (of a program that is played, debugged or profiled, its warnings and a prefix
+# of what it shows), or answer exactly what the command answers with ample memory; if no growth was refused, it must not
+# run out of memory. The same holds for the calls that no command makes or shows, each a name after `tb_bench call`. The
+# refusing malloc is preloaded, so this needs a C compiler (cc) and glibc.
 . "$(dirname "${BASH_SOURCE[0]}")/setup.sh"
 needs_program
 trials=$root/crates/tb_bench/out/tb_bench
@@ -73,6 +73,7 @@ is_out_of_memory() { # NAME WORD..
 rows=0
 runs=0
 failed=0
+stride=1 # from one growth that is refused to the next
 refuse_each() { # PROGRAM WORD..: what it answers, with each growth refused in turn
     local growth wanted made want=0 again=0 name=${1##*/} words=${*:2}
     rows=$((rows + 1))
@@ -87,7 +88,7 @@ refuse_each() { # PROGRAM WORD..: what it answers, with each growth refused in t
     mv shown shown.wanted
     [ ! -f out.prg ] || mv out.prg made.wanted
     for made in beside.*; do [ ! -f "$made" ] || mv "$made" "wanted_$made"; done
-    for ((growth = 1; growth < 100000; growth++)); do
+    for ((growth = 1; growth < 1000000; growth += stride)); do
         answer "$growth" "$@"
         runs=$((runs + 1))
         if [ "$status" = 4 ] && [ ! -s refused ]; then
@@ -211,6 +212,11 @@ check disk out.prg hello.prg
 check disk beside.d64 hello.bas
 check disk beside.d64 high.prg
 check disk
+check format all.bas
+check format all.bas --check
+check format bad.bas
+check format hello.bas --in-place
+check format nowhere.bas --in-place
 printf '10 FOR I=1 TO 10\n20 PRIMT "X"\n30 PRINT "Y\nEND\n' >slips.bas
 printf '10 PRINT RND(6)\n20 IF A=1 GOTO 99\n10 REM\n' >dice.bas
 check check hello.bas
@@ -236,6 +242,18 @@ check --version
 check --help
 check run --help
 check
+
+check check large.bas --fit
+
+# A large program has so many growths that only some are refused in turn, far enough apart to hit each part.
+large=$root/examples/startrek.bas
+stride=101
+check build "$large" out.prg --fit
+check build "$large" out.prg --fit --labels beside.vs --list beside.s --map beside.map
+check check "$large" --fit
+printf '0d' >long.keys
+check run "$large" --fit --keys-file long.keys
+stride=1
 
 step_rows() {
     printf 's\nb\nb\ng 30\nv A\ne A*2-1\ne 1/0\ne RND(2)\ne A+\nx\nd\ng 20\nq\n' >commands

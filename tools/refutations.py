@@ -16,7 +16,7 @@ A change is a text that the image holds once, and the text of the same length th
     ~send      the distance of a branch to it
     @          the address where this text begins
     line10:    as the first word of the old text: it begins at that label
-`free` is where the zeros between the routines and the first line begin. A name before the old text makes the address where
+A name before the old text makes the address where
 it begins a label for the changes after it.
 """
 import os
@@ -72,9 +72,9 @@ CHANGES = [
     Change("loop_that_returns", "RTS instead of JMP to line 10", "goto_itself", [
         ("line10: " + POLL + " 4c line10", ".. " * 7 + "60 .. .."),
     ]),
-    Change("end_that_loops", "if no break comes, a loop in the free bytes instead of RTS: two NOP and a JMP", "ends", [
-        ("line10: " + POLL + " 60", ".. " * 5 + "d0 ~free ea"),
-        ("free: " + "00 " * 5, "ea ea 4c free"),
+    Change("end_that_loops", "if no break comes, a loop in place of the unused Poll instead of RTS: two NOP and a JMP", "ends", [
+        ("line10: " + POLL + " 60", ".. " * 5 + "d0 ~poll ea"),
+        ("poll: " + ".. " * 5, "ea ea 4c poll"),
     ]),
     Change("end_without_break", "two NOP instead of the branch at a break", "ends", [
         ("line10: " + POLL, ".. " * 5 + "ea ea"),
@@ -98,15 +98,15 @@ CHANGES = [
     Change("folded_to_zero", "0 instead of 1, and three NOP instead of the division", "prints_and_faults", [
         ("a9 01 85 fb a9 00 85 fc a9 00 85 fd a9 00 85 fe 20 divide", ".. 00 " + ".. " * 14 + "ea ea ea"),
     ]),
-    Change("quotient_left_zero", "two NOP instead of each INC that sets a bit of the quotient", "prints_quotient", [
-        ("e5 fd e6 fb ca", ".. .. ea ea .."),
-        ("8d 67 c0 e6 fb 88", ".. .. .. ea ea .."),
+    Change("quotient_left_zero", "STY and STX, of 0, instead of each last ROL that completes a byte of the quotient", "prints_quotient", [
+        ("36 fb ca", "94 .. .."),
+        ("26 fb 8d 67 c0", "86 .. .. .. .."),
     ]),
     Change("quotient_rounded_down", "complements instead of the negations before and after a division of a negative number", "prints_negative_quotient", [
         ("negation", "a2 00 38 a9 00 f5 fb", ".. " * 7),
         ("divide_by", "a5 fe 10 0b a2 02", ".. " * 6),
-        ("20 negation 20 divide_by a2 00 38", "20 free+3 4c free" + " .." * 3),
-        ("free: " + "00 " * 9, "20 divide_by a2 00 18 4c negation+3"),
+        ("20 negation 20 divide_by a2 00 38", "20 poll+3 4c poll" + " .." * 3),
+        ("poll: " + ".. " * 9, "20 divide_by a2 00 18 4c negation+3"),
     ]),
     Change("difference_wrapped", "four NOP instead of BVC and EOR, which mend the sign of a difference that does not fit", "compares_far", [
         ("50 02 49 80", "ea " * 4),
@@ -123,9 +123,9 @@ CHANGES = [
         ("text: ad 6c c0", "ae .. .."),
         ("ce 6c c0 d0", "ca ea ea .."),
     ]),
-    Change("line_dropped_at_comma", "a comma drops the rest of the line by a loop in the free bytes, and ends it", "inputs_two", [
-        ("comma", "c9 2c f0 .. a9 00 8d 35 c0", "4c free ea" + " .." * 5),
-        ("free: " + "00 " * 13, "c9 0d f0 06 20 cf ff 4c free 4c comma+4"),
+    Change("line_dropped_at_comma", "a comma drops the rest of the line by a loop in place of the unused Poll, and ends it", "inputs_two", [
+        ("comma", "c9 2c f0 .. a9 00 8d 35 c0", "4c poll ea" + " .." * 5),
+        ("poll: " + ".. " * 13, "c9 0d f0 06 20 cf ff 4c poll 4c comma+4"),
     ]),
     Change("calls_by_jsr", "JSR to the line instead of a note: the return is kept on the stack", "calls_itself", [
         ("line10: " + POLL + " ae 3d c0", ".. " * 7 + "20 line10"),
@@ -140,10 +140,10 @@ CHANGES = [
     Change("poll_at_jump_alone", "JMP over the poll of line 10, which doesn't jump, and what is done for the STOP key", "prints_forever", [
         ("line10: 20 e4 ff c9 03 d0 09", "4c @+16" + " .." * 4),
     ]),
-    Change("poll_after_if", "the text's call goes by way of one more poll, in the free bytes", "prints_if_zero", [
+    Change("poll_after_if", "the text's call goes by way of one more poll, in place of the unused Poll", "prints_if_zero", [
         ("break10", "a2 0a a0 00 a9 00 4c fault_line", ".. " * 9),
-        ("20 text 4c", "20 free .."),
-        ("free: " + "00 " * 13, "20 e4 ff c9 03 f0 03 4c text 4c break10"),
+        ("20 text 4c", "20 poll .."),
+        ("poll: " + ".. " * 13, "20 e4 ff c9 03 f0 03 4c text 4c break10"),
     ]),
 ]
 
@@ -175,10 +175,6 @@ def built(image, folder):
             labels.update(dict.fromkeys(waiting, int(address[1], 16)))
             waiting = []
     code = list(data[2:])
-    free = LINES_AT
-    while code[free - 1 - BASIC_START] == 0:
-        free -= 1
-    labels["free"] = free
     return code, labels
 
 

@@ -24,6 +24,14 @@ installs() { # COMMAND PACKAGE: installs a package of Debian if the command is m
     needs "$1"
 }
 
+# Puts the programs of VICE on the path: those of this system, or ones that are unpacked in out/vice. Fails if there are none.
+finds_vice() {
+    command -v x64sc >/dev/null && return
+    local unpacked=$root/out/vice
+    "$unpacked/usr/bin/x64sc" --version >/dev/null 2>&1 || "$root/tools/get_vice.sh" "$unpacked" >/dev/null || return
+    PATH=$unpacked/usr/bin:$PATH
+}
+
 needs_program() { [ -x "$tbc" ] || { echo "build the program first: ./tbc --build" >&2; exit 1; }; }
 
 now() { printf '%s' "${EPOCHREALTIME/[.,]/}"; }

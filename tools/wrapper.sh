@@ -31,7 +31,7 @@ is_so() { # OTHERWISE WORD..: says OTHERWISE if WORD.. fails
 }
 # Runs a command as a terminal does, in a group of its own that an interrupt can end.
 interruptible() {
-    local start='import os, signal, sys; os.setsid(); signal.signal(signal.SIGINT, signal.SIG_DFL); os.execv(sys.argv[1], sys.argv[1:])'
+    local start='import os, signal, sys; os.setsid(); [signal.signal(it, signal.SIG_DFL) for it in (signal.SIGINT, signal.SIGPIPE)]; os.execv(sys.argv[1], sys.argv[1:])'
     exec python3 -c "$start" "$@"
 }
 at_terminal() { python3 -c 'import pty, sys; sys.exit(pty.spawn(sys.argv[1:]) >> 8)' "$@"; }
@@ -40,7 +40,7 @@ at_terminal() { python3 -c 'import pty, sys; sys.exit(pty.spawn(sys.argv[1:]) >>
 copy() { # NAME
     mkdir -p "$1/tools"
     cp "$root/tbc" "$root/crates.txt" "$root/HANDLES" "$1"
-    cp "$root/tools/help.txt" "$1/tools"
+    cp "$root/tools/help.txt" "$root/tools/trial_copy.py" "$1/tools"
     (cd "$root" && find crates -name out -prune -o -type f \( -path '*/src/*' -o -path '*/specs/*' \) -print) >files
     tar -C "$root" -cf - -T files | tar -C "$1" -xf -
 }
@@ -53,7 +53,8 @@ cat >stub/rt <<'END'
 #!/usr/bin/env bash
 printf '%s\n' "$PWD" "$@" >"$STUB/words"
 case $1:${AS-} in
-    try:answer)
+    try:answer | try:whole)
+        [[ $AS != whole || $PWD != */command/* ]] || { echo 'error[some]: no such thing' >&2; exit 1; }
         cat >"$STUB/input"
         echo SHOWN
         printf 'tbc: step limit\nchecked: ended status=5\nraces: not looked for\nrun=ended status=5 runners=1 proved=no\n' >&2
@@ -64,11 +65,13 @@ case $1:${AS-} in
         printf 'run=no-answer proved=no\n' >&2
         exit 6
         ;;
+    try:long) echo $$ >"$STUB/pid"; exec sleep 1000 ;;
     try:*) echo 'error[some]: no such thing' >&2; exit 1 ;;
     all:good) printf '== tb_words\nrt: tb_words: begins with what a check kept elsewhere\n'
         printf '== tb_opcodes\nfn f: proved\nlogic=proved functions=1\n== summary\n2 of 2 crates ok\n' ;;
     all:bad) printf '== tb_words\nfn f: not proved\nlogic=unproved\n'; exec sleep 1000 ;;
     all:long) echo $$ >"$STUB/pid"; exec sleep 1000 ;;
+    all:slow) echo $$ >"$STUB/pid"; sleep 2; printf '== tb_words\nrt: \n== tb_opcodes\nrt: \n'; exec sleep 1000 ;;
     run:*) cp "$TBC" out/tbc ;;
 esac
 END
@@ -92,8 +95,15 @@ row 0 '' HELLO env -C built/crates ../tbc run "$work/hello.bas"
 row 0 '' HELLO env PATH="$work/built:$PATH" tbc run hello.bas
 row 0 '' "$(plain "$("$tbc" --version)")" built/tbc --version
 row 0 '' "$(plain "$("$tbc" run --help)")" built/tbc run --help
-row 0 '' "$(plain "$("$tbc" --help)")*--build *--install DIR *vice FILE.prg *" built/tbc --help
+row 0 '' "$(plain "$("$tbc" --help)")*--test *--build *--install DIR *vice FILE.prg *" built/tbc --help
 row 2 "$(plain "$("$tbc" 2>&1 || true)")" '' built/tbc
+row 0 '' "$(plain "$("$tbc" version)")" built/tbc version
+row 0 '' "$(plain "$("$tbc" help run)")" built/tbc help run
+row 0 '' "$(plain "$("$tbc" help)")*--build *" built/tbc help
+for word in --build --install vice; do
+    row 0 '' "$(plain "$("$tbc" --help)")*--build *" built/tbc $word --help
+    row 0 '' "$(plain "$("$tbc" --help)")*--build *" unbuilt/tbc $word -h
+done
 for ((i = 0; i < 21; i++)); do
     timed program "$tbc" --version
     timed wrapper built/tbc --version
@@ -102,6 +112,10 @@ rows=$((rows + 1))
 ratio=$(awk -v a="$(median wrapper)" -v b="$(median program)" 'BEGIN { printf "%.1f", a / b }')
 echo "the program starts in $(median program) us, ./tbc in $(median wrapper) us: $ratio times"
 awk -v a="$ratio" -v b="$slowest" 'BEGIN { exit a > b }' || { failed=$((failed + 1)) && echo "that is more than $slowest times"; }
+
+# Tests, which tools/quick_tests.py does
+row 2 'tbc: --test takes no words' '' unbuilt/tbc --test now
+command -v rt >/dev/null || row 3 'tbc: the command rt *' '' unbuilt/tbc --test
 
 # Installing
 row 0 "tbc: installed as $work/bin/tbc" '' built/tbc --install "$work/bin"
@@ -127,10 +141,30 @@ row 2 'tbc: vice takes a PRG file' '' built/tbc vice
 is_so 'tools/help.txt is not what the program says (tools/help_text.sh >tools/help.txt)' cmp texts "$root/tools/help.txt"
 row 0 '' "$(plain "$("$tbc" --version)")" unbuilt/tbc --version
 row 0 '' "$(plain "$("$tbc" -V)")" unbuilt/tbc -V
-row 0 '' "$(plain "$("$tbc" --help)")*--build *--install DIR *vice FILE.prg *" unbuilt/tbc --help
+row 0 '' "$(plain "$("$tbc" --help)")*--test *--build *--install DIR *vice FILE.prg *" unbuilt/tbc --help
 row 0 '' "$(plain "$("$tbc" -h)")*--build *" unbuilt/tbc -h
 row 0 '' "$(plain "$("$tbc" build -h)")" unbuilt/tbc build -h
 row 2 "$(plain "$("$tbc" 2>&1 || true)")" '' unbuilt/tbc
+row 0 '' "$(plain "$("$tbc" version)")" unbuilt/tbc version
+row 0 '' "$(plain "$("$tbc" help)")*--build *" unbuilt/tbc help
+row 0 '' "$(plain "$("$tbc" help debug)")" unbuilt/tbc help debug
+
+# So does what it says to words that are no command, with the names that are near
+"$tbc" --help | sed -n '/^Commands:/,/^$/ s/^  \([a-z]*\) .*/\1/p' >names
+while read -r name; do
+    for ((at = 0; at < ${#name}; at++)); do
+        echo "${name:0:at}${name:at+1}"
+        echo "${name:0:at}${name:at+1:1}${name:at:1}${name:at+2}"
+        echo "${name:0:at}x${name:at}"
+    done
+done <names | grep -vxFf names >near
+for word in jump game.bas ./game.bas a/b '&' 'a b' é --jump 'help jump' 'help a/b' $(<near); do
+    "$tbc" $word >/dev/null 2>texts || true
+    row 2 "$(plain "$(<texts)")" '' unbuilt/tbc $word
+done
+row 2 '' "*unrecognized subcommand 'game.bas'*tbc: note: to run a source: tbc run game.bas"* at_terminal unbuilt/tbc game.bas
+row 2 '' "*unrecognized subcommand 'game.bas'*tbc: note: to run a source: tbc run game.bas"* at_terminal built/tbc game.bas
+row 2 '' "*unrecognized subcommand 'game.prg'*try '--help'."* at_terminal unbuilt/tbc game.prg
 command -v rt >/dev/null || row 3 'tbc: the proved program is not built yet, and the command rt *' '' unbuilt/tbc run hello.bas
 
 # Trial runs: what the toolchain says of itself does not show, and files are found from its own folder
@@ -163,6 +197,8 @@ printf '50\nno\n' | unbuilt/tbc play hello.bas >/dev/null 2>&1 || true
 is_so 'what is typed does not reach the program that is played' test "$(<stub/input)" = $'50\nno'
 printf 's\nq\n' | unbuilt/tbc step hello.bas >/dev/null 2>&1 || true
 is_so 'the commands of step do not reach the program' test "$(<stub/input)" = $'s\nq'
+AS=whole row 5 "$trial"$'\n''tbc: step limit' SHOWN unbuilt/tbc run hello.bas
+is_so 'what can be run is not the program itself if it is not one command alone' grep -q "^$work/unbuilt/crates/tbc\$" stub/words
 AS=silent row 3 "$trial"$'\n''tbc: the trial run had not ended after * s: ./tbc --build first, *' '' unbuilt/tbc run hello.bas
 AS=refuses row 3 "$trial"$'\n''tbc: the trial run has no answer: see *' '' unbuilt/tbc run hello.bas
 beyond='needs the proved program, which is not built yet: ./tbc --build first'
@@ -202,15 +238,26 @@ tbc: built in * s: */out/tbc' '' unbuilt/tbc --build
 row 0 '' HELLO unbuilt/tbc run hello.bas
 AS=good row 0 'tbc: proving the *; last time 1 of them took 0 min * s*' '' unbuilt/tbc --build
 AS=bad row 3 '*tbc: tb_words is not proved: see */out/build.log' '' unbuilt/tbc --build
-AS=long interruptible unbuilt/tbc --build >/dev/null 2>&1 &
-for ((i = 0; i < 100; i++)); do [ -s stub/pid ] && break || sleep 0.1; done
-kill -INT -- "-$!"
-wait "$!" || true
-is_so 'a build that is stopped leaves a prover' test ! -d "/proc/$(<stub/pid)"
+started() { # waits for the toolchain's pid
+    for ((i = 0; i < 100; i++)); do [ -s stub/pid ] && break || sleep 0.1; done
+}
+rm -f unbuilt/crates/tbc/out/tbc
+for words in --build 'run hello.bas' 'play hello.bas'; do
+    for signal in INT TERM HUP PIPE; do
+        rm -f stub/pid
+        AS=long interruptible unbuilt/tbc $words >/dev/null 2>&1 &
+        started
+        [ $signal = INT ] && kill -INT -- "-$!" || kill -$signal "$!"
+        wait "$!" || true
+        is_so "$words leaves a prover when it gets $signal" test ! -d "/proc/$(<stub/pid)"
+    done
+done
+rm -f stub/pid
+AS=slow unbuilt/tbc --build 2>&1 >/dev/null | head -n 1 >/dev/null
+is_so 'a build whose pipe is closed leaves a prover' test ! -d "/proc/$(<stub/pid)"
 
 # One trial run by the toolchain itself
 PATH=$real_path
-rm -f unbuilt/crates/tbc/out/tbc
 row 0 "$trial" HELLO unbuilt/tbc run hello.bas
 
 echo "$rows calls of ./tbc, $failed other than they should be"

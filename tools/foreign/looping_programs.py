@@ -63,4 +63,5 @@ def main():
         (folder / f"looping_{k:02}.bas").write_text(program(random_source))
 
 
-main()
+if __name__ == "__main__":
+    main()

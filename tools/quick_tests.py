@@ -1,0 +1,246 @@
+#!/usr/bin/env python3
+"""Tries, with no proof, what can be tried in a fresh clone in a few minutes. That is what `./tbc --test` does:
+
+  - the worked rows of tb_golden, examples and checks of sources among them, by a trial run, compared with what is stored;
+  - the play-throughs of the examples, and generated programs, compiled and run in one trial run, compared with the
+    interpreter of tools/interpreter.py, which is written from docs/LANGUAGE.md alone.
+
+Its last line is `N passed, M failed`, and its status is 1 if anything failed.
+
+    tools/quick_tests.py [PROGRAMS]    how many programs are generated; 300 by default"""
+import random
+import re
+import shutil
+import subprocess
+import sys
+import tempfile
+import threading
+import time
+from itertools import chain
+from pathlib import Path
+
+TOP = Path(__file__).resolve().parent.parent
+sys.path[:0] = [str(TOP / "tools"), str(TOP / "tools/foreign")]
+sys.dont_write_bytecode = True
+import interpreter
+import looping_programs
+
+GOLDEN = TOP / "crates/tb_golden"
+SECONDS = "1800"  # as many as each program of a trial run gets, also on a busy machine
+KILOBYTES_SIDE_BY_SIDE = 6_000_000
+LINES = 300  # the most that a generated program takes, since a trial run is slow
+EXAMPLE_LINES = 2_000  # the most that an example takes
+LIMIT = "1000000"  # of events
+# Rows of tb_golden that take long in a trial run, by how they begin: they are left to the gate.
+SLOW = ("fit startrek ", "random ", "repeated ", "check {104857", "check {99998", "cuts ", "kept ", "back_over_rude_up_to ",
+        "back_over_rude 333", "back_over_rude 999", "back_over_rude 1000", "compile_gives_up_for_memory ")
+STEP = 100  # how often it is told how far the programs are
+SHOWN = 5  # as many failures are told in full
+began = time.monotonic()
+
+
+def say(text):
+    print(f"{time.monotonic() - began:4.0f} s  {text}", flush=True)
+
+
+class Tally:
+    """What passed and what failed. Two threads add to it, each once."""
+
+    def __init__(self):
+        self.passed, self.failed = 0, 0
+
+    def add(self, what, passed, failures):
+        self.passed += passed
+        self.failed += len(failures)
+        say(f"{what}: {passed} passed, {len(failures)} failed")
+        for it in failures[:SHOWN]:
+            print(it, flush=True)
+
+
+# The worked rows.
+
+
+def rows():
+    """All rows of tb_golden, as they are written."""
+    lines = (line for file in sorted(GOLDEN.glob("data/*/*.txt")) for line in file.read_text("latin-1").splitlines())
+    return {line for line in lines if line.strip() and not line.startswith("#")}
+
+
+def answers(text, known):
+    """The answers in a page of rows: a list of rows, each with all its lines but comments and empty ones. The slow rows
+    are left out."""
+    found = []
+    for line in text.splitlines():
+        if line.partition(" =>")[0] in known:
+            found.append([])
+        if found and line and not line.startswith("#"):
+            found[-1].append(line)
+    return [it for it in found if not it[0].startswith(SLOW)]
+
+
+def copied(room, *words):
+    """The crate of a program in a copy for trial runs; that of this repository if there is no such copy."""
+    made = subprocess.run([sys.executable, TOP / "tools/trial_copy.py", room, *words], capture_output=True)
+    return (TOP if made.returncode else Path(room)) / "crates" / words[0]
+
+
+def try_rows(tally, room):
+    words = ["rt", "try", "--seconds", SECONDS]
+    shutil.copytree(GOLDEN / "data", Path(room) / "data")
+    for file in Path(room).glob("data/*/*.txt"):
+        lines = file.read_text("latin-1").splitlines(keepends=True)
+        file.write_text("".join(it for it in lines if not it.startswith(SLOW)), "latin-1")
+    for file in sorted(it for it in Path(room).glob("data/**/*") if it.is_file()):
+        words += ["--data", f"{file.relative_to(Path(room) / 'data')}={file}"]
+    ran = subprocess.run(words, cwd=copied(room, "tb_golden"), stdin=subprocess.DEVNULL, capture_output=True)
+    known = rows()
+    wanted = answers((GOLDEN / "stdout").read_text("latin-1"), known)
+    found = answers(ran.stdout.decode("latin-1"), known)
+    found += [["no answer"]] * (len(wanted) - len(found))
+    failures = [f"wanted {want}\nfound {have}" for want, have in zip(wanted, found) if want != have]
+    if len(found) > len(wanted):
+        failures.append("there are more answers than are stored")
+    if failures:
+        failures[0] += "\n" + ran.stderr.decode(errors="replace")[-2000:]
+    tally.add("worked rows, compared with the stored answers", len(wanted) - len(failures), failures)
+
+
+# Programs, compared with the interpreter.
+
+
+def jumping_program(chance):
+    """A program whose jumps all lead forward, and the keys that it is given: what it does at faults and at its end counts."""
+    lines, subroutines = chance.randrange(5, 25), [2000, 2100]
+
+    def word():
+        kinds = [chance.choice("ABCDE"), str(chance.randrange(10)), str(chance.choice([255, 256, 32767, 32768, 65535]))]
+        return chance.choice(kinds)
+
+    def expression(depth=2):
+        if depth == 0 or chance.random() < 0.4:
+            return word()
+        made = f"{expression(depth - 1)}{chance.choice('+-*/')}{expression(depth - 1)}"
+        return chance.choice([made, f"({made})", f"(-({made}))", f"RND({word()})"])
+
+    def statement(at):
+        ahead = chance.randrange(at + 1, lines + 2) * 10
+        condition = f"{expression()}{chance.choice(looping_programs.RELATIONS)}{expression()}"
+        separator = chance.choice(",;")
+        return chance.choice([
+            f"LET {chance.choice('ABCDE')}={expression()}",
+            f"PRINT {expression()}{separator}\"X\"{separator}{expression()}{chance.choice(['', ';', ','])}",
+            f"IF {condition} THEN PRINT {expression()}",
+            f"IF {condition} GOTO {ahead}",
+            f"GOTO {ahead - 1}+1" if chance.random() < 0.3 else f"{chance.choice('AB')}={word()}",
+            f"GOSUB {chance.choice(subroutines)}",
+            f"INPUT {chance.choice('ABC')},{chance.choice('DE')}",
+            "REM NOTHING",
+        ])
+
+    source = [f"{at * 10} {statement(at)}" for at in range(1, lines)]
+    source += [f"{lines * 10} PRINT A,B,C", f"{lines * 10 + 10} END"]
+    source += [f"{it} PRINT {expression()}\n{it + 10} RETURN" for it in subroutines]
+    typed = [chance.choice(["12", "-7", "3,4", "X", "", "A+1", "99999"]) for _ in range(chance.randrange(6))]
+    return "\n".join(source) + "\n", "".join(f"{it}\r" for it in typed).encode()
+
+
+def examples():
+    """Each example with the keys of each of its rows, and the options that it needs."""
+    for row in (GOLDEN / "data/compiler/programs.txt").read_text().splitlines():
+        found = re.match(r"(run|fit) (\w+)(.*)", row)
+        if found and (TOP / f"examples/{found[2]}.bas").exists():
+            source = (TOP / "examples" / f"{found[2]}.bas").read_text()
+            yield found[2], source, bytes.fromhex(found[3].replace(" ", "")), ["--fit"] if found[1] == "fit" else []
+
+
+def generated(count):
+    chance = random.Random(1)
+    for at in range(count):
+        source, keys = (looping_programs.program(chance), b"") if at % 3 else jumping_program(chance)
+        yield f"program_{at:03}", source, keys, []
+
+
+def lay(folder, name, source, keys, options):
+    """Lays a case for rt try: a source, its words, and what is wanted. The status that is wanted; nothing for a source
+    whose end the interpreter does not see."""
+    path = folder / name
+    path.write_text(source)
+    lines = LINES if name.startswith("program_") else EXAMPLE_LINES
+    ending, shown = interpreter.ran(path, keys, b"", 1, lines)
+    if ending == "goes on":
+        path.unlink()
+        return None
+    words = ["run", "{}", "--limit", LIMIT, *options, *(["--keys", keys.hex()] if keys else [])]
+    (folder / f"{name}.args").write_text("\n".join(words) + "\n")
+    (folder / f"{name}.stdout").write_text(shown)
+    return {"ended": "0", "waits": "6"}[ending]
+
+
+def laid(folder, count):
+    """The status that is wanted of each case: of the examples that are short, and of so many short programs."""
+    wanted = {}
+    for at, (name, source, keys, options) in enumerate(chain(examples(), generated(4 * count))):
+        if sum(it.startswith("program_") for it in wanted) == count:
+            break
+        name = name if name.startswith("program_") else f"{name}_{at}"
+        status = lay(folder, name, source, keys, options)
+        if status:
+            wanted[name] = status
+    return wanted
+
+
+def try_programs(tally, room, count):
+    cases = Path(room) / "cases"
+    cases.mkdir()
+    wanted = laid(cases, count)
+    words = ["rt", "try", "--seconds", SECONDS, "--cases", str(cases)]
+    crate = copied(f"{room}/copy", "tbc", "run")
+    ran = subprocess.Popen(words, cwd=crate, stdin=subprocess.DEVNULL, stdout=subprocess.DEVNULL, stderr=subprocess.PIPE)
+    said, seen = [], {}
+    for line in ran.stderr:
+        said.append(line.decode(errors="replace"))
+        case = re.match(r"case=(\w+) run=ended status=(\d+) .*output=(\w+)", said[-1])
+        if case:
+            seen[case[1]] = case[2] if case[3] == "expected" else "another output"
+            if len(seen) % STEP == 0:
+                say(f"{len(seen)} of {len(wanted)} programs have run")
+    failures = [f"{name}: wanted status {status}, found {seen.get(name)}" for name, status in wanted.items() if seen.get(name) != status]
+    if failures:
+        failures[0] += "\n" + "".join(said)[-2000:]
+    played = sum(not it.startswith("program_") for it in wanted)
+    what = f"{played} play-throughs of examples and {len(wanted) - played} generated programs, compared with the interpreter"
+    tally.add(what, len(wanted) - len(failures), failures)
+
+
+def memory():
+    with open("/proc/meminfo") as file:
+        return int(re.search(r"MemAvailable: *(\d+)", file.read())[1])
+
+
+def main():
+    count = int(sys.argv[1]) if len(sys.argv) > 1 else 300
+    tally = Tally()
+    print("This tries what can be tried without proving, by trial runs of the toolchain. It takes some minutes.", flush=True)
+    with tempfile.TemporaryDirectory(prefix="tbc-test-") as room:
+        works = [lambda: try_rows(tally, f"{room}/rows"), lambda: try_programs(tally, f"{room}", count)]
+        threads = [threading.Thread(target=it) for it in works]
+        for it in threads:
+            it.start()
+            if memory() < KILOBYTES_SIDE_BY_SIDE:
+                it.join()
+        for it in threads:
+            it.join()
+    if interpreter.check():
+        tally.failed += 1
+    else:
+        tally.passed += 1
+    slow = sum(it.startswith(SLOW) for it in rows())
+    print(f"{slow} rows that take long in a trial run are left to `rt ci`.")
+    print("Nothing here is proved. That compiled programs do what their sources mean, for every source, keyboard and ROM, is")
+    print("what `rt ci` proves, from nothing in about 112 minutes of processor time: see docs/PROVED.md.")
+    print(f"{tally.passed} passed, {tally.failed} failed")
+    return 1 if tally.failed else 0
+
+
+if __name__ == "__main__":
+    sys.exit(main())

@@ -1,0 +1,169 @@
+#!/usr/bin/env python3
+"""Copies what a trial run of a program needs, so that it has less to build: tools/trial_copy.py FOLDER PROGRAM [COMMAND]
+
+The copy has the sources of the program and of the crates below it, and no definitions: a trial run tests no contract, and
+the toolchain would read them for a hint alone. With a COMMAND of tbc, the matches of jobs in crates/tbc/src/tasks.rt
+keep the arms of that command and of texts. Then whatever nothing names any more is left out: functions, types, variants,
+modules and crates. What is kept is word for word what the repository has. Ends with status 1 if there is no such match;
+whether the copy means anything is left to the compiler."""
+import re
+import shutil
+import sys
+from pathlib import Path
+
+ROOT = Path(__file__).resolve().parent.parent
+START = re.compile(r"(?:pub(?:\([a-z]+\))? )?(fn|struct|enum|const|static|type|use|mod|impl|trait)\b")
+NAMED = re.compile(r"(?:pub(?:\([a-z]+\))? )?(?:fn|struct|enum|const|static|type|trait|mod) (\w+)")
+TRAITS = {"IsTerminal", "MetadataExt", "Read", "Write"}  # an import of these is used without being named
+USE = re.compile(r"(?:pub |ghost )?use |//!|#!")  # and the head of a file
+MODULE = re.compile(r"(?:pub )?mod \w+;")
+MATCH = re.compile(r"(?m)^ {4}(?:Ok\(Some\()?match job \{\n")
+OTHERS = {"fn run_job<": "return Ok(None)", "fn other_job<": "Err(Failure::NoMemory)"}  # what all other commands do there
+AT_A_TERMINAL = {"hinting", "noting", "places", "refusals"}  # modules of what is said to a person
+TYPE = re.compile(r"impl.*? for (\w+)|impl(?:<[^{]*?>)? (\w+)")
+
+
+def items_of(text):
+    """The items of a file, each with the comments and attributes above it. What the file begins with is the first."""
+    head = re.match(r"(?:(?://!|#!).*\n|\n)*", text)[0]
+    items, above, item = [("", head)], [], []
+    for line in text[len(head):].splitlines(keepends=True):
+        if not item and not START.match(line):
+            above.append(line)
+            continue
+        item.append(line)
+        if line.rstrip() in ("}", "};") or (len(item) == 1 and line.rstrip().endswith((";", "}"))):
+            items.append(("".join(above), "".join(item)))
+            above, item = [], []
+    return items
+
+
+def arm_of(command):
+    """What an arm begins with for the commands that are kept."""
+    return re.compile(rf" {{8}}Job::({command.capitalize()}|Show)\b")
+
+
+def with_one_arm(text, command, other):
+    """A function over jobs with that command's arm; no other one is reached."""
+    found = MATCH.search(text)
+    if not found:
+        sys.exit("there is no match of jobs")
+    arms, end, tail = re.split(r"(?m)^( {4}\}.*\n)", text[found.end() :], maxsplit=1)
+    kept = [it for it in re.split(r"(?m)^(?= {8}Job::)", arms) if arm_of(command).match(it)]
+    return text[: found.end()] + "".join(kept) + f"        _ => {other},\n" + end + tail
+
+
+def without_notes(text):
+    """The function `start` without what it does at a terminal, which a trial run never has."""
+    return re.sub(r"(?m)^    if notes \{\n(?: {8}.*\n)*    \}\n", "", text)
+
+
+def names(text):
+    return set(re.findall(r"\w+", re.sub(r"(?m)//.*$", "", text)))
+
+
+def without_dead_variants(files):
+    """Leaves out each variant of an enum that is made nowhere but only matched, with the arms that match it."""
+    text = "".join(item for items in files.values() for _, item in items)
+    for items in files.values():
+        for _, item in list(items):
+            enum = re.match(r"(?:pub )?enum (\w+)", item)
+            if not enum or f"let {enum[1]}::" in text:
+                continue
+            for variant in re.findall(r"(?m)^    (\w+)\(.*\),$", item):
+                name = re.escape(f"{enum[1]}::{variant}(")
+                if re.search(rf"(?m)^(?!.*{name}.* => ).*{name}| => .*{name}", text):
+                    continue
+                dead = rf"(?m)^(?: +///.*\n)* +{variant}\(.*\),\n", rf"(?m)^ +{name}.* => .*,\n"
+                for those in files.values():
+                    those[:] = [(above, re.sub(dead[0] if it.startswith(enum[0]) else dead[1], "", it)) for above, it in those]
+
+
+def name_of(item):
+    """What an item defines, or what type an impl is of."""
+    found = NAMED.match(item) or TYPE.match(item)
+    return found and next(it for it in found.groups() if it)
+
+
+def live(files):
+    """Leaves out the items that main does not lead to, by names."""
+    by_name = {}
+    for items in files.values():
+        for _, item in items:
+            if not USE.match(item) and not MODULE.match(item):
+                by_name.setdefault(name_of(item), []).append(item)
+    reached, left = set(), ["main"]
+    while left:
+        name = left.pop()
+        if name in by_name and name not in reached:
+            reached.add(name)
+            left += set().union(*map(names, by_name[name]))
+    for items in files.values():
+        items[:] = [it for it in items if USE.match(it[1]) or MODULE.match(it[1]) or name_of(it[1]) in reached]
+
+
+def imports(item, used):
+    """An item; if it is an import, without the names that its file does not use, and nothing if none is left."""
+    if not item.startswith(("use ", "pub use ")):
+        return item
+    found = re.match(r"(pub )?use ([\w:]+)::\{(.*)\};\n\Z", item, re.S)
+    if not found:
+        last = re.match(r"(?:pub )?use [\w:]*?(\w+);", item)
+        return item if not last or last[1] in used else ""
+    kept = [it.strip() for it in found[3].split(",") if it.strip() and it.split("::")[-1].strip() in used]
+    return f"{found[1] or ''}use {found[2]}::{{{', '.join(kept)}}};\n" if kept else ""
+
+
+def narrowed(files):
+    """Leaves out what is dead, and imports and modules of it."""
+    live(files)
+    without_dead_variants(files)
+    live(files)
+    for items in files.values():
+        used = set().union(TRAITS, *(names(it) for _, it in items if not USE.match(it)))
+        items[:] = [(above, imports(it, used)) for above, it in items]
+        items[:] = [it for it in items if it[1]]
+    empty = {file.stem for file, items in files.items() if all(USE.match(it) for _, it in items)}
+    for items in files.values():
+        items[:] = [it for it in items if not any(it[1] == f"mod {name};\n" for name in empty)]
+    return {file: items for file, items in files.items() if file.stem not in empty}
+
+
+def crates(text):
+    """The lines of crates.txt by the crate."""
+    rows = [it.split("#")[0].partition(":") for it in text.splitlines()]
+    return {name.strip(): below.split() for name, colon, below in rows if colon}
+
+
+def with_one_command(files, tasks, command):
+    """The files of the program with that command alone."""
+    for start, other in OTHERS.items():
+        files[tasks] = [(above, with_one_arm(it, command, other) if it.startswith(start) else it) for above, it in files[tasks]]
+    return narrowed({file: [] if file.stem in AT_A_TERMINAL else [(above, without_notes(it)) for above, it in items] for file, items in files.items()})
+
+
+def main(folder, program, command=None):
+    to, source = Path(folder), ROOT / "crates" / program / "src"
+    table = crates((ROOT / "crates.txt").read_text())
+    if command:
+        files = {it: items_of(it.read_text()) for it in sorted(source.glob("*.rt"))}
+        files = with_one_command(files, source / "tasks.rt", command)
+        used = set().union(*(names(it) for items in files.values() for _, it in items))
+        table[program] = [it for it in table[program] if it in used]
+    needed, left = set(), [program]
+    while left:
+        name = left.pop()
+        if name in table and name not in needed:
+            needed.add(name)
+            left += table[name]
+            shutil.copytree(ROOT / "crates" / name / "src", to / "crates" / name / "src")
+    if command:
+        for file in source.glob("*.rt"):
+            copied = to / "crates" / program / "src" / file.name
+            copied.unlink() if file not in files else copied.write_text("".join(above + it for above, it in files[file]))
+    (to / "crates.txt").write_text("".join(f"{name}: {' '.join(below)}\n" for name, below in table.items() if name in needed))
+    if (ROOT / "HANDLES").exists():
+        shutil.copy(ROOT / "HANDLES", to)
+
+
+main(*sys.argv[1:])
