@@ -62,6 +62,10 @@ IMAGES = [
     Image("prints_if_zero", ['10 IF A=0 THEN PRINT "A";', "20 END"]),
     Image("prints_negative_quotient", ["10 PRINT (A-1)/(A+2);"]),
     Image("compares_far", ['10 IF A-20000<A+20000 THEN PRINT "A";', "20 END"]),
+    Image("prints_quotient_by_256", ["10 PRINT (A-1)/256;"]),
+    Image("prints_if_256", ['10 IF A-256=0 THEN PRINT "A";', "20 END"]),
+    Image("prints_if_positive", ['10 IF A>0 THEN PRINT "A";', "20 END"]),
+    Image("prints_if_below_256", ['10 IF A-1<256 THEN PRINT "A";', "20 END"]),
 ]
 
 TEXT = "a9 .. 85 fb a9 .. 85 fc a9 01 8d 6c c0 20 text 4c .. .. 41"
@@ -110,6 +114,18 @@ CHANGES = [
     ]),
     Change("difference_wrapped", "four NOP instead of BVC and EOR, which mend the sign of a difference that does not fit", "compares_far", [
         ("50 02 49 80", "ea " * 4),
+    ]),
+    Change("upper_byte_rounded_down", "CLC and NOP in place of what rounds a negative word up", "prints_quotient_by_256", [
+        ("69 ff 29 fe 49 fe", "18 ea ea ea ea ea"),
+    ]),
+    Change("high_byte_ignored", "two NOP in place of the branch if a high byte is not 0", "prints_if_256", [
+        ("ad 41 c0 d0 14", ".. .. .. ea ea"),
+    ]),
+    Change("zero_not_asked", "two NOP in place of the branch if a word that is not negative is 0", "prints_if_positive", [
+        ("0d 00 c0 f0 14", ".. .. .. ea ea"),
+    ]),
+    Change("sign_not_turned", "two NOP in place of EOR, which turns the sign of a high byte", "prints_if_below_256", [
+        ("49 80 c9 81", "ea ea .. .."),
     ]),
     Change("digit_in_rom_memory", "the fault's digit at $026D, which the ROM may write, instead of $C06D", "goes_nowhere", [
         ("69 30 8d 6d c0", ".. .. .. .. 02"),

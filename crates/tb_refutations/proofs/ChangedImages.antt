@@ -16,7 +16,15 @@ use Rattle.tb_refutations.specs.Programs.{ends, goto_itself, prints_two, prints_
 use Rattle.tb_refutations.specs.Programs.{goes_nowhere, inputs_two, calls_itself, calls_and_returns, goes_to_sum, prints_forever}
 use Rattle.tb_refutations.specs.Programs.{prints_if_zero}
 use Rattle.tb_refutations.specs.Changed.{quotient_rounded_down, difference_wrapped}
+use Rattle.tb_refutations.specs.Changed.{sign_not_turned}
+use Rattle.tb_refutations.specs.Changed.{zero_not_asked}
+use Rattle.tb_refutations.specs.Changed.{high_byte_ignored}
+use Rattle.tb_refutations.specs.Changed.{upper_byte_rounded_down}
 use Rattle.tb_refutations.specs.Programs.{prints_negative_quotient, compares_far}
+use Rattle.tb_refutations.specs.Programs.{prints_if_below_256}
+use Rattle.tb_refutations.specs.Programs.{prints_if_positive}
+use Rattle.tb_refutations.specs.Programs.{prints_if_256}
+use Rattle.tb_refutations.specs.Programs.{prints_quotient_by_256}
 use Rattle.tb_refutations.proofs.Plain.{plain, typed, answering, decimal, filled, clearing, leaving_x}
 use Rattle.tb_refutations.proofs.Refuting.{is_over_with, circles_after, drifts_after, goes_wrong_after, returns_after, returns_after_never, returns_wrong, sends_after, sends_wrong}
 
@@ -93,6 +101,26 @@ division_rounds_down = sends_after quotient_rounded_down prints_negative_quotien
 pub comparison_by_wrapped_difference : IsRefuted difference_wrapped compares_far
 unfolding decoded
 comparison_by_wrapped_difference = returns_after difference_wrapped compares_far 1 plain refl 230 [] refl refl 2 refl
+
+-- it sends -1
+pub quotient_by_256_rounds_down : IsRefuted upper_byte_rounded_down prints_quotient_by_256
+unfolding decoded
+quotient_by_256_rounds_down = sends_after upper_byte_rounded_down prints_quotient_by_256 1 plain refl 520 (45 ∷ 49 ∷ fault_text 7 10) refl 2 refl
+
+-- it sends an A
+pub high_byte_is_not_tested : IsRefuted high_byte_ignored prints_if_256
+unfolding decoded
+high_byte_is_not_tested = sends_after high_byte_ignored prints_if_256 1 plain refl 300 (65 ∷ []) refl 2 refl
+
+-- it sends an A
+pub zero_is_positive : IsRefuted zero_not_asked prints_if_positive
+unfolding decoded
+zero_is_positive = sends_after zero_not_asked prints_if_positive 1 plain refl 300 (65 ∷ []) refl 2 refl
+
+-- it returns silently
+pub negative_is_above_constant : IsRefuted sign_not_turned prints_if_below_256
+unfolding decoded
+negative_is_above_constant = returns_after sign_not_turned prints_if_below_256 1 plain refl 230 [] refl refl 2 refl
 
 -- it sends the 9 of the interrupts
 pub temporary_in_rom_memory : IsRefuted digit_in_rom_memory goes_nowhere

@@ -25,6 +25,10 @@ use Rattle.tb_refutations.specs.Compiled.{ends_image, goto_itself_image, prints_
 use Rattle.tb_refutations.specs.Compiled.{goes_nowhere_image, prints_two_image, prints_quotient_image, inputs_two_image}
 use Rattle.tb_refutations.specs.Compiled.{calls_itself_image, calls_and_returns_image, goes_to_sum_image, prints_forever_image}
 use Rattle.tb_refutations.specs.Compiled.{prints_if_zero_image, prints_negative_quotient_image, compares_far_image}
+use Rattle.tb_refutations.specs.Compiled.{prints_if_below_256_image}
+use Rattle.tb_refutations.specs.Compiled.{prints_if_positive_image}
+use Rattle.tb_refutations.specs.Compiled.{prints_if_256_image}
+use Rattle.tb_refutations.specs.Compiled.{prints_quotient_by_256_image}
 
 abbrev forms_of : List Entry → List Form
 forms_of [] = []
@@ -228,6 +232,113 @@ compares_far = compiled_keeps program.compares_far (more (omega arith) (more (om
       ((tt, (tt, tt)), omega arith, tt),
     )
     (omega arith) (omega arith) (omega arith) refl compares_far_image refl
+
+-- 10 PRINT (A-1)/256;
+pub prints_quotient_by_256 : IsKept prints_quotient_by_256_image program.prints_quotient_by_256
+unfolding encoded
+prints_quotient_by_256 = compiled_keeps program.prints_quotient_by_256 (more (omega arith) none)
+    (omega arith, omega arith, tt) (
+      (
+        tt,
+        (
+          (omega arith, omega arith),
+          (
+            (omega arith, omega arith),
+            (
+              omega arith,
+              (
+                (omega arith, omega arith),
+                (omega arith, (tt, tt)),
+              ),
+            ),
+          ),
+        ),
+      ),
+      omega arith,
+      tt,
+    )
+    (omega arith) (omega arith) (omega arith) refl prints_quotient_by_256_image refl
+
+-- 10 IF A-256=0 THEN PRINT "A";, 20 END
+pub prints_if_256 : IsKept prints_if_256_image program.prints_if_256
+unfolding encoded
+prints_if_256 = compiled_keeps program.prints_if_256 (more (omega arith) (more (omega arith) none))
+    (omega arith, omega arith, (omega arith, omega arith, tt)) (
+      (
+        tt,
+        (
+          (omega arith, omega arith),
+          (
+            (omega arith, omega arith),
+            (
+              omega arith,
+              (
+                tt,
+                (
+                  (omega arith, omega arith),
+                  (tt, (omega arith, tt)),
+                ),
+              ),
+            ),
+          ),
+        ),
+      ),
+      omega arith,
+      ((tt, (tt, tt)), omega arith, tt),
+    )
+    (omega arith) (omega arith) (omega arith) refl prints_if_256_image refl
+
+-- 10 IF A>0 THEN PRINT "A";, 20 END
+pub prints_if_positive : IsKept prints_if_positive_image program.prints_if_positive
+unfolding encoded
+prints_if_positive = compiled_keeps program.prints_if_positive (more (omega arith) (more (omega arith) none))
+    (omega arith, omega arith, (omega arith, omega arith, tt)) (
+      (
+        tt,
+        (
+          (omega arith, omega arith),
+          (
+            tt,
+            (
+              (omega arith, omega arith),
+              (tt, (omega arith, tt)),
+            ),
+          ),
+        ),
+      ),
+      omega arith,
+      ((tt, (tt, tt)), omega arith, tt),
+    )
+    (omega arith) (omega arith) (omega arith) refl prints_if_positive_image refl
+
+-- 10 IF A-1<256 THEN PRINT "A";, 20 END
+pub prints_if_below_256 : IsKept prints_if_below_256_image program.prints_if_below_256
+unfolding encoded
+prints_if_below_256 = compiled_keeps program.prints_if_below_256 (more (omega arith) (more (omega arith) none))
+    (omega arith, omega arith, (omega arith, omega arith, tt)) (
+      (
+        tt,
+        (
+          (omega arith, omega arith),
+          (
+            (omega arith, omega arith),
+            (
+              omega arith,
+              (
+                tt,
+                (
+                  (omega arith, omega arith),
+                  (tt, (omega arith, tt)),
+                ),
+              ),
+            ),
+          ),
+        ),
+      ),
+      omega arith,
+      ((tt, (tt, tt)), omega arith, tt),
+    )
+    (omega arith) (omega arith) (omega arith) refl prints_if_below_256_image refl
 
 first_true : (b : Bool) → b || false ≡ true → b ≡ true
 first_true true h = refl

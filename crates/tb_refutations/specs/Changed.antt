@@ -2,9 +2,10 @@
 use Rattle.std.specs.Prelude.{ℕ, ◌+◌, ◌-◌, List, [], ◌∷◌, ◌++◌, take, drop, length}
 use Rattle.tb_memmap.specs.Regions.{BASIC_START}
 use Rattle.tb_refutations.specs.Compiled.{goto_itself_image, ends_image, prints_variable_image, prints_two_image, prints_and_faults_image}
-use Rattle.tb_refutations.specs.Compiled.{prints_quotient_image, prints_negative_quotient_image, compares_far_image, goes_nowhere_image}
-use Rattle.tb_refutations.specs.Compiled.{inputs_two_image, calls_itself_image, calls_and_returns_image, goes_to_sum_image}
-use Rattle.tb_refutations.specs.Compiled.{prints_forever_image, prints_if_zero_image}
+use Rattle.tb_refutations.specs.Compiled.{prints_quotient_image, prints_negative_quotient_image, compares_far_image}
+use Rattle.tb_refutations.specs.Compiled.{prints_quotient_by_256_image, prints_if_256_image, prints_if_positive_image}
+use Rattle.tb_refutations.specs.Compiled.{prints_if_below_256_image, goes_nowhere_image, inputs_two_image, calls_itself_image}
+use Rattle.tb_refutations.specs.Compiled.{calls_and_returns_image, goes_to_sum_image, prints_forever_image, prints_if_zero_image}
 
 -- other bytes from an address on
 abbrev pub changed : List ℕ → ℕ → List ℕ → List ℕ
@@ -61,6 +62,22 @@ quotient_rounded_down = changed (changed prints_negative_quotient_image 0x086e (
 abbrev pub difference_wrapped : List ℕ
 difference_wrapped = changed compares_far_image 0x0c3e (0xea ∷ 0xea ∷ 0xea ∷ 0xea ∷ [])
 
+-- CLC and NOP in place of what rounds a negative word up
+abbrev pub upper_byte_rounded_down : List ℕ
+upper_byte_rounded_down = changed prints_quotient_by_256_image 0x0c28 (0x18 ∷ 0xea ∷ 0xea ∷ 0xea ∷ 0xea ∷ 0xea ∷ [])
+
+-- two NOP in place of the branch if a high byte is not 0
+abbrev pub high_byte_ignored : List ℕ
+high_byte_ignored = changed prints_if_256_image 0x0c29 (0xea ∷ 0xea ∷ [])
+
+-- two NOP in place of the branch if a word that is not negative is 0
+abbrev pub zero_not_asked : List ℕ
+zero_not_asked = changed prints_if_positive_image 0x0c18 (0xea ∷ 0xea ∷ [])
+
+-- two NOP in place of EOR, which turns the sign of a high byte
+abbrev pub sign_not_turned : List ℕ
+sign_not_turned = changed prints_if_below_256_image 0x0c24 (0xea ∷ 0xea ∷ [])
+
 -- the fault's digit at $026D, which the ROM may write, instead of $C06D
 abbrev pub digit_in_rom_memory : List ℕ
 digit_in_rom_memory = changed (changed goes_nowhere_image 0x0bb8 (0x02 ∷ [])) 0x0bc9 (0x02 ∷ [])
@@ -96,7 +113,7 @@ poll_at_jump_alone = changed prints_forever_image 0x0c00 (0x4c ∷ 0x10 ∷ 0x0c
 
 -- the text's call goes by way of one more poll, in place of the unused Poll
 abbrev pub poll_after_if : List ℕ
-poll_after_if = changed (changed prints_if_zero_image 0x0c2c (0xf3 ∷ 0x0b ∷ [])) 0x0bf9 (0x03 ∷ 0x4c ∷ 0xac ∷ 0x09 ∷ 0x4c ∷ 0x07 ∷ 0x0c ∷ [])
+poll_after_if = changed (changed prints_if_zero_image 0x0c28 (0xf3 ∷ 0x0b ∷ [])) 0x0bf9 (0x03 ∷ 0x4c ∷ 0xac ∷ 0x09 ∷ 0x4c ∷ 0x07 ∷ 0x0c ∷ [])
 
 -- where the line table of END begins, as if its line began there
 abbrev pub line_table : ℕ → ℕ

@@ -1,6 +1,6 @@
 -- The programs of the images.
 use Rattle.std.specs.Prelude.{ℕ, false, [], ◌∷◌}
-use Rattle.tb_words.specs.declared.Rel.TheVariants.{Eq, Lt}
+use Rattle.tb_words.specs.declared.Rel.TheVariants.{Eq, Gt, Lt}
 use Rattle.tb_syntax.specs.declared.expressions.Operator.TheVariants.{Add, Subtract, Divide}
 use Rattle.tb_syntax.specs.Source.{Program, Numbered, Statement, Number, Variable, Binary, Text, Value}
 use Rattle.tb_syntax.specs.Source.{Let, Print, Input, If, Goto, Gosub, Return, End}
@@ -90,6 +90,26 @@ prints_if_zero = line 10 (If (Variable 0) Eq (Number 0) print_a) ∷ line 20 End
 -- 20 END
 abbrev pub compares_far : Program
 compares_far = line 10 (If (Binary Subtract (Variable 0) (Number 20000)) Lt (Binary Add (Variable 0) (Number 20000)) print_a) ∷ line 20 End ∷ []
+
+-- 10 PRINT (A-1)/256;
+abbrev pub prints_quotient_by_256 : Program
+prints_quotient_by_256 =
+    line 10 (Print (Value (Binary Divide (Binary Subtract (Variable 0) (Number 1)) (Number 256)) ∷ []) false) ∷ []
+
+-- 10 IF A-256=0 THEN PRINT "A";
+-- 20 END
+abbrev pub prints_if_256 : Program
+prints_if_256 = line 10 (If (Binary Subtract (Variable 0) (Number 256)) Eq (Number 0) print_a) ∷ line 20 End ∷ []
+
+-- 10 IF A>0 THEN PRINT "A";
+-- 20 END
+abbrev pub prints_if_positive : Program
+prints_if_positive = line 10 (If (Variable 0) Gt (Number 0) print_a) ∷ line 20 End ∷ []
+
+-- 10 IF A-1<256 THEN PRINT "A";
+-- 20 END
+abbrev pub prints_if_below_256 : Program
+prints_if_below_256 = line 10 (If (Binary Subtract (Variable 0) (Number 1)) Lt (Number 256) print_a) ∷ line 20 End ∷ []
 
 -- 10 LET A=1
 -- 20 PRINT A;

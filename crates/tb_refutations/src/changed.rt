@@ -5,11 +5,19 @@ ghost use Rattle.tb_refutations.specs.Changed.{end_that_loops, loop_that_returns
 ghost use Rattle.tb_refutations.specs.Changed.{line_10_left_out, end_without_cld, variables_uncleared};
 ghost use Rattle.tb_refutations.specs.Changed.{quotient_before_text, folded_to_zero, quotient_left_zero};
 ghost use Rattle.tb_refutations.specs.Changed.{quotient_rounded_down, difference_wrapped};
+ghost use Rattle.tb_refutations.specs.Changed.{sign_not_turned};
+ghost use Rattle.tb_refutations.specs.Changed.{zero_not_asked};
+ghost use Rattle.tb_refutations.specs.Changed.{high_byte_ignored};
+ghost use Rattle.tb_refutations.specs.Changed.{upper_byte_rounded_down};
 ghost use Rattle.tb_refutations.specs.Changed.{digit_in_rom_memory, digit_below_s, text_counted_in_x};
 ghost use Rattle.tb_refutations.specs.Changed.{line_dropped_at_comma, calls_by_jsr, notes_below_s, last_entry_skipped};
 ghost use Rattle.tb_refutations.specs.Changed.{poll_at_jump_alone, poll_after_if};
 ghost use Rattle.tb_refutations.specs.Programs.{ends, goto_itself, prints_two, prints_variable, prints_and_faults};
 ghost use Rattle.tb_refutations.specs.Programs.{prints_negative_quotient, compares_far};
+ghost use Rattle.tb_refutations.specs.Programs.{prints_if_below_256};
+ghost use Rattle.tb_refutations.specs.Programs.{prints_if_positive};
+ghost use Rattle.tb_refutations.specs.Programs.{prints_if_256};
+ghost use Rattle.tb_refutations.specs.Programs.{prints_quotient_by_256};
 ghost use Rattle.tb_refutations.specs.Programs.{prints_quotient, goes_nowhere, inputs_two, calls_itself};
 ghost use Rattle.tb_refutations.specs.Programs.{calls_and_returns, goes_to_sum, prints_forever, prints_if_zero};
 
@@ -76,6 +84,26 @@ pub fn division_rounds_down()
 /// -20000 is not less than 20000.
 pub fn comparison_by_wrapped_difference()
     ensures { IsRefuted difference_wrapped compares_far }
+{}
+
+/// -1/256 is -1.
+pub fn quotient_by_256_rounds_down()
+    ensures { IsRefuted upper_byte_rounded_down prints_quotient_by_256 }
+{}
+
+/// -256 is 0.
+pub fn high_byte_is_not_tested()
+    ensures { IsRefuted high_byte_ignored prints_if_256 }
+{}
+
+/// 0 is above 0.
+pub fn zero_is_positive()
+    ensures { IsRefuted zero_not_asked prints_if_positive }
+{}
+
+/// -1 is not below 256.
+pub fn negative_is_above_constant()
+    ensures { IsRefuted sign_not_turned prints_if_below_256 }
 {}
 
 /// A byte is kept where the ROM's interrupts may write.

@@ -245,7 +245,7 @@ divides_right None m t = None
 
 -- a divisor by which quotients are made by shifts: for it the remainder is faster by shifts too
 abbrev pub is_shifted : Operand → Bool
-is_shifted (Constant w) = nat_eq w 2 || nat_eq w 4 || nat_eq w 8 || nat_eq w 16 || nat_eq w 32 || nat_eq w 64
+is_shifted (Constant w) = nat_eq w 2 || nat_eq w 4 || nat_eq w 8 || nat_eq w 16 || nat_eq w 32 || nat_eq w 64 || nat_eq w 128 || nat_eq w 256
 is_shifted (Variable x) = false
 is_shifted InSlot = false
 

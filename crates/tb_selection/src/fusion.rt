@@ -135,7 +135,7 @@ fn is_shifted(divisor: Operand) -> bool
     ensures { result ≡ select.is_shifted (operand_of divisor) }
 {
     match divisor {
-        Operand::Constant(word) => matches!(word, 2 | 4 | 8 | 16 | 32 | 64),
+        Operand::Constant(word) => matches!(word, 2 | 4 | 8 | 16 | 32 | 64 | 128 | 256),
         _ => false,
     }
 }

@@ -4,7 +4,7 @@ use Rattle.std.specs.Prelude.{◌&&◌, if◌then◌else◌, nat_lt}
 use Rattle.std.specs.List.{list_all}
 use Rattle.std.proofs.lemmas.Bool.{and_from}
 use Rattle.tb_opcodes.specs.declared.Mnemonic.{Mnemonic}
-use Rattle.tb_opcodes.specs.declared.Mnemonic.TheVariants.{Lda, Sta}
+use Rattle.tb_opcodes.specs.declared.Mnemonic.TheVariants.{Beq, Bne, Lda, Sta}
 use Rattle.tb_opcodes.specs.declared.Mode.{Mode}
 use Rattle.tb_opcodes.specs.declared.Mode.TheVariants.{Absolute, Relative, ZeroPage}
 use Rattle.tb_opcodes.specs.Opcodes.{rows, find_opcode, encoded}
@@ -23,22 +23,22 @@ use Rattle.tb_runtime16.specs.Addresses.{LEFT, RIGHT, RESULT, LINE, MULTIPLY_AT,
 use Rattle.tb_templates.specs.declared.labels.Inner.TheVariants.{Behind, Skip}
 use Rattle.tb_templates.specs.declared.labels.Target.{Target}
 use Rattle.tb_templates.specs.declared.labels.Target.TheVariants.{Inside, Line}
-use Rattle.tb_templates.specs.Templates.{branch, slot_at, var_at, on, template, faulted, jump_to, call_to, next_line, call, copied, constant}
+use Rattle.tb_templates.specs.Templates.{branch, here, slot_at, var_at, on, template, faulted, jump_to, call_to, next_line, call, copied, constant}
 use Rattle.tb_templates.specs.Sources.{Source, FixedWord, AtAddress, source_of, tested_source, home_at, destination_at}
 use Rattle.tb_templates.specs.GroupTemplates.{brought, summed, taken, handed, multiplied, divided, calculated, computed, changed_or, converted, used, equal}
 use Rattle.tb_templates.specs.GroupTemplates.{unequal, tested, gone, may_fault, group_template, lined, may_be_zero, may_have_none, left_over, unless}
-use Rattle.tb_templates.specs.GroupTemplates.{divided_by, divided_gone, divides, asked_rest, signed_rest, remains}
+use Rattle.tb_templates.specs.GroupTemplates.{divided_by, divided_gone, divides, asked_rest, signed_rest, remains, low_matched, high_matched}
 use Rattle.tb_templates.specs.Scaled.{scaling, times, shifts, shifted}
 use Rattle.tb_templates.specs.InPlace.{Change, Increment, Decrement, Raise, Lower, Halve, Double, change_of, changed}
 use Rattle.tb_templates.specs.Masks.{mask}
 use Rattle.tb_templates.proofs.Divided.{asked_rest_plain, left_over_plain}
-use Rattle.tb_templates.specs.Orders.{Side, Below, NotBelow, Order, BySign, ByConstant, ByDifference, lifted, ordered_by, signed, unless_carry, unless_negative, wanted_side, weighed}
+use Rattle.tb_templates.specs.Orders.{Side, Below, NotBelow, Order, BySign, ByPositive, ByConstant, ByDifference, lifted, positive, ordered_by, signed, unless_carry, unless_negative, wanted_side, weighed}
 use Rattle.tb_templates.specs.Program.{rest_code, list_code, line_code, lines_code, past_code, find_code, rows_code, table_code, program_code}
 use Rattle.tb_templates.specs.Breaks.{polled, behind}
 use Rattle.tb_settling.specs.Settled.{may_move}
 use Rattle.tb_syntax.specs.Source.{numbers}
 use Rattle.tb_templates.proofs.Listed.{by_poll, tested_by}
-use Rattle.tb_templates.proofs.Plain.{has_form, lifted_plain, plain_forms, times_plain, shifted_plain}
+use Rattle.tb_templates.proofs.Plain.{has_form, low_matched_plain, high_matched_plain, lifted_plain, plain_forms, times_plain, shifted_plain}
 
 -- ── forms ──
 encoded_by : (n : Mnemonic) (m : Mode) → encoded n m ≡ find_opcode rows n m
@@ -174,16 +174,14 @@ used_forms n next AsSubroutine (FixedWord w) = refl
 used_forms n next AsSubroutine (AtAddress p) = refl
 
 equal_forms : (a b : Source) (next : Target) → list_all has_form (equal a b next) ≡ true
-equal_forms (FixedWord v) (FixedWord w) next = refl
-equal_forms (FixedWord v) (AtAddress q) next = refl
-equal_forms (AtAddress p) (FixedWord w) next = refl
-equal_forms (AtAddress p) (AtAddress q) next = refl
+equal_forms a b next =
+    forms_append (low_matched a b) (branch Bne next ∷ (high_matched a b ++ (branch Bne next ∷ []))) (plain_forms (low_matched a b) (low_matched_plain a b))
+    (forms_append (high_matched a b) (branch Bne next ∷ []) (plain_forms (high_matched a b) (high_matched_plain a b)) refl)
 
 unequal_forms : (a b : Source) (stays next : Target) → list_all has_form (unequal a b stays next) ≡ true
-unequal_forms (FixedWord v) (FixedWord w) stays next = refl
-unequal_forms (FixedWord v) (AtAddress q) stays next = refl
-unequal_forms (AtAddress p) (FixedWord w) stays next = refl
-unequal_forms (AtAddress p) (AtAddress q) stays next = refl
+unequal_forms a b stays next =
+    forms_append (low_matched a b) (branch Bne stays ∷ (high_matched a b ++ (branch Beq next ∷ here stays ∷ []))) (plain_forms (low_matched a b) (low_matched_plain a b))
+    (forms_append (high_matched a b) (branch Beq next ∷ here stays ∷ []) (plain_forms (high_matched a b) (high_matched_plain a b)) refl)
 
 negative_forms : (side : Side) → is_some (find_opcode rows (unless_negative side) Relative) ≡ true
 negative_forms Below = refl
@@ -203,8 +201,15 @@ weighed_forms side (FixedWord v) (AtAddress q) skip next = rw (negative_forms si
 weighed_forms side (AtAddress p) (FixedWord w) skip next = rw (negative_forms side) refl
 weighed_forms side (AtAddress p) (AtAddress q) skip next = rw (negative_forms side) refl
 
+positive_forms : (side : Side) (a : Source) (skip next : Target) → list_all has_form (positive side a skip next) ≡ true
+positive_forms Below (FixedWord w) skip next = refl
+positive_forms Below (AtAddress p) skip next = refl
+positive_forms NotBelow (FixedWord w) skip next = refl
+positive_forms NotBelow (AtAddress p) skip next = refl
+
 ordered_forms : (order : Order) (wanted : Side) (skip next : Target) → list_all has_form (ordered_by order wanted skip next) ≡ true
 ordered_forms (BySign side a) wanted skip next = signed_forms (wanted_side wanted side) a next
+ordered_forms (ByPositive side a) wanted skip next = positive_forms (wanted_side wanted side) a skip next
 ordered_forms (ByConstant side a w) wanted skip next =
     forms_append (lifted a w) (branch (unless_carry (wanted_side wanted side)) next ∷ []) (plain_forms (lifted a w) (lifted_plain a w)) (carry_forms (wanted_side wanted side) next)
 ordered_forms (ByDifference a b) wanted skip next = weighed_forms wanted a b skip next

@@ -1,8 +1,8 @@
--- The bits of a factor below its highest one are as many as it has, however many are asked for.
-use Rattle.std.proofs.Common.{◌≡◌, ℕ, zero, suc, ◌+◌, ◌*◌, ◌/◌, ◌%◌, ◌<◌, ◌≤◌, Bool, true, false, refl, ap, arith}
+-- The bits of a factor below its highest one are as many as it has, however many are asked for; and those that rounding adds.
+use Rattle.std.proofs.Common.{◌≡◌, ℕ, zero, suc, ◌+◌, ◌-◌, ◌*◌, ◌/◌, ◌%◌, ◌^◌, ◌<◌, ◌≤◌, Bool, true, false, refl, ap, arith}
 use Rattle.std.specs.Prelude.{if◌then◌else◌, nat_eq, nat_lt}
 use Rattle.std.proofs.lemmas.Bool.{lt-ltb}
-use Rattle.tb_templates.specs.Scaled.{bits_size}
+use Rattle.tb_templates.specs.Scaled.{all_but_lowest, bits_size}
 use Rattle.tb_words.proofs.Powers.{pow2}
 
 one_size : (k factor : ℕ) → factor < 2 → bits_size (suc k) factor ≡ 0
@@ -30,3 +30,15 @@ size_few (suc k) factor = by (size_few k (factor / 2)) (nat_lt factor 2) (nat_eq
 -- the bits of a factor take few bytes, so that their number is a word
 pub few_bytes : (factor : ℕ) → bits_size 15 factor ≤ 240
 few_bytes factor = size_few 15 factor
+
+-- twice what is below a power of two from 1 to 128 is the next power but for its lowest two
+pub lowest_taken : (k : ℕ) → k < 8 → 2 * (2 ^ k - 1) ≡ all_but_lowest k
+lowest_taken zero h = refl
+lowest_taken (suc zero) h = refl
+lowest_taken (suc (suc zero)) h = refl
+lowest_taken (suc (suc (suc zero))) h = refl
+lowest_taken (suc (suc (suc (suc zero)))) h = refl
+lowest_taken (suc (suc (suc (suc (suc zero))))) h = refl
+lowest_taken (suc (suc (suc (suc (suc (suc zero)))))) h = refl
+lowest_taken (suc (suc (suc (suc (suc (suc (suc zero))))))) h = refl
+lowest_taken (suc (suc (suc (suc (suc (suc (suc (suc k)))))))) h = absurd (omega (arith, h))

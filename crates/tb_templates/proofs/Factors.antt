@@ -27,7 +27,7 @@ scaling_is (AtAddress p) (AtAddress q) = by_routine
 
 -- a divisor that is 2^(k + 1), or any other
 pub data IsShifting (b : Source) : Option ℕ → Type 0 where
-  by_shifts : (w k : ℕ) → b ≡ FixedWord w → k < 6 → w ≡ 2 ^ (k + 1) → IsShifting b (Some k)
+  by_shifts : (w k : ℕ) → b ≡ FixedWord w → k < 8 → w ≡ 2 ^ (k + 1) → IsShifting b (Some k)
   by_call : IsShifting b None
 
 -- a fact about a number that is looked for, before those about others
@@ -47,5 +47,7 @@ shifting_is (FixedWord w) =
     (one_of P w 8 2 _ (by_shifts w 2 refl (omega arith))
     (one_of P w 16 3 _ (by_shifts w 3 refl (omega arith))
     (one_of P w 32 4 _ (by_shifts w 4 refl (omega arith))
-    (one_of P w 64 5 _ (by_shifts w 5 refl (omega arith)) by_call)))))
+    (one_of P w 64 5 _ (by_shifts w 5 refl (omega arith))
+    (one_of P w 128 6 _ (by_shifts w 6 refl (omega arith))
+    (one_of P w 256 7 _ (by_shifts w 7 refl (omega arith)) by_call)))))))
 shifting_is (AtAddress p) = by_call

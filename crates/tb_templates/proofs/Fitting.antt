@@ -2,11 +2,11 @@
 use Rattle.std.proofs.Common.{◌≡◌, ℕ, zero, suc, ◌+◌, ◌*◌, ◌/◌, ◌%◌, ◌<◌, ◌≤◌, Bool, true, false, List, [], ◌∷◌}
 use Rattle.std.proofs.Common.{◌++◌, length, refl, sym, ap, ◌∙◌, arith, subst, sum_by, Option, Some, None}
 use Rattle.std.specs.Prelude.{if◌then◌else◌, nat_eq, nat_le, nat_lt}
-use Rattle.std.proofs.lemmas.Bool.{and_parts, leb-true}
+use Rattle.std.proofs.lemmas.Bool.{and_parts, leb-true, ltb-true}
 use Rattle.std.proofs.lemmas.List.Sums.{sum_by-cons}
 use Rattle.std.specs.Prelude.{nat_lt, if◌then◌else◌}
 use Rattle.tb_opcodes.specs.declared.Mnemonic.{Mnemonic}
-use Rattle.tb_opcodes.specs.declared.Mnemonic.TheVariants.{Adc, Cmp, Lda, Sbc, Sta}
+use Rattle.tb_opcodes.specs.declared.Mnemonic.TheVariants.{Adc, Asl, Beq, Bne, Cmp, Lda, Ora, Rol, Sbc, Sta}
 use Rattle.tb_opcodes.specs.declared.Mode.TheVariants.{Absolute, ZeroPage}
 use Rattle.tb_asm.specs.declared.items.Operand.TheVariants.{Byte, Word}
 use Rattle.tb_asm.specs.Layout.{Entry, instr}
@@ -30,14 +30,17 @@ use Rattle.tb_runtime16.specs.Addresses.{LEFT, RIGHT, RESULT, MULTIPLY_AT, DIVID
 use Rattle.tb_templates.specs.declared.labels.Inner.TheVariants.{Behind, Skip}
 use Rattle.tb_templates.specs.declared.labels.Target.{Target}
 use Rattle.tb_templates.specs.declared.labels.Target.TheVariants.{Inside, Line}
-use Rattle.tb_templates.specs.Templates.{branch, const, next_line, call, copied, faulted, slot_at, var_at, on}
+use Rattle.tb_templates.specs.Templates.{branch, const, here, next_line, call, copied, faulted, slot_at, var_at, on}
 use Rattle.tb_templates.specs.Sources.{Source, FixedWord, AtAddress, source_of, tested_source, home_at, destination_at}
 use Rattle.tb_templates.specs.GroupTemplates.{low_of, high_of, brought, joined, handed, multiplied, divided, calculated, computed, changed_or, converted, used}
-use Rattle.tb_templates.specs.GroupTemplates.{equal, unequal, tested, gone, group_template, lined, may_be_zero, may_have_none, told, remainder}
+use Rattle.tb_templates.specs.GroupTemplates.{unless_none, low_against, high_against, low_matched, high_matched, equal, unequal, tested, gone, group_template, lined}
+use Rattle.tb_templates.specs.GroupTemplates.{may_be_zero, may_have_none, told, remainder}
 use Rattle.tb_templates.specs.GroupTemplates.{left_over as beyond, unless, divided_by, divided_gone, divides, asked_rest, signed_rest, remains}
 use Rattle.tb_templates.specs.Masks.{mask}
-use Rattle.tb_templates.specs.Orders.{Side, Order, BySign, ByConstant, ByDifference, ordered_by}
-use Rattle.tb_templates.specs.Scaled.{at_zero, rounded, raised, halved, halvings, high_first, shifts, shifted, by_bit, by_bits, bits_size, is_factor, scaling, low_first, times}
+use Rattle.tb_templates.specs.Orders.{Side, Below, NotBelow, Order, BySign, ByPositive, ByConstant, ByDifference, ordered_by, positive, wanted_side, lifted, lifted_both, lifted_high}
+use Rattle.tb_templates.specs.Orders.{unless_carry}
+use Rattle.tb_templates.specs.Scaled.{at_zero, on_a, rounded, raised, halved, halvings, high_first, cut, widened, lowered, shifts, shifted, by_bit, by_bits, bits_size, is_factor}
+use Rattle.tb_templates.specs.Scaled.{scaling, low_first, times}
 use Rattle.tb_templates.specs.InPlace.{Change, Increment, Decrement, Raise, Lower, Halve, Double, change_of, changed}
 use Rattle.tb_templates.specs.Breaks.{polled, behind}
 use Rattle.tb_templates.specs.Program.{rest_code, list_code}
@@ -120,13 +123,27 @@ halvings_fit : (k : ℕ) → most (halvings k) ≤ 5 * k
 halvings_fit zero = omega arith
 halvings_fit (suc k) = let e = most_append (halvings k) halved in let h = halvings_fit k in omega (arith, e, h)
 
-shifted_fits : (k : ℕ) (a : Source) (to : ℕ) → k < 6 → most (shifted k a to) ≤ 61
-shifted_fits k a to few =
-    let e = most_append (raised k a) (halvings (suc k) ++ high_first to) in
-    let f = most_append (halvings (suc k)) (high_first to) in
+cut_fits : (k : ℕ) → most (cut k) ≤ 3
+cut_fits k = by (nat_eq k 6)
+  where
+    by : (t : Bool) → most (if t then at_zero Asl LEFT ∷ on_a Rol ∷ [] else const Cmp 128 ∷ []) ≤ 3
+    by true = omega arith
+    by false = omega arith
+
+lowered_fits : (k to : ℕ) → most (lowered k to) ≤ 38
+lowered_fits k to = by (nat_lt k 6) refl
+  where
+    by : (t : Bool) → nat_lt k 6 ≡ t → most (if t then halvings (suc k) ++ high_first to else cut k ++ widened to) ≤ 38
+    by true e =
+        let few : k < 6 = ltb-true k 6 e in let f = most_append (halvings (suc k)) (high_first to) in let n = halvings_fit (suc k) in omega (arith, f, n, few)
+    by false e = let f = most_append (cut k) (widened to) in let c = cut_fits k in omega (arith, f, c)
+
+shifted_fits : (k : ℕ) (a : Source) (to : ℕ) → most (shifted k a to) ≤ 61
+shifted_fits k a to =
+    let e = most_append (raised k a) (lowered k to) in
     let g = most_append (rounded k a) (at_zero Sta LEFT ∷ high_of Lda a ∷ const Adc 0 ∷ []) in
-    let h = high_most Lda a in let r = rounded_fits k a in let n = halvings_fit (suc k) in
-    omega (arith, e, f, g, h, r, n, few)
+    let h = high_most Lda a in let r = rounded_fits k a in let n = lowered_fits k to in
+    omega (arith, e, g, h, r, n)
 
 bit_fits : (t : Bool) (a : Source) → most (by_bit t a) ≤ (if t then 16 else 3)
 bit_fits false a = omega arith
@@ -157,7 +174,7 @@ multiplied_fits _ a b to (by_left v e h) = times_fit v b to h
 multiplied_fits _ a b to by_routine = let h = handed_fits MULTIPLY_AT RESULT a b to 12 (copied_fits RESULT to) in omega (arith, h)
 
 divided_fits : (n : ℕ) (o : Option ℕ) (a b : Source) (to : ℕ) → IsShifting b o → most (divided n o a b to) ≤ 76
-divided_fits n _ a b to (by_shifts w k e few p) = let h = shifted_fits k a to few in omega (arith, h)
+divided_fits n _ a b to (by_shifts w k e few p) = let h = shifted_fits k a to in omega (arith, h)
 divided_fits n _ a b to by_call =
     let h = handed_fits DIVIDE_AT LEFT a b to 10 (omega arith) in let l = lined_most (may_be_zero b) n (handed DIVIDE_AT LEFT a b to) in omega (arith, h, l)
 
@@ -192,17 +209,49 @@ used_fits n next AsNumber a = let l = low_most Lda a in let h = high_most Lda a 
 used_fits n next AsLine a = let l = low_most Lda a in let h = high_most Lda a in omega (arith, l, h)
 used_fits n next AsSubroutine a = let l = low_most Lda a in let h = high_most Lda a in omega (arith, l, h)
 
+unless_none_most : (b : ℕ) → most (unless_none b) ≤ 3
+unless_none_most b = by (nat_eq b 0)
+  where
+    by : (t : Bool) → most (if t then [] else const Cmp b ∷ []) ≤ 3
+    by true = omega arith
+    by false = omega arith
+
+low_against_most : (b : Source) → most (low_against b) ≤ 3
+low_against_most (FixedWord w) = unless_none_most (w % 256)
+low_against_most (AtAddress p) = omega arith
+
+high_against_most : (b : Source) → most (high_against b) ≤ 3
+high_against_most (FixedWord w) = unless_none_most (w / 256)
+high_against_most (AtAddress p) = omega arith
+
 equal_fits : (a b : Source) (next : Target) → most (equal a b next) ≤ 24
 equal_fits a b next =
-    let l = low_most Lda a in let h = high_most Lda a in let p = low_most Cmp b in let q = high_most Cmp b in omega (arith, l, h, p, q)
+    let e = most_append (low_matched a b) (branch Bne next ∷ (high_matched a b ++ (branch Bne next ∷ []))) in
+    let f = most_append (high_matched a b) (branch Bne next ∷ []) in
+    let l = low_most Lda a in let h = high_most Lda a in let p = low_against_most b in let q = high_against_most b in omega (arith, e, f, l, h, p, q)
 
 unequal_fits : (a b : Source) (stays next : Target) → most (unequal a b stays next) ≤ 24
 unequal_fits a b stays next =
-    let l = low_most Lda a in let h = high_most Lda a in let p = low_most Cmp b in let q = high_most Cmp b in omega (arith, l, h, p, q)
+    let e = most_append (low_matched a b) (branch Bne stays ∷ (high_matched a b ++ (branch Beq next ∷ here stays ∷ []))) in
+    let f = most_append (high_matched a b) (branch Beq next ∷ here stays ∷ []) in
+    let l = low_most Lda a in let h = high_most Lda a in let p = low_against_most b in let q = high_against_most b in omega (arith, e, f, l, h, p, q)
+
+lifted_fits : (a : Source) (w : ℕ) → most (lifted a w) ≤ 12
+lifted_fits a w = by (nat_eq (w % 256) 0)
+  where
+    by : (t : Bool) → most (if t then lifted_high a w else lifted_both a w) ≤ 12
+    by true = let h = high_most Lda a in omega (arith, h)
+    by false = let l = low_most Lda a in let h = high_most Lda a in omega (arith, l, h)
+
+positive_fits : (side : Side) (a : Source) (skip next : Target) → most (positive side a skip next) ≤ 24
+positive_fits Below a skip next = let h = high_most Lda a in let l = low_most Ora a in omega (arith, h, l)
+positive_fits NotBelow a skip next = let h = high_most Lda a in let l = low_most Ora a in omega (arith, h, l)
 
 ordered_fits : (order : Order) (wanted : Side) (skip next : Target) → most (ordered_by order wanted skip next) ≤ 24
 ordered_fits (BySign side a) wanted skip next = let h = high_most Lda a in omega (arith, h)
-ordered_fits (ByConstant side a w) wanted skip next = let l = low_most Lda a in let h = high_most Lda a in omega (arith, l, h)
+ordered_fits (ByPositive side a) wanted skip next = positive_fits (wanted_side wanted side) a skip next
+ordered_fits (ByConstant side a w) wanted skip next =
+    let e = most_append (lifted a w) (branch (unless_carry (wanted_side wanted side)) next ∷ []) in let l = lifted_fits a w in omega (arith, e, l)
 ordered_fits (ByDifference a b) wanted skip next =
     let l = low_most Lda a in let h = high_most Lda a in let p = low_most Cmp b in let q = high_most Sbc b in omega (arith, l, h, p, q)
 

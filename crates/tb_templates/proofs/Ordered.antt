@@ -4,7 +4,7 @@ use Rattle.std.proofs.Common.{arith, subst, append_assoc, inl, inr, nat_lt, Opti
 use Rattle.std.specs.Prelude.{if◌then◌else◌}
 use Rattle.std.proofs.lemmas.Bool.Decides.{nat_tests}
 use Rattle.tb_opcodes.specs.declared.Mnemonic.{Mnemonic}
-use Rattle.tb_opcodes.specs.declared.Mnemonic.TheVariants.{Adc, Sbc}
+use Rattle.tb_opcodes.specs.declared.Mnemonic.TheVariants.{Adc, Beq, Bne, Sbc}
 use Rattle.tb_words.specs.declared.Rel.{Rel}
 use Rattle.tb_syntax.specs.declared.expressions.Operator.{Operator}
 use Rattle.tb_syntax.specs.declared.expressions.Operator.TheVariants.{Add, Subtract, Multiply, Divide}
@@ -21,21 +21,22 @@ use Rattle.tb_templates.specs.declared.labels.Inner.TheVariants as inner
 use Rattle.tb_templates.specs.Labels.{label_of, letter_of}
 use Rattle.tb_templates.specs.declared.labels.Target.{Target}
 use Rattle.tb_templates.specs.declared.labels.Target.TheVariants.{Line, Inside, Polled, Table}
-use Rattle.tb_templates.specs.Templates.{branch, var_at, template, faulted, called, jump_to, next_line, target_of, call, copied, constant}
+use Rattle.tb_templates.specs.Templates.{branch, here, var_at, template, faulted, called, jump_to, next_line, target_of, call, copied, constant}
 use Rattle.tb_templates.specs.Sources.{Source, FixedWord, AtAddress, source_of, tested_source, home_at, destination_at}
 use Rattle.tb_templates.specs.GroupTemplates.{brought, joined, handed, multiplied, divided, calculated, computed, changed_or, converted, used, equal, unequal}
 use Rattle.tb_templates.specs.GroupTemplates.{tested, gone, may_fault, group_template, lined, may_be_zero, may_have_none, left_over, unless, divided_by}
-use Rattle.tb_templates.specs.GroupTemplates.{divided_gone, divides, asked_rest, signed_rest, remains}
+use Rattle.tb_templates.specs.GroupTemplates.{divided_gone, divides, asked_rest, signed_rest, remains, low_matched, high_matched}
 use Rattle.tb_templates.specs.Scaled.{scaling, times, shifts, shifted}
 use Rattle.tb_templates.specs.InPlace.{Change, Increment, Decrement, Raise, Lower, Halve, Double, change_of, changed}
 use Rattle.tb_templates.specs.Masks.{mask}
 use Rattle.tb_templates.proofs.Divided.{asked_rest_plain, copied_plain, left_over_plain}
-use Rattle.tb_templates.specs.Orders.{Side, Order, BySign, ByConstant, ByDifference, lifted, ordered_by, signed, unless_carry, wanted_side, weighed}
+use Rattle.tb_templates.specs.Orders.{Below, NotBelow, positive}
+use Rattle.tb_templates.specs.Orders.{Side, Order, BySign, ByPositive, ByConstant, ByDifference, lifted, ordered_by, signed, unless_carry, wanted_side, weighed}
 use Rattle.tb_templates.specs.Program.{rest_code, list_code, line_code, lines_code, past_code, find_code, rows_code, table_code, program_code, AreCodable}
 use Rattle.tb_templates.specs.Program.{first_of, AreInTurn}
 use Rattle.tb_templates.specs.Breaks.{polled, behind}
 use Rattle.tb_templates.proofs.Listed.{tested_by, by_poll}
-use Rattle.tb_templates.proofs.Plain.{lifted_plain, plain_rises, times_plain, shifted_plain}
+use Rattle.tb_templates.proofs.Plain.{low_matched_plain, high_matched_plain, lifted_plain, plain_rises, times_plain, shifted_plain}
 use Rattle.tb_templates.proofs.Ranged.{selected_few}
 use Rattle.tb_templates.proofs.Rising.{key_of, base, polled_base, polled_key, line_key, inside_key, Rising, rising_append, rising_lower}
 use Rattle.tb_templates.proofs.Woven.{lowest, Woven, woven_lower, rising_woven}
@@ -58,18 +59,18 @@ module _ (low high : ℕ) (up : low ≤ high) where
   joined_rises m (AtAddress p) (AtAddress q) to = up
 
   equal_rises : (a b : Source) (next : Target) → Rising low (equal a b next) high
-  equal_rises (FixedWord v) (FixedWord w) next = up
-  equal_rises (FixedWord v) (AtAddress q) next = up
-  equal_rises (AtAddress p) (FixedWord w) next = up
-  equal_rises (AtAddress p) (AtAddress q) next = up
+  equal_rises a b next =
+      rising_append low low high (low_matched a b) (branch Bne next ∷ (high_matched a b ++ (branch Bne next ∷ [])))
+      (plain_rises low low (low_matched a b) (omega arith) (low_matched_plain a b))
+      (rising_append low low high (high_matched a b) (branch Bne next ∷ []) (plain_rises low low (high_matched a b) (omega arith) (high_matched_plain a b)) up)
 
 -- code with only one label
 module _ (low high : ℕ) (skip : Target) (above : low ≤ key_of (label_of skip)) (below : key_of (label_of skip) + 1 ≤ high) where
   unequal_rises : (a b : Source) (next : Target) → Rising low (unequal a b skip next) high
-  unequal_rises (FixedWord v) (FixedWord w) next = (above, below)
-  unequal_rises (FixedWord v) (AtAddress q) next = (above, below)
-  unequal_rises (AtAddress p) (FixedWord w) next = (above, below)
-  unequal_rises (AtAddress p) (AtAddress q) next = (above, below)
+  unequal_rises a b next =
+      rising_append low low high (low_matched a b) (branch Bne skip ∷ (high_matched a b ++ (branch Beq next ∷ here skip ∷ [])))
+      (plain_rises low low (low_matched a b) (omega arith) (low_matched_plain a b))
+      (rising_append low low high (high_matched a b) (branch Beq next ∷ here skip ∷ []) (plain_rises low low (high_matched a b) (omega arith) (high_matched_plain a b)) (above, below))
 
   signed_rises : (side : Side) (a : Source) (next : Target) → Rising low (signed side a next) high
   signed_rises side (FixedWord v) next = omega (arith, above, below)
@@ -89,8 +90,15 @@ module _ (low high : ℕ) (skip : Target) (above : low ≤ key_of (label_of skip
   changed_rises up Halve p = (above, below)
   changed_rises up Double p = up
 
+  positive_rises : (up : low ≤ high) (side : Side) (a : Source) (next : Target) → Rising low (positive side a skip next) high
+  positive_rises up Below (FixedWord w) next = (above, below)
+  positive_rises up Below (AtAddress p) next = (above, below)
+  positive_rises up NotBelow (FixedWord w) next = up
+  positive_rises up NotBelow (AtAddress p) next = up
+
   ordered_rises : (up : low ≤ high) (order : Order) (wanted : Side) (next : Target) → Rising low (ordered_by order wanted skip next) high
   ordered_rises up (BySign side a) wanted next = signed_rises (wanted_side wanted side) a next
+  ordered_rises up (ByPositive side a) wanted next = positive_rises up (wanted_side wanted side) a next
   ordered_rises up (ByConstant side a w) wanted next =
       rising_append low low high (lifted a w) (branch (unless_carry (wanted_side wanted side)) next ∷ []) (plain_rises low low (lifted a w) (omega arith) (lifted_plain a w)) up
   ordered_rises up (ByDifference a b) wanted next = weighed_rises wanted a b next

@@ -16,8 +16,9 @@ use Rattle.tb_settling.proofs.Forms.{is_straight}
 use Rattle.tb_runtime16.specs.Addresses.{LEFT}
 use Rattle.tb_templates.specs.Templates.{alone, at, const}
 use Rattle.tb_templates.specs.Sources.{Source, FixedWord, AtAddress, low_of, high_of}
-use Rattle.tb_templates.specs.Scaled.{on_a, at_zero, all_but_lowest, rounded, raised, halved, halvings, high_first, shifted, doubled, increased, by_bit, by_bits, low_first, times}
-use Rattle.tb_templates.specs.Orders.{lifted}
+use Rattle.tb_templates.specs.Scaled.{on_a, at_zero, all_but_lowest, rounded, raised, halved, halvings, high_first, cut, widened, lowered, shifted, doubled, increased, by_bit, by_bits, low_first, times}
+use Rattle.tb_templates.specs.GroupTemplates.{unless_none, low_matched, high_matched}
+use Rattle.tb_templates.specs.Orders.{lifted, lifted_both, lifted_high}
 use Rattle.tb_templates.proofs.Rising.{Rising}
 
 -- whether an item has a form that exists, and may be at any address
@@ -119,11 +120,23 @@ halvings_plain : (k : ℕ) → ArePlain (halvings k)
 halvings_plain zero = tt
 halvings_plain (suc k) = plain_append (halvings k) halved (halvings_plain k) (immediate Cmp 128 refl ▹ accumulator Ror refl ▹ zero_page Ror LEFT refl ▹ tt)
 
+cut_plain : (k : ℕ) → ArePlain (cut k)
+cut_plain k = by (nat_eq k 6)
+  where
+    by : (t : Bool) → ArePlain (if t then at_zero Asl LEFT ∷ on_a Rol ∷ [] else const Cmp 128 ∷ [])
+    by true = (zero_page Asl LEFT refl ▹ accumulator Rol refl ▹ tt)
+    by false = (immediate Cmp 128 refl ▹ tt)
+
 -- the items of a quotient by shifts are plain
 pub shifted_plain : (k : ℕ) (a : Source) (to : ℕ) → ArePlain (shifted k a to)
 shifted_plain k a to =
-    plain_append (raised k a) (halvings (suc k) ++ high_first to) (raised_plain k a)
-    (plain_append (halvings (suc k)) (high_first to) (halvings_plain (suc k)) (absolute Sta (to + 1) refl ▹ zero_page Lda LEFT refl ▹ absolute Sta to refl ▹ tt))
+    plain_append (raised k a) (lowered k to) (raised_plain k a) (by (nat_lt k 6))
+  where
+    by : (t : Bool) → ArePlain (if t then halvings (suc k) ++ high_first to else cut k ++ widened to)
+    by true = plain_append (halvings (suc k)) (high_first to) (halvings_plain (suc k)) (absolute Sta (to + 1) refl ▹ zero_page Lda LEFT refl ▹ absolute Sta to refl ▹ tt)
+    by false =
+        plain_append (cut k) (widened to) (cut_plain k)
+        (absolute Sta to refl ▹ immediate Lda 0 refl ▹ immediate Adc 255 refl ▹ immediate Eor 255 refl ▹ absolute Sta (to + 1) refl ▹ tt)
 
 -- ── times a constant ──
 doubled_plain : ArePlain doubled
@@ -151,7 +164,29 @@ times_plain factor a to =
     (high_byte Lda a refl refl ▹ zero_page Sta LEFT refl ▹ low_byte Lda a refl refl ▹ plain_append (by_bits 15 factor a) (low_first to) (bits_plain 15 factor a)
     (absolute Sta to refl ▹ zero_page Lda LEFT refl ▹ absolute Sta (to + 1) refl ▹ tt))
 
+-- ── for equality ──
+unless_none_plain : (b : ℕ) → ArePlain (unless_none b)
+unless_none_plain b = by (nat_eq b 0)
+  where
+    by : (t : Bool) → ArePlain (if t then [] else const Cmp b ∷ [])
+    by true = tt
+    by false = (immediate Cmp b refl ▹ tt)
+
+-- the items that compare low bytes are plain
+pub low_matched_plain : (a b : Source) → ArePlain (low_matched a b)
+low_matched_plain a (FixedWord w) = (low_byte Lda a refl refl ▹ unless_none_plain (w % 256))
+low_matched_plain a (AtAddress p) = (low_byte Lda a refl refl ▹ absolute Cmp p refl ▹ tt)
+
+-- those that compare high bytes too
+pub high_matched_plain : (a b : Source) → ArePlain (high_matched a b)
+high_matched_plain a (FixedWord w) = (high_byte Lda a refl refl ▹ unless_none_plain (w / 256))
+high_matched_plain a (AtAddress p) = (high_byte Lda a refl refl ▹ absolute Cmp (p + 1) refl ▹ tt)
+
 -- ── against a constant ──
 pub lifted_plain : (a : Source) (w : ℕ) → ArePlain (lifted a w)
-lifted_plain a w =
-    (low_byte Lda a refl refl ▹ immediate Cmp (w % 256) refl ▹ high_byte Lda a refl refl ▹ immediate Eor 128 refl ▹ immediate Sbc ((w / 256 + 128) % 256) refl ▹ tt)
+lifted_plain a w = by (nat_eq (w % 256) 0)
+  where
+    by : (t : Bool) → ArePlain (if t then lifted_high a w else lifted_both a w)
+    by true = (high_byte Lda a refl refl ▹ immediate Eor 128 refl ▹ immediate Cmp ((w / 256 + 128) % 256) refl ▹ tt)
+    by false =
+        (low_byte Lda a refl refl ▹ immediate Cmp (w % 256) refl ▹ high_byte Lda a refl refl ▹ immediate Eor 128 refl ▹ immediate Sbc ((w / 256 + 128) % 256) refl ▹ tt)

@@ -5,7 +5,7 @@ use Rattle.std.specs.Prelude.{option_map, if◌then◌else◌, ◌||◌, nat_lt,
 use Rattle.std.proofs.lemmas.Bool.Decides.{nat_tests}
 use Rattle.std.proofs.lemmas.Bool.{or_right, eq-eqb}
 use Rattle.tb_opcodes.specs.declared.Mnemonic.{Mnemonic}
-use Rattle.tb_opcodes.specs.declared.Mnemonic.TheVariants.{Adc, Cmp, Lda, Sbc, Sta}
+use Rattle.tb_opcodes.specs.declared.Mnemonic.TheVariants.{Adc, Beq, Bne, Cmp, Lda, Ora, Sbc, Sta}
 use Rattle.tb_opcodes.specs.declared.Mode.TheVariants.{Absolute, ZeroPage}
 use Rattle.tb_words.specs.declared.Rel.{Rel}
 use Rattle.tb_syntax.specs.declared.expressions.Operator.{Operator}
@@ -27,21 +27,23 @@ use Rattle.tb_templates.specs.declared.labels.Target.{Target}
 use Rattle.tb_templates.specs.declared.labels.Target.TheVariants as target
 use Rattle.tb_templates.specs.Labels.{label_of}
 use Rattle.tb_templates.specs.Layout.{LabelsAt}
-use Rattle.tb_templates.specs.Templates.{branch, slot_at, var_at, on, template, jump, faulted, called, returned, find, return_address, jump_through, target_of, next_line, call, copied, constant}
+use Rattle.tb_templates.specs.Templates.{branch, here, slot_at, var_at, on, template, jump, faulted, called, returned, find, return_address, jump_through, target_of, next_line, call, copied, constant}
 use Rattle.tb_templates.specs.Sources.{Source, FixedWord, AtAddress, source_of, tested_source, home_at, destination_at}
 use Rattle.tb_templates.specs.GroupTemplates.{low_of, high_of, brought, joined, handed, multiplied, divided, calculated, computed, changed_or, converted}
 use Rattle.tb_templates.specs.GroupTemplates.{searched, used, equal, unequal, tested, gone, may_fault, group_template, lined, may_be_zero, may_have_none}
-use Rattle.tb_templates.specs.GroupTemplates.{left_over, unless, divided_by, divided_gone, divides, asked_rest, signed_rest, remains}
+use Rattle.tb_templates.specs.GroupTemplates.{left_over, unless, divided_by, divided_gone, divides, asked_rest, signed_rest, remains, low_matched}
+use Rattle.tb_templates.specs.GroupTemplates.{high_matched}
 use Rattle.tb_templates.specs.Scaled.{scaling, times, shifts, shifted}
 use Rattle.tb_templates.specs.InPlace.{Change, Increment, Decrement, Raise, Lower, Halve, Double, change_of, changed}
 use Rattle.tb_templates.specs.Masks.{mask}
 use Rattle.tb_templates.proofs.Divided.{asked_rest_plain, left_over_plain}
-use Rattle.tb_templates.specs.Orders.{Side, Order, BySign, ByConstant, ByDifference, lifted, ordered_by, unless_carry, wanted_side, weighed}
+use Rattle.tb_templates.specs.Orders.{Below, NotBelow, positive}
+use Rattle.tb_templates.specs.Orders.{Side, Order, BySign, ByPositive, ByConstant, ByDifference, lifted, ordered_by, unless_carry, wanted_side, weighed}
 use Rattle.tb_templates.specs.Program.{rest_code, list_code, line_code, lines_code, past_code, find_code, rows_code, table_code, block_code, program_code}
 use Rattle.tb_templates.specs.Breaks.{polled, behind}
 use Rattle.tb_settling.specs.Settled.{AllKnown}
 use Rattle.tb_templates.proofs.Listed.{tested_by, by_poll}
-use Rattle.tb_templates.proofs.Plain.{lifted_plain, plain_known, times_plain, shifted_plain}
+use Rattle.tb_templates.proofs.Plain.{low_matched_plain, high_matched_plain, lifted_plain, plain_known, times_plain, shifted_plain}
 
 -- ── lists one after another ──
 pub labels_split : (labels : List (Name × ℕ)) (a : ℕ) (xs ys : List Entry) → LabelsAt labels a (xs ++ ys) → LabelsAt labels a xs × LabelsAt labels (a + size xs) ys
@@ -233,17 +235,23 @@ module _ (labels : List (Name × ℕ)) (ns : List ℕ) (known : Known labels ns)
       (low_known Lda a ▹ low_known Cmp b ▹ high_known Lda a ▹ high_known Sbc b ▹ to_label skip s ▹ refl ▹ refl ▹ to_label next t ▹ tt)
 
   equal_known : (a b : Source) (next : Target) → Stands labels next → AllKnown labels (equal a b next)
-  equal_known a b next t = (low_known Lda a ▹ low_known Cmp b ▹ to_label next t ▹ high_known Lda a ▹ high_known Cmp b ▹ to_label next t ▹ tt)
+  equal_known a b next t =
+      known_append labels (low_matched a b) (branch Bne next ∷ (high_matched a b ++ (branch Bne next ∷ []))) (plain_known labels (low_matched a b) (low_matched_plain a b))
+      (to_label next t
+      ▹ known_append labels (high_matched a b) (branch Bne next ∷ []) (plain_known labels (high_matched a b) (high_matched_plain a b)) (to_label next t ▹ tt))
 
   unequal_known : (a b : Source) (stays next : Target) → Stands labels stays → Stands labels next → AllKnown labels (unequal a b stays next)
-  unequal_known a b stays next s t = (low_known Lda a ▹ low_known Cmp b ▹ to_label stays s ▹ high_known Lda a ▹ high_known Cmp b ▹ to_label next t ▹ refl ▹ tt)
+  unequal_known a b stays next s t =
+      known_append labels (low_matched a b) (branch Bne stays ∷ (high_matched a b ++ (branch Beq next ∷ here stays ∷ [])))
+      (plain_known labels (low_matched a b) (low_matched_plain a b))
+      (to_label stays s
+      ▹ known_append labels (high_matched a b) (branch Beq next ∷ here stays ∷ []) (plain_known labels (high_matched a b) (high_matched_plain a b)) (to_label next t ▹ refl ▹ tt))
 
   -- the label of a test, if it has one, is in its code
   unequal_skip : (a : ℕ) (l r : Source) (skip next : Target) → LabelsAt labels a (unequal l r skip next) → Stands labels skip
-  unequal_skip a (FixedWord v) (FixedWord w) skip next h = ap is_some h.1.1.1.1.1.1.0
-  unequal_skip a (FixedWord v) (AtAddress q) skip next h = ap is_some h.1.1.1.1.1.1.0
-  unequal_skip a (AtAddress p) (FixedWord w) skip next h = ap is_some h.1.1.1.1.1.1.0
-  unequal_skip a (AtAddress p) (AtAddress q) skip next h = ap is_some h.1.1.1.1.1.1.0
+  unequal_skip a l r skip next h =
+      let rest = (labels_split labels a (low_matched l r) (branch Bne skip ∷ (high_matched l r ++ (branch Beq next ∷ here skip ∷ []))) h).1 in
+      ap is_some (labels_split labels _ (high_matched l r) (branch Beq next ∷ here skip ∷ []) rest.1).1.1.0
 
   weighed_skip : (a : ℕ) (side : Side) (l r : Source) (skip next : Target) → LabelsAt labels a (weighed side l r skip next) → Stands labels skip
   weighed_skip a side (FixedWord v) (FixedWord w) skip next h = ap is_some h.1.1.1.1.1.1.0
@@ -251,9 +259,18 @@ module _ (labels : List (Name × ℕ)) (ns : List ℕ) (known : Known labels ns)
   weighed_skip a side (AtAddress p) (FixedWord w) skip next h = ap is_some h.1.1.1.1.1.1.0
   weighed_skip a side (AtAddress p) (AtAddress q) skip next h = ap is_some h.1.1.1.1.1.1.0
 
+  positive_skip : (a : ℕ) (l : Source) (skip next : Target) → LabelsAt labels a (positive Below l skip next) → Stands labels skip
+  positive_skip a (FixedWord v) skip next h = ap is_some h.1.1.1.1.0
+  positive_skip a (AtAddress p) skip next h = ap is_some h.1.1.1.1.0
+
+  positive_known : (at : ℕ) (side : Side) (a : Source) (skip next : Target) → Stands labels next → LabelsAt labels at (positive side a skip next) → AllKnown labels (positive side a skip next)
+  positive_known at Below a skip next s h = (high_known Lda a ▹ to_label skip (positive_skip at a skip next h) ▹ low_known Ora a ▹ to_label next s ▹ refl ▹ tt)
+  positive_known at NotBelow a skip next s h = (high_known Lda a ▹ to_label next s ▹ low_known Ora a ▹ to_label next s ▹ tt)
+
   ordered_known : (at : ℕ) (order : Order) (wanted : Side) (skip next : Target) → Stands labels next
       → LabelsAt labels at (ordered_by order wanted skip next) → AllKnown labels (ordered_by order wanted skip next)
   ordered_known at (BySign side a) wanted skip next s h = (high_known Lda a ▹ to_label next s ▹ tt)
+  ordered_known at (ByPositive side a) wanted skip next s h = positive_known at (wanted_side wanted side) a skip next s h
   ordered_known at (ByConstant side a w) wanted skip next s h =
       known_append labels (lifted a w) (branch (unless_carry (wanted_side wanted side)) next ∷ []) (plain_known labels (lifted a w) (lifted_plain a w)) (to_label next s ▹ tt)
   ordered_known at (ByDifference a b) wanted skip next s h = weighed_known wanted a b skip next (weighed_skip at wanted a b skip next h) s

@@ -72,9 +72,15 @@ straight = refl
 -- 20 IF A=1 GOTO 40: there is no line 40, so it is the test and then fault 1
 nowhere : items 20 (If (Variable 0) Eq (Number 1) (Goto (Number 40)))
     ≡ here (Line 20) ∷ going 20
-    (at Lda 0xC000 ∷ const Cmp 1 ∷ branch Bne (Line 30) ∷ at Lda 0xC001 ∷ const Cmp 0 ∷ branch Bne (Line 30)
+    (at Lda 0xC000 ∷ const Cmp 1 ∷ branch Bne (Line 30) ∷ at Lda 0xC001 ∷ branch Bne (Line 30)
     ∷ const Ldx 20 ∷ const Ldy 0 ∷ const Lda 1 ∷ at Jmp FAULT_LINE_AT ∷ [])
 nowhere = refl
+
+-- 20 IF A<>0 GOTO 10: no byte is compared, since each load sets Z
+none : items 20 (If (Variable 0) Ne (Number 0) (Goto (Number 10)))
+    ≡ here (Line 20) ∷ going 20
+    (at Lda 0xC000 ∷ branch Bne (Line 10) ∷ at Lda 0xC001 ∷ branch Bne (Line 10) ∷ [])
+none = refl
 
 -- 20 IF A<1000 END: the constant's high byte, 3, is 131 with its highest bit turned
 below_constant : items 20 (If (Variable 0) Lt (Number 1000) End)
@@ -82,10 +88,10 @@ below_constant : items 20 (If (Variable 0) Lt (Number 1000) End)
     (at Lda 0xC000 ∷ const Cmp 232 ∷ at Lda 0xC001 ∷ const Eor 128 ∷ const Sbc 131 ∷ branch Bcs (Line 30) ∷ alone Rts ∷ [])
 below_constant = refl
 
--- 20 IF A>=1 GOTO 10
+-- 20 IF A>=1 GOTO 10: straight to line 10 if A is neither below 0 nor 0
 from_constant : items 20 (If (Variable 0) Ge (Number 1) (Goto (Number 10)))
     ≡ here (Line 20) ∷ going 20
-    (at Lda 0xC000 ∷ const Cmp 1 ∷ at Lda 0xC001 ∷ const Eor 128 ∷ const Sbc 128 ∷ branch Bcs (Line 10) ∷ [])
+    (at Lda 0xC001 ∷ branch Bmi (Inside Skip 20 1) ∷ at Ora 0xC000 ∷ branch Bne (Line 10) ∷ here (Inside Skip 20 1) ∷ [])
 from_constant = refl
 
 -- 20 IF A>-1 END: A is not below 0, and so its sign is enough
@@ -97,13 +103,13 @@ above_constant = refl
 -- 20 IF A<=255 GOTO 10: A is below 256
 up_to_constant : items 20 (If (Variable 0) Le (Number 255) (Goto (Number 10)))
     ≡ here (Line 20) ∷ going 20
-    (at Lda 0xC000 ∷ const Cmp 0 ∷ at Lda 0xC001 ∷ const Eor 128 ∷ const Sbc 129 ∷ branch Bcc (Line 10) ∷ [])
+    (at Lda 0xC001 ∷ const Eor 128 ∷ const Cmp 129 ∷ branch Bcc (Line 10) ∷ [])
 up_to_constant = refl
 
--- 20 IF 0<A END: A is not below 1
+-- 20 IF 0<A END: on to line 30 if A is below 0 or 0
 constant_before : items 20 (If (Number 0) Lt (Variable 0) End)
     ≡ here (Line 20) ∷ leaving 20
-    (at Lda 0xC000 ∷ const Cmp 1 ∷ at Lda 0xC001 ∷ const Eor 128 ∷ const Sbc 128 ∷ branch Bcc (Line 30) ∷ alone Rts ∷ [])
+    (at Lda 0xC001 ∷ branch Bmi (Line 30) ∷ at Ora 0xC000 ∷ branch Beq (Line 30) ∷ alone Rts ∷ [])
 constant_before = refl
 
 -- 20 IF -2>=A GOTO 10: A is below -1
@@ -128,7 +134,7 @@ above_greatest = refl
 -- 20 IF A>=-32768 END
 from_least : items 20 (If (Variable 0) Ge (Number 32768) End)
     ≡ here (Line 20) ∷ leaving 20
-    (at Lda 0xC000 ∷ const Cmp 0 ∷ at Lda 0xC001 ∷ const Eor 128 ∷ const Sbc 0 ∷ branch Bcc (Line 30) ∷ alone Rts ∷ [])
+    (at Lda 0xC001 ∷ const Eor 128 ∷ const Cmp 0 ∷ branch Bcc (Line 30) ∷ alone Rts ∷ [])
 from_least = refl
 
 -- 20 IF A>-32768 END: A is not below -32767
@@ -171,6 +177,20 @@ quarter : items 10 (Let 0 (Binary Divide (Variable 1) (Number 4)))
     (at Lda 0xC003 ∷ const Cmp 128 ∷ const Lda 0 ∷ const Adc 255 ∷ const And 2 ∷ const Eor 2 ∷ at Adc 0xC002 ∷ at_zero Sta 0xFB ∷ at Lda 0xC003 ∷ const Adc 0
     ∷ const Cmp 128 ∷ on_a Ror ∷ at_zero Ror 0xFB ∷ const Cmp 128 ∷ on_a Ror ∷ at_zero Ror 0xFB ∷ at Sta 0xC001 ∷ at_zero Lda 0xFB ∷ at Sta 0xC000 ∷ [])
 quarter = refl
+
+-- 10 LET A=B/128: by 127, and the quotient is the upper byte of twice that, with its sign
+by_128 : items 10 (Let 0 (Binary Divide (Variable 1) (Number 128)))
+    ≡ here (Line 10) ∷ going 10
+    (at Lda 0xC003 ∷ const Cmp 128 ∷ const Lda 0 ∷ const Adc 255 ∷ const And 126 ∷ const Eor 126 ∷ at Adc 0xC002 ∷ at_zero Sta 0xFB ∷ at Lda 0xC003 ∷ const Adc 0
+    ∷ at_zero Asl 0xFB ∷ on_a Rol ∷ at Sta 0xC000 ∷ const Lda 0 ∷ const Adc 255 ∷ const Eor 255 ∷ at Sta 0xC001 ∷ [])
+by_128 = refl
+
+-- 10 LET A=B/256: by 255, and the quotient is the upper byte, with its sign
+by_256 : items 10 (Let 0 (Binary Divide (Variable 1) (Number 256)))
+    ≡ here (Line 10) ∷ going 10
+    (at Lda 0xC003 ∷ const Cmp 128 ∷ const Lda 0 ∷ const Adc 255 ∷ const And 254 ∷ const Eor 254 ∷ at Adc 0xC002 ∷ at_zero Sta 0xFB ∷ at Lda 0xC003 ∷ const Adc 0
+    ∷ const Cmp 128 ∷ at Sta 0xC000 ∷ const Lda 0 ∷ const Adc 255 ∷ const Eor 255 ∷ at Sta 0xC001 ∷ [])
+by_256 = refl
 
 -- 10 LET A=B+C+1: the sum goes to A, which is one more there
 stepped : items 10 (Let 0 (Binary Add (Binary Add (Variable 1) (Variable 2)) (Number 1)))
@@ -255,9 +275,9 @@ thrice : items 10 (Let 0 (Binary Multiply (Number 3) (Variable 0)))
     ∷ alone Clc ∷ at Adc 0xC000 ∷ alone Tax ∷ at_zero Lda 0xFB ∷ at Adc 0xC001 ∷ at_zero Sta 0xFB ∷ alone Txa ∷ at Sta 0xC000 ∷ at_zero Lda 0xFB ∷ at Sta 0xC001 ∷ [])
 thrice = refl
 
--- the divisors 2 to 64 are shifts; 1 and 128 are not
-powers : (shifts_of 1 ≡ None) × (shifts_of 2 ≡ Some 0) × (shifts_of 3 ≡ None) × (shifts_of 64 ≡ Some 5) × (shifts_of 128 ≡ None)
-powers = (refl, refl, refl, refl, refl)
+-- the divisors 2 to 256 are shifts; 1 and 512 are not
+powers : (shifts_of 1 ≡ None) × (shifts_of 2 ≡ Some 0) × (shifts_of 3 ≡ None) × (shifts_of 64 ≡ Some 5) × (shifts_of 128 ≡ Some 6) × (shifts_of 256 ≡ Some 7) × (shifts_of 512 ≡ None)
+powers = (refl, refl, refl, refl, refl, refl, refl)
 
 -- factors: 0 and 1 are not worth it, 15 has three bits that are 1 below its highest one, and 31 has one too many
 factors : (is_factor 0 ≡ false) × (is_factor 1 ≡ false) × (is_factor 2 ≡ true) × (is_factor 15 ≡ true) × (is_factor 31 ≡ false) × (is_factor 32768 ≡ true)

@@ -1,5 +1,5 @@
 -- The code of each group, as items of the assembler.
-use Rattle.std.specs.Prelude.{ℕ, ◌+◌, Bool, true, false, List, [], ◌∷◌, ◌++◌, if◌then◌else◌, Option, Some, None, ◌||◌, nat_eq, nat_le}
+use Rattle.std.specs.Prelude.{ℕ, ◌+◌, ◌/◌, ◌%◌, Bool, true, false, List, [], ◌∷◌, ◌++◌, if◌then◌else◌, Option, Some, None, ◌||◌, nat_eq, nat_le}
 use Rattle.tb_opcodes.specs.declared.Mnemonic.{Mnemonic}
 use Rattle.tb_opcodes.specs.declared.Mnemonic.TheVariants.{Adc, Beq, Bpl, Bne, Clc, Cmp, Lda, Ora, Sbc, Sec, Sta}
 use Rattle.tb_asm.specs.Layout.{Entry}
@@ -16,7 +16,7 @@ use Rattle.tb_runtime16.specs.Addresses.{LEFT, RIGHT, RESULT, WANTED, LINE, MULT
 use Rattle.tb_templates.specs.declared.labels.Inner.TheVariants.{Behind, Skip}
 use Rattle.tb_templates.specs.declared.labels.Target.{Target}
 use Rattle.tb_templates.specs.declared.labels.Target.TheVariants.{Inside, Line}
-use Rattle.tb_templates.specs.Templates.{at, var_at, on, alone, branch, here, call, copied, constant, faulted, find, return_address, jump_through, next_line, template}
+use Rattle.tb_templates.specs.Templates.{at, const, var_at, on, alone, branch, here, call, copied, constant, faulted, find, return_address, jump_through, next_line, template}
 use Rattle.tb_templates.specs.Sources.{Source, FixedWord, AtAddress, source_of, tested_source, home_at, destination_at}
 pub use Rattle.tb_templates.specs.Sources.{low_of, high_of}
 use Rattle.tb_templates.specs.Scaled.{scaling, times, shifts, shifted}
@@ -106,13 +106,33 @@ used n next AsLine a = searched n a ++ jump_through
 used n next AsSubroutine a = searched n a ++ (return_address next ++ jump_through)
 
 -- ── tests ──
+-- A against a constant byte, for Z alone: the load of A has set it if that byte is 0
+abbrev pub unless_none : ℕ → List Entry
+unless_none b = if nat_eq b 0 then [] else const Cmp b ∷ []
+
+-- the same against the low byte of a word, and against its high byte
+abbrev pub low_against : Source → List Entry
+low_against (FixedWord w) = unless_none (w % 256)
+low_against (AtAddress p) = at Cmp p ∷ []
+
+abbrev pub high_against : Source → List Entry
+high_against (FixedWord w) = unless_none (w / 256)
+high_against (AtAddress p) = at Cmp (p + 1) ∷ []
+
+-- Z tells whether the low bytes of two words are equal, or the high ones
+abbrev pub low_matched : Source → Source → List Entry
+low_matched a b = low_of Lda a ∷ low_against b
+
+abbrev pub high_matched : Source → Source → List Entry
+high_matched a b = high_of Lda a ∷ high_against b
+
 -- goes on in the line if both bytes are equal
 abbrev pub equal : Source → Source → Target → List Entry
-equal a b next = low_of Lda a ∷ low_of Cmp b ∷ branch Bne next ∷ high_of Lda a ∷ high_of Cmp b ∷ branch Bne next ∷ []
+equal a b next = low_matched a b ++ (branch Bne next ∷ (high_matched a b ++ (branch Bne next ∷ [])))
 
 -- goes on in the line if one of the two bytes differs
 abbrev pub unequal : Source → Source → Target → Target → List Entry
-unequal a b stays next = low_of Lda a ∷ low_of Cmp b ∷ branch Bne stays ∷ high_of Lda a ∷ high_of Cmp b ∷ branch Beq next ∷ here stays ∷ []
+unequal a b stays next = low_matched a b ++ (branch Bne stays ∷ (high_matched a b ++ (branch Beq next ∷ here stays ∷ [])))
 
 -- leaves the line unless two words are in this relation
 abbrev pub tested : Rel → Source → Source → Target → Target → List Entry

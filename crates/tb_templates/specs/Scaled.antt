@@ -21,10 +21,10 @@ at_zero mnemonic place = instr mnemonic ZeroPage (Byte place)
 -- ── over a power of two ──
 -- the word's low byte is in LEFT, its high byte in A
 
--- for 2^(k + 1) from 2 to 64, k
+-- for 2^(k + 1) from 2 to 256, k
 abbrev pub shifts_of : ℕ → Option ℕ
 shifts_of w = if nat_eq w 2 then Some 0 else if nat_eq w 4 then Some 1 else if nat_eq w 8 then Some 2 else if nat_eq w 16 then Some 3
-    else if nat_eq w 32 then Some 4 else if nat_eq w 64 then Some 5 else None
+    else if nat_eq w 32 then Some 4 else if nat_eq w 64 then Some 5 else if nat_eq w 128 then Some 6 else if nat_eq w 256 then Some 7 else None
 
 -- k, if a divisor is such a constant
 abbrev pub shifts : Source → Option ℕ
@@ -57,9 +57,21 @@ halvings (suc k) = halvings k ++ halved
 abbrev pub high_first : ℕ → List Entry
 high_first to = at Sta (to + 1) ∷ at_zero Lda LEFT ∷ at Sta to ∷ []
 
+-- over 128 or 256: the quotient's low byte goes to A, its sign to C
+abbrev pub cut : ℕ → List Entry
+cut k = if nat_eq k 6 then at_zero Asl LEFT ∷ on_a Rol ∷ [] else const Cmp 128 ∷ []
+
+-- a byte is stored at an address, and after it 255 if C is set, and else 0
+abbrev pub widened : ℕ → List Entry
+widened to = at Sta to ∷ const Lda 0 ∷ const Adc 255 ∷ const Eor 255 ∷ at Sta (to + 1) ∷ []
+
+-- the quotient of a raised word is stored: over 2 to 64 it is shifted to the right; of one over 128 or 256, one byte is all but its sign
+abbrev pub lowered : ℕ → ℕ → List Entry
+lowered k to = if nat_lt k 6 then halvings (suc k) ++ high_first to else cut k ++ widened to
+
 -- a word over 2^(k + 1)
 abbrev pub shifted : ℕ → Source → ℕ → List Entry
-shifted k a to = raised k a ++ (halvings (suc k) ++ high_first to)
+shifted k a to = raised k a ++ lowered k to
 
 -- ── times a constant ──
 -- the product's low byte is in A, its high byte in LEFT

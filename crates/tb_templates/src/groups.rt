@@ -348,16 +348,63 @@ fn put_used(
     }
 }
 
+// A against a constant byte, for Z alone: the load of A has set it if that byte is 0.
+fn put_unless_none(items: &mut Vec<Item>, byte: u8) -> Result<(), AllocError>
+    ensures { Puts result items.old items.new (groups.unless_none byte) }
+{
+    if byte == 0 {
+        return Ok(());
+    }
+    put_const(items, Mnemonic::Cmp, byte)
+}
+
+// The same against the low byte of a word.
+fn put_low_against(items: &mut Vec<Item>, word: Source) -> Result<(), AllocError>
+    ensures { Puts result items.old items.new (groups.low_against word) }
+{
+    match word {
+        Source::FixedWord(word) => put_unless_none(items, (word % 256) as u8),
+        Source::AtAddress(address) => put_at(items, Mnemonic::Cmp, address),
+    }
+}
+
+// The same against the high byte of a word.
+fn put_high_against(items: &mut Vec<Item>, word: Source) -> Result<(), AllocError>
+    requires { IsWhole word }
+    ensures { Puts result items.old items.new (groups.high_against word) }
+{
+    match word {
+        Source::FixedWord(word) => put_unless_none(items, (word / 256) as u8),
+        Source::AtAddress(address) => put_at(items, Mnemonic::Cmp, address + 1),
+    }
+}
+
+// Z tells whether the low bytes of two words are equal.
+fn put_low_matched(items: &mut Vec<Item>, words: Words) -> Result<(), AllocError>
+    requires { AreWhole words }
+    ensures { Puts result items.old items.new (groups.low_matched words.left words.right) }
+{
+    put_low(items, Mnemonic::Lda, words.left)?;
+    put_low_against(items, words.right)
+}
+
+// Z tells whether the high bytes of two words are equal.
+fn put_high_matched(items: &mut Vec<Item>, words: Words) -> Result<(), AllocError>
+    requires { AreWhole words }
+    ensures { Puts result items.old items.new (groups.high_matched words.left words.right) }
+{
+    put_high(items, Mnemonic::Lda, words.left)?;
+    put_high_against(items, words.right)
+}
+
 // Goes on in the line if both bytes are equal.
 fn put_equal(items: &mut Vec<Item>, words: Words, next: Target) -> Result<(), AllocError>
     requires { AreWhole words }
     ensures { Puts result items.old items.new (groups.equal words.left words.right next) }
 {
-    put_low(items, Mnemonic::Lda, words.left)?;
-    put_low(items, Mnemonic::Cmp, words.right)?;
+    put_low_matched(items, words)?;
     put_branch(items, Mnemonic::Bne, next)?;
-    put_high(items, Mnemonic::Lda, words.left)?;
-    put_high(items, Mnemonic::Cmp, words.right)?;
+    put_high_matched(items, words)?;
     put_branch(items, Mnemonic::Bne, next)
 }
 
@@ -371,11 +418,9 @@ fn put_unequal(
     requires { AreWhole words }
     ensures { Puts result items.old items.new (groups.unequal words.left words.right stays next) }
 {
-    put_low(items, Mnemonic::Lda, words.left)?;
-    put_low(items, Mnemonic::Cmp, words.right)?;
+    put_low_matched(items, words)?;
     put_branch(items, Mnemonic::Bne, stays)?;
-    put_high(items, Mnemonic::Lda, words.left)?;
-    put_high(items, Mnemonic::Cmp, words.right)?;
+    put_high_matched(items, words)?;
     put_branch(items, Mnemonic::Beq, next)?;
     put_here(items, stays)
 }

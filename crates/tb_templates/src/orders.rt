@@ -30,6 +30,8 @@ pub enum Side {
 pub enum Order {
     /// By the sign of a word: where this one is, seen from 0.
     BySign(Side, Source),
+    /// By whether a word is positive: where this one is, seen from 1.
+    ByPositive(Side, Source),
     /// Where this word is, seen from a constant.
     ByConstant(Side, Source, u16),
     /// By the difference of both.
@@ -42,10 +44,10 @@ fn against(side: Side, word: Source, constant: u16) -> Order
     ensures order { result ≡ orders.against side word constant }
     ensures whole { orders.AreWhole result }
 {
-    if constant == 0 {
-        Order::BySign(side, word)
-    } else {
-        Order::ByConstant(side, word, constant)
+    match constant {
+        0 => Order::BySign(side, word),
+        1 => Order::ByPositive(side, word),
+        _ => Order::ByConstant(side, word, constant),
     }
 }
 
@@ -131,16 +133,48 @@ fn put_signed(
     put_branch(items, unless_negative(side), next)
 }
 
-// A word compared with a constant, the highest bits of both turned.
+// By whether a word is positive.
+fn put_positive(
+    items: &mut Vec<Item>,
+    side: Side,
+    word: Source,
+    skip: Target,
+    next: Target,
+) -> Result<(), AllocError>
+    requires { IsWhole word }
+    ensures { Puts result items.old items.new (orders.positive side word skip next) }
+{
+    put_high(items, Mnemonic::Lda, word)?;
+    match side {
+        Side::Below => {
+            put_branch(items, Mnemonic::Bmi, skip)?;
+            put_low(items, Mnemonic::Ora, word)?;
+            put_branch(items, Mnemonic::Bne, next)?;
+            put_here(items, skip)
+        }
+        Side::NotBelow => {
+            put_branch(items, Mnemonic::Bmi, next)?;
+            put_low(items, Mnemonic::Ora, word)?;
+            put_branch(items, Mnemonic::Beq, next)
+        }
+    }
+}
+
+// A word compared with a constant, the highest bits of both turned: by the high bytes if the constant's low one is 0.
 fn put_lifted(items: &mut Vec<Item>, word: Source, constant: u16) -> Result<(), AllocError>
     requires { IsWhole word }
     ensures { Puts result items.old items.new (orders.lifted word constant) }
 {
+    let high = (constant / 256 + u16::from(SIGN)) % 256;
+    if constant % 256 == 0 {
+        put_high(items, Mnemonic::Lda, word)?;
+        put_const(items, Mnemonic::Eor, SIGN)?;
+        return put_const(items, Mnemonic::Cmp, high as u8);
+    }
     put_low(items, Mnemonic::Lda, word)?;
     put_const(items, Mnemonic::Cmp, (constant % 256) as u8)?;
     put_high(items, Mnemonic::Lda, word)?;
     put_const(items, Mnemonic::Eor, SIGN)?;
-    let high = (constant / 256 + u16::from(SIGN)) % 256;
     put_const(items, Mnemonic::Sbc, high as u8)
 }
 
@@ -194,6 +228,9 @@ pub fn put_ordered(
 {
     match order_of(words.left, words.right) {
         Order::BySign(side, word) => put_signed(items, wanted_side(wanted, side), word, next),
+        Order::ByPositive(side, word) => {
+            put_positive(items, wanted_side(wanted, side), word, skip, next)
+        }
         Order::ByConstant(side, word, constant) => {
             put_against(items, wanted_side(wanted, side), word, constant, next)
         }

@@ -38,10 +38,10 @@ fn put_at_left(items: &mut Vec<Item>, mnemonic: Mnemonic) -> Result<(), AllocErr
     )
 }
 
-// How many times more than once a word is halved, if this divisor is a power of two from 2 to 64.
+// How many times more than once a word is halved, if this divisor is a power of two from 2 to 256.
 fn shifts_of(divisor: u16) -> Option<u8>
     ensures shifts { result ≡ scaled.shifts_of divisor }
-    ensures few { IfSome result (λ more. more < 6) }
+    ensures few { IfSome result (λ more. more < 8) }
 {
     match divisor {
         2 => Some(0),
@@ -50,14 +50,16 @@ fn shifts_of(divisor: u16) -> Option<u8>
         16 => Some(3),
         32 => Some(4),
         64 => Some(5),
+        128 => Some(6),
+        256 => Some(7),
         _ => None,
     }
 }
 
-/// For a divisor that is the constant 2^(k + 1) from 2 to 64, k, 0 to 5: shifts are worth it then.
+/// For a divisor that is the constant 2^(k + 1) from 2 to 256, k, 0 to 7: shifts are worth it then.
 pub fn shifts(divisor: Source) -> Option<u8>
     ensures shifts { result ≡ scaled.shifts divisor }
-    ensures few { IfSome result (λ more. more < 6) }
+    ensures few { IfSome result (λ more. more < 8) }
 {
     match divisor {
         Source::FixedWord(word) => shifts_of(word),
@@ -65,16 +67,25 @@ pub fn shifts(divisor: Source) -> Option<u8>
     }
 }
 
+// The bits that rounding adds to a word, but for the lowest one.
+#[tactic(auto, using(crate::proofs::Bits::lowest_taken))]
+fn all_but_lowest(more: u8) -> u8
+    requires { more < 8 }
+    ensures { result ≡ scaled.all_but_lowest more }
+{
+    2 * ((1 << more) - 1)
+}
+
 // The low byte of a word, and what rounds it up if C is set.
 fn put_rounded(items: &mut Vec<Item>, more: u8, word: Source) -> Result<(), AllocError>
-    requires { more < 6 }
+    requires { more < 8 }
     ensures { Puts result items.old items.new (scaled.rounded more word) }
 {
     if more == 0 {
         put_low(items, Mnemonic::Lda, word)?;
         return put_const(items, Mnemonic::Adc, 0);
     }
-    let mask = (1 << (more + 1)) - 2;
+    let mask = all_but_lowest(more);
     put_const(items, Mnemonic::Lda, 0)?;
     put_const(items, Mnemonic::Adc, u8::MAX)?;
     put_const(items, Mnemonic::And, mask)?;
@@ -84,7 +95,7 @@ fn put_rounded(items: &mut Vec<Item>, more: u8, word: Source) -> Result<(), Allo
 
 // A word, rounded up if it is negative.
 fn put_raised(items: &mut Vec<Item>, more: u8, word: Source) -> Result<(), AllocError>
-    requires more { more < 6 }
+    requires more { more < 8 }
     requires whole { IsWhole word }
     ensures { Puts result items.old items.new (scaled.raised more word) }
 {
@@ -125,15 +136,50 @@ fn put_high_first(items: &mut Vec<Item>, to: u16) -> Result<(), AllocError>
     put_at(items, Mnemonic::Sta, to)
 }
 
+// Of a word over 128 or 256, the quotient's low byte goes to A, its sign to C.
+fn put_cut(items: &mut Vec<Item>, more: u8) -> Result<(), AllocError>
+    ensures { Puts result items.old items.new (scaled.cut more) }
+{
+    if more != 6 {
+        return put_const(items, Mnemonic::Cmp, SIGN);
+    }
+    put_at_left(items, Mnemonic::Asl)?;
+    put_on_a(items, Mnemonic::Rol)
+}
+
+// The byte in A is stored as a word whose sign is in C.
+fn put_widened(items: &mut Vec<Item>, to: u16) -> Result<(), AllocError>
+    requires { to < 65535 }
+    ensures { Puts result items.old items.new (scaled.widened to) }
+{
+    put_at(items, Mnemonic::Sta, to)?;
+    put_const(items, Mnemonic::Lda, 0)?;
+    put_const(items, Mnemonic::Adc, u8::MAX)?;
+    put_const(items, Mnemonic::Eor, u8::MAX)?;
+    put_at(items, Mnemonic::Sta, to + 1)
+}
+
+// The quotient of a raised word is stored.
+fn put_lowered(items: &mut Vec<Item>, more: u8, to: u16) -> Result<(), AllocError>
+    requires { (more < 8) × (to < 65535) }
+    ensures { Puts result items.old items.new (scaled.lowered more to) }
+{
+    if more < 6 {
+        put_halvings(items, more + 1)?;
+        return put_high_first(items, to);
+    }
+    put_cut(items, more)?;
+    put_widened(items, to)
+}
+
 /// A word over 2^(k + 1), truncated toward zero.
 pub fn put_shifted(items: &mut Vec<Item>, more: u8, word: Source, to: u16) -> Result<(), AllocError>
-    requires more { more < 6 }
+    requires more { more < 8 }
     requires whole { IsWhole word × (to < 65535) }
     ensures { Puts result items.old items.new (scaled.shifted more word to) }
 {
     put_raised(items, more, word)?;
-    put_halvings(items, more + 1)?;
-    put_high_first(items, to)
+    put_lowered(items, more, to)
 }
 
 // Twice the product so far.

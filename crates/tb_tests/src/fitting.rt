@@ -39,9 +39,9 @@ const SHAPES: [Shape; 5] = [
     },
     Shape {
         statement: b"IF A=1 GOTO 10",
-        lines: 1021,
+        lines: 1080,
         tail: b"",
-        letters: 44,
+        letters: 21,
     },
     Shape {
         statement: b"GOSUB 32000",

@@ -41,7 +41,7 @@ const HELLO: Row<'static> = Row {
     ..PLAIN
 };
 
-static ROWS: [Row<'static>; 45] = [
+static ROWS: [Row<'static>; 48] = [
     Row {
         shown: "HELLO\n",
         ..HELLO
@@ -69,6 +69,29 @@ static ROWS: [Row<'static>; 45] = [
     Row {
         source: "10 PRINT (0-32768)/(0-1)\n20 PRINT (0-7)/2\n30 END",
         shown: "-32768\n-3\n",
+        ..PLAIN
+    },
+    // Over 256 and 128: the upper byte, its sign kept, of both signs and at the edges.
+    Row {
+        source: "10 A=-32768\n20 PRINT A/256;\" \";A/128\n30 A=A+1\n40 PRINT A/256;\" \";A/128\n50 A=255\n\
+            60 PRINT A/256;\" \";A/128\n70 A=-A\n80 PRINT A/256;\" \";A/128\n90 A=-256\n\
+            100 PRINT A/256;\" \";A-A/128*128\n110 END",
+        shown: "-128 -256\n-127 -255\n0 1\n0 -1\n-1 0\n",
+        ..PLAIN
+    },
+    // Above 0 or not, and against multiples of 256: of both signs, at 0 and beside it.
+    Row {
+        source: "10 IF A>0 PRINT 1;\n20 IF A<1 PRINT 2;\n30 A=A-1\n40 IF A>=1 PRINT 3;\n50 IF A<256 PRINT 4;\n\
+            60 A=A+257\n70 IF A>255 PRINT 5;\n80 IF A<=0 PRINT 6;\n90 A=A-A+1\n100 IF A>0 PRINT 7;\n\
+            110 IF A<-256 PRINT 8;\n120 A=-32768\n130 IF A<-256 PRINT 9\n140 END",
+        shown: "24579\n",
+        ..PLAIN
+    },
+    // Equal to a constant of which a byte is 0: each byte of the word decides alone.
+    Row {
+        source: "10 IF A=0 PRINT 1;\n20 A=A-256\n30 IF A=0 PRINT 2;\n40 IF A<>0 PRINT 3;\n50 IF A<>-256 PRINT 4;\n\
+            60 IF A=-256 PRINT 5;\n70 A=1\n80 IF A=0 PRINT 6;\n90 IF A<>256 PRINT 7\n100 END",
+        shown: "1357\n",
         ..PLAIN
     },
     Row {

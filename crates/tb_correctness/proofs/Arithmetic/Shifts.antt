@@ -1,32 +1,36 @@
 -- The law of a quotient over a power of two, which is computed by shifts and can't fault.
-use Rattle.std.proofs.Common.{◌≡◌, ◌≢◌, ℕ, zero, suc, ◌+◌, ◌*◌, ◌/◌, ◌%◌, ◌^◌, ◌≤◌, ◌<◌, Bool, true, List, []}
+use Rattle.std.proofs.Common.{◌≡◌, ◌≢◌, ℕ, zero, suc, ◌+◌, ◌*◌, ◌/◌, ◌%◌, ◌^◌, ◌≤◌, ◌<◌, Bool, true, false, true≢false, List, []}
 use Rattle.std.proofs.Common.{◌∷◌, ◌++◌, length, refl, sym, ap, ◌∙◌, subst, arith, leb}
-use Rattle.std.specs.Prelude.{nat_le, nat_lt}
+use Rattle.std.specs.Prelude.{if◌then◌else◌, nat_eq, nat_le, nat_lt}
+use Rattle.std.proofs.lemmas.Bool.{eq-eqb, eqb-true, ltb-false, ltb-true}
 use Rattle.tb_cpu.specs.Effects.{bit, has_bit}
 use Rattle.tb_memmap.specs.Bytes.{with_byte}
 use Rattle.tb_words.specs.Words.{quotient, word}
 use Rattle.tb_syntax.specs.declared.expressions.Operator.TheVariants as op
 use Rattle.tb_meaning.specs.Control.{State}
-use Rattle.tb_lower.specs.Slots.{Instr, Slots, SlotCode}
+use Rattle.tb_lower.specs.Slots.{Slots, SlotCode}
+use Rattle.tb_lower.specs.Slots.{Instr as SlotInstr}
 use Rattle.tb_reaching.proofs.Comes.{chained, looser}
-use Rattle.tb_reaching.proofs.Instr.{Stands}
+use Rattle.tb_reaching.proofs.Instr.{Instr, Stands, ins}
 use Rattle.tb_reaching.proofs.Memory.{put_other, put_same}
-use Rattle.tb_reaching.specs.View.{Fits, Setup, View}
+use Rattle.tb_reaching.specs.View.{Comes, Fits, Setup, View}
 use Rattle.tb_runtime16.specs.Addresses.{LEFT}
 use Rattle.tb_runtime16.specs.Routines.{Here, Moves, WithA}
+use Rattle.tb_simulation.proofs.Pieces.{put_word}
 use Rattle.tb_simulation.proofs.Resolved.{Code, Lies, highest_code, pieces_size, size}
 use Rattle.tb_selection.specs.Groups.{Operand, Destination, Calculate, slot_of}
 use Rattle.tb_selection.specs.Liveness.{live}
 use Rattle.tb_selection.specs.Select.{select}
 use Rattle.tb_templates.specs.declared.sources.Source.{Source}
 use Rattle.tb_templates.specs.Sources.{destination_at, source_of}
-use Rattle.tb_correctness.proofs.CodeBytes.GroupCode.{GroupsLie, carried, halved, halvings, high, high_first, low, rounded, shifted, signed}
-use Rattle.tb_correctness.proofs.Pieces.Halves.{halve, halve_small, halve_times, halves_are, high_half, low_half, more, more_small, raised_high, raised_low, sign_is}
+use Rattle.tb_correctness.proofs.CodeBytes.GroupCode.{GroupsLie, carried, cut, halved, halvings, high, high_first, low, lowered, rounded, shifted, signed, widened}
+use Rattle.tb_correctness.proofs.Pieces.Halves.{halve, halve_small, halve_times, halves_are, high_half, low_half, more, more_small, over_128, over_256, quotient_small}
+use Rattle.tb_correctness.proofs.Pieces.Halves.{raised_high, raised_low, sign_is}
 use Rattle.tb_correctness.proofs.Relation.GroupInvariants.{kept, kept_scratch}
 use Rattle.tb_correctness.proofs.Relation.Matching.{Matches}
 use Rattle.tb_correctness.proofs.Relation.Operands.{SourceHolds, dest_beyond}
 use Rattle.tb_correctness.proofs.Relation.Ready.{Ready, here}
-use Rattle.tb_correctness.proofs.Pieces.ShiftSteps.{carries, ends_high, halves, rounds, signs, size_append, stands_split}
+use Rattle.tb_correctness.proofs.Pieces.ShiftSteps.{Beyond, carries, ends_high, halves, lifts, rounds, signs, signs_a, size_append, stands_split, widens}
 use Rattle.tb_correctness.proofs.Slots.SlotSide.{calculated, landed, line, spread}
 use Rattle.tb_correctness.proofs.Pieces.Sources.{value}
 use Rattle.tb_correctness.proofs.Pieces.Sums.{Grounded}
@@ -71,16 +75,83 @@ module _ (f : Setup) (room : ℕ) (fits : Fits f room) (bs : List ℕ) (m : ℕ 
       (halves_then k at v (omega (arith, r, s)) parts.0 q (3 + n)
       (λ u g. chained f u _ q [] [] 3 n (halves_on p (halve_times k v) (omega (arith, r, s)) parts.1 u g) (λ x y. next x (subst (λ a. HighInA a (halve_times (suc k) v) x) there y))) w e)
 
+  -- ---- the quotient of a raised word
+  module _ (k x : ℕ) (few : k < 8) (small_x : x < 65536) (to : ℕ) (there : Beyond to) where
+    abbrev over : ℕ
+    over = quotient x (2 ^ (k + 1))
+
+    abbrev pub raised : ℕ
+    raised = word (x + more k (nat_le 32768 x))
+
+    -- what follows of a view in which the quotient is stored
+    abbrev pub Once : ℕ → (View → Type 0) → Type 0
+    Once end q = (m' : ℕ → ℕ) (l g : ℕ) → l ≡ over % 256 → g ≡ over / 256 → ((p : ℕ) → p ≢ LEFT → m' p ≡ m p) → (u : View) → Here end bs (put_word m' to l g) text answers u → q u
+
+    halves_all : (at : ℕ) → k < 6 → at + size (halvings (suc k) ++ high_first to) ≤ highest_code → Stands f.code at (halvings (suc k) ++ high_first to)
+        → (q : View → Type 0) → Once (at + size (halvings (suc k) ++ high_first to)) q → Moves f (HighInA at raised) q [] 21
+    halves_all at less r st q once w e =
+        let s = size_append (halvings (suc k)) (high_first to) in
+        let p = at + size (halvings (suc k)) in
+        let parts = stands_split f.code at (halvings (suc k)) (high_first to) (omega (arith, r, s)) st in
+        let is : halve_times (suc k) raised ≡ over = halves_are k x less small_x in
+        let end : p + 8 ≡ at + size (halvings (suc k) ++ high_first to) = omega (arith, s) in
+        looser f w q q [] (3 * suc k + 3) 21 (omega (arith, less)) (λ u z. z)
+        (halves_then (suc k) at raised (omega (arith, r, s)) parts.0 q 3
+        (λ u g. looser f u _ q [] 3 3 (omega arith)
+        (λ z i. once u.mem (u.mem LEFT) u.regs.a (g.low ∙ ap (λ n. n % 256) is) (g.high ∙ ap (λ n. n / 256) is) g.others z
+        (subst (λ p. Here p bs (put_word u.mem to (u.mem LEFT) u.regs.a) text answers z) end i))
+        (ends_high f room fits p bs u.mem text answers small u.regs.a to (omega (arith, r, s)) there parts.1 u (record { here = g.here; number = refl }))) w e)
+
+    -- what comes before the stores over 128 or 256
+    abbrev cut_if : Bool → List Instr
+    cut_if t = if t then ins 0x06 LEFT ∷ ins 0x2A 0 ∷ [] else ins 0xC9 128 ∷ []
+
+    cuts_one : (at : ℕ) (t : Bool) → nat_eq k 6 ≡ t → 6 ≤ k → at + size (cut_if t ++ widened to) ≤ highest_code → Stands f.code at (cut_if t ++ widened to)
+        → (q : View → Type 0) → Once (at + size (cut_if t ++ widened to)) q → Moves f (HighInA at raised) q [] 7
+    cuts_one at true e least r st q once w h =
+        let a = w.regs.a in
+        let l = w.mem LEFT in
+        let low = 2 * a % 256 + bit (has_bit l 128) in
+        let m1 = with_byte w.mem LEFT (2 * l % 256) in
+        let parts = stands_split f.code at (ins 0x06 LEFT ∷ ins 0x2A 0 ∷ []) (widened to) (omega (arith, r)) st in
+        let is = over_128 k x (eqb-true k 6 e) small_x in
+        chained f w _ q [] [] 2 5 (lifts f room fits at bs w.mem text answers small a (omega (arith, r)) parts.0 w (record { here = h.here; number = refl }))
+        (λ u g. looser f u _ q [] 5 5 (omega arith)
+        (λ z i. once m1 low (255 * bit (has_bit a 128)) ((λ j. 2 * h.high j % 256 + bit (has_bit (h.low j) 128)) ∙ is.0) ((λ j. 255 * bit (has_bit (h.high j) 128)) ∙ is.1)
+        (λ p n. put_other w.mem LEFT (2 * l % 256) p n ∙ h.others p n) z
+        (subst (λ p. Here p bs (put_word m1 to low (255 * bit (has_bit a 128))) text answers z) (let s : at + 3 + 12 ≡ at + size (cut_if true ++ widened to) = omega arith in s) i))
+        (widens f room fits (at + 3) bs m1 text answers small low to (has_bit a 128) (omega (arith, r)) there.0 parts.1 u g))
+    cuts_one at false e least r st q once w h =
+        let a = w.regs.a in
+        let parts = stands_split f.code at (ins 0xC9 128 ∷ []) (widened to) (omega (arith, r)) st in
+        let is = over_256 k x (not_six e least) small_x in
+        looser f w q q [] 6 7 (omega arith) (λ u z. z)
+        (chained f w _ q [] [] 1 5 (signs_a f room fits at bs w.mem text answers small a (omega (arith, r)) parts.0 w (record { here = h.here; number = refl }))
+        (λ u g. looser f u _ q [] 5 5 (omega arith)
+        (λ z i. once w.mem a (255 * bit (nat_le 128 a)) (h.high ∙ is.0) ((λ j. 255 * bit (nat_le 128 (h.high j))) ∙ is.1) h.others z
+        (subst (λ p. Here p bs (put_word w.mem to a (255 * bit (nat_le 128 a))) text answers z) (let s : at + 2 + 12 ≡ at + size (cut_if false ++ widened to) = omega arith in s) i))
+        (widens f room fits (at + 2) bs w.mem text answers small a to (nat_le 128 a) (omega (arith, r)) there.0 parts.1 u g)))
+      where
+        not_six : nat_eq k 6 ≡ false → 6 ≤ k → k ≡ 7
+        not_six e least = let n : k ≢ 6 = λ z. absurd (true≢false (sym (eq-eqb k 6 z) ∙ e)) in omega (arith, n, least, few)
+
+    -- a raised word's quotient is stored
+    pub lowers : (at : ℕ) (t : Bool) → nat_lt k 6 ≡ t → at + size (if t then halvings (suc k) ++ high_first to else cut k ++ widened to) ≤ highest_code
+        → Stands f.code at (if t then halvings (suc k) ++ high_first to else cut k ++ widened to) → (q : View → Type 0)
+        → Once (at + size (if t then halvings (suc k) ++ high_first to else cut k ++ widened to)) q → Moves f (HighInA at raised) q [] 21
+    lowers at true e r st q once = halves_all at (ltb-true k 6 e) r st q once
+    lowers at false e r st q once =
+        λ w h. looser f w q q [] 7 21 (omega arith) (λ u z. z) (cuts_one at (nat_eq k 6) refl (ltb-false k 6 e) r st q once w h)
+
   -- ---- a word over 2^(k + 1)
-  module _ (at : ℕ) (a : Source) (x : ℕ) (ga : Grounded a LEFT) (ha : SourceHolds m a x) (k : ℕ) (few : k < 6) (to : ℕ)
+  module _ (at : ℕ) (a : Source) (x : ℕ) (ga : Grounded a LEFT) (ha : SourceHolds m a x) (k : ℕ) (few : k < 8) (to : ℕ)
       (r : at + size (shifted k a to) ≤ highest_code) (st : Stands f.code at (shifted k a to)) where
-    sizes : size (shifted k a to) ≡ size (signed a) + (size (rounded k a) + (size (carried a) + (size (halvings (suc k)) + 8)))
+    sizes : size (shifted k a to) ≡ size (signed a) + (size (rounded k a) + (size (carried a) + size (lowered k to)))
     sizes =
-        let e1 = size_append (signed a) (rounded k a ++ (carried a ++ (halvings (suc k) ++ high_first to))) in
-        let e2 = size_append (rounded k a) (carried a ++ (halvings (suc k) ++ high_first to)) in
-        let e3 = size_append (carried a) (halvings (suc k) ++ high_first to) in
-        let e4 = size_append (halvings (suc k)) (high_first to) in
-        omega (arith, e1, e2, e3, e4)
+        let e1 = size_append (signed a) (rounded k a ++ (carried a ++ lowered k to)) in
+        let e2 = size_append (rounded k a) (carried a ++ lowered k to) in
+        let e3 = size_append (carried a) (lowered k to) in
+        omega (arith, e1, e2, e3)
 
     -- the addresses of its parts
     abbrev p1 : ℕ
@@ -89,30 +160,24 @@ module _ (f : Setup) (room : ℕ) (fits : Fits f room) (bs : List ℕ) (m : ℕ 
     abbrev p2 : ℕ
     p2 = p1 + size (rounded k a)
 
-    abbrev p3 : ℕ
+    abbrev pub p3 : ℕ
     p3 = p2 + size (carried a)
 
-    abbrev pub p4 : ℕ
-    p4 = p3 + size (halvings (suc k))
-
-    s1 : Stands f.code at (signed a) × Stands f.code p1 (rounded k a ++ (carried a ++ (halvings (suc k) ++ high_first to)))
+    s1 : Stands f.code at (signed a) × Stands f.code p1 (rounded k a ++ (carried a ++ lowered k to))
     s1 = stands_split f.code at (signed a) _ (omega (arith, r, sizes)) st
 
-    s2 : Stands f.code p1 (rounded k a) × Stands f.code p2 (carried a ++ (halvings (suc k) ++ high_first to))
+    s2 : Stands f.code p1 (rounded k a) × Stands f.code p2 (carried a ++ lowered k to)
     s2 = stands_split f.code p1 (rounded k a) _ (omega (arith, r, sizes)) s1.1
 
-    s3 : Stands f.code p2 (carried a) × Stands f.code p3 (halvings (suc k) ++ high_first to)
+    s3 : Stands f.code p2 (carried a) × Stands f.code p3 (lowered k to)
     s3 = stands_split f.code p2 (carried a) _ (omega (arith, r, sizes)) s2.1
 
-    s4 : Stands f.code p3 (halvings (suc k)) × Stands f.code p4 (high_first to)
-    s4 = stands_split f.code p3 (halvings (suc k)) _ (omega (arith, r, sizes)) s3.1
-
-    -- the code that stores the quotient is there
-    pub last_stands : Stands f.code p4 (high_first to)
-    last_stands = s4.1
+    -- the code that makes and stores the quotient of the raised word is there
+    pub last_stands : Stands f.code p3 (lowered k to)
+    last_stands = s3.1
 
     -- that code ends the quotient's
-    pub end_is : p4 + 8 ≡ at + size (shifted k a to)
+    pub end_is : p3 + size (lowered k to) ≡ at + size (shifted k a to)
     end_is = omega (arith, sizes)
 
     abbrev c : Bool
@@ -137,19 +202,17 @@ module _ (f : Setup) (room : ℕ) (fits : Fits f room) (bs : List ℕ) (m : ℕ 
           others = λ p n. ap (λ m. m p) g.here.mem ∙ put_other m LEFT l p n;
         }
 
-    -- a word over 2^(k + 1), and then a law
-    pub divides_then : (q : View → Type 0) (j : ℕ) → Moves f (HighInA p4 (quotient x (2 ^ (k + 1)))) q [] j → Moves f (Here at bs m text answers) q [] (28 + j)
-    divides_then q j next w e =
-        let there : halve_times (suc k) (word (x + more k (nat_le 32768 x))) ≡ quotient x (2 ^ (k + 1)) = halves_are k x few ha.small in
-        looser f w q q [] (2 + (5 + (3 + (3 * suc k + j)))) (28 + j) (omega (arith, few)) (λ u z. z)
-        (chained f w _ q [] [] 2 (5 + (3 + (3 * suc k + j))) (signs f room fits at bs m text answers small a (omega (arith, r, sizes)) ga s1.0 w e) (λ u g.
-        chained f u _ q [] [] 5 (3 + (3 * suc k + j)) (rounds f room fits p1 bs m text answers small k a c few (omega (arith, r, sizes)) ga s2.0 u g) (λ u g.
-        chained f u _ q [] [] 3 (3 * suc k + j) (carries f room fits p2 bs m text answers small ((value m (low a) + n) % 256)
-        (nat_lt 255 (value m (low a) + n)) a (omega (arith, r, sizes)) ga s3.0 u g) (λ u g.
-        halves_then (suc k) p3 (word (x + more k (nat_le 32768 x))) (omega (arith, r, sizes)) s4.0 q j (λ u g. next u (subst (λ v. HighInA p4 v u) there g)) u (raised_here u g)))))
+    -- a word raised, and then a law
+    pub raises_then : (q : View → Type 0) (j : ℕ) → Moves f (HighInA p3 (word (x + more k (nat_le 32768 x)))) q [] j → Moves f (Here at bs m text answers) q [] (10 + j)
+    raises_then q j next w e =
+        looser f w q q [] (2 + (5 + (3 + j))) (10 + j) (omega arith) (λ u z. z)
+        (chained f w _ q [] [] 2 (5 + (3 + j)) (signs f room fits at bs m text answers small a (omega (arith, r, sizes)) ga s1.0 w e) (λ u g.
+        chained f u _ q [] [] 5 (3 + j) (rounds f room fits p1 bs m text answers small k a c few (omega (arith, r, sizes)) ga s2.0 u g) (λ u g.
+        chained f u _ q [] [] 3 j (carries f room fits p2 bs m text answers small ((value m (low a) + n) % 256)
+        (nat_lt 255 (value m (low a) + n)) a (omega (arith, r, sizes)) ga s3.0 u g) (λ u g. next u (raised_here u g)))))
 
-module _ {around : Surroundings} (fits : Fits around.f 16) (code : SlotCode) {n : ℕ} {a b : Operand} {d : Destination} {is : List Instr} {s : State}
-    {r : Slots} {w : View} (h : Ready around n (Calculate op.Divide a b d) (spread op.Divide a b d is) is s r w) (j : ℕ) (few : j < 6)
+module _ {around : Surroundings} (fits : Fits around.f 16) (code : SlotCode) {n : ℕ} {a b : Operand} {d : Destination} {is : List SlotInstr} {s : State}
+    {r : Slots} {w : View} (h : Ready around n (Calculate op.Divide a b d) (spread op.Divide a b d is) is s r w) (j : ℕ) (few : j < 8)
     (lies : Lies around.f.code w.regs.pc (Code (shifted j (source_of (slot_of d) a) (destination_at d)) ∷ []))
     (rest : GroupsLie around.ly around.f.code n (w.regs.pc + pieces_size (Code (shifted j (source_of (slot_of d) a) (destination_at d)) ∷ [])) (select is)) where
   open around use {ly, f, lo, hi}
@@ -159,33 +222,35 @@ module _ {around : Surroundings} (fits : Fits around.f 16) (code : SlotCode) {n 
   own = lo ∷ hi ∷ []
 
   abbrev v : ℕ
-  v = quotient x y
+  v = quotient x (2 ^ (j + 1))
 
   ha : SourceHolds w.mem left x
   ha = left_holds h w.mem (kept h)
 
-  -- where the result is stored
+  -- where the quotient is made of the raised word, and where its code ends
   abbrev at : ℕ
-  at = p4 f 16 fits own w.mem w.text w.answers refl w.regs.pc left x (left_apart h) ha j few to lies.0 lies.1
+  at = p3 f 16 fits own w.mem w.text w.answers refl w.regs.pc left x (left_apart h) ha j few to lies.0 lies.1
 
-  end_here : at + 8 ≡ w.regs.pc + size (shifted j left to)
+  abbrev end : ℕ
+  end = at + size (lowered j to)
+
+  end_here : end ≡ w.regs.pc + size (shifted j left to)
   end_here = end_is f 16 fits own w.mem w.text w.answers refl w.regs.pc left x (left_apart h) ha j few to lies.0 lies.1
 
-  behind : GroupsLie ly f.code n (at + 8) (select is)
-  behind = subst (λ p. GroupsLie ly f.code n p (select is)) (let e = end_here in let q : w.regs.pc + (size (shifted j left to) + 0) ≡ at + 8 = omega (arith, e) in q) rest
+  behind : GroupsLie ly f.code n end (select is)
+  behind = subst (λ p. GroupsLie ly f.code n p (select is)) (let e = end_here in let q : w.regs.pc + (size (shifted j left to) + 0) ≡ end = omega (arith, e) in q) rest
 
-  lands : Moves f (HighInA f 16 fits own w.mem w.text w.answers refl at v) (Matches around (line code n is (landed d v s) (calculated s r a b d v))) [] 3
-  lands u g =
-      looser f u _ _ [] 3 3 (omega arith)
-      (result_lands h code v (u.mem LEFT) u.regs.a (at + 8) u.mem g.low g.high g.is_word behind
-      (kept_scratch around (live (spread op.Divide a b d is)) s r w.mem u.mem h.some_read (λ p o. g.others p (apart p LEFT o refl)) (kept h)))
-      (ends_high f 16 fits at own u.mem w.text w.answers refl u.regs.a to (let e = end_here in omega (arith, e, lies.0)) (dest_beyond d (fit h).dest)
-      (last_stands f 16 fits own w.mem w.text w.answers refl w.regs.pc left x (left_apart h) ha j few to lies.0 lies.1) u (record { here = g.here; number = refl }))
+  lands : Moves f (HighInA f 16 fits own w.mem w.text w.answers refl at (word (x + more j (nat_le 32768 x))))
+      (Matches around (line code n is (landed d v s) (calculated s r a b d v))) [] 21
+  lands =
+      lowers f 16 fits own w.mem w.text w.answers refl j x few ha.small to (dest_beyond d (fit h).dest) at (nat_lt j 6) refl (let e = end_here in omega (arith, e, lies.0))
+      (last_stands f 16 fits own w.mem w.text w.answers refl w.regs.pc left x (left_apart h) ha j few to lies.0 lies.1) _
+      (λ m' l g low high others u there. result_lands h code v l g end m' low high (quotient_small x (2 ^ (j + 1))) behind
+      (kept_scratch around (live (spread op.Divide a b d is)) s r w.mem m' h.some_read (λ p o. others p (apart p LEFT o refl)) (kept h)) u there)
 
   -- the law of a quotient by shifts
   pub shift_law : y ≡ 2 ^ (j + 1) → y ≢ 0 → Leads h code 31
   shift_law power some =
-      leads_on h code v 31 (quotient_is x y some)
-      (divides_then f 16 fits own w.mem w.text w.answers refl w.regs.pc left x (left_apart h) ha j few to lies.0 lies.1 _ 3
-      (λ u g. lands u (subst (λ q. HighInA f 16 fits own w.mem w.text w.answers refl at q u) (ap (quotient x) (sym power)) g))
-      w (here h))
+      leads_on h code (quotient x y) 31 (quotient_is x y some)
+      (subst (λ q. Comes f w (Matches around (line code n is (landed d q s) (calculated s r a b d q))) [] 31) (ap (quotient x) (sym power))
+      (raises_then f 16 fits own w.mem w.text w.answers refl w.regs.pc left x (left_apart h) ha j few to lies.0 lies.1 _ 21 lands w (here h)))

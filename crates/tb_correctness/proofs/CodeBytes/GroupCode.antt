@@ -20,7 +20,7 @@ use Rattle.tb_templates.specs.GroupTemplates.{may_fault, may_be_zero, may_have_n
 use Rattle.tb_templates.specs.declared.orders.Side.{Side}
 use Rattle.tb_templates.specs.declared.orders.Side.TheVariants.{Below, NotBelow}
 use Rattle.tb_templates.specs.declared.orders.Order.{Order}
-use Rattle.tb_templates.specs.declared.orders.Order.TheVariants.{BySign, ByConstant, ByDifference}
+use Rattle.tb_templates.specs.declared.orders.Order.TheVariants.{BySign, ByPositive, ByConstant, ByDifference}
 use Rattle.tb_templates.specs.Orders.{order_of, wanted_side}
 use Rattle.tb_templates.specs.Breaks.{leaves}
 use Rattle.tb_templates.specs.Scaled.{all_but_lowest, scaling, shifts}
@@ -37,7 +37,7 @@ use Rattle.tb_selection.specs.Groups.{Conversion, Negated, Drawn, Usage, AsNumbe
 use Rattle.tb_selection.specs.Groups.{Indivisible, Group, Calculate, Stepped, Convert, Move, Use, Test, TestGo, Divides, Remains, Single, contrary, denied}
 use Rattle.tb_selection.specs.Groups.{slot_of, expand_all}
 use Rattle.tb_selection.specs.Select.{select}
-use Rattle.tb_correctness.proofs.Pieces.Sources.{Byte, Fixed, At, lda, adc, sbc, cmp}
+use Rattle.tb_correctness.proofs.Pieces.Sources.{Byte, Fixed, At, lda, adc, sbc, cmp, ora}
 
 -- its bytes
 abbrev pub low : Source → Byte
@@ -92,8 +92,18 @@ halvings (suc k) = halvings k ++ halved
 abbrev pub high_first : ℕ → List Instr
 high_first to = ins 0x8D (to + 1) ∷ ins 0xA5 LEFT ∷ ins 0x8D to ∷ []
 
+-- over 128 or 256: the quotient's low byte goes to A, its sign to C; and both are stored
+abbrev pub cut : ℕ → List Instr
+cut k = if nat_eq k 6 then ins 0x06 LEFT ∷ ins 0x2A 0 ∷ [] else ins 0xC9 128 ∷ []
+
+abbrev pub widened : ℕ → List Instr
+widened to = ins 0x8D to ∷ lda (Fixed 0) ∷ adc (Fixed 255) ∷ ins 0x49 255 ∷ ins 0x8D (to + 1) ∷ []
+
+abbrev pub lowered : ℕ → ℕ → List Instr
+lowered k to = if nat_lt k 6 then halvings (suc k) ++ high_first to else cut k ++ widened to
+
 abbrev pub shifted : ℕ → Source → ℕ → List Instr
-shifted k a to = signed a ++ (rounded k a ++ (carried a ++ (halvings (suc k) ++ high_first to)))
+shifted k a to = signed a ++ (rounded k a ++ (carried a ++ lowered k to))
 
 -- a word times a factor: the product's low byte in A, its high byte in LEFT
 abbrev pub doubled : List Instr
@@ -251,9 +261,18 @@ abbrev pub computed_code : Way → (n at : ℕ) → Operator → Source → Sour
 computed_code first n at op a b to = changed_or (change_of op a b to) first n at op a b to
 
 -- ---- tests
+-- A against a byte, for Z alone: the load of A has set it if that is the constant 0
+abbrev pub against : Byte → List Instr
+against (Fixed b) = if nat_eq b 0 then [] else cmp (Fixed b) ∷ []
+against (At p) = cmp (At p) ∷ []
+
+-- Z tells whether two bytes are equal
+abbrev pub matched : Byte → Byte → List Instr
+matched a b = lda a ∷ against b
+
 -- where the second branch of a test for equality is
 abbrev pub second_at : Way → (at : ℕ) → Source → Source → ℕ
-second_at first at a b = at + size (weighed (low a) (low b)) + way_size first + size (weighed (high a) (high b))
+second_at first at a b = at + size (matched (low a) (low b)) + way_size first + size (matched (high a) (high b))
 
 -- where the first branch of such a test leads: out of the line, or past the test if a difference is wanted
 abbrev pub first_to : Bool → (first second : Way) (at : ℕ) → Source → Source → ℕ → ℕ
@@ -263,15 +282,15 @@ first_to true first second at a b next = second_at first at a b + way_size secon
 -- on to the next line if two words differ, or, if a difference is wanted, if they are equal
 abbrev pub equality_code : Bool → (first second : Way) (at : ℕ) → Source → Source → ℕ → List Piece
 equality_code differ first second at a b next =
-    Code (weighed (low a) (low b))
-    ∷ Code (branch_code first (branch_on Zero false) (at + size (weighed (low a) (low b))) (first_to differ first second at a b next))
-    ∷ Code (weighed (high a) (high b))
+    Code (matched (low a) (low b))
+    ∷ Code (branch_code first (branch_on Zero false) (at + size (matched (low a) (low b))) (first_to differ first second at a b next))
+    ∷ Code (matched (high a) (high b))
     ∷ Code (branch_code second (branch_on Zero differ) (second_at first at a b) next)
     ∷ []
 
 abbrev pub EqualityReaches : Bool → (first second : Way) (at : ℕ) → Source → Source → ℕ → Type 0
 EqualityReaches differ first second at a b next =
-    BranchReaches first (at + size (weighed (low a) (low b))) (first_to differ first second at a b next) × BranchReaches second (second_at first at a b) next
+    BranchReaches first (at + size (matched (low a) (low b))) (first_to differ first second at a b next) × BranchReaches second (second_at first at a b) next
 
 -- the difference of two words, whose N and V are tested
 abbrev pub difference : Source → Source → List Instr
@@ -301,9 +320,37 @@ sign_code below first at a next = Code (lda (high a) ∷ []) ∷ Code (branch_co
 abbrev pub SignReaches : (first : Way) (at : ℕ) → Source → ℕ → Type 0
 SignReaches first at a next = BranchReaches first (at + size (lda (high a) ∷ [])) next
 
+-- the same for a and 1: N tells whether a is below 0, and then Z whether it is 0
+abbrev pub zero_asked_at : Way → (at : ℕ) → Source → ℕ
+zero_asked_at first at a = at + size (lda (high a) ∷ []) + way_size first + size (ora (low a) ∷ [])
+
+-- where a negative word leads: past the test, or, if it is not to be below, out of the line
+abbrev pub negative_to : Bool → (first second : Way) (at : ℕ) → Source → ℕ → ℕ
+negative_to false first second at a next = zero_asked_at first at a + way_size second
+negative_to true first second at a next = next
+
+abbrev pub positive_code : Bool → (first second : Way) (at : ℕ) → Source → ℕ → List Piece
+positive_code below first second at a next =
+    Code (lda (high a) ∷ [])
+    ∷ Code (branch_code first (branch_on Negative true) (at + size (lda (high a) ∷ [])) (negative_to below first second at a next))
+    ∷ Code (ora (low a) ∷ [])
+    ∷ Code (branch_code second (branch_on Zero below) (zero_asked_at first at a) next)
+    ∷ []
+
+abbrev pub PositiveReaches : Bool → (first second : Way) (at : ℕ) → Source → ℕ → Type 0
+PositiveReaches below first second at a next =
+    BranchReaches first (at + size (lda (high a) ∷ [])) (negative_to below first second at a next) × BranchReaches second (zero_asked_at first at a) next
+
 -- a word compared with a constant, the highest bits of both turned: C tells whether the word is not below
+abbrev pub lifted_both : Source → ℕ → List Instr
+lifted_both a w = lda (low a) ∷ cmp (Fixed (w % 256)) ∷ lda (high a) ∷ ins 0x49 128 ∷ sbc (Fixed ((w / 256 + 128) % 256)) ∷ []
+
+-- by the high bytes alone, if the constant's low byte is 0
+abbrev pub lifted_high : Source → ℕ → List Instr
+lifted_high a w = lda (high a) ∷ ins 0x49 128 ∷ cmp (Fixed ((w / 256 + 128) % 256)) ∷ []
+
 abbrev pub lifted : Source → ℕ → List Instr
-lifted a w = lda (low a) ∷ cmp (Fixed (w % 256)) ∷ lda (high a) ∷ ins 0x49 128 ∷ sbc (Fixed ((w / 256 + 128) % 256)) ∷ []
+lifted a w = if nat_eq (w % 256) 0 then lifted_high a w else lifted_both a w
 
 -- on to the next line if it is not below, or, if that is wanted, if it is
 abbrev pub against_code : Bool → (first : Way) (at : ℕ) → Source → ℕ → ℕ → List Piece
@@ -320,19 +367,21 @@ leaves_below NotBelow = true
 -- a test for order, by how it is decided
 abbrev pub order_by : Order → Side → (first second : Way) (at next : ℕ) → List Piece
 order_by (BySign side a) wanted first second at next = sign_code (leaves_below (wanted_side wanted side)) first at a next
+order_by (ByPositive side a) wanted first second at next = positive_code (leaves_below (wanted_side wanted side)) first second at a next
 order_by (ByConstant side a w) wanted first second at next = against_code (leaves_below (wanted_side wanted side)) first at a w next
 order_by (ByDifference a b) wanted first second at next = weighing_code (leaves_below wanted) first second at a b next
 
-abbrev pub ReachesBy : Order → (first second : Way) (at next : ℕ) → Type 0
-ReachesBy (BySign side a) first second at next = SignReaches first at a next
-ReachesBy (ByConstant side a w) first second at next = AgainstReaches first at a w next
-ReachesBy (ByDifference a b) first second at next = WeighingReaches first second at a b next
+abbrev pub ReachesBy : Order → Side → (first second : Way) (at next : ℕ) → Type 0
+ReachesBy (BySign side a) wanted first second at next = SignReaches first at a next
+ReachesBy (ByPositive side a) wanted first second at next = PositiveReaches (leaves_below (wanted_side wanted side)) first second at a next
+ReachesBy (ByConstant side a w) wanted first second at next = AgainstReaches first at a w next
+ReachesBy (ByDifference a b) wanted first second at next = WeighingReaches first second at a b next
 
 abbrev pub order_code : Side → (first second : Way) (at : ℕ) → Source → Source → ℕ → List Piece
 order_code wanted first second at a b next = order_by (order_of a b) wanted first second at next
 
-abbrev pub OrderReaches : (first second : Way) (at : ℕ) → Source → Source → ℕ → Type 0
-OrderReaches first second at a b next = ReachesBy (order_of a b) first second at next
+abbrev pub OrderReaches : Side → (first second : Way) (at : ℕ) → Source → Source → ℕ → Type 0
+OrderReaches wanted first second at a b next = ReachesBy (order_of a b) wanted first second at next
 
 -- a test by its relation
 abbrev pub test_code : Rel → (first second : Way) (at : ℕ) → Source → Source → ℕ → List Piece
@@ -346,10 +395,10 @@ test_code rel.Le first second at a b next = order_code NotBelow first second at 
 abbrev pub TestReaches : Rel → (first second : Way) (at : ℕ) → Source → Source → ℕ → Type 0
 TestReaches rel.Eq first second at a b next = EqualityReaches false first second at a b next
 TestReaches rel.Ne first second at a b next = EqualityReaches true first second at a b next
-TestReaches rel.Lt first second at a b next = OrderReaches first second at a b next
-TestReaches rel.Ge first second at a b next = OrderReaches first second at a b next
-TestReaches rel.Gt first second at a b next = OrderReaches first second at b a next
-TestReaches rel.Le first second at a b next = OrderReaches first second at b a next
+TestReaches rel.Lt first second at a b next = OrderReaches Below first second at a b next
+TestReaches rel.Ge first second at a b next = OrderReaches NotBelow first second at a b next
+TestReaches rel.Gt first second at a b next = OrderReaches Below first second at b a next
+TestReaches rel.Le first second at a b next = OrderReaches NotBelow first second at b a next
 
 -- straight to a line if a test holds, and else on to the next line, which follows; if there is no such line,
 -- the test and then fault 1

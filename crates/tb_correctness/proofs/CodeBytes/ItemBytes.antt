@@ -7,7 +7,7 @@ use Rattle.std.specs.List.{list_all}
 use Rattle.std.proofs.lemmas.Bool.{and_parts}
 use Rattle.tb_opcodes.specs.Opcodes as opcodes
 use Rattle.tb_opcodes.specs.declared.Mnemonic.{Mnemonic}
-use Rattle.tb_opcodes.specs.declared.Mnemonic.TheVariants.{Adc, Clc, Cmp, Lda, Ora, Sbc, Sec, Sta}
+use Rattle.tb_opcodes.specs.declared.Mnemonic.TheVariants.{Adc, Asl, Clc, Cmp, Lda, Ora, Rol, Sbc, Sec, Sta}
 use Rattle.tb_opcodes.specs.declared.Mode.TheVariants.{Absolute, Relative, ZeroPage}
 use Rattle.tb_asm.specs.declared.names.Name.{Name}
 use Rattle.tb_asm.specs.declared.items.Operand.TheVariants.{Byte, Label, Word}
@@ -36,12 +36,12 @@ use Rattle.tb_templates.specs.Scaled.{scaling, shifts}
 use Rattle.tb_templates.proofs.Factors.{IsScaling, by_right, by_left, by_routine, scaling_is, IsShifting, by_shifts, by_call, shifting_is}
 use Rattle.tb_templates.specs.Masks.{lowest_bits}
 use Rattle.tb_templates.proofs.Divided.{IsMasking, by_bits, by_division}
-use Rattle.tb_templates.proofs.Plain.{plain_straight, times_plain, shifted_plain}
+use Rattle.tb_templates.proofs.Plain.{plain_straight, low_matched_plain, high_matched_plain, times_plain, shifted_plain}
 use Rattle.tb_simulation.proofs.Resolved as resolved
 use Rattle.tb_simulation.proofs.Resolved.{Piece, Code, highest_code}
-use Rattle.tb_correctness.proofs.Pieces.Sources.{lda, adc, sbc, cmp}
+use Rattle.tb_correctness.proofs.Pieces.Sources.{Fixed, lda, adc, sbc, cmp, ora}
 use Rattle.tb_correctness.proofs.CodeBytes.GroupCode as coded
-use Rattle.tb_correctness.proofs.CodeBytes.GroupCode.{low, high, weighed, difference, Way, way_size, BranchReaches}
+use Rattle.tb_correctness.proofs.CodeBytes.GroupCode.{low, high, matched, difference, Way, way_size, BranchReaches}
 use Rattle.tb_correctness.proofs.Pieces.Halves.{power_size}
 use Rattle.tb_correctness.proofs.Arithmetic.Remainders.{mask_small}
 use Rattle.tb_correctness.proofs.CodeBytes.Emits.{formed, formed_size, branch_formed, Emits, emitted_size, ends, block, reaches}
@@ -169,7 +169,7 @@ flat_append : (is js : List Instr) → flat (is ++ js) ≡ flat is ++ flat js
 flat_append [] js = refl
 flat_append (i ∷ is) js = ap (λ t. instr_bytes i ++ t) (flat_append is js) ∙ sym (append_assoc (instr_bytes i) (flat is) (flat js))
 
-masked : (k : ℕ) → k < 6 → scaled.all_but_lowest k % 256 ≡ scaled.all_but_lowest k
+masked : (k : ℕ) → k < 8 → scaled.all_but_lowest k % 256 ≡ scaled.all_but_lowest k
 masked k few = let p = power_size k few in omega (arith, p.1)
 
 module _ (labels : List (Name × ℕ)) where
@@ -264,6 +264,11 @@ module _ (labels : List (Name × ℕ)) where
   cmp_high (FixedWord w) h = record { same = λ a. ap (λ b. 0xc9 ∷ b ∷ []) (high_byte w h) }
   cmp_high (AtAddress p) h = record { same = λ a. refl }
 
+  ora_low : (s : Source) → Encodes (items.low_of Ora s) (ora (low s))
+  unfolding opcodes.encoded
+  ora_low (FixedWord w) = record { same = λ a. ap (λ b. 0x09 ∷ b ∷ []) (low_byte w) }
+  ora_low (AtAddress p) = record { same = λ a. refl }
+
   none : AllEncode [] []
   none = record { same = λ a. refl }
 
@@ -305,7 +310,7 @@ module _ (labels : List (Name × ℕ)) where
   pub all_made : {at : ℕ} (es : List Entry) (is : List Instr) → AllEncode es is → Emits labels at (map kept es) (Code is ∷ [])
   all_made {at} es is m = record { bytes = ap (bytes_from labels at) (items_kept at es) ∙ m.same at ∙ sym (append-nil (flat is)) }
 
-  rounded_bytes : (k : ℕ) (s : Source) → k < 6 → AllEncode (scaled.rounded k s) (coded.rounded k s)
+  rounded_bytes : (k : ℕ) (s : Source) → k < 8 → AllEncode (scaled.rounded k s) (coded.rounded k s)
   unfolding opcodes.encoded
   rounded_bytes zero s few = lda_low s ▹ record { same = λ a. refl } ▹ none
   rounded_bytes (suc k) s few =
@@ -332,17 +337,31 @@ module _ (labels : List (Name × ℕ)) where
   unfolding opcodes.encoded
   high_first_bytes to = record { same = λ a. refl }
 
-  shifted_bytes : (k : ℕ) (s : Source) (to : ℕ) → k < 6 → IsWord s → AllEncode (scaled.shifted k s to) (coded.shifted k s to)
+  cut_bytes : (k : ℕ) (t : Bool) → AllEncode (if t then scaled.at_zero Asl LEFT ∷ scaled.on_a Rol ∷ [] else product.const Cmp 128 ∷ [])
+      (if t then ins 0x06 LEFT ∷ ins 0x2A 0 ∷ [] else ins 0xC9 128 ∷ [])
+  unfolding opcodes.encoded
+  cut_bytes k true = record { same = λ a. refl }
+  cut_bytes k false = record { same = λ a. refl }
+
+  widened_bytes : (to : ℕ) → AllEncode (scaled.widened to) (coded.widened to)
+  unfolding opcodes.encoded
+  widened_bytes to = record { same = λ a. refl }
+
+  lowered_bytes : (k to : ℕ) (t : Bool) → AllEncode (if t then scaled.halvings (suc k) ++ scaled.high_first to else scaled.cut k ++ scaled.widened to)
+      (if t then coded.halvings (suc k) ++ coded.high_first to else coded.cut k ++ coded.widened to)
+  lowered_bytes k to true = made_append (scaled.halvings (suc k)) (scaled.high_first to) (coded.halvings (suc k)) (coded.high_first to) (halvings_bytes (suc k)) (high_first_bytes to)
+  lowered_bytes k to false = made_append (scaled.cut k) (scaled.widened to) (coded.cut k) (coded.widened to) (cut_bytes k (nat_eq k 6)) (widened_bytes to)
+
+  shifted_bytes : (k : ℕ) (s : Source) (to : ℕ) → k < 8 → IsWord s → AllEncode (scaled.shifted k s to) (coded.shifted k s to)
   shifted_bytes k s to few h =
-      let tail = made_append (scaled.halvings (suc k)) (scaled.high_first to) (coded.halvings (suc k)) (coded.high_first to) (halvings_bytes (suc k)) (high_first_bytes to) in
       let front = made_append (scaled.rounded k s) (scaled.at_zero Sta LEFT ∷ items.high_of Lda s ∷ product.const Adc 0 ∷ []) (coded.rounded k s)
       (coded.carried s) (rounded_bytes k s few) (carried_bytes s h) in
       let raised = made_append (items.high_of Lda s ∷ product.const Cmp 128 ∷ [])
       (scaled.rounded k s ++ (scaled.at_zero Sta LEFT ∷ items.high_of Lda s ∷ product.const Adc 0 ∷ [])) (coded.signed s)
       (coded.rounded k s ++ coded.carried s) (signed_bytes s h) front in
-      let all = made_append (scaled.raised k s) (scaled.halvings (suc k) ++ scaled.high_first to)
-      (coded.signed s ++ (coded.rounded k s ++ coded.carried s)) (coded.halvings (suc k) ++ coded.high_first to) raised tail in
-      subst (AllEncode (scaled.shifted k s to)) (ap (λ is. coded.signed s ++ is) (append_assoc (coded.rounded k s) (coded.carried s) (coded.halvings (suc k) ++ coded.high_first to))) all
+      let all = made_append (scaled.raised k s) (scaled.lowered k to)
+      (coded.signed s ++ (coded.rounded k s ++ coded.carried s)) (coded.lowered k to) raised (lowered_bytes k to (nat_lt k 6)) in
+      subst (AllEncode (scaled.shifted k s to)) (ap (λ is. coded.signed s ++ is) (append_assoc (coded.rounded k s) (coded.carried s) (coded.lowered k to))) all
 
   doubled_bytes : AllEncode scaled.doubled coded.doubled
   unfolding opcodes.encoded
@@ -384,21 +403,44 @@ module _ (labels : List (Name × ℕ)) where
       (coded.begun s) (coded.by_bits 15 factor s ++ coded.low_first to) (begun_bytes s h) tail
 
   -- ---- tests by bytes
-  pub weighed_low : (s t : Source) → AllEncode (items.low_of Lda s ∷ items.low_of Cmp t ∷ []) (weighed (low s) (low t))
-  weighed_low s t = lda_low s ▹ cmp_low t ▹ none
+  against_bytes : (b : ℕ) → b % 256 ≡ b → (t : Bool) → AllEncode (if t then [] else product.const Cmp b ∷ []) (if t then [] else cmp (Fixed b) ∷ [])
+  unfolding opcodes.encoded
+  against_bytes b e true = none
+  against_bytes b e false = record { same = λ a. ap (λ b. 0xc9 ∷ b ∷ []) e }
+
+  pub matched_low : (s t : Source) → AllEncode (items.low_matched s t) (matched (low s) (low t))
+  matched_low s (FixedWord w) = lda_low s ▹ against_bytes (w % 256) (low_byte w) (nat_eq (w % 256) 0)
+  matched_low s (AtAddress p) = lda_low s ▹ cmp_low (AtAddress p) ▹ none
 
   -- the bytes of a comparison of high bytes
-  pub weighed_high : (s t : Source) → IsWord s → IsWord t → AllEncode (items.high_of Lda s ∷ items.high_of Cmp t ∷ []) (weighed (high s) (high t))
-  weighed_high s t h k = lda_high s h ▹ cmp_high t k ▹ none
+  pub matched_high : (s t : Source) → IsWord s → IsWord t → AllEncode (items.high_matched s t) (matched (high s) (high t))
+  matched_high s (FixedWord w) h k = lda_high s h ▹ against_bytes (w / 256) (high_byte w k) (nat_eq (w / 256) 0)
+  matched_high s (AtAddress p) h k = lda_high s h ▹ cmp_high (AtAddress p) k ▹ none
+
+  -- they have no branch
+  pub matched_straight : (s t : Source) → (list_all is_straight (items.low_matched s t) ≡ true) × (list_all is_straight (items.high_matched s t) ≡ true)
+  matched_straight s t = (plain_straight (items.low_matched s t) (low_matched_plain s t), plain_straight (items.high_matched s t) (high_matched_plain s t))
 
   -- the bytes of a difference of two words, for a test
   pub difference_bytes : (s t : Source) → IsWord s → IsWord t → AllEncode (items.low_of Lda s ∷ items.low_of Cmp t ∷ items.high_of Lda s ∷ items.high_of Sbc t ∷ []) (difference s t)
   difference_bytes s t h k = lda_low s ▹ cmp_low t ▹ lda_high s h ▹ sbc_high t k ▹ none
 
+  -- by both bytes, and by the high ones
+  lifted_both_bytes : (s : Source) (w : ℕ) → IsWord s → AllEncode (orders.lifted_both s w) (coded.lifted_both s w)
+  unfolding opcodes.encoded
+  lifted_both_bytes s w h = lda_low s ▹ cmp_low (FixedWord w) ▹ lda_high s h ▹ record { same = λ a. refl } ▹ sbc_low (FixedWord (w / 256 + 128)) ▹ none
+
+  lifted_high_bytes : (s : Source) (w : ℕ) → IsWord s → AllEncode (orders.lifted_high s w) (coded.lifted_high s w)
+  unfolding opcodes.encoded
+  lifted_high_bytes s w h = lda_high s h ▹ record { same = λ a. refl } ▹ record { same = λ a. ap (λ b. 0xc9 ∷ b ∷ []) (let e : (w / 256 + 128) % 256 % 256 ≡ (w / 256 + 128) % 256 = omega arith in e) } ▹ none
+
   -- the bytes of a word compared with a constant
   pub lifted_bytes : (s : Source) (w : ℕ) → IsWord s → AllEncode (orders.lifted s w) (coded.lifted s w)
-  unfolding opcodes.encoded
-  lifted_bytes s w h = lda_low s ▹ cmp_low (FixedWord w) ▹ lda_high s h ▹ record { same = λ a. refl } ▹ sbc_low (FixedWord (w / 256 + 128)) ▹ none
+  lifted_bytes s w h = by (nat_eq (w % 256) 0)
+    where
+      by : (t : Bool) → AllEncode (if t then orders.lifted_high s w else orders.lifted_both s w) (if t then coded.lifted_high s w else coded.lifted_both s w)
+      by true = lifted_high_bytes s w h
+      by false = lifted_both_bytes s w h
 
   -- a routine with its words emits its code
   pub handed_emits : {at : ℕ} (entry from : ℕ) (s t : Source) (to : ℕ) → IsWord s → IsWord t → Emits labels at (map kept (items.handed entry from s t to)) (coded.routine entry from s t to)
@@ -449,6 +491,10 @@ module _ (labels : List (Name × ℕ)) where
   -- a remainder by the routine emits its code
   pub asked_emits : (n at : ℕ) (s t : Source) → n < 65536 → IsWord s → IsWord t → Emits labels at (map kept (items.asked_rest n s t)) (coded.rest_asked n s t)
   asked_emits n at s t l h k = lined_emits at (items.may_be_zero t) n l _ _ (λ b. called_emits {at = b} s t h k)
+
+  -- the bytes of ORA with a word's low byte
+  pub joined_made : (s : Source) → AllEncode (items.low_of Ora s ∷ []) (ora (low s) ∷ [])
+  joined_made s = ora_low s ▹ none
 
   -- the bytes of a look at a sign
   pub high_made : (s : Source) → IsWord s → AllEncode (items.high_of Lda s ∷ []) (coded.sign_looked_at s)

@@ -1,10 +1,10 @@
 -- A word halved as a signed one, again and again: a quotient truncated toward zero; and a product by a factor's bits.
-use Rattle.std.proofs.Common.{◌≡◌, ℕ, zero, suc, ◌+◌, ◌-◌, ◌*◌, ◌/◌, ◌%◌, ◌^◌, ◌≤◌, ◌<◌, Bool, true, false, refl, sym, ap, ◌∙◌, arith, ⊎_elim}
+use Rattle.std.proofs.Common.{◌≡◌, ℕ, zero, suc, ◌+◌, ◌-◌, ◌*◌, ◌/◌, ◌%◌, ◌^◌, ◌≤◌, ◌<◌, Bool, true, false, refl, sym, ap, ◌∙◌, subst, arith, ⊎_elim}
 use Rattle.std.specs.Prelude.{if◌then◌else◌, nat_le, nat_lt}
 use Rattle.std.proofs.lemmas.Bool.{cases_lt, lt-leb, le-leb}
 use Rattle.tb_cpu.specs.Effects.{bit, has_bit}
 use Rattle.tb_runtime16.proofs.Words.{one_odd, one_high, one_carry}
-use Rattle.tb_words.specs.Words.{word, is_negative, negated, with_sign, differ, quotient}
+use Rattle.tb_words.specs.Words.{word, is_negative, magnitude, negated, with_sign, differ, quotient}
 
 -- ---- halves
 -- half of a word, its sign kept
@@ -92,12 +92,17 @@ none_is k x h lt le =
     (λ le. (omega (arith, lt, le), omega (arith, lt, le))) (λ le. (omega (arith, lt, le), omega (arith, lt, le))) (λ le. (omega (arith, lt, le), omega (arith, lt, le)))
     (λ le. (omega (arith, lt, le), omega (arith, lt, le))) (λ le. (omega (arith, lt, le), omega (arith, lt, le))) (λ le. (omega (arith, lt, le), omega (arith, lt, le))) k h le
 
--- the bounds of the powers of two from 2 to 64
-pub power_size : (k : ℕ) → k < 6 → (1 ≤ 2 ^ (k + 1)) × (2 ^ (k + 1) < 65)
-power_size k h = below_six (λ k. (1 ≤ 2 ^ (k + 1)) × (2 ^ (k + 1) < 65)) (omega arith, omega arith) (omega arith, omega arith) (
-  omega arith,
-  omega arith,
-) (omega arith, omega arith) (omega arith, omega arith) (omega arith, omega arith) k h
+-- the bounds of the powers of two from 2 to 256
+pub power_size : (k : ℕ) → k < 8 → (1 ≤ 2 ^ (k + 1)) × (2 ^ (k + 1) < 257)
+power_size zero h = (omega arith, omega arith)
+power_size (suc zero) h = (omega arith, omega arith)
+power_size (suc (suc zero)) h = (omega arith, omega arith)
+power_size (suc (suc (suc zero))) h = (omega arith, omega arith)
+power_size (suc (suc (suc (suc zero)))) h = (omega arith, omega arith)
+power_size (suc (suc (suc (suc (suc zero))))) h = (omega arith, omega arith)
+power_size (suc (suc (suc (suc (suc (suc zero)))))) h = (omega arith, omega arith)
+power_size (suc (suc (suc (suc (suc (suc (suc zero))))))) h = (omega arith, omega arith)
+power_size (suc (suc (suc (suc (suc (suc (suc (suc k)))))))) h = absurd (omega (arith, h))
 
 -- a quotient with a divisor that is not negative
 quotient_by : (x d : ℕ) → d < 32768 → (t : Bool) → is_negative x ≡ t → quotient x d ≡ with_sign t ((if t then 65536 - x else x) / d)
@@ -123,7 +128,7 @@ halves_are k x few small = ⊎_elim positive negative (cases_lt x 32768)
     d = 2 ^ (k + 1)
 
     d_small : d < 32768
-    d_small = let p = power_size k few in omega (arith, p.1)
+    d_small = let p = power_size k (omega (arith, few)) in omega (arith, p.1)
 
     positive : x < 32768 → halve_times (suc k) (word (x + more k (nat_le 32768 x))) ≡ quotient x (2 ^ (k + 1))
     positive lt =
@@ -143,6 +148,62 @@ halves_are k x few small = ⊎_elim positive negative (cases_lt x 32768)
         (cases_lt raised 65536)
         ∙ sym (quotient_by x d d_small true (le-leb 32768 x le))
 
+-- ---- over 128 and 256: the bytes of the quotient
+-- by what the word is raised to if it is negative
+quotient_128 : (x : ℕ) → x < 65536 → quotient x 128 ≡ word (x + more 6 (nat_le 32768 x)) / 128 + 65024 * (word (x + more 6 (nat_le 32768 x)) / 32768)
+quotient_128 x small = ⊎_elim
+    (λ lt. quotient_by x 128 (omega arith) false (lt-leb 32768 x lt) ∙ (let e : word (x / 128) ≡ word (x + 0) / 128 + 65024 * (word (x + 0) / 32768) = omega (arith, lt) in e)
+    ∙ sym (ap (λ t. word (x + more 6 t) / 128 + 65024 * (word (x + more 6 t) / 32768)) (lt-leb 32768 x lt)))
+    (λ le. quotient_by x 128 (omega arith) true (le-leb 32768 x le)
+    ∙ (let e : negated (word ((65536 - x) / 128)) ≡ word (x + 127) / 128 + 65024 * (word (x + 127) / 32768) = omega (arith, le, small) in e)
+    ∙ sym (ap (λ t. word (x + more 6 t) / 128 + 65024 * (word (x + more 6 t) / 32768)) (le-leb 32768 x le)))
+    (cases_lt x 32768)
+
+quotient_256 : (x : ℕ) → x < 65536 → quotient x 256 ≡ word (x + more 7 (nat_le 32768 x)) / 256 + 65280 * (word (x + more 7 (nat_le 32768 x)) / 32768)
+quotient_256 x small = ⊎_elim
+    (λ lt. quotient_by x 256 (omega arith) false (lt-leb 32768 x lt) ∙ (let e : word (x / 256) ≡ word (x + 0) / 256 + 65280 * (word (x + 0) / 32768) = omega (arith, lt) in e)
+    ∙ sym (ap (λ t. word (x + more 7 t) / 256 + 65280 * (word (x + more 7 t) / 32768)) (lt-leb 32768 x lt)))
+    (λ le. quotient_by x 256 (omega arith) true (le-leb 32768 x le)
+    ∙ (let e : negated (word ((65536 - x) / 256)) ≡ word (x + 255) / 256 + 65280 * (word (x + 255) / 32768) = omega (arith, le, small) in e)
+    ∙ sym (ap (λ t. word (x + more 7 t) / 256 + 65280 * (word (x + more 7 t) / 32768)) (le-leb 32768 x le)))
+    (cases_lt x 32768)
+
+-- the sign of a byte is its quotient by 128
+sign_bit : (n : ℕ) → n < 256 → bit (nat_le 128 n) ≡ n / 128
+sign_bit n h = ⊎_elim (λ e. ap bit (lt-leb 128 n e) ∙ omega arith) (λ e. ap bit (le-leb 128 n e) ∙ omega arith) (cases_lt n 128)
+
+-- a word v shifted to the left: its upper byte, and what a set bit that fell out makes of 255
+bytes_128 : (v q : ℕ) → v < 65536 → q ≡ v / 128 + 65024 * (v / 32768)
+    → (2 * (v / 256) % 256 + bit (has_bit (v % 256) 128) ≡ q % 256) × (255 * bit (has_bit (v / 256) 128) ≡ q / 256)
+bytes_128 v q h e =
+    let low = one_high (v % 256) (omega arith) in let high = one_high (v / 256) (omega (arith, h)) in (omega (arith, h, e, low), omega (arith, h, e, high))
+
+bytes_256 : (v q : ℕ) → v < 65536 → q ≡ v / 256 + 65280 * (v / 32768) → (v / 256 ≡ q % 256) × (255 * bit (nat_le 128 (v / 256)) ≡ q / 256)
+bytes_256 v q h e = let sign = sign_bit (v / 256) (omega (arith, h)) in (omega (arith, h, e), omega (arith, h, e, sign))
+
+-- the quotient's bytes, by the bytes of the raised word
+abbrev pub Upper : ℕ → ℕ → Type 0
+Upper v q = (2 * (v / 256) % 256 + bit (has_bit (v % 256) 128) ≡ q % 256) × (255 * bit (has_bit (v / 256) 128) ≡ q / 256)
+
+pub over_128 : (k x : ℕ) → k ≡ 6 → x < 65536 → Upper (word (x + more k (nat_le 32768 x))) (quotient x (2 ^ (k + 1)))
+over_128 k x e small =
+    subst (λ k. Upper (word (x + more k (nat_le 32768 x))) (quotient x (2 ^ (k + 1)))) (sym e)
+    (bytes_128 (word (x + more 6 (nat_le 32768 x))) (quotient x 128) (omega arith) (quotient_128 x small))
+
+pub over_256 : (k x : ℕ) → k ≡ 7 → x < 65536 → (word (x + more k (nat_le 32768 x)) / 256 ≡ quotient x (2 ^ (k + 1)) % 256)
+    × (255 * bit (nat_le 128 (word (x + more k (nat_le 32768 x)) / 256)) ≡ quotient x (2 ^ (k + 1)) / 256)
+over_256 k x e small =
+    subst (λ k. (word (x + more k (nat_le 32768 x)) / 256 ≡ quotient x (2 ^ (k + 1)) % 256) × (255 * bit (nat_le 128 (word (x + more k (nat_le 32768 x)) / 256)) ≡ quotient x (2 ^ (k + 1)) / 256)) (sym e)
+    (bytes_256 (word (x + more 7 (nat_le 32768 x))) (quotient x 256) (omega arith) (quotient_256 x small))
+
+-- a quotient is a word
+pub quotient_small : (x d : ℕ) → quotient x d < 65536
+quotient_small x d = by (differ (is_negative x) (is_negative d))
+  where
+    by : (t : Bool) → with_sign t (magnitude x / magnitude d) < 65536
+    by true = omega arith
+    by false = omega arith
+
 -- ---- a word raised, by its two bytes
 pub raised_low : (x n : ℕ) → (x % 256 + n) % 256 ≡ word (x + n) % 256
 raised_low x n = omega arith
@@ -159,7 +220,7 @@ sign_is x h = ⊎_elim
     (cases_lt x 32768)
 
 -- what is added to a negative word is a byte
-pub more_small : (k : ℕ) (t : Bool) → k < 6 → more k t < 256
+pub more_small : (k : ℕ) (t : Bool) → k < 8 → more k t < 256
 more_small k true h = let p = power_size k h in omega (arith, p.1)
 more_small k false h = omega arith
 

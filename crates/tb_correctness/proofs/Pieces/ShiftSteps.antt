@@ -19,8 +19,9 @@ use Rattle.tb_simulation.proofs.Resolved.{highest_code, size}
 use Rattle.tb_templates.specs.declared.sources.Source.{Source}
 use Rattle.tb_templates.specs.Scaled.{all_but_lowest}
 use Rattle.tb_correctness.proofs.Pieces.Halves.{more}
-use Rattle.tb_correctness.proofs.CodeBytes.GroupCode.{low, high, rounded, signed, carried, halved, high_first, doubled, increased, begun, low_first}
-use Rattle.tb_correctness.proofs.Pieces.Sources.{Byte, Fixed, At, value, IsRead, lda, adc, cmp, len, Known, behind, loads_with, loads_byte, adds_byte, compares_byte, puts_byte, whatever_known}
+use Rattle.tb_correctness.proofs.CodeBytes.GroupCode.{low, high, rounded, signed, carried, halved, high_first, widened, doubled, increased, begun, low_first}
+use Rattle.tb_correctness.proofs.Pieces.Sources.{Byte, Fixed, At, value, IsRead, lda, adc, cmp, len, Known, behind, loads_with, loads_byte, adds_byte, compares_byte, writes_byte}
+use Rattle.tb_correctness.proofs.Pieces.Sources.{puts_byte, whatever_known}
 use Rattle.tb_correctness.proofs.Pieces.Sums.{Grounded, low_read, high_read, high_same}
 
 -- ---- code one after another
@@ -143,6 +144,36 @@ module _ (f : Setup) (room : ℕ) (fits : Fits f room) (at : ℕ) (bs : List ℕ
       (placed_last f room fits (ins 0x66 LEFT) (view (a / 2 + 128 * bit (nat_le 128 a)) x y _ v i _ (has_bit a 1) ((((at + 2) % 65536) + 1) % 65536) bs m text answers) _ _ small st.1.1.0 refl
       (record { here = record { pc = omega (arith, r); stack = refl; binary = refl; mem = refl; text = refl; answers = refl }; number = refl }))))
 
+  -- the word is shifted to the left: its upper byte in A, what fell out in C
+  pub lifts : (a : ℕ) → at + 3 ≤ highest_code → Stands f.code at (ins 0x06 LEFT ∷ ins 0x2A 0 ∷ []) → Moves f (WithA at a bs m text answers)
+      (Known (at + 3) (2 * a % 256 + bit (has_bit (m LEFT) 128)) (has_bit a 128) bs (with_byte m LEFT (2 * m LEFT % 256)) text answers) [] 2
+  lifts a r st = whatever_a f room fits at a bs m text answers _ [] 2 (λ x y n v i z c.
+      placing f room fits (ins 0x06 LEFT) (view a x y n v i z c at bs m text answers) _ _ [] 1 small st.0 refl
+      (placed_last f room fits (ins 0x2A 0) (view a x y _ v i _ (has_bit (m LEFT) 128) ((at + 2) % 65536) bs _ text answers) _ _ small st.1.0 refl
+      (record {
+        here = record { pc = omega (arith, r); stack = refl; binary = refl; mem = refl; text = refl; answers = refl };
+        number = refl;
+        carry = refl;
+      })))
+
+  -- C is the sign of the byte in A
+  pub signs_a : (a : ℕ) → at + 2 ≤ highest_code → Stands f.code at (ins 0xC9 128 ∷ []) → Moves f (WithA at a bs m text answers)
+      (Known (at + 2) a (nat_le 128 a) bs m text answers) [] 1
+  signs_a a r st = whatever_a f room fits at a bs m text answers _ [] 1 (λ x y n v i z c.
+      placed_last f room fits (ins 0xC9 128) (view a x y n v i z c at bs m text answers) _ _ small st.0 refl
+      (record {
+        here = record {
+          pc = let e : (at + 2) % 65536 ≡ at + 2 = omega arith in e;
+          stack = refl;
+          binary = refl;
+          mem = refl;
+          text = refl;
+          answers = refl;
+        };
+        number = refl;
+        carry = refl;
+      }))
+
   -- the product so far is doubled
   pub doubles : (a : ℕ) → at + size doubled ≤ highest_code → Stands f.code at doubled → Moves f (WithA at a bs m text answers)
       (WithA (at + size doubled) (2 * a % 256) bs (with_byte m LEFT (2 * m LEFT % 256 + bit (has_bit a 128))) text answers) [] 2
@@ -259,14 +290,16 @@ module _ (f : Setup) (room : ℕ) (fits : Fits f room) (at : ℕ) (bs : List ℕ
       })
       (compares_byte f room fits p1 bs m text answers small (Fixed 128) (value m (high a)) tt (omega (arith, r)) s1.0))
 
-  masked : (k : ℕ) → k < 5 → (bit_xor (bit_and 255 (all_but_lowest (suc k))) (all_but_lowest (suc k)) ≡ 0)
+  masked : (k : ℕ) → k < 7 → (bit_xor (bit_and 255 (all_but_lowest (suc k))) (all_but_lowest (suc k)) ≡ 0)
       × (bit_xor (bit_and 0 (all_but_lowest (suc k))) (all_but_lowest (suc k)) + 1 ≡ 2 ^ (suc k + 1) - 1)
   masked zero h = (refl, refl)
   masked (suc zero) h = (refl, refl)
   masked (suc (suc zero)) h = (refl, refl)
   masked (suc (suc (suc zero))) h = (refl, refl)
   masked (suc (suc (suc (suc zero)))) h = (refl, refl)
-  masked (suc (suc (suc (suc (suc k))))) h = absurd (omega (arith, h))
+  masked (suc (suc (suc (suc (suc zero))))) h = (refl, refl)
+  masked (suc (suc (suc (suc (suc (suc zero)))))) h = (refl, refl)
+  masked (suc (suc (suc (suc (suc (suc (suc k))))))) h = absurd (omega (arith, h))
 
   -- A is 255 or 0, and then what is added together with C
   abbrev filled : Bool → ℕ
@@ -275,12 +308,12 @@ module _ (f : Setup) (room : ℕ) (fits : Fits f room) (at : ℕ) (bs : List ℕ
   abbrev left_in : ℕ → Bool → ℕ
   left_in k c = bit_xor (bit_and (filled c) (all_but_lowest (suc k))) (all_but_lowest (suc k))
 
-  total : (k l : ℕ) (c : Bool) → k < 5 → left_in k c + l + bit (nat_lt 255 (0 + 255 + bit c)) ≡ l + more (suc k) c
+  total : (k l : ℕ) (c : Bool) → k < 7 → left_in k c + l + bit (nat_lt 255 (0 + 255 + bit c)) ≡ l + more (suc k) c
   total k l true few = let e = (masked k few).1 in omega (arith, e)
   total k l false few = let e = (masked k few).0 in omega (arith, e)
 
   -- what rounds a word up is added to its low byte if C is set
-  pub rounds : (k : ℕ) (a : Source) (c : Bool) → k < 6 → at + size (rounded k a) ≤ highest_code → Grounded a LEFT → Stands f.code at (rounded k a)
+  pub rounds : (k : ℕ) (a : Source) (c : Bool) → k < 8 → at + size (rounded k a) ≤ highest_code → Grounded a LEFT → Stands f.code at (rounded k a)
       → Moves f (Carrying at bs m text answers c) (Known (at + size (rounded k a)) ((value m (low a) + more k c) % 256) (nat_lt 255 (value m (low a) + more k c)) bs m text answers) [] 5
   rounds zero a c few r g st =
       let l = value m (low a) in
@@ -410,3 +443,38 @@ module _ (f : Setup) (room : ℕ) (fits : Fits f room) (at : ℕ) (bs : List ℕ
         answers = k.answers;
       })
       (puts_byte f room fits (at + 3 + 2) bs m1 text answers small to (m1 LEFT) d.0.0 (omega (arith, r)) s2.0)))
+
+  all_turned : (c : Bool) → bit_xor (filled c) 255 ≡ 255 * bit c
+  all_turned true = refl
+  all_turned false = refl
+
+  -- the byte in A is stored as a word whose sign is in C
+  pub widens : (l to : ℕ) (c : Bool) → at + 12 ≤ highest_code → InData to → Stands f.code at (widened to) → Moves f (Known at l c bs m text answers)
+      (Here (at + 12) bs (put_word m to l (255 * bit c)) text answers) [] 5
+  widens l to c r d st =
+      let m1 = with_byte m to l in
+      let c1 = nat_lt 255 (0 + 255 + bit c) in
+      let t4 = ins 0x8D (to + 1) ∷ [] in
+      let t3 = ins 0x49 255 ∷ t4 in
+      let t2 = adc (Fixed 255) ∷ t3 in
+      let t1 = lda (Fixed 0) ∷ t2 in
+      let s1 = behind f.code at (ins 0x8D to) t1 (omega (arith, r)) st in
+      let s2 = behind f.code (at + 3) (lda (Fixed 0)) t2 (omega (arith, r)) s1 in
+      let s3 = behind f.code (at + 3 + 2) (adc (Fixed 255)) t3 (omega (arith, r)) s2 in
+      let s4 = behind f.code (at + 3 + 2 + 2) (ins 0x49 255) t4 (omega (arith, r)) s3 in
+      moves_then f _ _ _ [] [] 1 4 (writes_byte f room fits at bs m text answers small to l c d.0 (omega (arith, r)) st.0)
+      (moves_then f _ _ _ [] [] 1 3 (loads_with f room fits (at + 3) bs m1 text answers small (Fixed 0) c tt (omega (arith, r)) s1.0)
+      (moves_then f _ _ _ [] [] 1 2 (adds_byte f room fits (at + 3 + 2) bs m1 text answers small (Fixed 255) 0 c tt (omega (arith, r)) s2.0)
+      (moves_then f _ _ _ [] [] 1 1 (turns f room fits (at + 3 + 2 + 2) bs m1 text answers small 255 (filled c) c1 (omega (arith, r)) s3.0)
+      (moves_looser f _ _ _ [] 1 1 (omega arith)
+      (λ u k. record {
+        pc = k.pc ∙ (let q : at + 3 + 2 + 2 + 2 + 3 ≡ at + 12 = omega arith in q);
+        stack = k.stack;
+        binary = k.binary;
+        mem = k.mem
+            ∙ ap (λ b. with_byte m1 (to + 1) b) (all_turned c);
+        text = k.text;
+        answers = k.answers;
+      })
+      (λ u k. puts_byte f room fits (at + 3 + 2 + 2 + 2) bs m1 text answers small (to + 1) (bit_xor (filled c) 255) d.1 (omega (arith, r)) s4.0 u
+      (record { here = k.here; number = k.number }))))))

@@ -45,6 +45,9 @@ sbc b = on 0xE9 0xED b
 abbrev pub cmp : Byte → Instr
 cmp b = on 0xC9 0xCD b
 
+abbrev pub ora : Byte → Instr
+ora b = on 0x09 0x0D b
+
 abbrev pub len : Instr → ℕ
 len i = length (instr_bytes i)
 

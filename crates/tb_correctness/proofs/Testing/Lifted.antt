@@ -1,6 +1,8 @@
 -- A word compared with a constant, the highest bits of both turned, and the branch on C.
-use Rattle.std.proofs.Common.{not, ◌≡◌, ℕ, ◌+◌, ◌/◌, ◌%◌, ◌≤◌, ◌<◌, Bool, true, false, cond, List, [], ◌∷◌, length, refl, ◌∙◌, subst, arith, leb, int_lt}
-use Rattle.std.specs.Prelude.{nat_le, bit_xor}
+use Rattle.std.proofs.Common.{not, ◌≡◌, ℕ, ◌+◌, ◌/◌, ◌%◌, ◌≤◌, ◌<◌, Bool, true, false, cond, List, [], ◌∷◌, length, refl, sym, ap, ◌∙◌, subst, arith, leb, int_lt}
+use Rattle.std.specs.Prelude.{if◌then◌else◌, nat_eq, nat_le, bit_xor}
+use Rattle.std.proofs.lemmas.Bool.{eqb-true, le-leb}
+use Rattle.tb_cpu.specs.Effects.{bit}
 use Rattle.tb_words.specs.Words.{signed}
 use Rattle.tb_reaching.proofs.Comes.{chained, looser}
 use Rattle.tb_reaching.proofs.Instr.{Stands, ins}
@@ -10,8 +12,8 @@ use Rattle.tb_simulation.proofs.Mirrors.{Carrying}
 use Rattle.tb_simulation.proofs.Pieces.{moves_then, moves_looser}
 use Rattle.tb_simulation.proofs.Resolved.{Lies, highest_code, pieces_size, size}
 use Rattle.tb_templates.specs.declared.sources.Source.{Source}
-use Rattle.tb_correctness.proofs.Pieces.Sources.{Fixed, value, lda, cmp, sbc, len, behind, loads_with, takes_byte}
-use Rattle.tb_correctness.proofs.CodeBytes.GroupCode.{AgainstReaches, Carry, Way, against_code, high, lifted, low, way_size, weighed}
+use Rattle.tb_correctness.proofs.Pieces.Sources.{Fixed, value, lda, cmp, sbc, len, behind, compares_byte, loads_with, takes_byte}
+use Rattle.tb_correctness.proofs.CodeBytes.GroupCode.{AgainstReaches, Carry, Way, against_code, high, lifted, lifted_both, lifted_high, low, way_size, weighed}
 use Rattle.tb_correctness.proofs.Pieces.Branches.{branch_behind, branch_size, branches, is_taken}
 use Rattle.tb_correctness.proofs.Relation.Operands.{SourceHolds}
 use Rattle.tb_correctness.proofs.Pieces.Sums.{Grounded, low_read, high_read}
@@ -48,8 +50,9 @@ module _ (f : Setup) (room : ℕ) (fits : Fits f room) (at : ℕ) (bs : List ℕ
   abbrev end : ℕ
   end = at + size (lifted a w)
 
-  compares : end ≤ highest_code → Stands f.code at (lifted a w) → Moves f (Here at bs m text answers) (Carrying end bs m text answers (not less)) [] 5
-  compares r st =
+  by_both : at + size (lifted_both a w) ≤ highest_code → Stands f.code at (lifted_both a w) → Moves f (Here at bs m text answers)
+      (Carrying (at + size (lifted_both a w)) bs m text answers (not less)) [] 5
+  by_both r st =
       let t3 = sbc (Fixed least) ∷ [] in
       let t2 = ins 0x49 128 ∷ t3 in
       let t1 = lda (high a) ∷ t2 in
@@ -65,7 +68,7 @@ module _ (f : Setup) (room : ℕ) (fits : Fits f room) (at : ℕ) (bs : List ℕ
       (moves_looser f _ _ _ [] 1 1 (omega arith)
       (λ u k. record {
         here = record {
-          pc = k.here.pc ∙ (let q : p3 + 2 + 2 ≡ end = omega arith in q);
+          pc = k.here.pc ∙ (let q : p3 + 2 + 2 ≡ at + size (lifted_both a w) = omega arith in q);
           stack = k.here.stack;
           binary = k.here.binary;
           mem = k.here.mem;
@@ -76,6 +79,43 @@ module _ (f : Setup) (room : ℕ) (fits : Fits f room) (at : ℕ) (bs : List ℕ
             ∙ lifted_less (value m (low a)) (value m (high a)) x w ha.low_byte ha.high_byte ha.small word;
       })
       (takes_byte f room fits (p3 + 2) bs m text answers small (Fixed least) (bit_xor (value m (high a)) 128) c tt (omega (arith, r)) s4.0))))
+
+  -- by the high bytes
+  by_high : w % 256 ≡ 0 → at + size (lifted_high a w) ≤ highest_code → Stands f.code at (lifted_high a w) → Moves f (Here at bs m text answers)
+      (Carrying (at + size (lifted_high a w)) bs m text answers (not less)) [] 3
+  by_high none r st v h =
+      let p1 = at + len (lda (high a)) in
+      let s1 = behind f.code at (lda (high a)) (ins 0x49 128 ∷ cmp (Fixed least) ∷ []) (omega (arith, r)) st in
+      let s2 = behind f.code p1 (ins 0x49 128) (cmp (Fixed least) ∷ []) (omega (arith, r)) s1 in
+      let all : c ≡ true = le-leb (w % 256) (value m (low a)) (omega (arith, none)) in
+      let same : least ≡ least + bit (not c) = (let e : least ≡ least + 0 = omega arith in e) ∙ ap (λ t. least + bit (not t)) (sym all) in
+      moves_then f _ _ _ [] [] 1 2 (loads_with f room fits at bs m text answers small (high a) v.regs.flags.c (high_read a 0 ga) (omega (arith, r)) st.0)
+      (moves_then f _ _ _ [] [] 1 1 (turns f room fits p1 bs m text answers small 128 (value m (high a)) v.regs.flags.c (omega (arith, r)) s1.0)
+      (moves_looser f _ _ _ [] 1 1 (omega arith)
+      (λ u k. record {
+        here = record {
+          pc = k.here.pc ∙ (let q : p1 + 2 + 2 ≡ at + size (lifted_high a w) = omega arith in q);
+          stack = k.here.stack;
+          binary = k.here.binary;
+          mem = k.here.mem;
+          text = k.here.text;
+          answers = k.here.answers;
+        };
+        carry = k.carry ∙ ap (λ n. nat_le n (bit_xor (value m (high a)) 128)) same
+            ∙ lifted_less (value m (low a)) (value m (high a)) x w ha.low_byte ha.high_byte ha.small word;
+      })
+      (λ u k. compares_byte f room fits (p1 + 2) bs m text answers small (Fixed least) (bit_xor (value m (high a)) 128) tt (omega (arith, r)) s2.0 u (record { here = k.here; number = k.number }))))
+      v (record { here = h; carry = refl })
+
+  -- by either
+  by_bytes : (t : Bool) → nat_eq (w % 256) 0 ≡ t → at + size (if t then lifted_high a w else lifted_both a w) ≤ highest_code
+      → Stands f.code at (if t then lifted_high a w else lifted_both a w) → Moves f (Here at bs m text answers)
+      (Carrying (at + size (if t then lifted_high a w else lifted_both a w)) bs m text answers (not less)) [] 5
+  by_bytes true e r st = moves_looser f _ _ _ [] 3 5 (omega arith) (λ u k. k) (by_high (eqb-true _ _ e) r st)
+  by_bytes false e r st = by_both r st
+
+  compares : end ≤ highest_code → Stands f.code at (lifted a w) → Moves f (Here at bs m text answers) (Carrying end bs m text answers (not less)) [] 5
+  compares = by_bytes (nat_eq (w % 256) 0) refl
 
   module _ (below : Bool) (first : Way) (next : ℕ) (lies : Lies f.code at (against_code below first at a w next)) (reach : AgainstReaches first at a w next) where
     end_is : end + way_size first ≡ at + pieces_size (against_code below first at a w next)

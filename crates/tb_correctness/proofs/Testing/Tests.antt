@@ -1,18 +1,20 @@
 -- A test for equality, whose branches go to the next line or on.
 use Rattle.std.proofs.Common.{◌≡◌, ℕ, ◌+◌, ◌-◌, ◌/◌, ◌%◌, ◌≤◌, ◌<◌, Bool, true, false, cond, List, [], ◌∷◌, length}
 use Rattle.std.proofs.Common.{refl, sym, ap, ◌∙◌, subst, arith, leb, eqb, ⊎_elim}
-use Rattle.std.specs.Prelude.{nat_eq, nat_le}
+use Rattle.std.specs.Prelude.{if◌then◌else◌, nat_eq, nat_le}
 use Rattle.std.proofs.lemmas.Bool.{eqb-true, eq-eqb, ne_eqb, cases_eq}
 use Rattle.tb_reaching.proofs.Comes.{looser}
-use Rattle.tb_reaching.proofs.Instr.{Stands}
-use Rattle.tb_reaching.specs.View.{Comes, Fits, Setup}
+use Rattle.tb_opcodes.specs.declared.Mnemonic.TheVariants.{Lda}
+use Rattle.tb_reaching.proofs.Instr.{Instr, Stands, ins, instr_bytes}
+use Rattle.tb_reaching.proofs.Placed.{placed_last}
+use Rattle.tb_reaching.specs.View.{Bytes, Comes, Fits, Setup, view}
 use Rattle.tb_runtime16.specs.Routines.{Here, Moves}
 use Rattle.tb_simulation.proofs.Mirrors.{Flagged}
-use Rattle.tb_simulation.proofs.Pieces.{moves_then, moves_looser}
+use Rattle.tb_simulation.proofs.Pieces.{loads_last, moves_then, moves_looser, whatever}
 use Rattle.tb_simulation.proofs.Resolved.{Code, Lies, Piece, highest_code, pieces_size, size}
-use Rattle.tb_correctness.proofs.Pieces.Sources.{Byte, value, IsRead, lda, cmp, len, Compared, behind, loads_byte, compares_byte}
+use Rattle.tb_correctness.proofs.Pieces.Sources.{Byte, Fixed, At, value, IsRead, lda, cmp, len, Compared, behind, loads_byte, compares_byte}
 use Rattle.tb_templates.specs.declared.sources.Source.{Source}
-use Rattle.tb_correctness.proofs.CodeBytes.GroupCode.{EqualityReaches, Way, Zero, branch_code, branch_on, equality_code, first_to, high, low, second_at, way_size, weighed}
+use Rattle.tb_correctness.proofs.CodeBytes.GroupCode.{EqualityReaches, Way, Zero, branch_code, branch_on, equality_code, first_to, high, low, matched, second_at, way_size, weighed}
 use Rattle.tb_correctness.proofs.Pieces.Branches.{branch_behind, branch_size, branches, last_leads}
 use Rattle.tb_correctness.proofs.Relation.Operands.{SourceHolds}
 use Rattle.tb_correctness.proofs.Testing.SignedOrder.{turned}
@@ -46,10 +48,66 @@ module _ (f : Setup) (room : ℕ) (fits : Fits f room) (at : ℕ) (bs : List ℕ
       })
       (compares_byte f room fits p1 bs m text answers small b (value m a) db (omega (arith, r)) s1.0))
 
-  -- Z tells whether they are equal
-  tells : (a b : Byte) → at + size (weighed a b) ≤ highest_code → IsRead a → IsRead b → value m a < 256 → value m b < 256
+  -- a load tells whether a byte is 0
+  loads_flag : (b : Byte) → IsRead b → at + len (lda b) ≤ highest_code → Bytes f.code at (instr_bytes (lda b)) → Moves f (Here at bs m text answers)
+      (Flagged (at + len (lda b)) bs m text answers (eqb (value m b) 0)) [] 1
+  loads_flag (Fixed b) d r st = whatever f room fits at bs m text answers _ [] 1 (λ a x y n v i z c.
+      placed_last f room fits (ins 0xA9 b) (view a x y n v i z c at bs m text answers) _ _ small st refl
+      (record {
+        here = record {
+          pc = let e : (at + 2) % 65536 ≡ at + 2 = omega arith in e;
+          stack = refl;
+          binary = refl;
+          mem = refl;
+          text = refl;
+          answers = refl;
+        };
+        zero = refl;
+      }))
+  loads_flag (At p) d r st = whatever f room fits at bs m text answers _ [] 1 (λ a x y n v i z c.
+      loads_last f room fits 0xAD p Lda (view a x y n v i z c at bs m text answers) _ _ refl refl refl small st d refl
+      (record {
+        here = record {
+          pc = let e : (at + 3) % 65536 ≡ at + 3 = omega arith in e;
+          stack = refl;
+          binary = refl;
+          mem = refl;
+          text = refl;
+          answers = refl;
+        };
+        zero = refl;
+      }))
+
+  -- two bytes compared by CMP tell whether they are equal
+  tells_compared : (a b : Byte) → at + size (weighed a b) ≤ highest_code → IsRead a → IsRead b → value m a < 256 → value m b < 256
       → Stands f.code at (weighed a b) → Moves f (Here at bs m text answers) (Flagged (at + size (weighed a b)) bs m text answers (eqb (value m a) (value m b))) [] 2
-  tells a b r da db sa sb st = moves_looser f _ _ _ [] 2 2 (omega arith) (λ w h. record { here = h.here; zero = h.zero ∙ same_byte _ _ sa sb }) (weighs a b r da db st)
+  tells_compared a b r da db sa sb st = moves_looser f _ _ _ [] 2 2 (omega arith) (λ w h. record { here = h.here; zero = h.zero ∙ same_byte _ _ sa sb }) (weighs a b r da db st)
+
+  -- Z tells whether they are equal, by the load alone if the second one is 0
+  tells : (a b : Byte) → at + size (matched a b) ≤ highest_code → IsRead a → IsRead b → value m a < 256 → value m b < 256
+      → Stands f.code at (matched a b) → Moves f (Here at bs m text answers) (Flagged (at + size (matched a b)) bs m text answers (eqb (value m a) (value m b))) [] 2
+  tells a (At p) r da db sa sb st = tells_compared a (At p) r da db sa sb st
+  tells a (Fixed b) r da db sa sb st = by (nat_eq b 0) refl r st
+    where
+      code : Bool → List Instr
+      code t = lda a ∷ (if t then [] else cmp (Fixed b) ∷ [])
+
+      by : (t : Bool) → nat_eq b 0 ≡ t → at + size (code t) ≤ highest_code → Stands f.code at (code t)
+          → Moves f (Here at bs m text answers) (Flagged (at + size (code t)) bs m text answers (eqb (value m a) b)) [] 2
+      by true e r st = moves_looser f _ _ _ [] 1 2 (omega arith)
+          (λ w h. record {
+            here = record {
+              pc = h.here.pc ∙ (let q : at + len (lda a) ≡ at + size (code true) = omega arith in q);
+              stack = h.here.stack;
+              binary = h.here.binary;
+              mem = h.here.mem;
+              text = h.here.text;
+              answers = h.here.answers;
+            };
+            zero = h.zero ∙ ap (eqb (value m a)) (sym (eqb-true b 0 e));
+          })
+          (loads_flag a da (omega (arith, r)) st.0)
+      by false e r st = tells_compared a (Fixed b) r da tt sa sb st
 
 module _ (f : Setup) (room : ℕ) (fits : Fits f room) (at : ℕ) (bs : List ℕ) (m : ℕ → ℕ) (text answers : List ℕ) (small : leb (length bs) room ≡ true)
     (a b : Source) (x y : ℕ) (ga : Grounded a 0) (gb : Grounded b 0) (ha : SourceHolds m a x) (hb : SourceHolds m b y) (differ : Bool)
@@ -62,7 +120,7 @@ module _ (f : Setup) (room : ℕ) (fits : Fits f room) (at : ℕ) (bs : List ℕ
 
   -- the addresses of the branches, and the one after them
   abbrev p1 : ℕ
-  p1 = at + size (weighed (low a) (low b))
+  p1 = at + size (matched (low a) (low b))
 
   abbrev p2 : ℕ
   p2 = second_at first at a b
@@ -75,7 +133,7 @@ module _ (f : Setup) (room : ℕ) (fits : Fits f room) (at : ℕ) (bs : List ℕ
   to same = cond (turned differ same) end next
 
   abbrev highs : List Piece
-  highs = Code (weighed (high a) (high b)) ∷ Code (branch_code second (branch_on Zero differ) p2 next) ∷ []
+  highs = Code (matched (high a) (high b)) ∷ Code (branch_code second (branch_on Zero differ) p2 next) ∷ []
 
   lies_second : (p1 + way_size first ≤ highest_code) × Lies f.code (p1 + way_size first) highs
   lies_second = branch_behind f p1 first Zero false (first_to differ first second at a b next) highs lies.2

@@ -45,3 +45,15 @@ returns-clause-prints_negative_quotient c = lemma.prints_negative_quotient
 
 pub returns-clause-compares_far : goal.returns-clause-compares_far
 returns-clause-compares_far c = lemma.compares_far
+
+pub returns-clause-prints_quotient_by_256 : goal.returns-clause-prints_quotient_by_256
+returns-clause-prints_quotient_by_256 c = lemma.prints_quotient_by_256
+
+pub returns-clause-prints_if_256 : goal.returns-clause-prints_if_256
+returns-clause-prints_if_256 c = lemma.prints_if_256
+
+pub returns-clause-prints_if_positive : goal.returns-clause-prints_if_positive
+returns-clause-prints_if_positive c = lemma.prints_if_positive
+
+pub returns-clause-prints_if_below_256 : goal.returns-clause-prints_if_below_256
+returns-clause-prints_if_below_256 c = lemma.prints_if_below_256
