@@ -1,74 +1,17 @@
 //! By which fault a program ended.
-ghost use Rattle.std.specs.Prelude.{◌≡◌, IfOk, Some, string_bytes};
-ghost use Rattle.std.specs.List.{find};
+ghost use Rattle.std.specs.Prelude.{◌≡◌, IfOk, Some};
 ghost use Rattle.tb_memmap.specs.Bytes.{at};
 ghost use Rattle.tb_codegen.specs.Compiled.{warnings_of};
-ghost use Rattle.tb_run_notes.specs.Faults.{fault_note_text, fault_of, fault_text, is_fault, meaning_of, missing_line, number_of, wanted_line};
+ghost use Rattle.tb_run_notes.specs.Faults.{fault_note_text, fault_of, missing_line, wanted_line};
 
 use crate::places::data_word;
 use std::alloc::{AllocError, Global};
 use std::fmt;
 use tb_codegen::Compiled;
+use tb_faults::{FaultKind, fault_in, fault_line};
 use tb_kernal::Machine;
 use tb_meaning::Warning;
-use tb_runtime16::{LINE, WANTED};
-
-/// A fault of a program.
-#[derive(Clone, Copy, PartialEq, Eq, Debug, Drop)]
-pub enum FaultKind {
-    Stopped,
-    NoSuchLine,
-    DividedByZero,
-    BadBound,
-    TooManyCalls,
-    NoCall,
-    NoNumber,
-    RanPast,
-}
-
-const FAULT_KINDS: [FaultKind; 8] = [
-    FaultKind::Stopped,
-    FaultKind::NoSuchLine,
-    FaultKind::DividedByZero,
-    FaultKind::BadBound,
-    FaultKind::TooManyCalls,
-    FaultKind::NoCall,
-    FaultKind::NoNumber,
-    FaultKind::RanPast,
-];
-
-impl FaultKind {
-    fn number(self) -> u8
-        ensures { result ≡ number_of self }
-    {
-        match self {
-            FaultKind::Stopped => 0,
-            FaultKind::NoSuchLine => 1,
-            FaultKind::DividedByZero => 2,
-            FaultKind::BadBound => 3,
-            FaultKind::TooManyCalls => 4,
-            FaultKind::NoCall => 5,
-            FaultKind::NoNumber => 6,
-            FaultKind::RanPast => 7,
-        }
-    }
-
-    // What it means.
-    fn meaning(self) -> &'static str
-        ensures { result.now ≡ meaning_of self }
-    {
-        match self {
-            FaultKind::Stopped => "the STOP key was pressed",
-            FaultKind::NoSuchLine => "a jump goes to no line",
-            FaultKind::DividedByZero => "a divisor is 0",
-            FaultKind::BadBound => "the bound of RND is below 1",
-            FaultKind::TooManyCalls => "more than 500 GOSUBs are open",
-            FaultKind::NoCall => "RETURN without GOSUB",
-            FaultKind::NoNumber => "what was typed is no number",
-            FaultKind::RanPast => "it ran past the last line; an END is missing",
-        }
-    }
-}
+use tb_runtime16::WANTED;
 
 /// A fault by which a program ended, at a line.
 #[derive(Clone, Copy, PartialEq, Eq, Debug, Drop)]
@@ -95,33 +38,6 @@ impl fmt::Display for Fault {
                 kind.meaning()
             ),
         }
-    }
-}
-
-// What a program sends last that ends by a fault.
-fn fault_text(alloc: Global, kind: FaultKind, line: u16) -> Result<String, AllocError>
-    ensures { IfOk result (λ text. string_bytes text ≡ fault_text line kind) }
-{
-    let number = kind.number();
-    format!(in alloc; "\r!{number} AT {line}\r")
-}
-
-// The first of some faults by whose text what a program sent ends.
-fn first_fault(
-    alloc: Global,
-    kinds: &[FaultKind],
-    sent: &[u8],
-    line: u16,
-) -> Result<Option<FaultKind>, AllocError>
-    ensures { IfOk result (λ found. found ≡ find (is_fault sent.now line) kinds.now) }
-{
-    match kinds {
-        [] => Ok(None),
-        [first, rest @ ..] => if sent.ends_with(fault_text(alloc, *first, line)?.as_bytes()) {
-            Ok(Some(*first))
-        } else {
-            first_fault(alloc, rest, sent, line)
-        },
     }
 }
 
@@ -158,8 +74,8 @@ pub fn fault_of(
 ) -> Result<Option<Fault>, AllocError>
     ensures { IfOk result (λ fault. fault ≡ fault_of (warnings_of program.now) machine.now.sent (at machine.now.memory)) }
 {
-    let line = data_word(machine.memory(), LINE);
-    match first_fault(alloc, &FAULT_KINDS, machine.sent(), line)? {
+    let line = fault_line(machine);
+    match fault_in(alloc, machine)? {
         Some(kind) => Ok(Some(Fault {
             kind,
             line,

@@ -7,6 +7,7 @@ mod notes;
 mod places;
 mod runs;
 
-pub use faults::{Fault, FaultKind};
+pub use faults::Fault;
 pub use notes::{EndNote, end_note};
 pub use runs::{NotedRun, run_noted};
+pub use tb_faults::FaultKind;

@@ -19,8 +19,9 @@ use std::io::{Read, Write};
 use tb_codegen::{CompileSettings, Compiled};
 use tb_driver::{are_bytes, read_source, start_program};
 use tb_engines::{NoText, Report, Text, deliver, end_of};
-use tb_kernal::{Keyboard, Machine, Outside, run};
+use tb_kernal::{Keyboard, Machine, Outside};
 use tb_streams::{Tracked, host_form};
+use tb_watch::{Watch, run_watched};
 
 /// A run of a source: how it ended, and what the machine told then.
 #[derive(Debug, Drop)]
@@ -37,16 +38,17 @@ struct Ran {
 }
 
 // Runs a machine, and shows what it sent.
-fn run_machine<O: Outside>(
+fn run_machine<O: Outside, W: Watch>(
     alloc: Global,
     machine: &mut Machine,
     limit: u64,
     outside: &mut O,
+    watch: &mut W,
 ) -> Result<Text, NoText>
     ensures made { Makes (RunsOn O.gives outside.old machine.old limit) result }
     ensures ran { OnOk result ((t : _) × RanOver O.gives outside.old machine.old limit (Ok t) outside.new machine.new) }
 {
-    let Ok(status) = run(machine, outside, limit) else {
+    let Ok(status) = run_watched(machine, outside, limit, watch) else {
         return Err(NoText::NoMemory);
     };
     let end = end_of(status, machine.regs().pc);
@@ -57,12 +59,13 @@ fn run_machine<O: Outside>(
 }
 
 // Runs a compiled program.
-fn run_program<O: Outside>(
+fn run_program<O: Outside, W: Watch>(
     alloc: Global,
     program: &Compiled,
     keyboard: Keyboard,
     limit: u64,
     outside: &mut O,
+    watch: &mut W,
 ) -> Ran
     ensures machine { Makes (RunsPrg (settings_of O.gives outside.old keyboard limit) (prg_of program.now)) result.made }
     ensures note { NotesEnd (settings_of O.gives outside.old keyboard limit) program.now result.note }
@@ -74,7 +77,7 @@ fn run_program<O: Outside>(
             note: None,
         },
     };
-    let made = run_machine(alloc, &mut machine, limit, outside);
+    let made = run_machine(alloc, &mut machine, limit, outside, watch);
     let note = note_after(alloc, &made, &machine, program);
     Ran { made, note }
 }
@@ -96,12 +99,13 @@ fn note_after(
 }
 
 // Runs the program of a source.
-fn run_compiled<O: Outside>(
+fn run_compiled<O: Outside, W: Watch>(
     alloc: Global,
     program: &Compiled,
     keyboard: Keyboard,
     limit: u64,
     outside: &mut O,
+    watch: &mut W,
 ) -> Ran
     ensures machine { Makes (RunsPrg (settings_of O.gives outside.old keyboard limit) (prg_of program.now)) result.made }
     ensures output { (settings : CompileSettings) (source : List ℕ) → KeepsSource settings.seed source (prg_of program.now)
@@ -111,12 +115,12 @@ fn run_compiled<O: Outside>(
     are_bytes(program.prg());
     are_bytes(keyboard.text.as_slice());
     are_bytes(keyboard.answers.as_slice());
-    run_program(alloc, program, keyboard, limit, outside)
+    run_program(alloc, program, keyboard, limit, outside, watch)
 }
 
 /// Compiles a source by any settings and runs it, as `run_within` does, and tells at which line it stopped or waits, or by
-/// which fault its program ended.
-pub fn run_noted<R: Read, W: Write, O: Outside>(
+/// which fault its program ended. A watch hears meanwhile how many events were taken, which changes nothing.
+pub fn run_noted<R: Read, W: Write, O: Outside, V: Watch>(
     alloc: Global,
     reader: &mut Tracked<R>,
     writer: &mut Tracked<W>,
@@ -124,6 +128,7 @@ pub fn run_noted<R: Read, W: Write, O: Outside>(
     keyboard: Keyboard,
     limit: u64,
     outside: &mut O,
+    watch: &mut V,
 ) -> NotedRun
     ensures answers { AnswersInput (RunsText (settings_of O.gives outside.old keyboard limit) settings result.report.warnings.items)
         result.report.outcome (use_of R.remaining reader.old reader.new) (use_of W.contents writer.old writer.new) }
@@ -141,7 +146,7 @@ pub fn run_noted<R: Read, W: Write, O: Outside>(
             note: None,
         },
     };
-    let ran = run_compiled(alloc, &source.program, keyboard, limit, outside);
+    let ran = run_compiled(alloc, &source.program, keyboard, limit, outside, watch);
     NotedRun {
         report: Report {
             outcome: deliver(writer, ran.made),

@@ -1,0 +1,50 @@
+-- By which fault a program ended.
+use Rattle.std.specs.Prelude.{ℕ, nat_eq, Bool, List, [], ◌∷◌, ◌++◌, codes, Option}
+use Rattle.std.specs.Fmt.{decimal}
+use Rattle.std.specs.List.{find, ends_with}
+use Rattle.tb_cpu.specs.Operands.{word_in}
+use Rattle.tb_runtime16.specs.Addresses.{LINE}
+use Rattle.tb_faults.specs.declared.faults.FaultKind.{FaultKind}
+use Rattle.tb_faults.specs.declared.faults.FaultKind.TheVariants.{Stopped, NoSuchLine, DividedByZero, BadBound, TooManyCalls, NoCall, NoNumber, RanPast}
+
+-- the number of a fault
+abbrev pub number_of : FaultKind → ℕ
+number_of Stopped = 0
+number_of NoSuchLine = 1
+number_of DividedByZero = 2
+number_of BadBound = 3
+number_of TooManyCalls = 4
+number_of NoCall = 5
+number_of NoNumber = 6
+number_of RanPast = 7
+
+-- all faults
+abbrev pub faults : List FaultKind
+faults = Stopped ∷ NoSuchLine ∷ DividedByZero ∷ BadBound ∷ TooManyCalls ∷ NoCall ∷ NoNumber ∷ RanPast ∷ []
+
+-- what a fault means
+abbrev pub meaning_of : FaultKind → List ℕ
+meaning_of Stopped = codes "the STOP key was pressed"
+meaning_of NoSuchLine = codes "a jump goes to no line"
+meaning_of DividedByZero = codes "a divisor is 0"
+meaning_of BadBound = codes "the bound of RND is below 1"
+meaning_of TooManyCalls = codes "more than 500 GOSUBs are open"
+meaning_of NoCall = codes "RETURN without GOSUB"
+meaning_of NoNumber = codes "what was typed is no number"
+meaning_of RanPast = codes "it ran past the last line; an END is missing"
+
+-- what a program sends last that ends by a fault at a line
+abbrev pub fault_text : ℕ → FaultKind → List ℕ
+fault_text line k = 13 ∷ 33 ∷ decimal (number_of k) ++ (codes " AT " ++ (decimal line ++ 13 ∷ []))
+
+-- what was sent ends in the text of a fault
+abbrev pub is_fault : List ℕ → ℕ → FaultKind → Bool
+is_fault sent line k = ends_with nat_eq sent (fault_text line k)
+
+-- the line of the last fault, by a program's memory
+abbrev pub line_in : (ℕ → ℕ) → ℕ
+line_in m = word_in m LINE
+
+-- the fault by which a program ended, by what it sent and the line that is in memory
+abbrev pub fault_in : List ℕ → (ℕ → ℕ) → Option FaultKind
+fault_in sent m = find (is_fault sent (line_in m)) faults

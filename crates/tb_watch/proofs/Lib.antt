@@ -1,0 +1,2 @@
+-- stretches of events that make one run
+pub mod Stretches
