@@ -35,5 +35,7 @@ mod Turning
 pub mod Leading
 -- where going on and going back stop
 pub mod Stopping
+-- where going on stops by a fault
+mod Faulting
 -- a command that moves the run tells its stop
 pub mod Responding

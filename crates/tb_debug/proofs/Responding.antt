@@ -34,6 +34,7 @@ by_kind limit (command.Breakpoint line) d e told walk way same = absurd walk
 by_kind limit command.Continue d e told walk way same = (way, same)
 by_kind limit command.ReverseContinue d e told walk way same = (way, same)
 by_kind limit (command.Watch letter) d e told walk way same = absurd walk
+by_kind limit command.Faults d e told walk way same = absurd walk
 by_kind limit (command.ToLine line) d e told (address, found) way same =
     (subst (λ x. TellsLine limit x (command.ToLine line) d e (Some told)) (sym found) way, subst (λ x. LeavesToLine x d e) (sym found) same)
 by_kind limit (command.ToTime time) d e told walk way same = (way, same)

@@ -15,6 +15,10 @@ breakpoints_of s = s.breakpoints.items
 abbrev pub watches_of : StopPoints → List Letter
 watches_of s = s.watches.items
 
+-- `c` stops where the program faults
+abbrev pub stops_at_faults : StopPoints → Bool
+stops_at_faults s = s.at_faults
+
 -- lines are in rising order
 abbrev pub AreRising : List ℕ → Type 0
 AreRising lines = IsNonDecreasingBy (λ line. line) lines

@@ -1,5 +1,5 @@
 -- A debugger on the run of its program.
-use Rattle.std.specs.Prelude.{◌≡◌, ◌⊎◌, ℕ, ◌+◌, ◌-◌, ◌<◌, ◌≤◌, Bool, true, List, [], ◌∷◌, length}
+use Rattle.std.specs.Prelude.{◌≡◌, ◌⊎◌, ℕ, ◌+◌, ◌-◌, ◌<◌, ◌≤◌, Bool, true, false, List, [], ◌∷◌, length}
 use Rattle.tb_play.specs.Lines.{keys_of_text}
 use Rattle.tb_codegen.specs.Compiled.{starts_of}
 use Rattle.tb_codegen.specs.declared.compiled.Compiled.{Compiled}
@@ -10,7 +10,7 @@ use Rattle.tb_debug.specs.declared.history.History.{History}
 use Rattle.tb_debug.specs.declared.moment.Moment.{Moment}
 use Rattle.tb_debug.specs.declared.moment.Reached.{Reached}
 use Rattle.tb_debug.specs.declared.moment.Reached.TheVariants.{Line, Within, Ended, Limit}
-use Rattle.tb_debug.specs.Breakpoints.{breakpoints_of, watches_of}
+use Rattle.tb_debug.specs.Breakpoints.{breakpoints_of, watches_of, stops_at_faults}
 use Rattle.tb_debug.specs.Begins.{EndsAt, IsLimited, IsNear, standing_of}
 use Rattle.tb_debug.specs.Runs.{Point, IsOfRun, IsFirst, AreCheckpoints, AreSpaced}
 use Rattle.tb_debug.specs.Runs.{begins_at, is_marked, most_checkpoints, newest, newest_events, spacing, typed}
@@ -68,6 +68,7 @@ pub record IsOpening (start : Point) (d : Debugger) : Type 0 where
   pub shown : d.shown ≡ 0
   pub unset : breakpoints_of d.stops ≡ []
   pub unwatched : watches_of d.stops ≡ []
+  pub through : stops_at_faults d.stops ≡ false
 
 -- a debugger that stays where it is, and says how it stands
 abbrev pub Stays : Debugger → Reached → Moment → Type 0

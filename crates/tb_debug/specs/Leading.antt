@@ -1,22 +1,39 @@
 -- Where commands lead that move a run.
-use Rattle.std.specs.Prelude.{◌≡◌, ℕ, Some}
+use Rattle.std.specs.Prelude.{◌≡◌, ℕ, ◌-◌, Bool, true, false, Some}
 use Rattle.tb_codegen.specs.Compiled.{start_in, starts_of}
 use Rattle.tb_debug_commands.specs.declared.command.Command.{Command}
 use Rattle.tb_debug_commands.specs.declared.command.Command.TheVariants as command
 use Rattle.tb_debug.specs.declared.debugger.Debugger.{Debugger}
 use Rattle.tb_debug.specs.declared.moment.Moment.{Moment}
 use Rattle.tb_debug.specs.declared.moment.Reached.{Reached}
+use Rattle.tb_debug.specs.declared.moment.Reached.TheVariants.{Line}
 use Rattle.tb_debug.specs.declared.searching.Destination.{Destination}
 use Rattle.tb_debug.specs.declared.searching.Destination.TheVariants.{Stop, Address}
 use Rattle.tb_debug.specs.Begins.{GoesBy, GoesTo, StepsBy}
-use Rattle.tb_debug.specs.Debuggers.{RewindsBy, RewindsTo, GoesToTime, OnRun, StandsAt}
-use Rattle.tb_debug.specs.Runs.{Point}
-use Rattle.tb_debug.specs.Stopping.{IsNewest, comes_where, is_sought}
+use Rattle.tb_debug.specs.Debuggers.{IsAtTime, RewindsBy, RewindsTo, GoesToTime, OnRun, StandsAt}
+use Rattle.tb_debug.specs.Runs.{IsOfRun, Point}
+use Rattle.tb_debug.specs.Stopping.{IsNewest, comes_where, is_sought, stops_here}
 
 -- a way on to the next line that is looked for, by at most `limit` events
 abbrev pub RunsUntil : Destination → ℕ → Debugger → Reached → Moment → Type 0
 RunsUntil to limit d reached m =
     (start : Point) → OnRun start d → GoesTo (comes_where (is_sought to d) d.starts start) limit reached d.present m
+
+-- a way on to the next stop, on the same run
+pub record GoesToStop (limit : ℕ) (d : Debugger) (way : Reached) (last : Moment) : Type 0 where
+  pub runs : RunsUntil Stop limit d way last
+  pub of_run : (start : Point) → OnRun start d → IsOfRun d.starts start last
+
+-- a way on ends there, or it goes back from there to the beginning of the line that was begun last
+abbrev pub StopsBack : Bool → Debugger → Reached → Moment → Reached → Moment → Type 0
+StopsBack false d way last reached m = (reached ≡ way) × (m ≡ last)
+StopsBack true d way last reached m =
+    IsAtTime (last.begun - 1) d.starts reached m × ((start : Point) → start.begun ≡ 0 → OnRun start d → reached ≡ Line)
+
+-- a way on to the next stop, or, if faults stop it and the program ends by one, to the beginning of the line that faults
+abbrev pub Continues : ℕ → Debugger → Reached → Moment → Type 0
+Continues limit d reached m =
+    (way : Reached) × (last : Moment) × GoesToStop limit d way last × StopsBack (stops_here d way last) d way last reached m
 
 -- a way back to the newest of the times to which the points before lead back
 abbrev pub ReverseContinues : Debugger → Reached → Moment → Type 0
@@ -28,7 +45,7 @@ ReverseContinues d reached m =
 abbrev pub Leads : ℕ → Command → Debugger → Reached → Moment → Type 0
 Leads limit (command.Next lines) d reached m = (start : Point) → OnRun start d → GoesBy lines d.starts start limit reached d.present m
 Leads limit (command.Previous lines) d reached m = RewindsBy lines d reached m
-Leads limit command.Continue d reached m = RunsUntil Stop limit d reached m
+Leads limit command.Continue d reached m = Continues limit d reached m
 Leads limit command.ReverseContinue d reached m = ReverseContinues d reached m
 Leads limit (command.ToTime time) d reached m = GoesToTime time limit d reached m
 Leads limit (command.ToLine line) d reached m =

@@ -1,9 +1,9 @@
 -- What commands leave as it was.
-use Rattle.std.specs.Prelude.{◌≡◌, ℕ, Option, Some, None}
+use Rattle.std.specs.Prelude.{◌≡◌, ℕ, not, Option, Some, None}
 use Rattle.tb_words.specs.declared.Letter.{Letter}
 use Rattle.tb_words.specs.Letters.{letter_index}
 use Rattle.tb_codegen.specs.Compiled.{start_in, starts_of}
-use Rattle.tb_debug.specs.Breakpoints.{AreRising, Turned, WatchTurned, breakpoints_of, watches_of}
+use Rattle.tb_debug.specs.Breakpoints.{AreRising, Turned, WatchTurned, breakpoints_of, watches_of, stops_at_faults}
 use Rattle.tb_debug_commands.specs.declared.command.Command.{Command}
 use Rattle.tb_debug_commands.specs.declared.command.Command.TheVariants as command
 use Rattle.tb_debug.specs.declared.debugger.Debugger.{Debugger}
@@ -17,6 +17,7 @@ LeavesStops d e = e.stops ≡ d.stops
 abbrev pub TurnsBreakpoint : Option ℕ → ℕ → Debugger → Debugger → Type 0
 TurnsBreakpoint (Some address) line d e =
     Turned line (breakpoints_of d.stops) (breakpoints_of e.stops) × (watches_of e.stops ≡ watches_of d.stops)
+    × (stops_at_faults e.stops ≡ stops_at_faults d.stops)
     × (e ≡ record d { stops = e.stops }) × (AreRising (breakpoints_of d.stops) → AreRising (breakpoints_of e.stops))
 TurnsBreakpoint None line d e = e ≡ d
 
@@ -24,7 +25,13 @@ TurnsBreakpoint None line d e = e ≡ d
 abbrev pub TurnsWatch : Letter → Debugger → Debugger → Type 0
 TurnsWatch letter d e =
     WatchTurned (letter_index letter) (watches_of d.stops) (watches_of e.stops) × (breakpoints_of e.stops ≡ breakpoints_of d.stops)
-    × (e ≡ record d { stops = e.stops })
+    × (stops_at_faults e.stops ≡ stops_at_faults d.stops) × (e ≡ record d { stops = e.stops })
+
+-- faults stop `c` then, or no longer, and nothing else changes
+abbrev pub TurnsFaults : Debugger → Debugger → Type 0
+TurnsFaults d e =
+    (stops_at_faults e.stops ≡ not (stops_at_faults d.stops)) × (breakpoints_of e.stops ≡ breakpoints_of d.stops)
+    × (watches_of e.stops ≡ watches_of d.stops) × (e ≡ record d { stops = e.stops })
 
 -- what is typed changes the keyboard's text alone: the run stays after as many events as before
 pub record LeavesPoint (d e : Debugger) : Type 0 where
@@ -48,5 +55,6 @@ Leaves (command.Step events) d e = LeavesStops d e
 Leaves (command.ToLine line) d e = LeavesToLine (start_in (starts_of d.program.now) line) d e
 Leaves (command.Breakpoint line) d e = TurnsBreakpoint (start_in (starts_of d.program.now) line) line d e
 Leaves (command.Watch letter) d e = TurnsWatch letter d e
+Leaves command.Faults d e = TurnsFaults d e
 Leaves (command.Type text) d e = LeavesPoint d e
 Leaves _ d e = e ≡ d

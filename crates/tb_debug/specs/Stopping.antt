@@ -1,15 +1,20 @@
 -- Where going on and going back stop.
-use Rattle.std.specs.Prelude.{◌≡◌, ◌⊎◌, ℕ, ◌-◌, ◌≤◌, ◌&&◌, ◌||◌, ◌==◌, Bool, true, if◌then◌else◌, nat_lt, List}
+use Rattle.std.specs.Prelude.{◌≡◌, ◌⊎◌, ℕ, ◌-◌, ◌≤◌, ◌&&◌, ◌||◌, ◌==◌, Bool, true, false, if◌then◌else◌, nat_lt, List}
+use Rattle.std.specs.Option.{is_some}
+use Rattle.tb_memmap.specs.Bytes.{at}
+use Rattle.tb_kernal.specs.declared.status.Status.TheVariants.{Returned}
 use Rattle.tb_codegen.specs.Compiled.{starts_of}
-use Rattle.tb_debug.specs.Breakpoints.{breakpoints_of, watches_of, breaks, differ}
+use Rattle.tb_faults.specs.Faults.{fault_in}
+use Rattle.tb_debug.specs.Breakpoints.{breakpoints_of, watches_of, breaks, differ, stops_at_faults}
 use Rattle.tb_debug.specs.declared.breakpoints.StopPoints.{StopPoints}
 use Rattle.tb_debug.specs.Begins.{comes_to}
 use Rattle.tb_debug.specs.Lines.{line_at}
 use Rattle.tb_inspection.specs.Readings.{values_in}
-use Rattle.tb_debug.specs.Runs.{Point, point_at, shown}
+use Rattle.tb_debug.specs.Runs.{Point, is_marked, point_at, shown}
 use Rattle.tb_debug.specs.declared.debugger.Debugger.{Debugger}
+use Rattle.tb_debug.specs.declared.moment.Moment.{Moment}
 use Rattle.tb_debug.specs.declared.moment.Reached.{Reached}
-use Rattle.tb_debug.specs.declared.moment.Reached.TheVariants.{Line}
+use Rattle.tb_debug.specs.declared.moment.Reached.TheVariants.{Line, Ended}
 use Rattle.tb_debug.specs.declared.searching.Destination.{Destination}
 use Rattle.tb_debug.specs.declared.searching.Destination.TheVariants.{Stop, Address}
 
@@ -40,6 +45,25 @@ comes_where is_there marks start k = comes_to marks start k && is_there (point_a
 abbrev pub IsThere : Destination → Reached → Debugger → Type 0
 IsThere to Line d = is_sought to d (shown d.present) ≡ true
 IsThere to _ d = Unit {0}
+
+-- ---- faults
+
+-- a way ended where the program returned by a fault
+abbrev pub has_faulted : Reached → Moment → Bool
+has_faulted (Ended Returned) m = is_some (fault_in m.machine.sent (at m.machine.memory))
+has_faulted _ m = false
+
+-- the line that was begun last at a moment was begun after as many others, and after one that begins where they were counted
+abbrev pub begins_after : ℕ → Bool → Moment → Bool
+begins_after begun begins m = nat_lt begun (if begins then m.begun - 1 else m.begun)
+
+-- a way ended by a fault that stops `c`: in a line that was begun on the way
+abbrev pub stops_by_fault : StopPoints → ℕ → Bool → Reached → Moment → Bool
+stops_by_fault stops begun begins way m = stops_at_faults stops && (has_faulted way m && begins_after begun begins m)
+
+-- the same of a way from where a debugger is
+abbrev pub stops_here : Debugger → Reached → Moment → Bool
+stops_here d way m = stops_by_fault d.stops d.present.begun (is_marked d.starts d.present.machine.regs.pc) way m
 
 -- ---- going back
 

@@ -12,7 +12,7 @@ use Rattle.tb_asm.specs.Layout.{Entry}
 use Rattle.tb_disasm.specs.Lines.{shown}
 use Rattle.tb_codegen.specs.Compiled.{line_in, start_in, starts_of, table_of}
 use Rattle.tb_inspection.specs.Values.{IsValueOfText}
-use Rattle.tb_debug.specs.Breakpoints.{breakpoints_of, watches_of, is_among, is_watched}
+use Rattle.tb_debug.specs.Breakpoints.{breakpoints_of, watches_of, is_among, is_watched, stops_at_faults}
 use Rattle.tb_debug_commands.specs.declared.command.Command.{Command}
 use Rattle.tb_debug_commands.specs.declared.command.Command.TheVariants as command
 use Rattle.tb_debug.specs.declared.answer.Answer.{Answer}
@@ -176,6 +176,7 @@ Tells limit command.Breakpoints d e told = breakpoints_told told ≡ Some (break
 Tells limit (command.Breakpoint line) d e told =
     told ≡ Some (breakpoint_answer (start_in (starts_of d.program.now) line) (not (is_among (breakpoints_of d.stops) line)))
 Tells limit (command.Watch letter) d e told = told ≡ Some (set_or_cleared (not (is_watched (watches_of d.stops) (letter_index letter))))
+Tells limit command.Faults d e told = told ≡ Some (answer.Faults (not (stops_at_faults d.stops)))
 Tells limit command.ListHere d e told = told ≡ Some (answer.List (line_here e) (line_here e))
 Tells limit (command.List line) d e told = told ≡ Some (list_answer (start_in (starts_of d.program.now) line) line (line_here e))
 Tells limit command.Variables d e told = told ≡ Some (answer.Variables (variables_here e))

@@ -35,6 +35,8 @@ pub enum Answer {
     Set,
     /// A breakpoint or a watch was cleared.
     Cleared,
+    /// Whether faults stop the run then.
+    Faults(bool),
     /// The lines with a breakpoint, in rising order.
     Breakpoints(Vec<u16>),
     /// The source around a line, with the line at which the run stands.

@@ -1,30 +1,33 @@
 //! Breakpoints and watches.
-ghost use Rattle.std.specs.Prelude.{◌≡◌, ◌<◌, ◌≤◌, ℕ, [], true, not, length, slice_index_or, IfOk, OnOk, OnErr};
+ghost use Rattle.std.specs.Prelude.{◌≡◌, ◌<◌, ◌≤◌, ℕ, [], true, false, not, length, slice_index_or, IfOk, OnOk, OnErr};
 ghost use Rattle.tb_words.specs.Letters.{letter_index};
-ghost use Rattle.tb_debug.specs.Breakpoints.{AreRising, Turned, WatchTurned, breakpoints_of, watches_of};
+ghost use Rattle.tb_debug.specs.Breakpoints.{AreRising, Turned, WatchTurned, breakpoints_of, stops_at_faults, watches_of};
 ghost use Rattle.tb_debug.specs.Breakpoints.{is_among, is_watched, breaks, differ};
 
 use std::alloc::{AllocError, Global};
 use tb_inspection::Variables;
 use tb_words::Letter;
 
-/// Breakpoints and watches.
+/// Breakpoints and watches, and whether faults stop the run.
 #[derive(Drop)]
 pub struct StopPoints {
     /// Lines, in rising order.
     breakpoints: Vec<u16>,
     watches: Vec<Letter>,
+    at_faults: bool,
 }
 
 impl StopPoints {
-    /// No breakpoint and no watch.
+    /// No breakpoint and no watch; faults stop nothing.
     pub fn new(alloc: Global) -> StopPoints
         ensures breakpoints { breakpoints_of result ≡ [] }
         ensures watches { watches_of result ≡ [] }
+        ensures faults { stops_at_faults result ≡ false }
     {
         StopPoints {
             breakpoints: Vec::new(alloc),
             watches: Vec::new(alloc),
+            at_faults: false,
         }
     }
 
@@ -68,12 +71,31 @@ impl StopPoints {
         differ(self.watches.as_slice(), before, after)
     }
 
+    /// Whether faults stop the run.
+    pub fn stops_at_faults(&self) -> bool
+        ensures { result ≡ stops_at_faults self.now }
+    {
+        self.at_faults
+    }
+
+    /// Lets faults stop the run, or no longer: whether they stop it then.
+    pub fn turn_faults(&mut self) -> bool
+        ensures answer { result ≡ not (stops_at_faults self.old) }
+        ensures faults { stops_at_faults self.new ≡ result }
+        ensures breakpoints { breakpoints_of self.new ≡ breakpoints_of self.old }
+        ensures watches { watches_of self.new ≡ watches_of self.old }
+    {
+        self.at_faults = !self.at_faults;
+        self.at_faults
+    }
+
     /// Sets a breakpoint, or clears it if it is set: whether it is set then.
     pub fn turn_breakpoint(&mut self, line: u16) -> Result<bool, AllocError>
         ensures set { IfOk result (λ set. set ≡ not (is_among (breakpoints_of self.old) line)) }
         ensures turned { OnOk result (Turned line (breakpoints_of self.old) (breakpoints_of self.new)) }
         ensures refused { OnErr result (breakpoints_of self.new ≡ breakpoints_of self.old) }
         ensures watches { watches_of self.new ≡ watches_of self.old }
+        ensures faults { stops_at_faults self.new ≡ stops_at_faults self.old }
         ensures rising { AreRising (breakpoints_of self.old) → AreRising (breakpoints_of self.new) }
     {
         if is_among(self.breakpoints.as_slice(), line) {
@@ -91,6 +113,7 @@ impl StopPoints {
         ensures turned { OnOk result (WatchTurned (letter_index letter) (watches_of self.old) (watches_of self.new)) }
         ensures refused { OnErr result (watches_of self.new ≡ watches_of self.old) }
         ensures breakpoints { breakpoints_of self.new ≡ breakpoints_of self.old }
+        ensures faults { stops_at_faults self.new ≡ stops_at_faults self.old }
     {
         let index = letter.index();
         if is_watched(self.watches.as_slice(), index) {

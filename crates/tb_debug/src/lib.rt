@@ -22,5 +22,5 @@ pub use debugger::{Debugger, MOST_OPENING};
 pub use history::{MOST_CHECKPOINTS, SPACING};
 pub use moment::Reached;
 pub use rom::Rom;
-pub use tb_debug_commands::{Command, read_command};
+pub use tb_debug_commands::{Command, last_move, read_after};
 pub use tb_inspection::{Value, Variables};

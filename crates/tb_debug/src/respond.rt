@@ -4,14 +4,15 @@ ghost use Rattle.tb_words.specs.Letters.{letter_index};
 ghost use Rattle.tb_kernal.specs.Machine.{state_of};
 ghost use Rattle.tb_codegen.specs.Compiled.{start_in, starts_of};
 ghost use Rattle.tb_play.specs.Lines.{keys_of_text};
-ghost use Rattle.tb_debug.specs.Breakpoints.{breakpoints_of, is_among, is_watched, watches_of};
+ghost use Rattle.tb_debug.specs.Breakpoints.{breakpoints_of, is_among, is_watched, stops_at_faults, watches_of};
 ghost use Rattle.tb_debug.specs.Debuggers.{KeepsRun, KeepsRunTyped, Responds};
-ghost use Rattle.tb_debug.specs.Leaving.{Leaves, LeavesPoint, TurnsBreakpoint, TurnsWatch};
+ghost use Rattle.tb_debug.specs.Leaving.{Leaves, LeavesPoint, TurnsBreakpoint, TurnsFaults, TurnsWatch};
 ghost use Rattle.tb_debug.specs.Kinds.{IsAct, IsShown, IsTold, IsWalk, Walks};
 ghost use Rattle.tb_debug.specs.Readings.{bytes_of, code_of, most_code};
 ghost use Rattle.tb_debug.specs.Telling.{Tells, TellsStop, TellsText, TellsValue, breakpoint_answer, breakpoints_told};
 ghost use Rattle.tb_debug.specs.Telling.{code_told, is_limit, line_here, list_answer, memory_told, output_told};
 ghost use Rattle.tb_debug.specs.Telling.{location_here, returns_here, returns_told, set_or_cleared};
+ghost use Rattle.tb_debug.specs.declared.answer.Answer.TheVariants as answer;
 
 use crate::answer::{Answer, Location, Stand};
 use crate::debugger::Debugger;
@@ -155,6 +156,7 @@ impl<'a> Debugger<'a> {
         match command {
             Command::Breakpoint(line) => self.turn_breakpoint(line),
             Command::Watch(letter) => self.turn_watch(letter),
+            Command::Faults => Ok(self.turn_faults()),
             Command::Value(text) => self.value(alloc, text),
             Command::Breakpoints => self.breakpoints(alloc),
             Command::Returns => self.return_list(alloc),
@@ -225,6 +227,15 @@ impl<'a> Debugger<'a> {
     {
         let is_set = self.stops.turn_watch(letter)?;
         Ok(turned(is_set))
+    }
+
+    fn turn_faults(&mut self) -> Answer
+        ensures run { KeepsRun self.old self.new }
+        ensures shown { self.new.shown ≡ self.old.shown }
+        ensures turns { TurnsFaults self.old self.new }
+        ensures answer { result ≡ answer.Faults (not (stops_at_faults self.old.stops)) }
+    {
+        Answer::Faults(self.stops.turn_faults())
     }
 
     fn breakpoints(&self, alloc: Global) -> Result<Answer, AllocError>

@@ -3,17 +3,19 @@ ghost use Rattle.std.specs.Prelude.{◌≡◌, ◌⊎◌, ◌≤◌, IfOk, OnOk}
 ghost use Rattle.tb_codegen.specs.Compiled.{starts_of};
 ghost use Rattle.tb_debug.specs.Debuggers.{KeepsRun, OnRun, StandsAt};
 ghost use Rattle.tb_debug.specs.Begins.{StandsBy};
-ghost use Rattle.tb_debug.specs.Leading.{ReverseContinues, RunsUntil};
+ghost use Rattle.tb_debug.specs.Leading.{Continues, ReverseContinues, RunsUntil};
 ghost use Rattle.tb_debug.specs.declared.searching.Destination.TheVariants as destination;
 ghost use Rattle.tb_debug.specs.Runs.{Point, IsCheckpoint, IsOfRun, shown};
 ghost use Rattle.tb_debug.specs.Searching.{KnowsAfter, NewestBetween};
-ghost use Rattle.tb_debug.specs.Stopping.{IsNewest, IsThere, breaks_at, changes, is_sought, leads_back};
+ghost use Rattle.tb_debug.specs.Stopping.{IsNewest, IsThere, breaks_at, changes, has_faulted, is_sought, leads_back, stops_by_fault};
 
 use crate::debugger::Debugger;
 use crate::history::Checkpoint;
 use crate::moment::{Moment, Reached};
 use crate::readings::{line_from, variables_in};
 use std::alloc::{AllocError, Global};
+use tb_faults::fault_in;
+use tb_kernal::Status;
 
 /// What a run goes on to.
 #[derive(Clone, Copy, Debug, Drop)]
@@ -26,15 +28,49 @@ pub enum Destination {
 
 impl<'a> Debugger<'a> {
     /// Runs on to the next line with a breakpoint, or to the end of the next line that gives a watched variable another
-    /// value, by at most `limit` events.
+    /// value, by at most `limit` events. If faults stop the run, and the program ends by one, it stops at the beginning of
+    /// the line that faults, unless the run was there already.
     pub fn continue_(&mut self, alloc: Global, limit: u64) -> Result<Reached, AllocError>
         ensures run { OnOk result (KeepsRun self.old self.new) }
-        ensures stop { IfOk result (λ reached. RunsUntil destination.Stop limit self.old reached self.new.present) }
+        ensures stop { IfOk result (λ reached. Continues limit self.old reached self.new.present) }
         ensures stands { IfOk result (λ reached. StandsBy self.old.starts reached self.new.present) }
         ensures shown { OnOk result (self.new.shown ≡ self.old.shown) }
         ensures stops { OnOk result (self.new.stops ≡ self.old.stops) }
     {
-        self.run_until(alloc, Destination::Stop, limit)
+        let begun = self.present.begun;
+        let begins = self.present.begins(&self.starts);
+        let way = self.run_until(alloc, Destination::Stop, limit)?;
+        let stops = self.stops_by_fault(alloc, begun, begins, way)?;
+        if !stops {
+            return Ok(way);
+        }
+        let reached = self.rewind_to(alloc, self.present.begun.saturating_sub(1))?;
+        Ok(reached)
+    }
+
+    // Whether a way to here ended by a fault that stops it, in a line that was begun on the way: `begun` lines were begun
+    // where it came from, and `begins` tells whether a line begins there.
+    fn stops_by_fault(
+        &self,
+        alloc: Global,
+        begun: u64,
+        begins: bool,
+        way: Reached,
+    ) -> Result<bool, AllocError>
+        ensures { IfOk result (λ stops. stops ≡ stops_by_fault self.now.stops begun begins way self.now.present) }
+    {
+        if !self.stops.stops_at_faults() {
+            return Ok(false);
+        }
+        let faulted = has_faulted(alloc, way, &self.present)?;
+        if !faulted {
+            return Ok(false);
+        }
+        if begins {
+            Ok(begun < self.present.begun.saturating_sub(1))
+        } else {
+            Ok(begun < self.present.begun)
+        }
     }
 
     /// Runs on to the beginning of the line at an address, by at most `limit` events.
@@ -205,6 +241,20 @@ impl<'a> Debugger<'a> {
         }
         let values = variables_in(&moment.machine);
         self.stops.differ(&moment.opened, &values)
+    }
+}
+
+// Whether a way ended where the program returned by a fault.
+fn has_faulted(alloc: Global, way: Reached, moment: &Moment) -> Result<bool, AllocError>
+    ensures { IfOk result (λ faulted. faulted ≡ has_faulted way moment.now) }
+{
+    match way {
+        Reached::Ended(Status::Returned) => {
+            let fault = fault_in(alloc, &moment.machine)?;
+            Ok(fault.is_some())
+        }
+        Reached::Ended(Status::Running | Status::Waits | Status::Wrong(_)) => Ok(false),
+        Reached::Line | Reached::Within | Reached::Limit => Ok(false),
     }
 }
 

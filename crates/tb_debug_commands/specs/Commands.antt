@@ -1,5 +1,5 @@
 -- The debugger's commands, and the lines that spell them.
-use Rattle.std.specs.Prelude.{ℕ, ◌+◌, ◌-◌, ◌*◌, ◌==◌, ◌&&◌, nat_le, List, [], ◌∷◌, length, codes, Option, Some, None, option_map, if◌then◌else◌}
+use Rattle.std.specs.Prelude.{ℕ, ◌+◌, ◌-◌, ◌*◌, ◌==◌, ◌&&◌, nat_le, List, [], ◌∷◌, length, codes, Option, Some, None, option_map, unwrap_or, if◌then◌else◌}
 use Rattle.std.specs.Option.{option_and_then, option_or}
 use Rattle.tb_words.specs.Letters.{letter_index}
 use Rattle.tb_debug_commands.specs.Parts.{number_of, variable_in}
@@ -16,6 +16,7 @@ pub data Asked : Type 0 where
   Continue : Asked
   ReverseContinue : Asked
   Watch : (index : ℕ) → Asked
+  Faults : Asked
   ToLine : (line : ℕ) → Asked
   ToTime : (time : ℕ) → Asked
   ListHere : Asked
@@ -43,6 +44,7 @@ asked_of (command.Breakpoint line) = Breakpoint line
 asked_of command.Continue = Continue
 asked_of command.ReverseContinue = ReverseContinue
 asked_of (command.Watch letter) = Watch (letter_index letter)
+asked_of command.Faults = Faults
 asked_of (command.ToLine line) = ToLine line
 asked_of (command.ToTime time) = ToTime time
 asked_of command.ListHere = ListHere
@@ -89,6 +91,7 @@ alone c =
     else if c == 112 then Previous 1
     else if c == 98 then Breakpoints
     else if c == 99 then Continue
+    else if c == 102 then Faults
     else if c == 108 then ListHere
     else if c == 118 then Variables
     else if c == 114 then Returns
@@ -182,3 +185,25 @@ asked_as None line = asked_by_letter line
 -- what a line asks for
 abbrev pub asked_in : List ℕ → Asked
 asked_in line = asked_as (letter_for line) line
+
+-- ---- the last move
+
+-- what moves the run, if a line asks for it: n, p, c, rc, g, t or s
+abbrev pub as_move : Asked → Option Asked
+as_move (Next lines) = Some (Next lines)
+as_move (Previous lines) = Some (Previous lines)
+as_move Continue = Some Continue
+as_move ReverseContinue = Some ReverseContinue
+as_move (ToLine line) = Some (ToLine line)
+as_move (ToTime time) = Some (ToTime time)
+as_move (Step events) = Some (Step events)
+as_move _ = None
+
+-- the last move after a line that asks for this
+abbrev pub last_move : Option Asked → Asked → Option Asked
+last_move last asked = option_or (as_move asked) last
+
+-- what a line asks for after the last move: an empty one for that once more
+abbrev pub asked_after : Option Asked → List ℕ → Asked
+asked_after last [] = unwrap_or last Unknown
+asked_after last (c ∷ line) = asked_in (c ∷ line)

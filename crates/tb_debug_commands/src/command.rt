@@ -5,6 +5,7 @@ ghost use Rattle.tb_grammar.specs.Grammar.{word_of};
 ghost use Rattle.tb_debug_commands.specs.Commands.{asked_of, asked_in, alone, words, with_text, with_number, counting};
 ghost use Rattle.tb_debug_commands.specs.Commands.{spelled, letter_for, behind};
 ghost use Rattle.tb_debug_commands.specs.Commands.{memory_in, memory_at, address_of, digit_of, most_digits};
+ghost use Rattle.tb_debug_commands.specs.Commands.{asked_after, last_move};
 
 use crate::parts::{number, variable};
 use tb_words::Letter;
@@ -35,6 +36,8 @@ pub enum Command<'a> {
     ReverseContinue,
     /// `w X`: sets or clears a watch.
     Watch(Letter),
+    /// `f`: faults stop `c`, or no longer.
+    Faults,
     /// `g N`: on to a line.
     ToLine(u16),
     /// `t M`: to a time.
@@ -79,6 +82,32 @@ pub fn read_command(line: &[u8]) -> Command<'_>
         (Some((letter, rest)), _) => spelled(letter, rest),
         (None, [letter, rest @ ..]) => spelled(*letter, rest),
         (None, []) => Command::Unknown,
+    }
+}
+
+/// The command that a line is after a move: if the line is empty, the move once more.
+pub fn read_after<'a>(last: Option<Command<'a>>, line: &'a [u8]) -> Command<'a>
+    ensures { asked_of result ≡ asked_after (option_map asked_of last.entry) line.now }
+{
+    match (last, line) {
+        (Some(command), []) => command,
+        _ => read_command(line),
+    }
+}
+
+/// The move that an empty line repeats after a command: the command, if it is one, or else the one before it.
+pub fn last_move<'a>(last: Option<Command<'a>>, command: Command<'_>) -> Option<Command<'a>>
+    ensures { option_map asked_of result ≡ last_move (option_map asked_of last.entry) (asked_of command.entry) }
+{
+    match command {
+        Command::Next(lines) => Some(Command::Next(lines)),
+        Command::Previous(lines) => Some(Command::Previous(lines)),
+        Command::Continue => Some(Command::Continue),
+        Command::ReverseContinue => Some(Command::ReverseContinue),
+        Command::ToLine(line) => Some(Command::ToLine(line)),
+        Command::ToTime(time) => Some(Command::ToTime(time)),
+        Command::Step(events) => Some(Command::Step(events)),
+        _ => last,
     }
 }
 
@@ -153,6 +182,7 @@ fn alone<'a>(letter: u8) -> Command<'a>
         b'p' => Command::Previous(1),
         b'b' => Command::Breakpoints,
         b'c' => Command::Continue,
+        b'f' => Command::Faults,
         b'l' => Command::ListHere,
         b'v' => Command::Variables,
         b'r' => Command::Returns,

@@ -5,7 +5,7 @@ use Rattle.std.proofs.KnownBytes.{Appends-kept, Appends-trans}
 use Rattle.std.proofs.Math.Seq.{take-append-add}
 use Rattle.std.specs.Io.KnownBytes.{Appends}
 use Rattle.tb_streams.specs.Lines.{TakesLine, TakesPart, without_return}
-use Rattle.tb_debug_commands.specs.Commands.{asked_in, asked_of}
+use Rattle.tb_debug_commands.specs.Commands.{asked_after, asked_of, last_move}
 use Rattle.tb_debug_commands.specs.declared.command.Command.{Command}
 use Rattle.tb_debug.specs.Debuggers.{Responds}
 use Rattle.tb_debug.specs.Kinds.{IsWalk}
@@ -15,11 +15,11 @@ use Rattle.tb_streams.specs.Streams.{AppendsPrefix}
 use Rattle.tb_engines.specs.declared.outcome.Outcome.{Outcome}
 use Rattle.tb_engines.specs.declared.outcome.Outcome.TheVariants.{Ended, Refused, ReadFault, WriteFault, NoMemory}
 use Rattle.tb_debug.specs.declared.answer.Answer.{Answer}
-use Rattle.tb_debug.specs.declared.debugger.Debugger.{Debugger}
-use Rattle.tb_debug_engine.specs.Dialogue.{Answers, Exchanges, Says, prompt}
+use Rattle.tb_debug_engine.specs.Dialogue.{Answers, Exchanges, Says, prompt, repeated}
 use Rattle.tb_debug_engine.specs.Streams.{Streams, Stream, Takes, Writes}
 use Rattle.tb_inspection.specs.Texts.{value_text}
 use Rattle.tb_debug_engine.specs.Sources.{shown_of}
+use Rattle.tb_debug_engine.specs.declared.dialogue.Dialogue.{Dialogue}
 use Rattle.tb_debug_engine.specs.declared.dialogue.Setting.{Setting}
 use Rattle.tb_debug_engine.specs.Texts.{line, variable_text}
 use Rattle.tb_debug_engine.specs.declared.sources.Written.{Written}
@@ -35,22 +35,23 @@ taken_in_part had left taken (is_line, inl whole) = (is_line, inr whole)
 taken_in_part had left taken (is_line, inr (some, whole, end)) = (is_line, inl whole)
 
 -- a line that spells a command is answered as the debugger responds to it
-pub answered : (limit : ℕ) (d e : Debugger) (command : Command) (taken : List ℕ) (told : Option Answer) → asked_of command ≡ asked_in (without_return taken)
-    → Responds command d e → Tells limit command d e told → (¬ (IsWalk command d) → e.shown ≡ d.shown) → Leaves command d e
-    → Answers limit d taken told e
-answered limit d e command taken told spelled run tells shown leaves =
-    record { command = command; spelled = spelled; run = run; tells = tells; shown = shown; leaves = leaves }
+pub answered : (limit : ℕ) (d e : Dialogue) (command : Command) (taken : List ℕ) (told : Option Answer)
+    → asked_of command ≡ asked_after (repeated d) (without_return taken) → Responds command d.debugger e.debugger
+    → Tells limit command d.debugger e.debugger told → (¬ (IsWalk command d.debugger) → e.debugger.shown ≡ d.debugger.shown)
+    → Leaves command d.debugger e.debugger → repeated e ≡ last_move (repeated d) (asked_of command) → Answers limit d taken told e
+answered limit d e command taken told spelled run tells shown leaves moved =
+    record { command = command; spelled = spelled; run = run; tells = tells; shown = shown; leaves = leaves; moved = moved }
 
 -- an answer that can't be told
-pub said_wrong : (w : Written) (setting : Setting) (d e : Debugger) (outcome : Outcome) (taken : List ℕ) (told : Answer) (old new : Streams) (mid : Stream)
+pub said_wrong : (w : Written) (setting : Setting) (d e : Dialogue) (outcome : Outcome) (taken : List ℕ) (told : Answer) (old new : Streams) (mid : Stream)
     → Takes taken old.commands new.commands → Answers setting.limit d taken (Some told) e → Writes (prompt setting.prompts) old.answers mid
-    → Says (shown_of w told) (Err outcome) mid new.answers → Exchanges w setting d (Err outcome) e old new
+    → Says (shown_of setting.prompts w told) (Err outcome) mid new.answers → Exchanges w setting d (Err outcome) e old new
 said_wrong w setting d e WriteFault taken told old new mid took answers (before, same) (part, other) =
     inr (
       told,
       (taken, took, answers),
       (
-        prefix_more (prompt setting.prompts) (shown_of w told) old.answers.bytes mid.bytes new.answers.bytes before part,
+        prefix_more (prompt setting.prompts) (shown_of setting.prompts w told) old.answers.bytes mid.bytes new.answers.bytes before part,
         subst (λ x. new.answers.failures ≢ x) same other,
       ),
     )

@@ -33,6 +33,7 @@ use Rattle.tb_debug.specs.declared.rom.Rom.{Rom}
 use Rattle.tb_debug.specs.declared.debugger.Debugger.{Debugger}
 use Rattle.tb_debug_engine.specs.Dialogue.{Begins, IsBegun, IsFirst, Opens, Says}
 use Rattle.tb_debug_engine.specs.Sources.{shown_of}
+use Rattle.tb_debug_engine.specs.declared.dialogue.Setting.{Setting}
 use Rattle.tb_debug_engine.specs.Streams.{Stream}
 use Rattle.tb_debug_engine.specs.declared.sources.Written.{Written}
 
@@ -106,11 +107,11 @@ first_told d e told reached stands run stays stop =
     record { run = run; stays = ap (λ x. x.present) stays; stop = subst (λ b. TellsStop d.shown b e told) none stop }
 
 -- telling the first stop
-pub opened : (w : Written) (d e : Debugger) (told : Answer) (result : Result (Unit {0}) Outcome) (old new : Stream) → IsFirst d told e
-    → Says (shown_of w told) result old new → Opens w d result e old new
-opened w d e told (Ok done) old new first said = (told, first, said)
-opened w d e told (Err WriteFault) old new first said = (told, first, said)
-opened w d e told (Err NoMemory) old new first said = said
-opened w d e told (Err ReadFault) old new first h = absurd h
-opened w d e told (Err (Ended end)) old new first h = absurd h
-opened w d e told (Err (Refused why)) old new first h = absurd h
+pub opened : (w : Written) (setting : Setting) (d e : Debugger) (told : Answer) (result : Result (Unit {0}) Outcome) (old new : Stream) → IsFirst d told e
+    → Says (shown_of setting.prompts w told) result old new → Opens w setting d result e old new
+opened w setting d e told (Ok done) old new first said = (told, first, said)
+opened w setting d e told (Err WriteFault) old new first said = (told, first, said)
+opened w setting d e told (Err NoMemory) old new first said = said
+opened w setting d e told (Err ReadFault) old new first h = absurd h
+opened w setting d e told (Err (Ended end)) old new first h = absurd h
+opened w setting d e told (Err (Refused why)) old new first h = absurd h

@@ -7,13 +7,13 @@ use Rattle.tb_engines.specs.declared.outcome.Outcome.{Outcome}
 use Rattle.tb_engines.specs.declared.outcome.Outcome.TheVariants.{Ended, Refused, ReadFault, WriteFault, NoMemory}
 use Rattle.tb_play.proofs.Talking.{taken_more}
 use Rattle.tb_debug.specs.declared.answer.Answer.{Answer}
-use Rattle.tb_debug.specs.declared.debugger.Debugger.{Debugger}
 use Rattle.tb_debug_engine.specs.Dialogue.{Answers, Exchanges, HasAnswered, Talked, Talks, answer_text}
 use Rattle.tb_debug_engine.specs.Streams.{Streams, Takes, Writes}
+use Rattle.tb_debug_engine.specs.declared.dialogue.Dialogue.{Dialogue}
 use Rattle.tb_debug_engine.specs.declared.dialogue.Setting.{Setting}
 use Rattle.tb_debug_engine.specs.declared.sources.Written.{Written}
 
-talked_more : (w : Written) (setting : Setting) (lines : List (List ℕ)) (d m e : Debugger) (line : List ℕ) (told : Answer) (text : List ℕ)
+talked_more : (w : Written) (setting : Setting) (lines : List (List ℕ)) (d m e : Dialogue) (line : List ℕ) (told : Answer) (text : List ℕ)
     → Talked w setting d lines text m → Answers setting.limit m line (Some told) e
     → Talked w setting d (lines ++ line ∷ []) (text ++ answer_text w setting told) e
 talked_more w setting [] d m e line told text (none, same) answers =
@@ -25,7 +25,7 @@ talked_more w setting (l ∷ lines) d m e line told text (first, b, more, one, r
     (first, b, more ++ shown, one, talked_more w setting lines b m e line told more rest answers, ap (λ t. t ++ shown) whole ∙ append_assoc before more shown)
 
 -- a line more is taken and answered
-pub answered_more : (w : Written) (setting : Setting) (d m e : Debugger) (lines : List (List ℕ)) (line : List ℕ) (told : Answer) (old mid new : Streams)
+pub answered_more : (w : Written) (setting : Setting) (d m e : Dialogue) (lines : List (List ℕ)) (line : List ℕ) (told : Answer) (old mid new : Streams)
     → HasAnswered w setting d lines m old mid → Takes line mid.commands new.commands → Answers setting.limit m line (Some told) e
     → Writes (answer_text w setting told) mid.answers new.answers → HasAnswered w setting d (lines ++ line ∷ []) e old new
 answered_more w setting d m e lines line told old mid new answered (took, sound) answers (since, same) =
@@ -38,13 +38,13 @@ answered_more w setting d m e lines line told old mid new answered (took, sound)
     }
 
 -- a dialogue that closes
-pub closed : (w : Written) (setting : Setting) (d e f : Debugger) (lines : List (List ℕ)) (old mid new : Streams) → HasAnswered w setting d lines e old mid
+pub closed : (w : Written) (setting : Setting) (d e f : Dialogue) (lines : List (List ℕ)) (old mid new : Streams) → HasAnswered w setting d lines e old mid
     → Exchanges w setting e (Ok false) f mid new → Talks w setting d (Ended Done) old new
 closed w setting d e f lines old mid new answered closes =
     record { lines = lines; last = e; mid = mid; answered = answered; ends = (refl, inl (f, closes)) }
 
 -- a dialogue that can't go on
-pub broken : (w : Written) (setting : Setting) (d e f : Debugger) (outcome : Outcome) (lines : List (List ℕ)) (old mid new : Streams)
+pub broken : (w : Written) (setting : Setting) (d e f : Dialogue) (outcome : Outcome) (lines : List (List ℕ)) (old mid new : Streams)
     → HasAnswered w setting d lines e old mid → Exchanges w setting e (Err outcome) f mid new → Talks w setting d outcome old new
 broken w setting d e f ReadFault lines old mid new answered breaks =
     record { lines = lines; last = e; mid = mid; answered = answered; ends = (f, breaks) }

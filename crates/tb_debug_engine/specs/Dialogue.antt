@@ -1,5 +1,5 @@
 -- What the debugger is told, and what it writes.
-use Rattle.std.specs.Prelude.{ℕ, ◌≡◌, ◌⊎◌, Bool, true, false, List, [], ◌∷◌, ◌++◌, codes, length, Option, Some, None, Result, Ok, Err}
+use Rattle.std.specs.Prelude.{ℕ, ◌≡◌, ◌⊎◌, Bool, true, false, List, [], ◌∷◌, ◌++◌, codes, length, Option, Some, None, option_map, Result, Ok, Err}
 use Rattle.std.specs.declared.alloc.Global.{Global}
 use Rattle.std.specs.declared.vec.Vec.{Vec}
 use Rattle.tb_kernal.specs.Machine.{State, state_of}
@@ -15,7 +15,7 @@ use Rattle.tb_engines.specs.declared.outcome.Outcome.TheVariants.{Ended, Refused
 use Rattle.tb_play.specs.Lines.{TakesLines}
 use Rattle.tb_codegen.specs.Compiled.{prg_of}
 use Rattle.tb_codegen.specs.declared.compiled.Compiled.{Compiled}
-use Rattle.tb_debug_commands.specs.Commands.{asked_in, asked_of}
+use Rattle.tb_debug_commands.specs.Commands.{Asked, asked_after, asked_of, last_move}
 use Rattle.tb_debug_commands.specs.declared.command.Command.{Command}
 use Rattle.tb_debug.specs.Debuggers.{IsOpening, KeepsRun, OnRun, Responds}
 use Rattle.tb_debug.specs.Sources as sources
@@ -28,6 +28,7 @@ use Rattle.tb_debug.specs.declared.rom.Rom.{Rom}
 use Rattle.tb_debug.specs.declared.debugger.Debugger.{Debugger}
 use Rattle.tb_debug.specs.Kinds.{IsWalk}
 use Rattle.tb_debug.specs.Leaving.{Leaves}
+use Rattle.tb_debug_engine.specs.declared.dialogue.Dialogue.{Dialogue}
 use Rattle.tb_debug_engine.specs.declared.dialogue.Setting.{Setting}
 use Rattle.tb_debug_engine.specs.Sources.{AreWritten, shown_of}
 use Rattle.tb_debug_engine.specs.Streams.{Stream, Streams, Takes, TakesNone, TakesSome, FailsToTake, Writes, WritesNone, FailsToWrite}
@@ -36,15 +37,21 @@ use Rattle.tb_debug_engine.specs.declared.sources.Written.{Written}
 
 -- ---- one line
 
--- a line is answered: what it spells is done, by at most `limit` events if it goes on, and this is told, or nothing if it
--- ends the dialogue; what is sent since a stop is told with the next one, and what it doesn't ask for stays
-pub record Answers (limit : ℕ) (d : Debugger) (line : List ℕ) (told : Option Answer) (e : Debugger) : Type 0 where
+-- the move that an empty line repeats
+abbrev pub repeated : Dialogue → Option Asked
+repeated d = option_map asked_of d.last
+
+-- a line is answered: what it asks for after the last move is done, by at most `limit` events if it goes on, and this is told,
+-- or nothing if it ends the dialogue; what is sent since a stop is told with the next one, and what it doesn't ask for stays;
+-- if it moves the run, it is the last move then
+pub record Answers (limit : ℕ) (d : Dialogue) (line : List ℕ) (told : Option Answer) (e : Dialogue) : Type 0 where
   pub command : Command
-  pub spelled : asked_of command ≡ asked_in (without_return line)
-  pub run : Responds command d e
-  pub tells : Tells limit command d e told
-  pub shown : ¬ (IsWalk command d) → e.shown ≡ d.shown
-  pub leaves : Leaves command d e
+  pub spelled : asked_of command ≡ asked_after (repeated d) (without_return line)
+  pub run : Responds command d.debugger e.debugger
+  pub tells : Tells limit command d.debugger e.debugger told
+  pub shown : ¬ (IsWalk command d.debugger) → e.debugger.shown ≡ d.debugger.shown
+  pub leaves : Leaves command d.debugger e.debugger
+  pub moved : repeated e ≡ last_move (repeated d) (asked_of command)
 
 -- what is shown before a line that is typed at a terminal
 abbrev pub prompt : Bool → List ℕ
@@ -63,18 +70,18 @@ Asks prompts (Err (Refused why)) old new = ⊥
 
 -- the text of an answer, after the prompt
 abbrev pub answer_text : Written → Setting → Answer → List ℕ
-answer_text w setting told = prompt setting.prompts ++ shown_of w told
+answer_text w setting told = prompt setting.prompts ++ shown_of setting.prompts w told
 
 -- a line is taken, and answered
-abbrev pub Exchanged : Setting → Debugger → Answer → Debugger → Stream → Stream → Type 0
+abbrev pub Exchanged : Setting → Dialogue → Answer → Dialogue → Stream → Stream → Type 0
 Exchanged setting d told e old new = (line : List ℕ) × Takes line old new × Answers setting.limit d line (Some told) e
 
 -- no line is left, or one is taken that ends the dialogue
-abbrev pub Closes : Setting → Debugger → Stream → Stream → Type 0
-Closes setting d old new = TakesNone old new ⊎ ((line : List ℕ) × (e : Debugger) × Takes line old new × Answers setting.limit d line None e)
+abbrev pub Closes : Setting → Dialogue → Stream → Stream → Type 0
+Closes setting d old new = TakesNone old new ⊎ ((line : List ℕ) × (e : Dialogue) × Takes line old new × Answers setting.limit d line None e)
 
 -- what the next line comes to: whether the dialogue goes on; the answer is written after the prompt
-abbrev pub Exchanges : Written → Setting → Debugger → Result Bool Outcome → Debugger → Streams → Streams → Type 0
+abbrev pub Exchanges : Written → Setting → Dialogue → Result Bool Outcome → Dialogue → Streams → Streams → Type 0
 Exchanges w setting d (Ok true) e old new =
     (told : Answer) × Exchanged setting d told e old.commands new.commands × Writes (answer_text w setting told) old.answers new.answers
 Exchanges w setting d (Ok false) e old new =
@@ -93,15 +100,15 @@ Exchanges w setting d (Err (Refused why)) e old new = ⊥
 -- ---- the dialogue
 
 -- lines are answered one after the other, with this text
-abbrev pub Talked : Written → Setting → Debugger → List (List ℕ) → List ℕ → Debugger → Type 0
+abbrev pub Talked : Written → Setting → Dialogue → List (List ℕ) → List ℕ → Dialogue → Type 0
 Talked w setting d [] text e = (text ≡ []) × (e ≡ d)
 Talked w setting d (line ∷ lines) text e =
-    (told : Answer) × (b : Debugger) × (more : List ℕ) × Answers setting.limit d line (Some told) b × Talked w setting b lines more e
+    (told : Answer) × (b : Dialogue) × (more : List ℕ) × Answers setting.limit d line (Some told) b × Talked w setting b lines more e
     × (text ≡ answer_text w setting told ++ more)
 
--- a debugger has answered lines, each before the next one was taken: the text of their answers is written, and what was
+-- lines were answered, each before the next one was taken: the text of their answers is written, and what was
 -- not taken is left
-pub record HasAnswered (w : Written) (setting : Setting) (d : Debugger) (lines : List (List ℕ)) (e : Debugger) (old new : Streams)
+pub record HasAnswered (w : Written) (setting : Setting) (d : Dialogue) (lines : List (List ℕ)) (e : Dialogue) (old new : Streams)
     : Type 0 where
   pub text : List ℕ
   pub talked : Talked w setting d lines text e
@@ -114,18 +121,18 @@ abbrev pub most_lines : ℕ
 most_lines = 18446744073709551615
 
 -- how a dialogue ends after `count` lines
-abbrev pub Ends : Written → Setting → ℕ → Debugger → Outcome → Streams → Streams → Type 0
+abbrev pub Ends : Written → Setting → ℕ → Dialogue → Outcome → Streams → Streams → Type 0
 Ends w setting count d (Ended end) old new =
-    (end ≡ Done) × (((e : Debugger) × Exchanges w setting d (Ok false) e old new) ⊎ ((count ≡ most_lines) × (new ≡ old)))
-Ends w setting count d ReadFault old new = (e : Debugger) × Exchanges w setting d (Err ReadFault) e old new
-Ends w setting count d WriteFault old new = (e : Debugger) × Exchanges w setting d (Err WriteFault) e old new
-Ends w setting count d NoMemory old new = (e : Debugger) × Exchanges w setting d (Err NoMemory) e old new
+    (end ≡ Done) × (((e : Dialogue) × Exchanges w setting d (Ok false) e old new) ⊎ ((count ≡ most_lines) × (new ≡ old)))
+Ends w setting count d ReadFault old new = (e : Dialogue) × Exchanges w setting d (Err ReadFault) e old new
+Ends w setting count d WriteFault old new = (e : Dialogue) × Exchanges w setting d (Err WriteFault) e old new
+Ends w setting count d NoMemory old new = (e : Dialogue) × Exchanges w setting d (Err NoMemory) e old new
 Ends w setting count d (Refused why) old new = ⊥
 
--- a dialogue from a debugger on that ends so
-pub record Talks (w : Written) (setting : Setting) (d : Debugger) (outcome : Outcome) (old new : Streams) : Type 0 where
+-- a dialogue that goes on and ends so
+pub record Talks (w : Written) (setting : Setting) (d : Dialogue) (outcome : Outcome) (old new : Streams) : Type 0 where
   pub lines : List (List ℕ)
-  pub last : Debugger
+  pub last : Dialogue
   pub mid : Streams
   pub answered : HasAnswered w setting d lines last old mid
   pub ends : Ends w setting (length lines) last outcome mid new
@@ -168,13 +175,14 @@ pub record IsFirst (d : Debugger) (told : Answer) (e : Debugger) : Type 0 where
   pub stop : TellsStop d.shown false e told
 
 -- what telling the first stop answers
-abbrev pub Opens : Written → Debugger → Result (Unit {0}) Outcome → Debugger → Stream → Stream → Type 0
-Opens w d (Ok done) e old new = (told : Answer) × IsFirst d told e × Writes (shown_of w told) old new
-Opens w d (Err WriteFault) e old new = (told : Answer) × IsFirst d told e × FailsToWrite (shown_of w told) old new
-Opens w d (Err NoMemory) e old new = WritesNone old new
-Opens w d (Err ReadFault) e old new = ⊥
-Opens w d (Err (Ended end)) e old new = ⊥
-Opens w d (Err (Refused why)) e old new = ⊥
+abbrev pub Opens : Written → Setting → Debugger → Result (Unit {0}) Outcome → Debugger → Stream → Stream → Type 0
+Opens w setting d (Ok done) e old new = (told : Answer) × IsFirst d told e × Writes (shown_of setting.prompts w told) old new
+Opens w setting d (Err WriteFault) e old new =
+    (told : Answer) × IsFirst d told e × FailsToWrite (shown_of setting.prompts w told) old new
+Opens w setting d (Err NoMemory) e old new = WritesNone old new
+Opens w setting d (Err ReadFault) e old new = ⊥
+Opens w setting d (Err (Ended end)) e old new = ⊥
+Opens w setting d (Err (Refused why)) e old new = ⊥
 
 -- ---- the whole
 
@@ -189,22 +197,26 @@ DoesNothing program keyboard outcome old new =
     ((outcome ≡ NoMemory) ⊎ ((why : Refusal) × (outcome ≡ Refused why) × IsBarred program keyboard why)) × (new ≡ old)
 
 -- the first stop can't be told
-abbrev pub FailsToOpen : Written → Debugger → Outcome → Streams → Streams → Type 0
-FailsToOpen w d outcome old new =
-    (e : Debugger) × Opens w d (Err outcome) e old.answers new.answers × (new.commands ≡ old.commands)
+abbrev pub FailsToOpen : Written → Setting → Debugger → Outcome → Streams → Streams → Type 0
+FailsToOpen w setting d outcome old new =
+    (e : Debugger) × Opens w setting d (Err outcome) e old.answers new.answers × (new.commands ≡ old.commands)
+
+-- a dialogue before its first line, with a debugger
+abbrev pub unbegun : Debugger → Dialogue
+unbegun d = record { debugger = d; last = None }
 
 -- the first stop is told, and then lines are answered
 abbrev pub OpensAndTalks : Written → Setting → Debugger → Outcome → Streams → Streams → Type 0
 OpensAndTalks w setting d outcome old new =
-    (e : Debugger) × (told : Answer) × (mid : Stream) × IsFirst d told e × Writes (shown_of w told) old.answers mid
-    × Talks w setting e outcome (record old { answers = mid }) new
+    (e : Debugger) × (told : Answer) × (mid : Stream) × IsFirst d told e × Writes (shown_of setting.prompts w told) old.answers mid
+    × Talks w setting (unbegun e) outcome (record old { answers = mid }) new
 
 -- what debugging a source comes to
 abbrev pub Debugs : CompiledSource → Keyboard → Setting → Outcome → Streams → Streams → Type 0
 Debugs s keyboard setting outcome old new =
     DoesNothing s.program keyboard outcome old new
     ⊎ ((w : Written) × (d : Debugger) × AreReady s keyboard setting.rom w d
-    × (FailsToOpen w d outcome old new ⊎ OpensAndTalks w setting d outcome old new))
+    × (FailsToOpen w setting d outcome old new ⊎ OpensAndTalks w setting d outcome old new))
 
 -- what writing a text answers
 abbrev pub Says : List ℕ → Result (Unit {0}) Outcome → Stream → Stream → Type 0

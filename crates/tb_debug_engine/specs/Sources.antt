@@ -1,5 +1,5 @@
 -- A source that is debugged.
-use Rattle.std.specs.Prelude.{◌≡◌, ℕ, List, map}
+use Rattle.std.specs.Prelude.{◌≡◌, ℕ, Bool, List, map}
 use Rattle.tb_codegen.specs.Compiled.{starts_of}
 use Rattle.tb_source_text.specs.Lines.{numbered, pair_of}
 use Rattle.tb_debug.specs.declared.answer.Answer.{Answer}
@@ -7,9 +7,9 @@ use Rattle.tb_debug_engine.specs.Texts.{text_of}
 use Rattle.tb_driver.specs.declared.reading.CompiledSource.{CompiledSource}
 use Rattle.tb_debug_engine.specs.declared.sources.Written.{Written}
 
--- the text of an answer, with the lines of a source
-abbrev pub shown_of : Written → Answer → List ℕ
-shown_of w answer = text_of (map pair_of w.lines.items) w.numbers.items answer
+-- the text of an answer, with the lines of a source; with what helps, or without
+abbrev pub shown_of : (hints : Bool) → Written → Answer → List ℕ
+shown_of hints w answer = text_of hints (map pair_of w.lines.items) w.numbers.items answer
 
 -- the lines of a source, and which of them its program has
 pub record AreWritten (s : CompiledSource) (w : Written) : Type 0 where

@@ -110,6 +110,7 @@ help_text =
     ++ (line (codes "rc         back to a breakpoint or to a line that changed what is watched")
     ++ (line (codes "b [N]      breakpoint at line N on or off; all breakpoints")
     ++ (line (codes "w X        watch on variable X on or off")
+    ++ (line (codes "f          stop of c at the line that faults on or off")
     ++ (line (codes "g N        on to line N")
     ++ (line (codes "t M        to time M, when M lines are done")
     ++ (line (codes "l [N]      source round the place, or round line N")
@@ -123,24 +124,35 @@ help_text =
     ++ (line (codes "m ADDR [K] K bytes of memory, ADDR four hexadecimal digits")
     ++ (line (codes "i          machine code here")
     ++ (line (codes "h          this help")
-    ++ line (codes "q          end")))))))))))))))))))
+    ++ line (codes "q          end"))))))))))))))))))))
+
+-- the answer to a line that is no command, and to a text that is no expression: with what helps, or without
+abbrev pub what_text : (hints : Bool) → List ℕ
+what_text true = codes "what? (h lists the commands)"
+what_text false = what
+
+-- whether faults stop `c` then
+abbrev pub faults_text : Bool → List ℕ
+faults_text true = codes "stops at faults"
+faults_text false = codes "goes through faults"
 
 -- the text of an answer: lines, each ended by 10
-abbrev pub text_of : List (ℕ × List ℕ) → List ℕ → Answer → List ℕ
-text_of lines numbers (answer.Stop stand) = stand_text lines stand
-text_of lines numbers answer.Set = line (codes "set")
-text_of lines numbers answer.Cleared = line (codes "cleared")
-text_of lines numbers (answer.Breakpoints set) = or_none (flat_map (written lines) set.items)
-text_of lines numbers (answer.List around here) = list_text lines numbers around here
-text_of lines numbers (answer.Variables values) = or_none (variables_from 0 values)
-text_of lines numbers (answer.Variable index value) = variable_text index value
-text_of lines numbers (answer.Value value) = line (value_text value)
-text_of lines numbers (answer.Returns noted) = or_none (flat_map (return_text lines) noted.items)
-text_of lines numbers (answer.Output sent) = or_none (sent_text sent.items)
-text_of lines numbers answer.Typed = line (codes "typed")
-text_of lines numbers (answer.Registers regs at status) = line (registers_text regs at status)
-text_of lines numbers (answer.Memory at bytes) = line (bytes_text 0 at bytes.items)
-text_of lines numbers (answer.Code code) = code_text code.items
-text_of lines numbers answer.Help = help_text
-text_of lines numbers answer.NoSuchLine = line no_such_line
-text_of lines numbers answer.What = line what
+abbrev pub text_of : (hints : Bool) → List (ℕ × List ℕ) → List ℕ → Answer → List ℕ
+text_of hints lines numbers (answer.Stop stand) = stand_text lines stand
+text_of hints lines numbers answer.Set = line (codes "set")
+text_of hints lines numbers answer.Cleared = line (codes "cleared")
+text_of hints lines numbers (answer.Faults is_set) = line (faults_text is_set)
+text_of hints lines numbers (answer.Breakpoints set) = or_none (flat_map (written lines) set.items)
+text_of hints lines numbers (answer.List around here) = list_text lines numbers around here
+text_of hints lines numbers (answer.Variables values) = or_none (variables_from 0 values)
+text_of hints lines numbers (answer.Variable index value) = variable_text index value
+text_of hints lines numbers (answer.Value value) = line (value_text value)
+text_of hints lines numbers (answer.Returns noted) = or_none (flat_map (return_text lines) noted.items)
+text_of hints lines numbers (answer.Output sent) = or_none (sent_text sent.items)
+text_of hints lines numbers answer.Typed = line (codes "typed")
+text_of hints lines numbers (answer.Registers regs at status) = line (registers_text regs at status)
+text_of hints lines numbers (answer.Memory at bytes) = line (bytes_text 0 at bytes.items)
+text_of hints lines numbers (answer.Code code) = code_text code.items
+text_of hints lines numbers answer.Help = help_text
+text_of hints lines numbers answer.NoSuchLine = line no_such_line
+text_of hints lines numbers answer.What = line (what_text hints)

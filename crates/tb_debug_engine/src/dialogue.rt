@@ -11,7 +11,7 @@ use crate::sources::Written;
 use crate::texts::push_answer;
 use std::alloc::Global;
 use std::io::{Read, Write};
-use tb_debug::{Answer, Debugger, Rom, read_command};
+use tb_debug::{Answer, Command, Debugger, Rom, last_move, read_after};
 use tb_driver::{CompiledSource, are_bytes, start_program};
 use tb_engines::{End, Outcome, without_input, without_text};
 use tb_kernal::Keyboard;
@@ -26,8 +26,16 @@ pub struct Setting {
     pub rom: Rom,
     /// How many events a command that goes on may take.
     pub limit: u64,
-    /// Whether a prompt is shown.
+    /// Whether a prompt is shown, and after `what?` what helps.
     pub prompts: bool,
+}
+
+/// A dialogue as far as it has come.
+#[derive(Drop)]
+pub struct Dialogue<'a> {
+    debugger: Debugger<'a>,
+    /// The move that an empty line repeats.
+    last: Option<Command<'static>>,
 }
 
 // Writes the text of an answer, and flushes it.
@@ -35,12 +43,13 @@ fn say<W: Write>(
     alloc: Global,
     writer: &mut Tracked<W>,
     source: &Written<'_>,
+    hints: bool,
     answer: Answer,
 ) -> Result<(), Outcome>
-    ensures { Says (shown_of source.now answer) result (stream_of W.contents writer.old) (stream_of W.contents writer.new) }
+    ensures { Says (shown_of hints source.now answer) result (stream_of W.contents writer.old) (stream_of W.contents writer.new) }
 {
     let mut text = Vec::new(alloc);
-    if push_answer(alloc, &mut text, source, answer).is_err() {
+    if push_answer(alloc, &mut text, source, hints, answer).is_err() {
         return Err(Outcome::NoMemory);
     }
     match write_output(writer, text.as_slice()) {
@@ -84,13 +93,13 @@ fn ask<R: Read, W: Write>(
 // Answers the next line: whether there was one that isn't the end.
 fn answer_line<R: Read, W: Write>(
     alloc: Global,
-    debugger: &mut Debugger<'_>,
+    dialogue: &mut Dialogue<'_>,
     source: &Written<'_>,
     setting: Setting,
     commands: &mut Tracked<R>,
     writer: &mut Tracked<W>,
 ) -> Result<bool, Outcome>
-    ensures { Exchanges source.now setting debugger.old result debugger.new
+    ensures { Exchanges source.now setting dialogue.old result dialogue.new
         (streams_of R.remaining commands.old W.contents writer.old) (streams_of R.remaining commands.new W.contents writer.new) }
 {
     let line = match ask(alloc, setting.prompts, commands, writer) {
@@ -98,9 +107,10 @@ fn answer_line<R: Read, W: Write>(
         Ok(None) => return Ok(false),
         Err(outcome) => return Err(outcome),
     };
-    let command = read_command(without_return(line.as_slice()));
-    match debugger.respond(alloc, command, setting.limit) {
-        Ok(Some(answer)) => match say(alloc, writer, source, answer) {
+    let command = read_after(dialogue.last, without_return(line.as_slice()));
+    dialogue.last = last_move(dialogue.last, command);
+    match dialogue.debugger.respond(alloc, command, setting.limit) {
+        Ok(Some(answer)) => match say(alloc, writer, source, setting.prompts, answer) {
             Ok(()) => Ok(true),
             Err(outcome) => Err(outcome),
         },
@@ -112,17 +122,17 @@ fn answer_line<R: Read, W: Write>(
 // Answers each line after the first stop, until one ends the dialogue or none is left.
 fn answer_lines<R: Read, W: Write>(
     alloc: Global,
-    debugger: &mut Debugger<'_>,
+    dialogue: &mut Dialogue<'_>,
     source: &Written<'_>,
     setting: Setting,
     commands: &mut Tracked<R>,
     writer: &mut Tracked<W>,
 ) -> Outcome
-    ensures { Talks source.now setting debugger.old result
+    ensures { Talks source.now setting dialogue.old result
         (streams_of R.remaining commands.old W.contents writer.old) (streams_of R.remaining commands.new W.contents writer.new) }
 {
     for asked in 0..u64::MAX {
-        match answer_line(alloc, debugger, source, setting, commands, writer) {
+        match answer_line(alloc, dialogue, source, setting, commands, writer) {
             Ok(true) => {}
             Ok(false) => return Outcome::Ended(End::Done),
             Err(outcome) => return outcome,
@@ -158,12 +168,13 @@ fn open<W: Write>(
     alloc: Global,
     debugger: &mut Debugger<'_>,
     source: &Written<'_>,
+    setting: Setting,
     writer: &mut Tracked<W>,
 ) -> Result<(), Outcome>
-    ensures { Opens source.now debugger.old result debugger.new (stream_of W.contents writer.old) (stream_of W.contents writer.new) }
+    ensures { Opens source.now setting debugger.old result debugger.new (stream_of W.contents writer.old) (stream_of W.contents writer.new) }
 {
     match debugger.stop(alloc, debugger.standing()) {
-        Ok(first) => say(alloc, writer, source, first),
+        Ok(first) => say(alloc, writer, source, setting.prompts, first),
         Err(_) => Err(Outcome::NoMemory),
     }
 }
@@ -184,12 +195,15 @@ pub fn debug<R: Read, W: Write>(
     let Ok(written) = Written::new(alloc, source) else {
         return Outcome::NoMemory;
     };
-    let mut debugger = match debugger_of(alloc, source, keyboard, setting.rom) {
-        Ok(debugger) => debugger,
+    let mut dialogue = match debugger_of(alloc, source, keyboard, setting.rom) {
+        Ok(debugger) => Dialogue {
+            debugger,
+            last: None,
+        },
         Err(outcome) => return outcome,
     };
-    match open(alloc, &mut debugger, &written, writer) {
-        Ok(()) => answer_lines(alloc, &mut debugger, &written, setting, commands, writer),
+    match open(alloc, &mut dialogue.debugger, &written, setting, writer) {
+        Ok(()) => answer_lines(alloc, &mut dialogue, &written, setting, commands, writer),
         Err(outcome) => outcome,
     }
 }

@@ -6,9 +6,9 @@ ghost use Rattle.tb_inspection.specs.Texts.{registers_text, value_text};
 ghost use Rattle.tb_debug_engine.specs.Lists.{written};
 ghost use Rattle.tb_debug_engine.specs.Sources.{shown_of};
 ghost use Rattle.tb_debug_engine.specs.Texts as texts;
-ghost use Rattle.tb_debug_engine.specs.Texts.{barred_from, byte_text, bytes_text, code_text, or_none, location_text};
+ghost use Rattle.tb_debug_engine.specs.Texts.{barred_from, byte_text, bytes_text, code_text, faults_text, or_none, location_text};
 ghost use Rattle.tb_debug_engine.specs.Texts.{return_text, row_text, sent_text, stand_text, standing_text, unless_zero};
-ghost use Rattle.tb_debug_engine.specs.Texts.{variable_text, variables_from};
+ghost use Rattle.tb_debug_engine.specs.Texts.{variable_text, variables_from, what_text};
 
 use crate::lists::{push_list, push_written};
 use crate::sources::Written;
@@ -41,6 +41,7 @@ c          on to a breakpoint or behind a line that changes what is watched
 rc         back to a breakpoint or to a line that changed what is watched
 b [N]      breakpoint at line N on or off; all breakpoints
 w X        watch on variable X on or off
+f          stop of c at the line that faults on or off
 g N        on to line N
 t M        to time M, when M lines are done
 l [N]      source round the place, or round line N
@@ -349,14 +350,38 @@ fn push_code(alloc: Global, text: &mut Vec<u8>, lines: Vec<Line>) -> Result<(), 
     text.extend_from_slice(Listing { lines }.text(alloc)?.as_slice())
 }
 
-/// Appends the text of an answer: lines, each ended by 10.
+// Appends whether faults stop the run then, in a line of its own.
+fn push_faults(text: &mut Vec<u8>, is_set: bool) -> Result<(), AllocError>
+    ensures { AppendsBytes result text.old text.new (texts.line (faults_text is_set)) }
+{
+    if is_set {
+        push_line(text, b"stops at faults")
+    } else {
+        push_line(text, b"goes through faults")
+    }
+}
+
+// Appends the answer to a line that is no command, or to a text that is no expression, in a line of its own: with what
+// helps, or without.
+fn push_what(text: &mut Vec<u8>, hints: bool) -> Result<(), AllocError>
+    ensures { AppendsBytes result text.old text.new (texts.line (what_text hints)) }
+{
+    if hints {
+        push_line(text, b"what? (h lists the commands)")
+    } else {
+        push_line(text, WHAT)
+    }
+}
+
+/// Appends the text of an answer: lines, each ended by 10. With `hints`, `what?` is followed by what helps.
 pub fn push_answer(
     alloc: Global,
     text: &mut Vec<u8>,
     source: &Written<'_>,
+    hints: bool,
     answer: Answer,
 ) -> Result<(), AllocError>
-    ensures { AppendsBytes result text.old text.new (shown_of source.now answer) }
+    ensures { AppendsBytes result text.old text.new (shown_of hints source.now answer) }
 {
     let lines = source.lines.as_slice();
     match answer {
@@ -372,6 +397,7 @@ pub fn push_answer(
         Answer::Memory { at, bytes } => push_memory(alloc, text, at, &bytes),
         Answer::Code(code) => push_code(alloc, text, code),
         Answer::Help => text.extend_from_slice(HELP),
+        Answer::Faults(is_set) => push_faults(text, is_set),
         Answer::Set => text.extend_from_slice(b"set\n"),
         Answer::Cleared => text.extend_from_slice(b"cleared\n"),
         Answer::Typed => text.extend_from_slice(b"typed\n"),
@@ -380,6 +406,6 @@ pub fn push_answer(
         }
         Answer::Value(value) => push_value_line(text, value),
         Answer::NoSuchLine => push_line(text, NO_SUCH_LINE),
-        Answer::What => push_line(text, WHAT),
+        Answer::What => push_what(text, hints),
     }
 }

@@ -4,9 +4,8 @@ ghost use Rattle.tb_codegen.specs.Compiled.{starts_of};
 ghost use Rattle.tb_debug.specs.Debuggers.{KeepsRun, KeepsRunTyped, RewindsBy, GoesToTime, Responds};
 ghost use Rattle.tb_debug.specs.Begins.{StandsBy};
 ghost use Rattle.tb_debug.specs.Kinds.{IsWalk};
-ghost use Rattle.tb_debug.specs.Leading.{ReverseContinues, RunsUntil};
+ghost use Rattle.tb_debug.specs.Leading.{Continues, ReverseContinues};
 ghost use Rattle.tb_debug.specs.Leaving.{Leaves};
-ghost use Rattle.tb_debug.specs.declared.searching.Destination.TheVariants as destination;
 ghost use Rattle.tb_debug.specs.Lines.{line_at};
 ghost use Rattle.tb_debug.specs.Sources.{ShowsSource};
 ghost use Rattle.tb_debug.specs.Telling.{Tells};
@@ -21,7 +20,7 @@ pub fn gone_on(
     limit: u64,
 ) -> Result<Reached, AllocError>
     ensures run { OnOk result (KeepsRun debugger.old debugger.new) }
-    ensures stop { IfOk result (λ reached. RunsUntil destination.Stop limit debugger.old reached debugger.new.present) }
+    ensures stop { IfOk result (λ reached. Continues limit debugger.old reached debugger.new.present) }
     ensures stands { IfOk result (λ reached. StandsBy debugger.old.starts reached debugger.new.present) }
     ensures shown { OnOk result (debugger.new.shown ≡ debugger.old.shown) }
     ensures stops { OnOk result (debugger.new.stops ≡ debugger.old.stops) }

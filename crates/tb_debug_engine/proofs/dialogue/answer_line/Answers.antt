@@ -2,8 +2,10 @@
 use Rattle.std.proofs.Common.{inr, ap, ◌∙◌}
 use Rattle.std.proofs.KnownBytes.{Appends-trans}
 use Rattle.tb_streams.specs.Lines.{without_return}
-use Rattle.tb_debug_commands.specs.Commands.{asked_in}
+use Rattle.tb_debug_commands.specs.Commands.{asked_after}
+use Rattle.tb_debug_engine.specs.Dialogue.{repeated}
 use Rattle.tb_debug_engine.specs.Streams.{stream_of, streams_of}
+use Rattle.tb_debug_engine.specs.declared.dialogue.Dialogue.{Dialogue}
 use Rattle.tb_debug_engine.proofs.Exchanging.{answered, said_wrong}
 use Rattle.tb_debug_engine.proofs.dialogue.answer_line.Goals as goal
 
@@ -11,14 +13,17 @@ pub returns-in-Ok : goal.returns-in-Ok
 returns-in-Ok g c =
     let (took, (prompted, sound)) = rw c.in-Ok-Some.field-0-is at c.in-Ok-Some.ensures in
     let (all, same) = c.in-Ok.ensures in
-    let spelled = c.read_command-command.ensures ∙ ap asked_in (c.without_return.ensures ∙ ap without_return c.as_slice.ensures.value) in
+    let d = c.args.dialogue.now in
+    let e : Dialogue = record { debugger = c.respond.new.self; last = c.last_move-dialogue.result } in
+    let command = c.read_after-command.result in
+    let spelled = c.read_after-command.ensures ∙ ap (asked_after (repeated d)) (c.without_return.ensures ∙ ap without_return c.as_slice.ensures.value) in
     let done = c.in-Ok-Some-respond.ensures in (
       c.in-Ok-Some-respond.answer,
       (
         c.in-Ok-Some.line.items,
         took,
-        answered c.args.setting.limit c.args.debugger.now c.respond.new.self c.read_command-command.result c.in-Ok-Some.line.items _ spelled
-            done.run (rw c.in-Ok-Some-respond.field-0-is at done.tells) done.shown done.leaves,
+        answered c.args.setting.limit d e command c.in-Ok-Some.line.items _ spelled
+            done.run (rw c.in-Ok-Some-respond.field-0-is at done.tells) done.shown done.leaves c.last_move-dialogue.ensures,
       ),
       (Appends-trans _ _ _ _ _ prompted all, same ∙ sound),
     )
@@ -26,27 +31,33 @@ returns-in-Ok g c =
 pub returns-in-Ok-Some-respond : goal.returns-in-Ok-Some-respond
 returns-in-Ok-Some-respond g c =
     let (took, prompted) = rw c.in-Ok-Some.field-0-is at c.in-Ok-Some.ensures in
-    let spelled = c.read_command-command.ensures ∙ ap asked_in (c.without_return.ensures ∙ ap without_return c.as_slice.ensures.value) in
+    let d = c.args.dialogue.now in
+    let e : Dialogue = record { debugger = c.respond.new.self; last = c.last_move-dialogue.result } in
+    let command = c.read_after-command.result in
+    let spelled = c.read_after-command.ensures ∙ ap (asked_after (repeated d)) (c.without_return.ensures ∙ ap without_return c.as_slice.ensures.value) in
     let done = c.in-Ok-Some-respond.ensures in
     let old = streams_of g.R.Read.remaining c.args.commands.now g.W.Write.contents c.args.writer.now in
     let new = streams_of g.R.Read.remaining c.ask.new.commands g.W.Write.contents c.say.new.writer in
-    said_wrong c.args.source.now c.args.setting c.args.debugger.now c.respond.new.self c.in-Err-say.outcome c.in-Ok-Some.line.items
+    said_wrong c.args.source.now c.args.setting d e c.in-Err-say.outcome c.in-Ok-Some.line.items
     c.in-Ok-Some-respond.answer old new (stream_of g.W.Write.contents c.ask.new.writer) took
-    (answered c.args.setting.limit c.args.debugger.now c.respond.new.self c.read_command-command.result c.in-Ok-Some.line.items _ spelled
-    done.run (rw c.in-Ok-Some-respond.field-0-is at done.tells) done.shown done.leaves)
+    (answered c.args.setting.limit d e command c.in-Ok-Some.line.items _ spelled
+    done.run (rw c.in-Ok-Some-respond.field-0-is at done.tells) done.shown done.leaves c.last_move-dialogue.ensures)
     prompted c.in-Err-say.ensures
 
 pub returns-in-Ok-None-respond : goal.returns-in-Ok-None-respond
 returns-in-Ok-None-respond g c =
     let (took, prompted) = rw c.in-Ok-Some.field-0-is at c.in-Ok-Some.ensures in
-    let spelled = c.read_command-command.ensures ∙ ap asked_in (c.without_return.ensures ∙ ap without_return c.as_slice.ensures.value) in
+    let d = c.args.dialogue.now in
+    let e : Dialogue = record { debugger = c.respond.new.self; last = c.last_move-dialogue.result } in
+    let command = c.read_after-command.result in
+    let spelled = c.read_after-command.ensures ∙ ap (asked_after (repeated d)) (c.without_return.ensures ∙ ap without_return c.as_slice.ensures.value) in
     let done = c.in-Ok-None-respond.ensures in (
       inr (
         c.in-Ok-Some.line.items,
-        c.respond.new.self,
+        e,
         took,
-        answered c.args.setting.limit c.args.debugger.now c.respond.new.self c.read_command-command.result c.in-Ok-Some.line.items _ spelled
-            done.run (rw c.in-Ok-None-respond.field-0-is at done.tells) done.shown done.leaves,
+        answered c.args.setting.limit d e command c.in-Ok-Some.line.items _ spelled
+            done.run (rw c.in-Ok-None-respond.field-0-is at done.tells) done.shown done.leaves c.last_move-dialogue.ensures,
       ),
       prompted,
     )

@@ -17,7 +17,7 @@ returns-in-Ok-false g c =
     let old = streams_of g.R.Read.remaining c.args.commands.now g.W.Write.contents c.args.writer.now in
     let mid = streams_of g.R.Read.remaining c.loop-asked.commands g.W.Write.contents c.loop-asked.writer in
     let new = streams_of g.R.Read.remaining c.answer_line.new.commands g.W.Write.contents c.answer_line.new.writer in
-    closed c.args.source.now c.args.setting c.args.debugger.now c.loop-asked.debugger c.answer_line.new.debugger lines old mid new answered
+    closed c.args.source.now c.args.setting c.args.dialogue.now c.loop-asked.dialogue c.answer_line.new.dialogue lines old mid new answered
     (rw c.in-Ok-false.field-0-test at c.in-Ok-false.ensures)
 
 pub returns-in-Err : goal.returns-in-Err
@@ -26,7 +26,7 @@ returns-in-Err g c =
     let old = streams_of g.R.Read.remaining c.args.commands.now g.W.Write.contents c.args.writer.now in
     let mid = streams_of g.R.Read.remaining c.loop-asked.commands g.W.Write.contents c.loop-asked.writer in
     let new = streams_of g.R.Read.remaining c.answer_line.new.commands g.W.Write.contents c.answer_line.new.writer in
-    broken c.args.source.now c.args.setting c.args.debugger.now c.loop-asked.debugger c.answer_line.new.debugger c.in-Err.outcome lines old mid new answered
+    broken c.args.source.now c.args.setting c.args.dialogue.now c.loop-asked.dialogue c.answer_line.new.dialogue c.in-Err.outcome lines old mid new answered
     c.in-Err.ensures
 
 pub loop-asked-preserved : goal.loop-asked-preserved
@@ -39,7 +39,7 @@ loop-asked-preserved g c =
     let longer : length (lines ++ line ∷ []) ≡ c.loop-asked.asked + 1 = omega (arith, length-append lines (line ∷ []), many) in (
       lines ++ line ∷ [],
       longer,
-      answered_more c.args.source.now c.args.setting c.args.debugger.now c.loop-asked.debugger c.answer_line.new.debugger lines line told old mid new
+      answered_more c.args.source.now c.args.setting c.args.dialogue.now c.loop-asked.dialogue c.answer_line.new.dialogue lines line told old mid new
           answered took answers written,
     )
 
@@ -49,7 +49,7 @@ returns g c =
     let all : length lines ≡ most_lines = many ∙ search rules in
     record {
       lines = lines;
-      last = c.loop-asked.debugger;
+      last = c.loop-asked.dialogue;
       mid = streams_of g.R.Read.remaining c.loop-asked.commands g.W.Write.contents c.loop-asked.writer;
       answered = answered;
       ends = (refl, inr (all, refl));

@@ -7,5 +7,5 @@ use Rattle.tb_debug_engine.proofs.dialogue.answer_lines.Given as goal
 abbrev pub invariant-loop-asked : goal.invariant-loop-asked
 invariant-loop-asked g l =
     (lines : List (List ℕ)) × (length lines ≡ l.asked)
-    × HasAnswered l.source l.setting l.fn.debugger lines l.debugger
+    × HasAnswered l.source l.setting l.fn.dialogue lines l.dialogue
     (streams_of g.R.Read.remaining l.fn.commands g.W.Write.contents l.fn.writer) (streams_of g.R.Read.remaining l.commands g.W.Write.contents l.writer)

@@ -5,6 +5,6 @@ use Rattle.tb_debug_engine.proofs.dialogue.open.Goals as goal
 
 pub returns-in-Ok : goal.returns-in-Ok
 returns-in-Ok g c =
-    opened c.args.source.now c.args.debugger.now c.stop.new.self c.in-Ok.first c.say.result
+    opened c.args.source.now c.args.setting c.args.debugger.now c.stop.new.self c.in-Ok.first c.say.result
     (stream_of g.W.Write.contents c.args.writer.now) (stream_of g.W.Write.contents c.say.new.writer)
     (first_told c.args.debugger.now c.stop.new.self c.in-Ok.first c.standing.result c.standing.ensures c.in-Ok.ensures.run c.in-Ok.ensures.shown c.in-Ok.ensures.tells) c.say.ensures

@@ -42,4 +42,5 @@ returns-clause-opens c =
       shown = refl;
       unset = c.new-2.ensures.breakpoints;
       unwatched = c.new-2.ensures.watches;
+      through = c.new-2.ensures.faults;
     }
