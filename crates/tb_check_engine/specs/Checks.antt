@@ -1,15 +1,28 @@
--- What comes of looking at sources.
-use Rattle.std.specs.Prelude.{ℕ, ◌≡◌, ◌≢◌, ◌⊎◌, Bool, true, false, ◌||◌, List, ◌++◌, Option, Result, Ok, Err}
+-- What comes of checking sources, one after the other.
+use Rattle.std.specs.Prelude.{ℕ, ◌≡◌, ◌≢◌, Bool, true, false, List, [], ◌∷◌, map, flat_map, take, slice_index_or, Option, Result, Ok, Err, if◌then◌else◌}
+use Rattle.std.specs.List.{list_any}
 use Rattle.std.specs.Io.KnownBytes.{Appends}
-use Rattle.tb_streams.specs.Streams.{Reads, MayPassMost, AppendsPrefix}
+use Rattle.std.specs.declared.alloc.Global.{Global}
+use Rattle.std.specs.declared.vec.Vec.{Vec}
+use Rattle.tb_streams.specs.Streams.{AppendsPrefix}
+use Rattle.tb_streams.specs.declared.stream.InputError.{InputError}
+use Rattle.tb_streams.specs.declared.stream.InputError.TheVariants.{Fault}
+use Rattle.tb_codegen.specs.declared.settings.SizeLimit.{SizeLimit}
 use Rattle.tb_parser.specs.Lines.{lines_of_file}
 use Rattle.tb_check.specs.Findings.{AreFindings}
 use Rattle.tb_check.specs.declared.examination.Findings.{Findings}
 use Rattle.tb_check.specs.declared.examination.Findings.TheVariants as findings
 use Rattle.tb_check_engine.specs.Reports.{report}
-use Rattle.tb_check_engine.specs.declared.engine.Checked.{Checked}
+use Rattle.tb_check_engine.specs.declared.engine.Marks.{Marks}
+use Rattle.tb_check_engine.specs.declared.engine.Seen.{Seen}
+use Rattle.tb_check_engine.specs.declared.engine.Seen.TheVariants as seen
 use Rattle.tb_check_engine.specs.declared.outcome.CheckOutcome.{CheckOutcome}
 use Rattle.tb_check_engine.specs.declared.outcome.CheckOutcome.TheVariants.{Accepted, Refused, ReadFault, WriteFault, NoMemory}
+
+-- what reading a source gives, by its bytes
+abbrev pub bytes_of : Result (Vec ℕ Global) InputError → Result (List ℕ) InputError
+bytes_of (Ok source) = Ok source.items
+bytes_of (Err e) = Err e
 
 -- a source is not compiled
 abbrev pub is_refused : Findings → Bool
@@ -18,36 +31,80 @@ is_refused findings.Empty = true
 is_refused (findings.Refused deep too_large) = true
 is_refused (findings.Accepted warnings) = false
 
--- a source was looked at under a name: what is said of it follows what was said before, and a refusal is kept
-pub record LooksAt (old : Checked) (name source : List ℕ) (new : Checked) : Type 0 where
-  pub found : Findings
-  pub are : AreFindings old.size source found
-  pub text : new.text.items ≡ old.text.items ++ report name (lines_of_file source) found
-  pub kept : new.is_refused ≡ (is_refused found || old.is_refused)
-  pub unread : new.is_unread ≡ old.is_unread
-  pub size : new.size ≡ old.size
+-- ---- one source
 
--- a source could not be read
-pub record PassesOver (old new : Checked) : Type 0 where
-  pub text : new.text.items ≡ old.text.items
-  pub refused : new.is_refused ≡ old.is_refused
-  pub unread : new.is_unread ≡ true
-  pub size : new.size ≡ old.size
+-- what came of a source: it was read, and this was found; or it could not be read
+pub data Look : Type 0 where
+  Saw : List ℕ → Findings → Look
+  Missed : Look
 
--- a reader's source was looked at, or the reader failed in this call, by its count of failures, or gave too many bytes
-abbrev pub Adds : Checked → List ℕ → Option (List ℕ) → ℕ → ℕ → Result Checked CheckOutcome → Type 0
-Adds old name had failures failures' (Ok new) =
-    ((source : List ℕ) × Reads had source × LooksAt old name source new × (failures' ≡ failures))
-    ⊎ (PassesOver old new × ((failures' ≢ failures) ⊎ MayPassMost had))
-Adds old name had failures failures' (Err e) = (e ≡ NoMemory) × (failures' ≡ failures)
+-- a source whose turn has come
+pub record Turn : Type 0 where
+  pub name : List ℕ
+  pub look : Look
 
--- what was written, by how it ended
-abbrev pub Writes : Checked → CheckOutcome → Option (List ℕ) → Option (List ℕ) → Type 0
-Writes c Accepted old new = (c.is_unread ≡ false) × (c.is_refused ≡ false) × Appends old new c.text.items
-Writes c Refused old new = (c.is_unread ≡ false) × (c.is_refused ≡ true) × Appends old new c.text.items
-Writes c ReadFault old new = (c.is_unread ≡ true) × Appends old new c.text.items
-Writes c WriteFault old new = AppendsPrefix old new c.text.items
-Writes c NoMemory old new = ⊥
+-- what is said of a source under a name
+abbrev pub said_of : List ℕ → Look → List ℕ
+said_of name (Saw source found) = report name (lines_of_file source) found
+said_of name Missed = []
+
+-- the same of a source whose turn has come
+abbrev pub said : Turn → List ℕ
+said turn = said_of turn.name turn.look
+
+-- a source that is not compiled
+abbrev pub is_refusal : Look → Bool
+is_refusal (Saw source found) = is_refused found
+is_refusal Missed = false
+
+-- a source that could not be read
+abbrev pub is_miss : Look → Bool
+is_miss (Saw source found) = false
+is_miss Missed = true
+
+-- a source was read by its name, and this is what is found in it; or reading it failed
+abbrev pub IsLook : {S : Type 0} → (S → List ℕ → Result (List ℕ) InputError → S → Type 0) → SizeLimit → S → List ℕ → Look → S → Type 0
+IsLook reads size s name (Saw source found) t = reads s name (Ok source) t × AreFindings size source found
+IsLook reads size s name Missed t = reads s name (Err Fault) t
+
+-- ---- all sources
+
+-- sources were read one after the other
+abbrev pub Looks : {S : Type 0} → (S → List ℕ → Result (List ℕ) InputError → S → Type 0) → SizeLimit → S → List Turn → S → Type 0
+Looks reads size s [] u = u ≡ s
+Looks reads size s (turn ∷ turns) u = (t : _) × IsLook reads size s turn.name turn.look t × Looks reads size t turns u
+
+-- the sources with these names were read one after the other, and what is said of each of them was written, in order
+pub record Told {S : Type 0} (reads : S → List ℕ → Result (List ℕ) InputError → S → Type 0) (size : SizeLimit) (s : S) (names : List (List ℕ)) (old : Option (List ℕ)) (t : S) (new : Option (List ℕ)) : Type 0 where
+  pub turns : List Turn
+  pub named : map (λ t. t.name) turns ≡ names
+  pub looks : Looks reads size s turns t
+  pub wrote : Appends old new (flat_map said turns)
+
+-- what came of sources, all in all
+abbrev pub marks_of : List Turn → Marks
+marks_of turns =
+    record { is_refused = list_any (λ t. is_refusal t.look) turns; is_unread = list_any (λ t. is_miss t.look) turns }
+
+-- how a check ends: a source that could not be read comes before one that is not compiled
+abbrev pub ending : Marks → CheckOutcome
+ending m = if m.is_unread then ReadFault else if m.is_refused then Refused else Accepted
+
+-- the sources up to the n-th were told of, and the n-th was read, or the attempt failed
+abbrev pub name_at : List (List ℕ) → ℕ → List ℕ
+name_at names n = slice_index_or names n []
+
+-- What a check did, by how it ended. All sources were told of. Or the writer failed at what is said of the n-th one, of
+-- which a prefix was written. Or memory ran out when the n-th one was read or looked at, of which nothing was written.
+abbrev pub Checks : {S : Type 0} → (S → List ℕ → Result (List ℕ) InputError → S → Type 0) → SizeLimit → S → List (List ℕ) → Option (List ℕ) → CheckOutcome → S → Option (List ℕ) → Type 0
+Checks reads size s names old WriteFault t new =
+    (n : ℕ) × (u : _) × (mid : Option (List ℕ)) × Told reads size s (take n names) old u mid
+    × (look : Look) × IsLook reads size u (name_at names n) look t × AppendsPrefix mid new (said_of (name_at names n) look)
+Checks reads size s names old NoMemory t new =
+    (n : ℕ) × (u : _) × Told reads size s (take n names) old u new
+    × (given : Result (List ℕ) InputError) × reads u (name_at names n) given t
+Checks reads size s names old outcome t new =
+    (told : Told reads size s names old t new) × (outcome ≡ ending (marks_of told.turns))
 
 -- a write fault comes only if the writer failed in this call
 abbrev pub WriteFaults : CheckOutcome → ℕ → ℕ → Type 0
@@ -55,4 +112,42 @@ WriteFaults WriteFault old new = new ≢ old
 WriteFaults Accepted old new = new ≡ old
 WriteFaults Refused old new = new ≡ old
 WriteFaults ReadFault old new = new ≡ old
-WriteFaults NoMemory old new = ⊥
+WriteFaults NoMemory old new = new ≡ old
+
+-- ---- steps of the engine
+
+-- what came of a source
+abbrev pub seen_of : Look → Seen
+seen_of (Saw source found) = if is_refused found then seen.Refused else seen.Accepted
+seen_of Missed = seen.Unread
+
+-- with what came of one more source
+abbrev pub marked : Marks → Seen → Marks
+marked m seen.Accepted = m
+marked m seen.Refused = record (m) { is_refused = true }
+marked m seen.Unread = record (m) { is_unread = true }
+
+-- how a check stands after a source
+abbrev pub outcome_of : Result Seen CheckOutcome → CheckOutcome
+outcome_of (Ok seen) = Accepted
+outcome_of (Err outcome) = outcome
+
+-- a source was looked at, and told of as far as its writer took it
+abbrev pub Tells : SizeLimit → List ℕ → List ℕ → Result Seen CheckOutcome → Option (List ℕ) → Option (List ℕ) → Type 0
+Tells size name source (Ok answer) old new =
+    (found : Findings) × AreFindings size source found × Appends old new (report name (lines_of_file source) found)
+    × (answer ≡ seen_of (Saw source found))
+Tells size name source (Err WriteFault) old new =
+    (found : Findings) × AreFindings size source found × AppendsPrefix old new (report name (lines_of_file source) found)
+Tells size name source (Err NoMemory) old new = new ≡ old
+Tells size name source (Err e) old new = ⊥
+
+-- the same of a source that was read by its name
+abbrev pub ChecksNext : {S : Type 0} → (S → List ℕ → Result (List ℕ) InputError → S → Type 0) → SizeLimit → S → List ℕ → Option (List ℕ) → Result Seen CheckOutcome → S → Option (List ℕ) → Type 0
+ChecksNext reads size s name old (Ok answer) t new =
+    (look : Look) × IsLook reads size s name look t × Appends old new (said_of name look) × (answer ≡ seen_of look)
+ChecksNext reads size s name old (Err WriteFault) t new =
+    (look : Look) × IsLook reads size s name look t × AppendsPrefix old new (said_of name look)
+ChecksNext reads size s name old (Err NoMemory) t new =
+    (given : Result (List ℕ) InputError) × reads s name given t × (new ≡ old)
+ChecksNext reads size s name old (Err e) t new = ⊥

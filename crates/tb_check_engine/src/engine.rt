@@ -1,28 +1,67 @@
-//! Checking sources.
-ghost use Rattle.std.specs.Prelude.{◌≡◌, [], false, MatchResult};
-ghost use Rattle.tb_streams.specs.Uses.{use_of, TakesInput};
+//! Checking sources, one after the other.
+ghost use Rattle.std.specs.Prelude.{◌≡◌, map, string_bytes};
 ghost use Rattle.tb_streams.specs.Failures.{failures_of};
-ghost use Rattle.tb_check_engine.specs.Checks.{Adds, LooksAt, PassesOver, Writes, WriteFaults, is_refused};
-ghost use Rattle.tb_check_engine.specs.declared.outcome.CheckOutcome.TheVariants.{NoMemory};
+ghost use Rattle.tb_check_engine.specs.Checks.{Checks, ChecksNext, Tells, WriteFaults, is_refused, ending, marked, outcome_of};
 
 use crate::outcome::CheckOutcome;
 use crate::reports::{Source, push_report};
+use crate::sources::Sources;
 use std::alloc::Global;
-use std::io::{Read, Write};
+use std::io::Write;
 use tb_check::{Findings, examine};
 use tb_codegen::SizeLimit;
-use tb_streams::{InputError, Tracked, read_input, write_output};
+use tb_streams::{InputError, Tracked, write_output};
 
-/// Sources that were looked at, and what there is to say of them.
-#[derive(Drop)]
-pub struct Checked {
-    text: Vec<u8>,
-    // Whether one of them is not compiled.
+/// What came of a source.
+#[derive(Clone, Copy, Drop)]
+enum Seen {
+    /// It is compiled.
+    Accepted,
+    /// It is not compiled.
+    Refused,
+    /// It could not be read.
+    Unread,
+}
+
+/// What came of the sources up to now.
+#[derive(Clone, Copy, Drop)]
+struct Marks {
+    /// Whether one of them is not compiled.
     is_refused: bool,
-    // Whether one of them could not be read.
+    /// Whether one of them could not be read.
     is_unread: bool,
-    // When a program is too large.
-    size: SizeLimit,
+}
+
+impl Marks {
+    // With what came of one more source.
+    fn with(self, seen: Seen) -> Marks
+        ensures { result ≡ marked self seen }
+    {
+        match seen {
+            Seen::Accepted => self,
+            Seen::Refused => Marks {
+                is_refused: true,
+                ..self
+            },
+            Seen::Unread => Marks {
+                is_unread: true,
+                ..self
+            },
+        }
+    }
+
+    // How a check of these sources ends.
+    fn outcome(self) -> CheckOutcome
+        ensures { result ≡ ending self }
+    {
+        if self.is_unread {
+            CheckOutcome::ReadFault
+        } else if self.is_refused {
+            CheckOutcome::Refused
+        } else {
+            CheckOutcome::Accepted
+        }
+    }
 }
 
 // Whether a source is not compiled, by what there is to say of it.
@@ -32,80 +71,72 @@ fn is_refused(findings: &Findings) -> bool
     !matches!(findings, Findings::Accepted(_))
 }
 
-impl Checked {
-    /// No sources, whose programs are too large by this limit.
-    pub fn new(alloc: Global, size: SizeLimit) -> Checked
-        ensures text { result.text.items ≡ [] }
-        ensures accepted { (result.is_refused ≡ false) × (result.is_unread ≡ false) }
-        ensures limit { result.size ≡ size }
-    {
-        Checked {
-            text: Vec::new(alloc),
-            is_refused: false,
-            is_unread: false,
-            size,
+// Looks at a source under a name, and writes what there is to say of it.
+fn tell<W: Write>(
+    alloc: Global,
+    name: &str,
+    source: &[u8],
+    writer: &mut Tracked<W>,
+    size: SizeLimit,
+) -> Result<Seen, CheckOutcome>
+    ensures tells { Tells size name.now source.now result (W.contents writer.old.stream) (W.contents writer.new.stream) }
+    ensures faults { WriteFaults (outcome_of result) (failures_of writer.old) (failures_of writer.new) }
+{
+    let seen = examine(alloc, source, size)?;
+    let shown = Source {
+        name,
+        lines: seen.lines.as_slice(),
+    };
+    let mut text = Vec::new(alloc);
+    push_report(alloc, &mut text, &shown, &seen.findings)?;
+    match write_output(writer, text.as_slice()) {
+        Err(_) => Err(CheckOutcome::WriteFault),
+        Ok(()) if is_refused(&seen.findings) => Ok(Seen::Refused),
+        Ok(()) => Ok(Seen::Accepted),
+    }
+}
+
+// Reads the source whose turn it is, and writes what there is to say of it. One that can't be read hides no other one.
+fn check_next<S: Sources, W: Write>(
+    alloc: Global,
+    sources: &mut S,
+    name: &str,
+    writer: &mut Tracked<W>,
+    size: SizeLimit,
+) -> Result<Seen, CheckOutcome>
+    ensures next { ChecksNext S.reads size sources.old name.now (W.contents writer.old.stream)
+        result sources.new (W.contents writer.new.stream) }
+    ensures faults { WriteFaults (outcome_of result) (failures_of writer.old) (failures_of writer.new) }
+{
+    match sources.read(alloc, name) {
+        Ok(source) => tell(alloc, name, source.as_slice(), writer, size),
+        Err(InputError::Fault) => Ok(Seen::Unread),
+        Err(InputError::NoMemory) => Err(CheckOutcome::NoMemory),
+    }
+}
+
+/// Checks the sources with these names, whose programs are too large by this limit. Each one is read, and what there is
+/// to say of it is written, before the next one is read; so what is in memory is of one source at a time.
+pub fn check_sources<S: Sources, W: Write>(
+    alloc: Global,
+    sources: &mut S,
+    names: &[String],
+    writer: &mut Tracked<W>,
+    size: SizeLimit,
+) -> CheckOutcome
+    ensures checks { Checks S.reads size sources.old (map string_bytes names.now) (W.contents writer.old.stream)
+        result sources.new (W.contents writer.new.stream) }
+    ensures faults { WriteFaults result (failures_of writer.old) (failures_of writer.new) }
+{
+    let mut marks = Marks {
+        is_refused: false,
+        is_unread: false,
+    };
+    for name in names {
+        match check_next(alloc, sources, name.as_str(), writer, size) {
+            Ok(seen) => marks = marks.with(seen),
+            Err(outcome) => return outcome,
         }
     }
-
-    /// With a source that can't be read.
-    pub fn unread(self) -> Checked
-        ensures { PassesOver self result }
-    {
-        Checked {
-            is_unread: true,
-            ..self
-        }
-    }
-
-    /// With all that a reader gives, a source under a name.
-    pub fn add<R: Read>(
-        self,
-        alloc: Global,
-        name: &str,
-        reader: &mut Tracked<R>,
-    ) -> Result<Checked, CheckOutcome>
-        ensures adds { Adds self name.now (R.remaining reader.old.stream) (failures_of reader.old) (failures_of reader.new) result }
-        ensures taken { TakesInput (use_of R.remaining reader.old reader.new) }
-    {
-        let source = match read_input(alloc, reader) {
-            Ok(source) => source,
-            Err(InputError::Fault) => return Ok(self.unread()),
-            Err(InputError::NoMemory) => return Err(CheckOutcome::NoMemory),
-        };
-        self.with_source(alloc, name, source.as_slice())
-    }
-
-    // With a source under a name.
-    fn with_source(
-        mut self,
-        alloc: Global,
-        name: &str,
-        source: &[u8],
-    ) -> Result<Checked, CheckOutcome>
-        ensures { MatchResult result (LooksAt self name.now source.now) (λ e. e ≡ NoMemory) }
-    {
-        let seen = examine(alloc, source, self.size)?;
-        let shown = Source {
-            name,
-            lines: seen.lines.as_slice(),
-        };
-        push_report(alloc, &mut self.text, &shown, &seen.findings)?;
-        if is_refused(&seen.findings) {
-            self.is_refused = true;
-        }
-        Ok(self)
-    }
-
-    /// Writes what there is to say of the sources.
-    pub fn write<W: Write>(&self, writer: &mut Tracked<W>) -> CheckOutcome
-        ensures writes { Writes self.now result (W.contents writer.old.stream) (W.contents writer.new.stream) }
-        ensures faults { WriteFaults result (failures_of writer.old) (failures_of writer.new) }
-    {
-        match write_output(writer, self.text.as_slice()) {
-            Err(_) => CheckOutcome::WriteFault,
-            Ok(()) if self.is_unread => CheckOutcome::ReadFault,
-            Ok(()) if self.is_refused => CheckOutcome::Refused,
-            Ok(()) => CheckOutcome::Accepted,
-        }
-    }
+    marks.outcome()
 }

@@ -1,4 +1,4 @@
-//! What there is to say of sources, as a text, over any readers and any writer.
+//! What there is to say of sources, as a text, over any sources and any writer.
 #![tactic(auto)]
 
 mod engine;
@@ -6,9 +6,11 @@ mod outcome;
 mod refusals;
 mod reports;
 mod rows;
+mod sources;
 mod texts;
 
-pub use engine::Checked;
+pub use engine::check_sources;
 pub use outcome::CheckOutcome;
 pub use refusals::refusal_text;
 pub use rows::{push_caret, push_line};
+pub use sources::Sources;

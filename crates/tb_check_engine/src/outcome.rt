@@ -6,8 +6,8 @@ use std::alloc::AllocError;
 use tb_streams::status;
 use thiserror::Error;
 
-/// How a check of sources ended. At `WriteFault` a prefix of the text was written, at `NoMemory` nothing, and else the
-/// whole text.
+/// How a check of sources ended. At `WriteFault` a prefix of the text was written, at `NoMemory` what there is to say of
+/// the sources before, and else the whole text.
 #[derive(Clone, Copy, PartialEq, Eq, Debug, Drop, Error)]
 pub enum CheckOutcome {
     /// Each source is compiled.
@@ -16,7 +16,7 @@ pub enum CheckOutcome {
     /// A source is not compiled.
     #[error("")]
     Refused,
-    /// A reader failed, or gave too many bytes.
+    /// A source could not be read.
     #[error("read fault")]
     ReadFault,
     /// The writer failed.

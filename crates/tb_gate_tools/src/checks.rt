@@ -1,20 +1,19 @@
 //! Checks of sources.
-ghost use Rattle.std.specs.Prelude.{◌≡◌, IfOk, map};
+ghost use Rattle.std.specs.Prelude.{◌≡◌, IfOk, map, string_bytes};
 ghost use Rattle.tb_words.specs.Texts.{AppendsBytes};
 ghost use Rattle.tb_parser.specs.Lines.{lines_of_file};
 ghost use Rattle.tb_streams.specs.Failures.{failures_of};
-ghost use Rattle.tb_streams.specs.Uses.{use_of, TakesInput};
 ghost use Rattle.tb_check.specs.Agreement.{Agrees};
 ghost use Rattle.tb_check.specs.BadLines.{BadLinesAre, FirstIs};
 ghost use Rattle.tb_check.specs.Findings.{AreFindings};
 ghost use Rattle.tb_check.specs.Verdicts.{Judges};
-ghost use Rattle.tb_check_engine.specs.Checks.{Adds, Writes, WriteFaults};
+ghost use Rattle.tb_check_engine.specs.Checks.{Checks, WriteFaults};
 ghost use Rattle.tb_check_engine.specs.Rows.{caret_row};
 
 use std::alloc::{AllocError, Global};
-use std::io::{Read, Write};
+use std::io::Write;
 use tb_check::{Examined, SourceError, Verdict, bad_lines, examine, judge};
-use tb_check_engine::{CheckOutcome, Checked, push_caret};
+use tb_check_engine::{CheckOutcome, Sources, check_sources, push_caret};
 use tb_codegen::SizeLimit;
 use tb_streams::Tracked;
 
@@ -42,25 +41,19 @@ pub fn examined(alloc: Global, source: &[u8], size: SizeLimit) -> Result<Examine
     examine(alloc, source, size)
 }
 
-/// Calls `Checked::add`.
-pub fn with_source<R: Read>(
-    checked: Checked,
+/// Calls `check_sources`.
+pub fn checked<S: Sources, W: Write>(
     alloc: Global,
-    name: &str,
-    reader: &mut Tracked<R>,
-) -> Result<Checked, CheckOutcome>
-    ensures adds { Adds checked name.now (R.remaining reader.old.stream) (failures_of reader.old) (failures_of reader.new) result }
-    ensures taken { TakesInput (use_of R.remaining reader.old reader.new) }
-{
-    checked.add(alloc, name, reader)
-}
-
-/// Calls `Checked::write`.
-pub fn report_written<W: Write>(checked: &Checked, writer: &mut Tracked<W>) -> CheckOutcome
-    ensures writes { Writes checked.now result (W.contents writer.old.stream) (W.contents writer.new.stream) }
+    sources: &mut S,
+    names: &[String],
+    writer: &mut Tracked<W>,
+    size: SizeLimit,
+) -> CheckOutcome
+    ensures checks { Checks S.reads size sources.old (map string_bytes names.now) (W.contents writer.old.stream)
+        result sources.new (W.contents writer.new.stream) }
     ensures faults { WriteFaults result (failures_of writer.old) (failures_of writer.new) }
 {
-    checked.write(writer)
+    check_sources(alloc, sources, names, writer, size)
 }
 
 /// Calls `push_caret`.

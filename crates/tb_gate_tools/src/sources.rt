@@ -23,7 +23,7 @@ use tb_driver::{
 use tb_engines::NoText;
 use tb_kernal::{Keyboard, Machine, Outside};
 use tb_meaning::Warning;
-use tb_profile_engine::{Profiled, profile_text};
+use tb_profile_engine::{Named, Profiled, profile_text};
 use tb_streams::Tracked;
 
 /// Calls `Compiled::into_warnings`.
@@ -166,6 +166,7 @@ pub fn source_played<R: Read, W: Write>(
 /// Calls `profile_text`.
 pub fn source_profiled<R: Read, W: Write, O: Outside>(
     alloc: Global,
+    named: &Named<'_>,
     reader: &mut Tracked<R>,
     writer: &mut Tracked<W>,
     settings: CompileSettings,
@@ -174,11 +175,13 @@ pub fn source_profiled<R: Read, W: Write, O: Outside>(
     outside: &mut O,
 ) -> Profiled
     ensures answers { AnswersInput
-        (ProfilesSource (settings_of O.gives outside.old keyboard limit) settings result.report.warnings.items result.page.items)
+        (ProfilesSource named.now (settings_of O.gives outside.old keyboard limit) settings result.report.warnings.items result.page.items)
         result.report.outcome (use_of R.remaining reader.old reader.new) (use_of W.contents writer.old writer.new) }
     ensures warned { WarnsOfRead result.report.outcome result.report.warnings.items }
     ensures faults { Faults result.report.outcome (use_of R.remaining reader.old reader.new) (use_of W.contents writer.old writer.new) }
     ensures taken { TakesInput (use_of R.remaining reader.old reader.new) }
 {
-    profile_text(alloc, reader, writer, settings, keyboard, limit, outside)
+    profile_text(
+        alloc, named, reader, writer, settings, keyboard, limit, outside,
+    )
 }

@@ -21,7 +21,9 @@ use Rattle.tb_profile.specs.Steps.{Step, begins_line}
 use Rattle.tb_profile_table.specs.declared.rows.Row.{Row}
 use Rattle.tb_profile_table.specs.declared.texts.Texts.{Texts}
 use Rattle.tb_profile_table.specs.Rows.{AreApart, row_of}
+use Rattle.tb_profile_table.specs.About.{Facts}
 use Rattle.tb_profile_table.specs.Texts.{Shows}
+use Rattle.tb_engines.specs.declared.outcome.End.{End}
 use Rattle.tb_profile_engine.specs.declared.running.Ran.{Ran}
 use Rattle.tb_profile_engine.specs.declared.engine.Made.{Made}
 use Rattle.tb_profile_engine.specs.declared.engine.Prepared.{Prepared}
@@ -64,10 +66,10 @@ row_lines : (ts : List Step) (starts : List (ℕ × ℕ)) → map (λ r. r.line)
 row_lines ts [] = refl
 row_lines ts (s ∷ starts) = ap (λ ns. s.0 ∷ ns) (row_lines ts starts)
 
-module _ {O : Type 0} (s : Settings O) (source : List ℕ) (c : Compiled) where
+module _ {O : Type 0} (facts : End → Facts) (s : Settings O) (source : List ℕ) (c : Compiled) where
   of_program : (seed : ℕ) (program : Program) (ran : Ran) (texts : Texts) → LinesMake source (Ok program) → IsCompiled seed program c
-      → IsProfile s c ran → Shows source ran.table texts
-      → IsProfileOf s source c texts.page.items texts.table.items ran
+      → IsProfile s c ran → Shows (facts ran.end) source ran.table texts
+      → IsProfileOf facts s source c texts.page.items texts.table.items ran
   of_program seed program ran texts made compiled is shows =
       record {
         program = program;
@@ -80,15 +82,15 @@ module _ {O : Type 0} (s : Settings O) (source : List ℕ) (c : Compiled) where
       }
 
   of_outcome : (settings : CompileSettings) (outcome : FileOutcome) (ran : Ran) (texts : Texts) → LinesMake source outcome → OutcomeAnswer settings outcome (Ok c)
-      → IsProfile s c ran → Shows source ran.table texts
-      → IsProfileOf s source c texts.page.items texts.table.items ran
+      → IsProfile s c ran → Shows (facts ran.end) source ran.table texts
+      → IsProfileOf facts s source c texts.page.items texts.table.items ran
   of_outcome settings (Ok program) ran texts made answer is shows = of_program settings.seed program ran texts made answer.1 is shows
   of_outcome settings (Err r) ran texts made answer is shows = absurd answer
 
   -- the texts of a profiled run are the profile of the source that makes the program
   pub profiles : (settings : CompileSettings) (ran : Ran) (made : Made) → HasOutcome settings source (Ok c) → IsProfile s c ran
-      → Shows source ran.table made.texts → made.end ≡ ran.end
-      → MakesTexts (Profiles s source c) (Ok made)
+      → Shows (facts ran.end) source ran.table made.texts → made.end ≡ ran.end
+      → MakesTexts (Profiles facts s source c) (Ok made)
   profiles settings ran made found is shows ends = (ran, of_outcome settings found.outcome ran made.texts found.made found.answer is shows, ends)
 
 -- ---- what is prepared

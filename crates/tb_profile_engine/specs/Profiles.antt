@@ -14,26 +14,30 @@ use Rattle.tb_profile_table.specs.Rows.{AddsUp}
 use Rattle.tb_profile_table.specs.Lines.{stated}
 use Rattle.tb_profile_table.specs.Table.{table_of}
 use Rattle.tb_profile_table.specs.Page.{page_of}
+use Rattle.tb_profile_table.specs.About.{Facts}
+use Rattle.tb_engines.specs.declared.outcome.End.{End}
+use Rattle.tb_profile_engine.specs.Facts.{facts_on}
+use Rattle.tb_profile_engine.specs.declared.engine.Named.{Named}
 use Rattle.tb_profile_engine.specs.declared.engine.Made.{Made}
 use Rattle.tb_profile_engine.specs.declared.engine.Prepared.{Prepared}
 use Rattle.tb_profile_engine.specs.declared.running.Ran.{Ran}
 use Rattle.tb_profile_engine.specs.Running.{IsProfile}
 
 -- A profile of the program that a source makes: a row for each of its lines in order, rows that add up to the whole
--- run, and the table and the page of these rows with the statements of the source.
-pub record IsProfileOf {O : Type 0} (s : Settings O) (source : List ℕ) (c : Compiled) (html shown : List ℕ) (ran : Ran) : Type 0 where
+-- run, and the table and the page of these rows with the statements of the source; the page says what the run was too.
+pub record IsProfileOf {O : Type 0} (facts : End → Facts) (s : Settings O) (source : List ℕ) (c : Compiled) (html shown : List ℕ) (ran : Ran) : Type 0 where
   pub program : Program
   pub made : LinesMake source (Ok program)
   pub is : IsProfile s c ran
   pub lines : map (λ r. r.line) ran.table.rows.items ≡ numbers program
   pub adds_up : AddsUp ran.table
   pub table : shown ≡ table_of ran.table.whole (stated source ran.table.rows.items)
-  pub page : html ≡ page_of ran.table.whole (stated source ran.table.rows.items)
+  pub page : html ≡ page_of (facts ran.end) ran.table.whole (stated source ran.table.rows.items)
 
 -- the table and the page of a profile, and how its run ended
-abbrev pub Profiles : {O : Type 0} → Settings O → List ℕ → Compiled → List ℕ → Product → Type 0
-Profiles s source compiled page (Ok shown) = (ran : Ran) × IsProfileOf s source compiled page shown.0 ran × (shown.1 ≡ ran.end)
-Profiles s source compiled page (Err e) = ⊥
+abbrev pub Profiles : {O : Type 0} → (End → Facts) → Settings O → List ℕ → Compiled → List ℕ → Product → Type 0
+Profiles facts s source compiled page (Ok shown) = (ran : Ran) × IsProfileOf facts s source compiled page shown.0 ran × (shown.1 ≡ ran.end)
+Profiles facts s source compiled page (Err e) = ⊥
 
 -- the compiler answered this program for the source
 abbrev pub IsProgramOf : List ℕ → Compiled → Type 0
@@ -46,9 +50,9 @@ MakesTexts makes (Err (Refused e)) = ⊥
 MakesTexts makes (Err NoMemory) = Unit {0}
 
 -- what comes of profiling a source: a table with its page, or the compiler's refusal
-abbrev pub ProfilesSource : {O : Type 0} → Settings O → CompileSettings → List Warning → List ℕ → List ℕ → Product → Type 0
-ProfilesSource s settings warnings page source product =
-    FromSource settings (λ compiled. Profiles s source compiled page) warnings source product
+abbrev pub ProfilesSource : {O : Type 0} → Named → Settings O → CompileSettings → List Warning → List ℕ → List ℕ → Product → Type 0
+ProfilesSource named s settings warnings page source product =
+    FromSource settings (λ compiled. Profiles (facts_on named settings s) s source compiled page) warnings source product
 
 -- ---- steps of the engine
 

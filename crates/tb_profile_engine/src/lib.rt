@@ -5,4 +5,4 @@
 mod engine;
 mod running;
 
-pub use engine::{Profiled, profile_text};
+pub use engine::{Named, Profiled, profile_text};

@@ -1,6 +1,8 @@
 //! Profiles as a table and as a page: what the lines of a program took on a run, each line's statement, and the texts.
 #![tactic(auto)]
 
+mod about;
+mod cells;
 mod figures;
 mod lines;
 mod page;
@@ -8,5 +10,7 @@ mod rows;
 mod table;
 mod texts;
 
+pub use about::About;
+pub use figures::CYCLES_A_SECOND;
 pub use rows::{Row, Start, Table, Whole, profile};
 pub use texts::{Texts, texts_of};

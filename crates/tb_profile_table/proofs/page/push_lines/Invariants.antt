@@ -6,4 +6,4 @@ use Rattle.tb_profile_table.specs.Lines.{line_pair}
 use Rattle.tb_profile_table.proofs.page.push_lines.Given as goal
 
 abbrev pub invariant-loop-line : goal.invariant-loop-line
-invariant-loop-line l = l.text.items ≡ l.initial.text.items ++ flat_map (line_row l.all) (map line_pair (take l.line-index l.lines))
+invariant-loop-line l = l.text.items ≡ l.initial.text.items ++ flat_map (line_row l.scale) (map line_pair (take l.line-index l.lines))
