@@ -23,8 +23,8 @@ module _ {F : Type 0} (does : F → Deed → F → Type 0) (f : F) where
 
   -- there was no memory for a build, whatever limits its size
   nothing_built : (source : List ℕ) (names : BuildNames) (size : SizeLimit) → Builds does f source names size outcome.NoMemory f
-  nothing_built source names Cost = (Err NoMemory, refl, inl (0, refl))
-  nothing_built source names Memory = (Err NoMemory, refl, inl (0, refl))
+  nothing_built source names Cost = (outcome.NoMemory, f, (Err NoMemory, refl, inl (0, refl)), (refl, refl))
+  nothing_built source names Memory = (outcome.NoMemory, f, (Err NoMemory, refl, inl (0, refl)), (refl, refl))
 
   pub not_built : (source : List ℕ) (names : BuildNames) (size : SizeLimit) (ends : Outcome) → ends ≡ outcome.NoMemory
       → Builds does f source names size ends f

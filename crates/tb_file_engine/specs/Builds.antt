@@ -1,5 +1,5 @@
 -- What a build does with files.
-use Rattle.std.specs.Prelude.{◌≡◌, ℕ, Bool, true, false, List, [], ◌∷◌, ◌++◌, Option, Some, None, option_map, Result, MatchBool}
+use Rattle.std.specs.Prelude.{◌≡◌, ℕ, Bool, true, false, List, [], ◌∷◌, ◌++◌, Option, Some, None, option_map, Result, Ok, Err, MatchBool}
 use Rattle.tb_files.specs.Deeds.{Deed, Transfers}
 use Rattle.tb_codegen.specs.declared.settings.CompileSettings.{CompileSettings}
 use Rattle.tb_codegen.specs.declared.settings.SizeLimit.{SizeLimit}
@@ -13,6 +13,7 @@ use Rattle.tb_engines.specs.declared.outcome.Refusal.TheVariants as refusal
 use Rattle.tb_file_engine.specs.Outcomes.{Ends}
 use Rattle.tb_file_engine.specs.declared.building.BuildNames.{BuildNames}
 use Rattle.tb_file_engine.specs.declared.saving.Stop.{Stop}
+use Rattle.tb_file_engine.specs.declared.saving.Stop.TheVariants.{Refused, ReadFault, WriteFault, NoMemory}
 
 -- a file that is wanted
 abbrev pub wanted : Option (List ℕ) → List (List ℕ)
@@ -63,14 +64,26 @@ abbrev pub costs_too_much : SizeLimit → Outcome → Bool
 costs_too_much Cost o = is_too_large o
 costs_too_much Memory o = false
 
--- the map of a source was made, if it was wanted, and whatever became of it
-abbrev pub Maps : {F : Type 0} → (F → Deed → F → Type 0) → F → List ℕ → Option (List ℕ) → F → Type 0
-Maps does f source None g = g ≡ f
-Maps does f source (Some map) g = (done : Result Unit (Stop Refusal)) × Transfers does f (source ∷ []) (map ∷ []) done g
+-- how a build ends whose source costs too much: by its refusal, unless the map was not made or written
+abbrev pub ends_by : Outcome → Result Unit (Stop Refusal) → Outcome
+ends_by refusal (Ok u) = refusal
+ends_by refusal (Err (Refused e)) = refusal
+ends_by refusal (Err ReadFault) = outcome.ReadFault
+ends_by refusal (Err WriteFault) = outcome.WriteFault
+ends_by refusal (Err NoMemory) = outcome.NoMemory
 
--- what a build did with files, by how it ended; the map is made after all else, if the source costs too much
+-- the map of a source that is refused, if it is wanted, and how the build ends then
+abbrev pub Maps : {F : Type 0} → (F → Deed → F → Type 0) → F → List ℕ → Option (List ℕ) → Outcome → Outcome → F → Type 0
+Maps does f source None refusal outcome g = (outcome ≡ refusal) × (g ≡ f)
+Maps does f source (Some map) refusal outcome g =
+    (done : Result Unit (Stop Refusal)) × (outcome ≡ ends_by refusal done) × Transfers does f (source ∷ []) (map ∷ []) done g
+
+-- what a build did with files, by how writing all of it ended; the map is made after that, if the source costs too much
+abbrev pub Follows : {F : Type 0} → (F → Deed → F → Type 0) → F → List ℕ → BuildNames → SizeLimit → Outcome → Outcome → F → Type 0
+Follows does f source names size first outcome g =
+    MatchBool (costs_too_much size first) (Maps does f source (map_of names) first outcome g) ((outcome ≡ first) × (g ≡ f))
+
+-- what a build did with files, by how it ended
 abbrev pub Builds : {F : Type 0} → (F → Deed → F → Type 0) → F → List ℕ → BuildNames → SizeLimit → Outcome → F → Type 0
 Builds does f source names size outcome g =
-    MatchBool (costs_too_much size outcome)
-    ((h : _) × Ends does f (source ∷ []) (outputs_of names) outcome h × Maps does h source (map_of names) g)
-    (Ends does f (source ∷ []) (outputs_of names) outcome g)
+    (first : Outcome) × (h : _) × Ends does f (source ∷ []) (outputs_of names) first h × Follows does h source names size first outcome g

@@ -164,24 +164,29 @@ impl Work for Map {
     }
 }
 
-// Writes the map of a source that costs too much, if it is wanted and the source fits the memory. The refusal is what is
-// told, whatever becomes of the map.
+// Writes the map of a source that costs too much, if it is wanted and the source fits the memory. The answer is the
+// refusal, unless the map was not made or written.
 fn map_refused<F: FileSystem>(
     alloc: Global,
     files: &mut F,
     source: &str,
     seed: u16,
     map: Option<&str>,
-)
-    ensures { Maps F.does files.old source.now (option_map (λ p. p.now) map.entry) files.new }
+    refusal: Outcome,
+) -> Outcome
+    ensures { Maps F.does files.old source.now (option_map (λ p. p.now) map.entry) refusal result files.new }
 {
-    if let Some(map) = map {
-        let mut work = Map {
-            alloc,
-            settings: CompileSettings::by_memory(seed),
-            made: Vec::new(alloc),
-        };
-        let _ = transfer(files, &mut work, &[source], &[map]);
+    let Some(map) = map else {
+        return refusal;
+    };
+    let mut work = Map {
+        alloc,
+        settings: CompileSettings::by_memory(seed),
+        made: Vec::new(alloc),
+    };
+    match transfer(files, &mut work, &[source], &[map]) {
+        Ok(()) | Err(Stop::Refused(_)) => refusal,
+        Err(stop) => outcome_of(Err(stop)),
     }
 }
 
@@ -219,7 +224,8 @@ pub fn build_file<F: FileSystem>(
     };
     let outcome = outcome_of(transfer(files, &mut work, &[source], paths.as_slice()));
     if costs_too_much(settings, outcome) {
-        map_refused(alloc, files, source, settings.seed, names.map);
+        let outcome = map_refused(alloc, files, source, settings.seed, names.map, outcome);
+        return Report::new(alloc, outcome);
     }
     match (work.told, outcome) {
         (Some(report), Outcome::Ended(_) | Outcome::WriteFault) => Report {

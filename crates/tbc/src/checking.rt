@@ -1,10 +1,25 @@
-//! Checking sources: what there is to say of each is made in memory, and written at the end.
+//! Checking sources: each is opened when its turn comes, and what there is to say of it is written before the next one.
+ghost use Rattle.std.specs.Prelude.{⊤};
+
 use crate::host::Host;
+use std::alloc::Global;
 use std::io;
 use std::rt::Files;
-use tb_check_engine::{CheckOutcome, Checked};
-use tb_driver::{Outcome, SizeLimit, Tracked};
+use tb_check_engine::{CheckOutcome, Sources, check_sources};
+use tb_driver::{InputError, Outcome, SizeLimit, Tracked, read_input};
 use tb_file_engine::opened;
+
+impl<R: Files + Print + Input + AllocGlobal> Sources for Host<'_, R> {
+    ghost reads = { λ _ _ _ _. ⊤ };
+
+    fn read(&mut self, alloc: Global, name: &str) -> Result<Vec<u8>, InputError> {
+        match opened(self, name) {
+            Ok(mut file) => read_input(alloc, &mut file),
+            Err(Outcome::NoMemory) => Err(InputError::NoMemory),
+            Err(_) => Err(InputError::Fault),
+        }
+    }
+}
 
 /// Checks sources, whose programs are too large by this limit, and writes what there is to say of them.
 pub fn check_files<R: Files + Print + Input + AllocGlobal>(
@@ -12,33 +27,7 @@ pub fn check_files<R: Files + Print + Input + AllocGlobal>(
     paths: &[String],
     size: SizeLimit,
 ) -> CheckOutcome {
-    match checked(host, paths, size) {
-        Ok(checked) => checked.write(&mut Tracked::new(io::writer(host.rt))),
-        Err(outcome) => outcome,
-    }
-}
-
-fn checked<R: Files + Print + Input + AllocGlobal>(
-    host: &mut Host<'_, R>,
-    paths: &[String],
-    size: SizeLimit,
-) -> Result<Checked, CheckOutcome> {
-    let mut checked = Checked::new(host.rt.alloc(), size);
-    for path in paths {
-        checked = with_file(host, checked, path.as_str())?;
-    }
-    Ok(checked)
-}
-
-// A file that can't be opened hides no other one.
-fn with_file<R: Files + Print + Input + AllocGlobal>(
-    host: &mut Host<'_, R>,
-    checked: Checked,
-    path: &str,
-) -> Result<Checked, CheckOutcome> {
-    match opened(host, path) {
-        Ok(mut file) => checked.add(host.rt.alloc(), path, &mut file),
-        Err(Outcome::NoMemory) => Err(CheckOutcome::NoMemory),
-        Err(_) => Ok(checked.unread()),
-    }
+    let rt = host.rt;
+    let mut screen = Tracked::new(io::writer(rt));
+    check_sources(rt.alloc(), host, paths, &mut screen, size)
 }

@@ -19,6 +19,8 @@ const MOST_LINKS: u32 = 40;
 #[derive(Drop)]
 pub struct Host<'a, R> {
     pub rt: &'a R,
+    /// Whether a person at a terminal is told more than scripts are.
+    pub notes: bool,
     /// How many were opened for reading.
     pub opened: usize,
     /// None as well if memory didn't suffice for its path.
@@ -80,9 +82,10 @@ impl<W: Write> Write for Ended<W> {
 }
 
 impl<'a, R> Host<'a, R> {
-    pub fn new(rt: &'a R) -> Host<'a, R> {
+    pub fn new(rt: &'a R, notes: bool) -> Host<'a, R> {
         Host {
             rt,
+            notes,
             opened: 0,
             last: None,
         }

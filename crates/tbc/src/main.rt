@@ -14,6 +14,7 @@ mod profiling;
 mod reading;
 mod refusals;
 mod tasks;
+mod waiting;
 
 use ending::Ending;
 use hinting::hint;
@@ -22,6 +23,7 @@ use noting::note;
 use std::io::IsTerminal;
 use std::process::ExitCode;
 use std::rt::{Env, Files};
+use std::time::Clock;
 use std::{env, io};
 use tb_command_line::{Failure, Job, job};
 
@@ -39,7 +41,7 @@ fn job_of_words<R: Env + AllocGlobal>(rt: &R) -> Result<Job, Failure> {
 }
 
 // Does what the words ask for, and says how it ended: the exit status.
-fn start<R: Files + Env + Print + Eprint + Input + AllocGlobal>(
+fn start<R: Files + Env + Clock + Print + Eprint + Input + AllocGlobal>(
     rt: &R,
     prompts: bool,
     notes: bool,
@@ -48,7 +50,7 @@ fn start<R: Files + Env + Print + Eprint + Input + AllocGlobal>(
         Ok(job) => job,
         Err(failure) => return refused(rt, failure, notes),
     };
-    let mut host = Host::new(rt);
+    let mut host = Host::new(rt, notes);
     let done = tasks::perform(&mut host, &job, prompts);
     let status = told(rt, &done);
     if notes {

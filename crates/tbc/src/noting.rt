@@ -2,7 +2,7 @@
 use crate::ending::Ending;
 use crate::host::Host;
 use crate::places::{clash, file_note, noted_sources};
-use crate::refusals::note_source;
+use crate::refusals::{note_source, note_text};
 use std::fmt;
 use std::rt::Files;
 use tb_check_engine::CheckOutcome;
@@ -50,6 +50,9 @@ fn note_outcome<R: Files + Print + Eprint + Input + AllocGlobal>(
 ) {
     match outcome {
         Outcome::Refused(Refusal::Source(error)) => note_source(host, job, error),
+        Outcome::Refused(refusal @ (Refusal::TextLine(_) | Refusal::Item(_))) => {
+            note_text(host, job, refusal)
+        }
         Outcome::Refused(refusal) => note_prg(host, refusal),
         Outcome::ReadFault | Outcome::WriteFault => file_note(host, None),
         Outcome::Ended(end) => note_end(host, job, end),

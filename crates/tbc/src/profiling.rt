@@ -7,24 +7,25 @@ use tb_command_line::Settings;
 use tb_driver::{Outcome, Report, Tracked};
 use tb_file_engine::{opened, save};
 use tb_kernal::{Keyboard, Outside};
-use tb_profile_engine::{Profiled, profile_text};
+use tb_profile_engine::{Named, Profiled, profile_text};
 
 /// Profiles a source, and writes the page if there is a table and the page is wanted.
 pub fn profile_file<R: Files + Print + Input + AllocGlobal, O: Outside>(
     host: &mut Host<'_, R>,
-    source: &str,
+    named: Named<'_>,
     settings: &Settings,
     keyboard: Keyboard,
     outside: &mut O,
     html: Option<&str>,
 ) -> Report {
     let rt = host.rt;
-    let mut file = match opened(host, source) {
+    let mut file = match opened(host, named.name) {
         Ok(file) => file,
         Err(outcome) => return Report::new(rt.alloc(), outcome),
     };
     let Profiled { report, page } = profile_text(
         rt.alloc(),
+        &named,
         &mut file,
         &mut Tracked::new(io::writer(rt)),
         settings_of(settings.seed, settings.fit),

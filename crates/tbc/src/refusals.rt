@@ -1,12 +1,13 @@
-//! Notes on a source that is refused: the line with its place, and what helps.
+//! Notes on a source or a text that is refused: the line with its place, and what helps.
 use crate::host::{Host, Source};
 use crate::noting::say;
 use std::alloc::AllocError;
 use std::fmt;
 use std::rt::Files;
+use tb_asm_reasons::{item_text, line_text};
 use tb_check_engine::refusal_text;
 use tb_command_line::{Job, Runnable, Settings};
-use tb_driver::{CompileError, Tracked, bytes_to_fit, read_input};
+use tb_driver::{CompileError, Refusal, Tracked, bytes_to_fit, read_input};
 use tb_file_engine::opened;
 use tb_files::{FileSystem, Place};
 
@@ -29,9 +30,31 @@ pub fn note_source<R: Files + Print + Eprint + Input + AllocGlobal>(
     };
     if let CompileError::TooLarge(_) = error {
         note_fit(host, &compiles);
-    } else {
-        // Without memory there is no note.
-        let _ = show_line(host, compiles.source, error);
+    } else if let Some(source) = read_again(host, compiles.source) {
+        show(
+            host,
+            refusal_text(host.rt.alloc(), compiles.source, source.as_slice(), error),
+        );
+    }
+}
+
+/// Says what helps with a text that is not assembled.
+pub fn note_text<R: Files + Print + Eprint + Input + AllocGlobal>(
+    host: &mut Host<'_, R>,
+    job: &Job,
+    refusal: Refusal,
+) {
+    let Job::Asm { text: path, .. } = job else {
+        return;
+    };
+    let Some(text) = read_again(host, path) else {
+        return;
+    };
+    let alloc = host.rt.alloc();
+    match refusal {
+        Refusal::TextLine(line) => show(host, line_text(alloc, path, text.as_slice(), line)),
+        Refusal::Item(error) => show(host, item_text(alloc, path, text.as_slice(), error)),
+        Refusal::Prg(_) | Refusal::NotRam | Refusal::Source(_) => {}
     }
 }
 
@@ -61,28 +84,27 @@ impl fmt::Display for Fits {
     }
 }
 
-// Shows the line for which a source is refused, as `check` does.
-fn show_line<R: Files + Print + Eprint + Input + AllocGlobal>(
-    host: &mut Host<'_, R>,
-    path: &str,
-    error: CompileError,
-) -> Result<(), AllocError> {
-    let rt = host.rt;
-    let alloc = rt.alloc();
-    let Some(mut file) = opened_again(host, path) else {
-        return Ok(());
+// Shows what there is to say of a file. Without memory nothing is said.
+fn show<R: Eprint + AllocGlobal>(host: &Host<'_, R>, said: Result<Vec<u8>, AllocError>) {
+    let Ok(said) = said else {
+        return;
     };
-    let Ok(source) = read_input(alloc, &mut file) else {
-        return Ok(());
-    };
-    let text = refusal_text(alloc, path, source.as_slice(), error)?;
-    let text = String::from_utf8_lossy(alloc, text.as_slice())?;
-    // Nobody can be told that standard error fails.
-    let _ = eprint!(rt; "{text}");
-    Ok(())
+    if let Ok(said) = String::from_utf8_lossy(host.rt.alloc(), said.as_slice()) {
+        // Nobody can be told that standard error fails.
+        let _ = eprint!(host.rt; "{said}");
+    }
 }
 
-// A source is read once more, since an engine keeps none that it refuses; but only a regular file gives the same again.
+// The bytes of a file that is read once more.
+fn read_again<R: Files + Print + Input + AllocGlobal>(
+    host: &mut Host<'_, R>,
+    path: &str,
+) -> Option<Vec<u8>> {
+    let mut file = opened_again(host, path)?;
+    read_input(host.rt.alloc(), &mut file).ok()
+}
+
+// A file is read once more, since an engine keeps none that it refuses; but only a regular file gives the same again.
 fn opened_again<R: Files + Print + Input + AllocGlobal>(
     host: &mut Host<'_, R>,
     path: &str,

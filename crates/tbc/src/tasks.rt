@@ -7,9 +7,11 @@ use crate::host::Host;
 use crate::playing::play;
 use crate::profiling::profile_file;
 use crate::reading::{settings_of, size_limit};
+use crate::waiting::Progress;
 use std::alloc::Global;
 use std::io;
 use std::rt::Files;
+use std::time::Clock;
 use tb_command_line::{BuildExtras, Failure, Job, Runnable, Settings, Typed, typed_keys};
 use tb_driver::{
     CompileSettings, End, KeyError, KeyFileError, Outcome, Report, Tracked, address, dis_text,
@@ -18,11 +20,12 @@ use tb_driver::{
 use tb_file_engine::{BuildNames, assemble_file, build_file, disk_file, opened};
 use tb_files::{Barred, may_write};
 use tb_kernal::{Keyboard, Outside, Quiet, Rude};
+use tb_profile_engine::Named;
 use tb_run_notes::{NotedRun, run_noted};
 
 /// Does what the words ask for, if the files that are to be written may be. A prompt is shown before a debugger's command
 /// where that is wanted.
-pub fn perform<R: Files + Print + Eprint + Input + AllocGlobal>(
+pub fn perform<R: Files + Clock + Print + Eprint + Input + AllocGlobal>(
     host: &mut Host<'_, R>,
     job: &Job,
     prompts: bool,
@@ -35,7 +38,7 @@ pub fn perform<R: Files + Print + Eprint + Input + AllocGlobal>(
 }
 
 // Does a job that runs a program; None for any other job.
-fn run_job<R: Files + Print + Eprint + Input + AllocGlobal>(
+fn run_job<R: Files + Clock + Print + Eprint + Input + AllocGlobal>(
     host: &mut Host<'_, R>,
     job: &Job,
     prompts: bool,
@@ -174,7 +177,7 @@ fn assemble_at<R: Files + Print + Input + AllocGlobal>(
 }
 
 // A run with a rude ROM, if one is asked for.
-fn run_beside<R: Files + Print + Input + AllocGlobal>(
+fn run_beside<R: Files + Clock + Print + Eprint + Input + AllocGlobal>(
     host: &mut Host<'_, R>,
     what: &Runnable,
     settings: &Settings,
@@ -196,9 +199,10 @@ fn profile_beside<R: Files + Print + Input + AllocGlobal>(
     html: Option<&str>,
 ) -> Result<Report, Failure> {
     let keyboard = keyboard(host, settings)?;
+    let named = Named { name: source, rude };
     Ok(match rude {
-        Some(rude) => profile_file(host, source, settings, keyboard, &mut Rude::new(rude), html),
-        None => profile_file(host, source, settings, keyboard, &mut Quiet, html),
+        Some(rude) => profile_file(host, named, settings, keyboard, &mut Rude::new(rude), html),
+        None => profile_file(host, named, settings, keyboard, &mut Quiet, html),
     })
 }
 
@@ -281,7 +285,7 @@ fn untold(report: Report) -> NotedRun {
     NotedRun { report, note: None }
 }
 
-fn run_file<R: Files + Print + Input + AllocGlobal, O: Outside>(
+fn run_file<R: Files + Clock + Print + Eprint + Input + AllocGlobal, O: Outside>(
     host: &mut Host<'_, R>,
     what: &Runnable,
     settings: &Settings,
@@ -307,6 +311,7 @@ fn run_file<R: Files + Print + Input + AllocGlobal, O: Outside>(
                 keyboard,
                 limit,
                 outside,
+                &mut Progress::new(rt, limit, host.notes),
             )
         }
         Runnable::Prg(_) => {

@@ -1,12 +1,15 @@
 //! Checks of sources that lie in memory.
+ghost use Rattle.std.specs.Prelude.{⊤};
+
 use crate::notation::decoded;
 use crate::page::Page;
-use std::alloc::Global;
-use std::io::Read;
+use std::alloc::{AllocError, Global};
+use std::io::Write;
 use std::str;
-use tb_check_engine::{CheckOutcome, Checked};
+use tb_check_engine::{CheckOutcome, Sources, check_sources};
 use tb_codegen::SizeLimit;
-use tb_streams::Tracked;
+use tb_streams::{InputError, Tracked, read_input};
+use tb_test_support::FailingReader;
 
 /// What the sources of a row are called.
 const NAMES: [&str; 4] = ["a.bas", "b.bas", "c.bas", "d.bas"];
@@ -39,37 +42,87 @@ pub fn files_of(page: &mut Page, given: &str) -> Vec<File> {
     files
 }
 
-/// The check with one more source.
-pub fn with_file(alloc: Global, checked: Checked, file: &File) -> Result<Checked, CheckOutcome> {
-    match &file.bytes {
-        Some(bytes) => with_reader(alloc, checked, file.name, bytes.as_slice()),
-        None => Ok(checked.unread()),
+/// Sources that lie in memory; one of them may come from a reader that fails.
+#[derive(Drop)]
+pub struct Folder<'a> {
+    pub files: &'a [File],
+    pub failing: Option<Failing<'a>>,
+}
+
+/// A source that comes from a reader.
+#[derive(Drop)]
+pub struct Failing<'a> {
+    pub name: &'static str,
+    pub reader: FailingReader<'a>,
+}
+
+impl Sources for Folder<'_> {
+    ghost reads = { λ _ _ _ _. ⊤ };
+
+    fn read(&mut self, alloc: Global, name: &str) -> Result<Vec<u8>, InputError> {
+        match self.failing.take() {
+            Some(failing) if failing.name == name => {
+                read_input(alloc, &mut Tracked::new(failing.reader))
+            }
+            failing => {
+                self.failing = failing;
+                self.file(alloc, name)
+            }
+        }
     }
 }
 
-/// The check with what a reader gives.
-pub fn with_reader<R: Read + Drop>(
+impl Folder<'_> {
+    fn file(&self, alloc: Global, name: &str) -> Result<Vec<u8>, InputError> {
+        for file in self.files {
+            if file.name == name {
+                return match &file.bytes {
+                    Some(bytes) => read_input(alloc, &mut Tracked::new(bytes.as_slice())),
+                    None => Err(InputError::Fault),
+                };
+            }
+        }
+        Err(InputError::Fault)
+    }
+
+    /// The names of all sources, in their order.
+    pub fn names(&self, alloc: Global) -> Result<Vec<String>, AllocError> {
+        let mut names = Vec::new(alloc);
+        if let Some(failing) = &self.failing {
+            names.push(String::from_str(alloc, failing.name)?)?;
+        }
+        for file in self.files {
+            names.push(String::from_str(alloc, file.name)?)?;
+        }
+        Ok(names)
+    }
+}
+
+/// A folder of files.
+pub fn folder_of(files: &[File]) -> Folder<'_> {
+    Folder {
+        files,
+        failing: None,
+    }
+}
+
+/// Checks the sources of a folder, whose programs are too large by this limit.
+pub fn check_folder<W: Write>(
     alloc: Global,
-    checked: Checked,
-    name: &str,
-    reader: R,
-) -> Result<Checked, CheckOutcome> {
-    checked.add(alloc, name, &mut Tracked::new(reader))
-}
-
-/// A check of sources, whose programs are too large by this limit.
-pub fn checked(alloc: Global, files: &[File], size: SizeLimit) -> Result<Checked, CheckOutcome> {
-    let mut checked = Checked::new(alloc, size);
-    for file in files {
-        checked = with_file(alloc, checked, file)?;
+    mut folder: Folder<'_>,
+    writer: &mut Tracked<W>,
+    size: SizeLimit,
+) -> CheckOutcome {
+    match folder.names(alloc) {
+        Ok(names) => check_sources(alloc, &mut folder, names.as_slice(), writer, size),
+        Err(_) => CheckOutcome::NoMemory,
     }
-    Ok(checked)
 }
 
-/// What a check writes, and how it ends.
-pub fn ending_of(alloc: Global, checked: &Checked) -> Ending {
+/// What a check of a folder writes, and how it ends.
+pub fn ending_of(alloc: Global, folder: Folder<'_>, size: SizeLimit) -> Ending {
     let mut writer = Tracked::new(Vec::new(alloc));
-    let outcome = checked.write(&mut writer);
+    let outcome = check_folder(alloc, folder, &mut writer, size);
     Ending {
         outcome,
         wrote: writer.stream,
@@ -78,11 +131,11 @@ pub fn ending_of(alloc: Global, checked: &Checked) -> Ending {
 
 /// Appends what a check of sources writes, and how it ends.
 pub fn put_check(page: &mut Page, files: &[File], size: SizeLimit) {
-    let checked = checked(page.alloc(), files, size);
-    if let Some(checked) = page.held(checked) {
-        let ending = ending_of(page.alloc(), &checked);
-        put_ending(page, &ending);
+    let ending = ending_of(page.alloc(), folder_of(files), size);
+    if ending.outcome == CheckOutcome::NoMemory {
+        page.fail();
     }
+    put_ending(page, &ending);
 }
 
 fn put_ending(page: &mut Page, ending: &Ending) {

@@ -1,8 +1,10 @@
 //! Checks over readers and writers that fail anywhere.
-use crate::check::checks::{Ending, File, checked, ending_of, put_outcome, with_file, with_reader};
+use crate::check::checks::{
+    Ending, Failing, File, Folder, check_folder, ending_of, folder_of, put_outcome,
+};
 use crate::page::Page;
 use std::alloc::Global;
-use tb_check_engine::{CheckOutcome, Checked};
+use tb_check_engine::CheckOutcome;
 use tb_codegen::SizeLimit;
 use tb_streams::Tracked;
 use tb_test_support::{FailingReader, FailingWriter};
@@ -10,27 +12,8 @@ use tb_test_support::{FailingReader, FailingWriter};
 /// The source that a reader fails to give.
 const FIRST: &[u8] = b"10 FOR\n20 END\n";
 
-// A check whose first source comes from a reader that fails after `until_fault` bytes.
-fn over_reader(
-    alloc: Global,
-    files: &[File],
-    until_fault: usize,
-    most: usize,
-) -> Result<Checked, CheckOutcome> {
-    let reader = FailingReader::new(FIRST, until_fault, most);
-    let mut checked = with_reader(
-        alloc,
-        Checked::new(alloc, SizeLimit::Cost),
-        "first.bas",
-        reader,
-    )?;
-    for file in files {
-        checked = with_file(alloc, checked, file)?;
-    }
-    Ok(checked)
-}
-
-// Whether that check ends in a read fault, and writes what a check of the other sources writes.
+// Whether a check whose first source comes from a reader that fails after `until_fault` bytes ends in a read fault, and
+// writes what a check of the other sources writes.
 fn reader_fails(
     alloc: Global,
     files: &[File],
@@ -38,23 +21,22 @@ fn reader_fails(
     until_fault: usize,
     most: usize,
 ) -> bool {
-    match over_reader(alloc, files, until_fault, most) {
-        Ok(checked) => {
-            let ending = ending_of(alloc, &checked);
-            ending.outcome == CheckOutcome::ReadFault && ending.wrote == whole.wrote
-        }
-        Err(_) => false,
-    }
+    let folder = Folder {
+        files,
+        failing: Some(Failing {
+            name: "first.bas",
+            reader: FailingReader::new(FIRST, until_fault, most),
+        }),
+    };
+    let ending = ending_of(alloc, folder, SizeLimit::Cost);
+    ending.outcome == CheckOutcome::ReadFault && ending.wrote == whole.wrote
 }
 
 /// Appends what a check writes whose first source comes from a reader that fails anywhere: always the same, namely what
 /// is said of the other sources.
 pub fn put_readers(page: &mut Page, files: &[File]) {
-    let checked = checked(page.alloc(), files, SizeLimit::Cost);
-    if let Some(checked) = page.held(checked) {
-        let whole = ending_of(page.alloc(), &checked);
-        put_failing_readers(page, files, &whole);
-    }
+    let whole = ending_of(page.alloc(), folder_of(files), SizeLimit::Cost);
+    put_failing_readers(page, files, &whole);
 }
 
 fn put_failing_readers(page: &mut Page, files: &[File], whole: &Ending) {
@@ -74,13 +56,13 @@ fn put_failing_readers(page: &mut Page, files: &[File], whole: &Ending) {
 // Whether a check writes what its writer takes, and ends in a write fault if that is not all.
 fn is_prefix(
     alloc: Global,
-    checked: &Checked,
+    files: &[File],
     whole: &Ending,
     until_fault: usize,
     most: usize,
 ) -> bool {
     let mut writer = Tracked::new(FailingWriter::new(alloc, until_fault, most));
-    let outcome = checked.write(&mut writer);
+    let outcome = check_folder(alloc, folder_of(files), &mut writer, SizeLimit::Cost);
     let wanted = if until_fault < whole.wrote.len() {
         CheckOutcome::WriteFault
     } else {
@@ -91,18 +73,15 @@ fn is_prefix(
 
 /// Appends how many failing writers took a prefix of what a check writes, or the first that did not.
 pub fn put_writers(page: &mut Page, files: &[File]) {
-    let checked = checked(page.alloc(), files, SizeLimit::Cost);
-    if let Some(checked) = page.held(checked) {
-        let whole = ending_of(page.alloc(), &checked);
-        put_failing_writers(page, &checked, &whole);
-    }
+    let whole = ending_of(page.alloc(), folder_of(files), SizeLimit::Cost);
+    put_failing_writers(page, files, &whole);
 }
 
-fn put_failing_writers(page: &mut Page, checked: &Checked, whole: &Ending) {
+fn put_failing_writers(page: &mut Page, files: &[File], whole: &Ending) {
     let length = whole.wrote.len();
     for until_fault in 0..=length {
         for most in [1, 2, 4096] {
-            if !is_prefix(page.alloc(), checked, whole, until_fault, most) {
+            if !is_prefix(page.alloc(), files, whole, until_fault, most) {
                 page.put("=> no prefix after ");
                 page.put_fault(until_fault, most);
                 page.put("\n");

@@ -1,7 +1,7 @@
 //! Dialogues, in which each answer is awaited before the next command.
 use crate::debug::awaiting::{AwaitingReader, WatchedWriter};
-use crate::debug::programs::{ASKS, DRAWS, FAULTS, FOREVER, LOOP, NESTS};
-use crate::debug::streams::{debugs, source_of};
+use crate::debug::programs::{ASKS, DRAWS, FAULTS, FOREVER, LOOP, NESTS, RUNS_PAST};
+use crate::debug::streams::{debugs, debugs_at_terminal, source_of};
 use std::alloc::{AllocError, Global};
 use std::cell::Cell;
 use std::test::Fail;
@@ -339,8 +339,180 @@ what?
 what?
 ";
 
+const AN_EMPTY_LINE: &str = "10 LET A=3
+> 
+what?
+> x
+0C00 A=00 X=F0 Y=00 S=F0 P=B0 10 running
+> 
+what?
+> n
+20 PRINT A
+> 
+| 3
+30 LET A=A-1
+> v
+A=3
+> 
+40 IF A>0 GOTO 20
+> back 2
+20 PRINT A
+> 
+10 LET A=3
+> next 2
+| 3
+30 LET A=A-1
+> b 30
+set
+> 
+20 PRINT A
+> continue
+| 2
+30 LET A=A-1
+> 
+| 1
+30 LET A=A-1
+> rc
+30 LET A=A-1
+> 
+30 LET A=A-1
+> 
+10 LET A=3
+> g 40
+| 3
+40 IF A>0 GOTO 20
+> b
+30 LET A=A-1
+> 
+| 2
+40 IF A>0 GOTO 20
+> t 1
+20 PRINT A
+> 
+20 PRINT A
+> g 31
+no such line
+> 
+no such line
+> s 2
+20 PRINT A
+> n 2x
+what?
+> 
+20 PRINT A
+";
+
+const A_FAULT_THAT_STOPS: &str = "10 LET A=2
+> f
+stops at faults
+> c
+| 3
+| 6
+20 PRINT 6/A
+> v
+none
+> c
+| 
+| !2 AT 20
+returned
+> c
+returned
+> p
+20 PRINT 6/A
+> f
+goes through faults
+> t 0
+10 LET A=2
+> c
+| 3
+| 6
+| 
+| !2 AT 20
+returned
+> f
+stops at faults
+> t 0
+10 LET A=2
+> s 3
+10 LET A=2
+> c
+| 3
+| 6
+20 PRINT 6/A
+> s 3
+20 PRINT 6/A
+> c
+| 
+| !2 AT 20
+returned
+> rc
+10 LET A=2
+> b 20
+set
+> c
+20 PRINT 6/A
+> c
+| 3
+20 PRINT 6/A
+> c
+| 6
+20 PRINT 6/A
+> c
+| 
+| !2 AT 20
+returned
+> b 20
+cleared
+> rc
+10 LET A=2
+> w A
+set
+> c
+20 PRINT 6/A
+> c
+| 3
+40 GOTO 20
+> c
+| 6
+40 GOTO 20
+> c
+20 PRINT 6/A
+";
+
+const A_PROGRAM_THAT_RUNS_PAST: &str = "10 GOSUB 30
+> f
+stops at faults
+> c
+50 LET Y=2
+> r
+50 LET Y=2
+20 END
+> c
+| 
+| !7 AT 50
+returned
+";
+
+const A_PROGRAM_WITHOUT_FAULTS: &str = "10 LET A=3
+> f
+stops at faults
+> c
+| 3
+| 2
+| 1
+returned
+> rc
+10 LET A=3
+> f
+goes through faults
+> f
+stops at faults
+> f x
+what?
+";
+
 /// Programs, and dialogues about them.
-static DIALOGUES: [(&[u8], &str); 10] = [
+static DIALOGUES: [(&[u8], &str); 14] = [
     (LOOP, LINES_FORTH_AND_BACK),
     (LOOP, BREAKPOINTS),
     (LOOP, WATCHES),
@@ -351,6 +523,10 @@ static DIALOGUES: [(&[u8], &str); 10] = [
     (FOREVER, A_PROGRAM_THAT_RUNS_FOREVER),
     (DRAWS, WHAT_IS_DRAWN),
     (LOOP, THE_MACHINE),
+    (LOOP, AN_EMPTY_LINE),
+    (FAULTS, A_FAULT_THAT_STOPS),
+    (RUNS_PAST, A_PROGRAM_THAT_RUNS_PAST),
+    (LOOP, A_PROGRAM_WITHOUT_FAULTS),
 ];
 
 // What is written in answer to these commands; nothing if the dialogue ends in a fault.
@@ -428,6 +604,27 @@ fn the_limit(rt: HostRuntime) -> Result<(), Fail> {
     assert!(rt; contains(text, b"\nlimit\n"));
     assert!(rt; contains(text, b"\n10 LET A=RND(6)\nn [K] "));
     assert!(rt; text.ends_with(b"q          end\n"));
+    Ok(())
+}
+
+// At a terminal a prompt comes before each command, and what helps after `what?`.
+#[test]
+fn a_terminal(rt: HostRuntime) -> Result<(), Fail> {
+    let compiled = source_of(rt.alloc(), LOOP)?;
+    let mut writer = Tracked::new(Vec::new(rt.alloc()));
+    let outcome = debugs_at_terminal(
+        rt.alloc(),
+        &compiled,
+        &mut Tracked::new(b"z\ne 1+\nn\n\nq\n".as_slice()),
+        &mut writer,
+    );
+    assert_eq!(rt; outcome.status(), 0);
+    assert_eq!(rt;
+        writer.stream.as_slice(),
+        b"10 LET A=3\n> what? (h lists the commands)\n> what? (h lists the commands)\n> 20 PRINT A\n\
+> | 3\n30 LET A=A-1\n> "
+            .as_slice()
+    );
     Ok(())
 }
 

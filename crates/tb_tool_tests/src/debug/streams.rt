@@ -11,22 +11,43 @@ use tb_test_support::{CountingWriter, FailingReader, FailingWriter, HoldingWrite
 
 /// Each command once, and some lines that are no commands.
 const COMMANDS: &[u8] =
-    b"n\nn 2\np\nb 30\nb\nc\nrc\nw A\nc\ng 50\nt 1\nl\nl 40\nv\nv A\ne A+1\nr\no\nk x\ns 3\nx\n\
+    b"n\nn 2\n\np\nb 30\nb\nc\nrc\nw A\nf\nc\ng 50\nt 1\nl\nl 40\nv\nv A\ne A+1\nr\no\nk x\ns 3\nx\n\
 m C000 3\ni\nh\n\n\r\nz\nb 31\nm 0000 2\nq\nn\n";
 
-/// Debugs with no keys and with a quiet ROM.
-pub fn debugs<R: Read, W: Write>(
+// Debugs with no keys and with a quiet ROM.
+fn debugs_so<R: Read, W: Write>(
     alloc: Global,
     source: &CompiledSource,
+    prompts: bool,
     reader: &mut Tracked<R>,
     writer: &mut Tracked<W>,
 ) -> Outcome {
     let setting = Setting {
         rom: Rom::Quiet,
         limit: 100_000,
-        prompts: false,
+        prompts,
     };
     debug(alloc, source, no_keys(alloc), setting, reader, writer)
+}
+
+/// Debugs as at a terminal, with no keys and with a quiet ROM.
+pub fn debugs_at_terminal<R: Read, W: Write>(
+    alloc: Global,
+    source: &CompiledSource,
+    reader: &mut Tracked<R>,
+    writer: &mut Tracked<W>,
+) -> Outcome {
+    debugs_so(alloc, source, true, reader, writer)
+}
+
+/// Debugs as in a pipe, with no keys and with a quiet ROM.
+pub fn debugs<R: Read, W: Write>(
+    alloc: Global,
+    source: &CompiledSource,
+    reader: &mut Tracked<R>,
+    writer: &mut Tracked<W>,
+) -> Outcome {
+    debugs_so(alloc, source, false, reader, writer)
 }
 
 pub fn source_of(alloc: Global, source: &[u8]) -> Result<CompiledSource, Fail> {

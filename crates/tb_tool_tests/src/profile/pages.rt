@@ -1,5 +1,5 @@
 //! Pages: what a browser would take for its own is escaped, and each row occurs once.
-use crate::profile::programs::{Program, profiles, programs};
+use crate::profile::programs::{LOOP, Program, profiles, programs};
 use std::alloc::Global;
 use std::test::Fail;
 use tb_streams::Tracked;
@@ -59,10 +59,140 @@ fn a_page_has_a_row_for_each_line(rt: HostRuntime) -> Result<(), Fail> {
         assert!(rt; page.as_slice().ends_with(b"</table>\n</body>\n</html>\n"));
         assert_eq!(rt;
             count(&page, b"</tr>\n"),
-            rows.saturating_add(1),
+            rows.saturating_add(9),
             "{}",
             program.name
         );
+    }
+    Ok(())
+}
+
+/// What a page is to have, once each, or as often as it says.
+#[derive(Clone, Copy)]
+struct Wanted {
+    program: Program,
+    pieces: &'static [(usize, &'static [u8])],
+}
+
+/// A loop of which a line never runs, and which is cut off.
+const CUT_OFF: Program = Program {
+    name: "cut <off>",
+    source: "10 LET A=A+1\n20 GOTO 10\n30 END\n",
+    keys: b"12\r",
+    limit: 5_000,
+    status: 5,
+    table: "",
+};
+
+static PAGES: [Wanted; 2] = [
+    Wanted {
+        program: LOOP,
+        pieces: &[
+            (1, b"<title>Profile of a loop</title>\n"),
+            (1, b"<h1>Profile of a loop</h1>\n"),
+            (
+                1,
+                b"<tr><th scope=\"row\">end</th><td class=\"text\">returned</td></tr>\n",
+            ),
+            (
+                1,
+                b"<tr><th scope=\"row\">lines begun</th><td>17</td></tr>\n",
+            ),
+            (
+                1,
+                b"<tr><th scope=\"row\">instructions</th><td>535</td></tr>\n",
+            ),
+            (1, b"<tr><th scope=\"row\">cycles</th><td>1,804</td></tr>\n"),
+            (
+                1,
+                b"<tr><th scope=\"row\">seconds of a PAL machine</th><td>0.002</td></tr>\n",
+            ),
+            (1, b"<tr><th scope=\"row\">seed</th><td>1</td></tr>\n"),
+            (
+                1,
+                b"<tr><th scope=\"row\">fit</th><td class=\"text\">no</td></tr>\n",
+            ),
+            (
+                1,
+                b"<tr><th scope=\"row\">limit of events</th><td>100,000</td></tr>\n",
+            ),
+            (
+                1,
+                b"<tr><th scope=\"row\">keys</th><td class=\"text\">none</td></tr>\n",
+            ),
+            (
+                1,
+                b"<tr><th scope=\"row\">answers</th><td class=\"text\">none</td></tr>\n",
+            ),
+            (
+                1,
+                b"<tr><th scope=\"row\">ROM</th><td class=\"text\">quiet</td></tr>\n",
+            ),
+            (
+                1,
+                b"<tr class=\"h7\"><th scope=\"row\">start</th><td>1</td><td>192</td><td>634</td><td>634</td>\
+<td>35.1%</td><td class=\"bar\"><span style=\"width: 7.7em\"></span></td><td class=\"source\"></td></tr>\n",
+            ),
+            (
+                1,
+                b"<tr class=\"h9\"><th scope=\"row\">20</th><td>5</td><td>250</td><td>820</td><td>164</td>\
+<td>45.5%</td><td class=\"bar\"><span style=\"width: 10.0em\"></span></td><td class=\"source\">PRINT I</td></tr>\n",
+            ),
+            (0, b"never ran"),
+        ],
+    },
+    Wanted {
+        program: CUT_OFF,
+        pieces: &[
+            (1, b"<title>Profile of cut &lt;off&gt;</title>\n"),
+            (1, b"<h1>Profile of cut &lt;off&gt;</h1>\n"),
+            (
+                1,
+                b"<tr><th scope=\"row\">end</th><td class=\"text\">step limit</td></tr>\n",
+            ),
+            (
+                1,
+                b"<tr><th scope=\"row\">instructions</th><td>5,000</td></tr>\n",
+            ),
+            (
+                1,
+                b"<tr><th scope=\"row\">seconds of a PAL machine</th><td>0.021</td></tr>\n",
+            ),
+            (
+                1,
+                b"<tr><th scope=\"row\">limit of events</th><td>5,000</td></tr>\n",
+            ),
+            (
+                1,
+                b"<tr><th scope=\"row\">keys</th><td class=\"text\">31320d</td></tr>\n",
+            ),
+            (
+                1,
+                b"<tr class=\"h9\"><th scope=\"row\">10</th><td>437</td><td>2,623</td><td>11,367</td><td>26</td>\
+<td>56.0%</td><td class=\"bar\"><span style=\"width: 10.0em\"></span></td><td class=\"source\">LET A=A+1</td></tr>\n",
+            ),
+            (
+                1,
+                b"<tr class=\"never\"><th scope=\"row\">30</th><td>0</td><td>0</td><td>0</td><td></td>\
+<td>0.0%</td><td class=\"bar\">never ran</td><td class=\"source\">END</td></tr>\n",
+            ),
+            (1, b"never ran"),
+        ],
+    },
+];
+
+// All of them. The table is named here alone, since each function that names it takes long to prove.
+fn wanted_pages() -> &'static [Wanted] {
+    &PAGES
+}
+
+#[test]
+fn a_page_says_what_the_run_was_and_took(rt: HostRuntime) -> Result<(), Fail> {
+    for wanted in wanted_pages() {
+        let page = page_of(rt.alloc(), &wanted.program);
+        for (times, piece) in wanted.pieces {
+            assert_eq!(rt; count(&page, piece), *times);
+        }
     }
     Ok(())
 }

@@ -3,7 +3,7 @@ use std::alloc::Global;
 use std::io::{Read, Write};
 use tb_driver::CompileSettings;
 use tb_kernal::Quiet;
-use tb_profile_engine::{Profiled, profile_text};
+use tb_profile_engine::{Named, Profiled, profile_text};
 use tb_streams::Tracked;
 use tb_test_support::keyboard_of;
 
@@ -30,6 +30,10 @@ pub fn profiles<R: Read, W: Write>(
     };
     let Profiled { report, page } = profile_text(
         alloc,
+        &Named {
+            name: program.name,
+            rude: None,
+        },
         reader,
         writer,
         CompileSettings::by_cost(1),
