@@ -38,7 +38,13 @@ chmod 755 tree/usr/bin/tbc
 "$root/tools/completions.py" zsh | text $share/zsh/vendor-completions/_tbc
 "$root/tools/completions.py" fish | text $share/fish/vendor_completions.d/tbc.fish
 for part in syntax ftdetect; do put "$root/editors/vim/$part/tinybasic.vim" $share/vim/vimfiles/$part/tinybasic.vim; done
-put "$root/editors/vscode/syntaxes/tinybasic.tmLanguage.json" $share/tbc/tinybasic.tmLanguage.json
+put "$root/editors/emacs/tinybasic-mode.el" $share/emacs/site-lisp/tinybasic-mode.el
+put "$root/editors/kate/tinybasic.xml" $share/org.kde.syntax-highlighting/syntax/tinybasic.xml
+for version_of in 4 5; do put "$root/editors/gtksourceview/tinybasic.lang" $share/gtksourceview-$version_of/language-specs/tinybasic.lang; done
+put "$root/editors/bat/tinybasic.sublime-syntax" $share/tbc/editors/bat/tinybasic.sublime-syntax
+for it in package.json language-configuration.json syntaxes/tinybasic.tmLanguage.json; do
+    put "$root/editors/vscode/$it" "$share/tbc/editors/vscode/$it"
+done
 put "$root/README.md" $share/doc/tbc/README.md
 for it in "$root"/docs/pictures/*; do put "$it" "$share/doc/tbc/docs/pictures/${it##*/}"; done
 for it in "$root"/docs/*.md; do put "$it" "$share/doc/tbc/docs/${it##*/}"; done

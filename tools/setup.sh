@@ -15,12 +15,16 @@ needs() { # COMMAND..: ends the script if one of them is missing
     done
 }
 
-installs() { # COMMAND PACKAGE: installs a package of Debian if the command is missing
-    command -v "$1" >/dev/null && return
+gets() { # PACKAGE..: installs packages of Debian
     local as=
     [ "$(id -u)" = 0 ] || as=sudo
-    echo "installing $2" >&2
-    $as apt-get update -qq >/dev/null && $as env DEBIAN_FRONTEND=noninteractive apt-get install -qq -y --no-install-recommends "$2" >/dev/null
+    echo "installing $*" >&2
+    $as apt-get update -qq >/dev/null && $as env DEBIAN_FRONTEND=noninteractive apt-get install -qq -y --no-install-recommends "$@" >/dev/null
+}
+
+installs() { # COMMAND PACKAGE: installs a package of Debian if the command is missing
+    command -v "$1" >/dev/null && return
+    gets "$2"
     needs "$1"
 }
 
