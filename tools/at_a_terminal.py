@@ -2,8 +2,9 @@
 """Plays a program at a pseudo-terminal: at_a_terminal.py PROMPT LINE .. -- COMMAND ..
 
 Waits for each prompt before it types the line after it, so a prompt that comes only with the key that it asks for is
-never seen; an empty line is the end of the input. Writes what the terminal showed, with plain line ends, and ends with
-the command's status; or with 124 after some seconds without a prompt, and with 125 if none can come any more.
+never seen. No LINE is the end of the input, and a line end alone is an empty line. Writes what the terminal showed, with
+plain line ends, and ends with the command's status; or with 124 after some seconds without a prompt, and with 125 if
+none can come any more.
 """
 import os
 import pty
@@ -39,7 +40,7 @@ def main():
                 sys.exit(125)
             since += more
         shown += since
-        os.write(terminal, line.encode() + b"\n" if line else END_OF_INPUT)
+        os.write(terminal, line.rstrip("\n").encode() + b"\n" if line else END_OF_INPUT)
     while more := shown_next(terminal):
         shown += more
     sys.stdout.write(shown.replace(b"\r\n", b"\n").decode())

@@ -228,7 +228,8 @@ row 1 'tbc: program too large (37889 bytes)' '' build large.bas out.prg --map ou
 same out.map left.map
 row 0 '' '' build --fit large.bas out.prg --map out.map
 same out.map left.map
-row 1 'tbc: program too large (37889 bytes)' '' build large.bas out.prg --map folder
+row 3 'tbc: write fault' '' build large.bas out.prg --map folder
+row 1 'tbc: program too large (37889 bytes)' '' build large.bas out.prg --map /dev/null
 rows=$((rows + 1))
 [ ! -e none.vs ] || { failed=$((failed + 1)) && echo "a program that is refused has labels"; }
 for words in 'build over.bas out.prg' 'run over.bas' 'play over.bas' 'step over.bas' 'debug over.bas' 'profile over.bas'; do
@@ -297,6 +298,7 @@ noted 2 'same file twice' './hello.bas: the same file as hello.bas' build hello.
 noted 2 'same file twice' 'out.prg: the same file as folder/../out.prg' build hello.bas out.prg --map folder/../out.prg
 row 5 '' $'A\ntbc: step limit\ntbc: note: line 20 was begun last; --limit N allows more events' run forever.bas --limit 5000
 row 5 '' $'tbc: step limit\ntbc: note: --limit N allows more events' run forever.bas --limit 1
+row 5 '' $'*tbc: * of 1000 million events*\e[KA\ntbc: step limit\n*' run forever.bas --limit 1000000000
 row 6 '' $'A\n\\? tbc: waits for a key\ntbc: note: line 20 waits; tbc play takes keys from the keyboard' run wait.bas
 file wild.bas '110 A=1150\n120 GOTO A+1\n'
 row 0 '' $'\n!1 AT 120\ntbc: note: fault 1 at line 120: no line 1151' run wild.bas
@@ -304,7 +306,34 @@ file part.bas '10 A=0\n20 PRINT 1/A\n'
 row 0 '' $'\n!2 AT 20\ntbc: note: fault 2 at line 20: a divisor is 0' run part.bas
 file alike.bas '10 PRINT "!2 AT 10"\n20 END\n'
 row 0 '' '!2 AT 10' run alike.bas
+operands='operands are $05, $1234, NAME (with ,X or ,Y), #$05, #<NAME, #>NAME, ($05,X), ($05),Y and ($1234)'
+asm_noted() { # ERROR PLACE TEXT LINE COLUMN CONTENTS: a text that is not assembled; COLUMN is empty where no place is shown
+    local number=${2%%:*} block
+    file noted.s "$6"
+    printf -v block 'tbc: %s\nnoted.s:%s: error: %s\n%5d | %s' "$1" "$2" "$3" "$number" "$4"
+    [ -z "$5" ] || printf -v block '%s\n      | %*s' "$block" "$5" ^
+    row 1 '' "$block" asm noted.s out.prg --at C000
+}
+asm_noted 'text line 3' 3:5 'numbers are written $05 or $1234' 'LDA 5' 5 'RTS\n\nLDA 5\n'
+asm_noted 'text line 1' 1:6 'numbers are written $05 or $1234' 'LDA #$5' 6 'LDA #$5\n'
+asm_noted 'text line 1' 1:5 'nothing begins with this' 'JMP @L' 5 'JMP @L\n'
+asm_noted 'text line 2' 2:1 'words are separated by spaces, not by tabs' '?RTS' 1 'NOP\r\n\tRTS\r\n'
+asm_noted 'text line 1' 1:7 'texts are written as bytes: .byte $48,$49' '.byte "HI"' 7 '.byte "HI"'
+asm_noted 'text line 1' 1:6 'there are no sums and no constants' 'HERE = $C000' 6 'HERE = $C000\n'
+asm_noted 'text line 1' 1:5 'a label ends with a colon' 'LOOP NOP' 5 'LOOP NOP\n'
+asm_noted 'text line 1' 1:2 'a label is a letter and then letters, digits or _, 31 at most, and not A' ' A: RTS ; A' 2 ' A: RTS ; A\n'
+asm_noted 'text line 1' 1:4 'here stands a label, an instruction, .byte or .word' 'L: $05' 4 'L: $05\n'
+asm_noted 'text line 1' 1:1 'there is .byte $05,$06 and .word $1234, or .word NAME' '.org $C000' 1 '.org $C000\n'
+asm_noted 'text line 1' 1:4 'no such instruction' 'L: MOV $05' 4 'L: MOV $05\n'
+asm_noted 'text line 1' 1:5 "$operands" 'LDA ($05),X' 5 'LDA ($05),X\n'
+asm_noted 'item 1: unknown label' 2 'no label LOOP' 'START: JMP loop' '' '; no item\nSTART: JMP loop\n'
+asm_noted 'item 2: label twice' 3 'an earlier line has the label L' 'L: NOP' '' 'L: RTS\n\nL: NOP\n'
+asm_noted 'item 1: no such mode' 2 'this instruction has no such operand' 'STA #$05' '' 'RTS\nSTA #$05\n'
+asm_noted 'item 0: branch out of range' 1 'a branch reaches from -128 to 127 bytes' 'BNE $1082' '' 'BNE $1082\n'
+asm_noted 'item 0: indirect at page end' 1 'an indirect jump takes no pointer at the end of a page' 'JMP ($12FF)' '' 'JMP ($12FF)\n'
 by=()
+row 1 'tbc: item 0: indirect at page end' '' asm noted.s out.prg --at C000
+row 5 'tbc: step limit' A run forever.bas --limit 600000000
 row 1 'tbc: 3:4: syntax' '' run bad.bas
 row 3 'tbc: read fault' '' run nowhere.bas
 row 0 '' $'\n!2 AT 20' run part.bas
@@ -347,6 +376,20 @@ row 3 'tbc: read fault' "$(cat slips.said dice.said)" check nowhere.bas slips.ba
 row 3 'tbc: read fault' '' check hello.bas nowhere.bas nowhere.bas
 row 2 'error: *' '' check
 row 2 'error: *' '' check hello.bas --seed 1
+# What is said of a file is written before the next one is read: that one is a pipe to which nobody has written yet.
+mkfifo later.bas
+"$tbc" check slips.bas later.bas >shown &
+for ((tries = 0; tries < 200; tries++)); do
+    ! cmp -s shown slips.said || break
+    sleep 0.05
+done
+same shown slips.said
+timeout 10 bash -c "cat warn.bas >later.bas" || true
+status=0
+wait $! || status=$?
+rows=$((rows + 1))
+[ "$status" = 1 ] && [ "$(tail -n 2 shown)" = $'later.bas:2: warning: no line 30\n    2 | 20 GOTO 30' ] || failed=$((failed + 1))
+rm later.bas
 to=/dev/full
 row 3 'tbc: write fault' '' check slips.bas
 row 0 '' '' check hello.bas
@@ -920,8 +963,55 @@ profile_rows() {
     row 0 '' $' line *\n  sum *' profile let.bas --rude 7
     file less.bas '10 PRINT "<&>"\n20 GOTO 40\n30 PRINT\n40 END\n'
     row 0 '' $'*\n   30          0            0             0    0.0%  PRINT\n   40 *' profile less.bas --html page.html
+    sed -n '/^<h1>/,$p' page.html >page.body
+    cat >page.wanted <<'END'
+<h1>Profile of less.bas</h1>
+<table class="sums">
+<caption>The whole run.</caption>
+<tr><th scope="row">end</th><td class="text">returned</td></tr>
+<tr><th scope="row">lines begun</th><td>3</td></tr>
+<tr><th scope="row">instructions</th><td>258</td></tr>
+<tr><th scope="row">cycles</th><td>898</td></tr>
+<tr><th scope="row">seconds of a PAL machine</th><td>0.001</td></tr>
+<tr><th scope="row">seed</th><td>1</td></tr>
+<tr><th scope="row">fit</th><td class="text">no</td></tr>
+<tr><th scope="row">limit of events</th><td>10,000,000</td></tr>
+<tr><th scope="row">keys</th><td class="text">none</td></tr>
+<tr><th scope="row">answers</th><td class="text">none</td></tr>
+<tr><th scope="row">ROM</th><td class="text">quiet</td></tr>
+</table>
+<table>
+<caption>Each line, with what it took. A service of the ROM counts as one instruction and 6 cycles: what it takes beyond \
+them is unmeasured. Bars and colours compare cycles with those of the row that took most.</caption>
+<thead>
+<tr><th scope="col">line</th><th scope="col">times</th><th scope="col">instructions</th><th scope="col">cycles</th>\
+<th scope="col">cycles a time</th><th scope="col">share</th><th class="bar"></th>\
+<th scope="col" class="source">statement</th></tr>
+</thead>
+<tbody>
+<tr class="h9"><th scope="row">start</th><td>1</td><td>192</td><td>634</td><td>634</td><td>70.6%</td>\
+<td class="bar"><span style="width: 10.0em"></span></td><td class="source"></td></tr>
+<tr class="h4"><th scope="row">10</th><td>1</td><td>56</td><td>223</td><td>223</td><td>24.8%</td>\
+<td class="bar"><span style="width: 3.5em"></span></td><td class="source">PRINT &quot;&lt;&amp;&gt;&quot;</td></tr>
+<tr class="h1"><th scope="row">20</th><td>1</td><td>5</td><td>19</td><td>19</td><td>2.1%</td>\
+<td class="bar"><span style="width: 0.3em"></span></td><td class="source">GOTO 40</td></tr>
+<tr class="never"><th scope="row">30</th><td>0</td><td>0</td><td>0</td><td></td><td>0.0%</td>\
+<td class="bar">never ran</td><td class="source">PRINT</td></tr>
+<tr class="h1"><th scope="row">40</th><td>1</td><td>5</td><td>22</td><td>22</td><td>2.4%</td>\
+<td class="bar"><span style="width: 0.3em"></span></td><td class="source">END</td></tr>
+</tbody>
+</table>
+</body>
+</html>
+END
+    sed -i -e ':more' -e '/\\$/{N;s/\\\n//;b more}' page.wanted
+    same page.body page.wanted
     rows=$((rows + 1))
-    grep -q '>PRINT &quot;&lt;&amp;&gt;&quot;<' page.html || { failed=$((failed + 1)) && echo 'the page has not its statement'; }
+    grep -q '^<title>Profile of less.bas</title>$' page.html && grep -q 'prefers-color-scheme: dark' page.html \
+        && ! grep -q -i -e '<script' -e 'http' page.html || { failed=$((failed + 1)) && echo 'the head of the page is another'; }
+    row 5 'tbc: step limit' $' line *\n  sum *' profile forever.bas --limit 5000 --fit --seed 9 --type 'a\n' --answers 00 --rude 7 --html page.html
+    sed -n '/"row">\(end\|seed\|fit\|limit\|keys\|answers\|ROM\)/{s/<[^>]*>/ /g;p}' page.html >page.body
+    holds page.body '  end  step limit  \n  seed  9  \n  fit  yes  \n  limit of events  5,000  \n  keys  410d  \n  answers  00  \n  ROM  rude 7  \n'
     row 3 'tbc: write fault' $' line *\n  sum *' profile less.bas --html folder
     refused_sources profile SOURCE
     row 2 'tbc: bad key list' '' profile nowhere.bas --keys 0
@@ -942,6 +1032,12 @@ debug_rows() {
     row 0 '' $'10 A=5\n20 END\nA=5\nreturned\n10 A=5\n10 A=5\n0C00 A=* 10 running\nwhat\\?' debug let.bas --rude 7
     file commands 'next\nback\nnext 2\nback 1\ncontinue\nnexts\nnext x\nhelp\nquit\nn\n'
     row 0 '' $'10 A=5\n20 END\n10 A=5\nreturned\n20 END\nreturned\nwhat\\?\nwhat\\?\nn \\[K\\] *\nq          end*' debug let.bas
+    file commands '\nn\n\nv\n\nback\n\nf\n\nz\n'
+    row 0 '' $'10 A=5\nwhat\\?\n20 END\nreturned\nA=5\nreturned\n20 END\n10 A=5\nstops at faults\n10 A=5\nwhat\\?' debug let.bas
+    file faults.bas '10 A=2\n20 PRINT 6/A\n30 A=A-1\n40 GOTO 20\n'
+    file commands 'f\nc\nv\ne A+1\n\np\nc\nf\nt 0\nc\nq\n'
+    row 0 '' $'10 A=2\nstops at faults\n| 3\n| 6\n20 PRINT 6/A\nnone\n1\n| \n| !2 AT 20\nreturned\n20 PRINT 6/A\n| \n| !2 AT 20
+returned\ngoes through faults\n10 A=2\n| 3\n| 6\n| \n| !2 AT 20\nreturned' debug faults.bas
     file commands 'c\nc\nk 5\nb 40\nc\nrc\n'
     row 0 '' $'*\nwaits\nwaits\ntyped\n*' debug wait.bas
     row 0 '' $'*\nlimit\n*' debug forever.bas --limit 500
@@ -970,10 +1066,15 @@ asks() { # COMMAND ANSWER: a turn, and what it shows as a pattern
     TALK+=('> ' "$1")
     SHOWN+="> $1"$'\n'"$2"$'\n'
 }
+again() { # ANSWER: a turn with an empty line
+    TALK+=('> ' $'\n')
+    SHOWN+=$'> \n'"$1"$'\n'
+}
 debug_walk() {
     file walk.bas '10 LET A=1\n20 GOSUB 100\n30 PRINT "A=",A\n40 INPUT B\n50 PRINT A*B\n60 END\n100 A=A+6\n110 RETURN\n'
     SHOWN=$'10 LET A=1\n'
     asks h $'n \\[K\\]      on by K lines\n*\nq          end'
+    again 'what\? (h lists the commands)'
     asks n '20 GOSUB 100'
     asks v A=1
     asks 'v b' B=0
@@ -1003,6 +1104,12 @@ debug_walk() {
     asks n returned
     asks p '60 END'
     asks 'p 2' '40 INPUT B'
+    again '110 RETURN'
+    asks 'n 2' $'| A=      7\n40 INPUT B'
+    again '*60 END'
+    asks 'p 2' '40 INPUT B'
+    asks f 'stops at faults'
+    asks f 'goes through faults'
     asks x '???? A=?? X=?? Y=?? S=?? P=?? 40 running'
     asks 'm 0801 4' '0801 0B 08 0A 00'
     asks 'm 0000 1' '0000 --'
@@ -1010,7 +1117,8 @@ debug_walk() {
     asks 's 2' '40 INPUT B'
     asks 'b 31' 'no such line'
     asks 'g 31' 'no such line'
-    asks z 'what\?'
+    asks z 'what\? (h lists the commands)'
+    asks 'e 1+' 'what\? (h lists the commands)'
     at_terminal "${TALK[@]}" '> ' q
     row 0 '' "$SHOWN> q" debug walk.bas
     by=()

@@ -124,8 +124,8 @@ def profile(room):
         print("chromium is not there: profile.png is left as it is")
         return
     page, picture = room / "page.html", room / "page.png"
-    subprocess.run([PROGRAM, "profile", ROOT / "examples/primes.bas", "--html", page], check=True, capture_output=True)
-    words = ["--headless", "--no-sandbox", "--disable-gpu", "--hide-scrollbars", f"--user-data-dir={room}/user", f"--screenshot={picture}", "--window-size=980,600"]
+    subprocess.run([PROGRAM, "profile", "examples/primes.bas", "--html", page], check=True, capture_output=True, cwd=ROOT)
+    words = ["--headless", "--no-sandbox", "--disable-gpu", "--hide-scrollbars", f"--user-data-dir={room}/user", f"--screenshot={picture}", "--window-size=1000,940"]
     subprocess.run([browser, *words, page.as_uri()], check=True, capture_output=True, timeout=120)
     shutil.copy(picture, TO / "profile.png")
 

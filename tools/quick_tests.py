@@ -237,7 +237,7 @@ def main():
     slow = sum(it.startswith(SLOW) for it in rows())
     print(f"{slow} rows that take long in a trial run are left to `rt ci`.")
     print("Nothing here is proved. That compiled programs do what their sources mean, for every source, keyboard and ROM, is")
-    print("what `rt ci` proves, from nothing in about 112 minutes of processor time: see docs/PROVED.md.")
+    print("what `rt ci` proves, from nothing in about two hours of processor time: see docs/PROVED.md.")
     print(f"{tally.passed} passed, {tally.failed} failed")
     return 1 if tally.failed else 0
 

@@ -2,9 +2,10 @@
 # Runs each command of the built program with the first, the second, .. growth of its memory refused, until a run
 # meets no refusal; of a large program, with each hundredth or so. Each run must end with status 4,
 # `tbc: out of memory` and nothing written (of a program that is played, debugged or profiled, its warnings and a prefix
-# of what it shows), or answer exactly what the command answers with ample memory; if no growth was refused, it must not
-# run out of memory. The same holds for the calls that no command makes or shows, each a name after `tb_bench call`. The
-# refusing malloc is preloaded, so this needs a C compiler (cc) and glibc.
+# of what it shows; of sources that are checked, a prefix of what is said of them), or answer exactly what the command
+# answers with ample memory; if no growth was refused, it must not run out of memory. The same holds for the calls that
+# no command makes or shows, each a name after `tb_bench call`. The refusing malloc is preloaded, so this needs a C
+# compiler (cc) and glibc.
 . "$(dirname "${BASH_SOURCE[0]}")/setup.sh"
 needs_program
 trials=$root/crates/tb_bench/out/tb_bench
@@ -60,12 +61,12 @@ nothing_made() { [ ! -e out.prg ] && ! compgen -G 'beside.*' >/dev/null; }
 begins() { cmp -s -n "$(stat -c %s "$1")" "$1" "$2"; } # FILE OTHER: whether it is a prefix of the other
 
 # Whether a run that ran out of memory said so and wrote nothing. A program that is played or debugged has warned and
-# shown a prefix, and so has a profile if there is no memory to open its page.
+# shown a prefix, and so has a profile if there is no memory to open its page. A check has told of the sources before.
 is_out_of_memory() { # NAME WORD..
     [ "$(tail -n 1 said)" = "$1: out of memory" ] && nothing_made || return
     head -n -1 said >before
     case ${2-} in
-        play | debug | profile) begins before said.wanted && begins shown shown.wanted ;;
+        play | debug | profile | check) begins before said.wanted && begins shown shown.wanted ;;
         *) [ ! -s before ] && [ ! -s shown ] ;;
     esac
 }
@@ -226,17 +227,22 @@ check check deep.bas
 check check large.bas
 check check empty.bas
 check check slips.bas nowhere.bas dice.bas
+check check slips.bas dice.bas deep.bas large.bas
 check check
 check profile all.bas --keys 332c350d0d --rude 7
 check profile hello.bas --html page.html
+check profile all.bas --keys 332c350d0d --answers 0000 --rude 7 --fit --html page.html
 check profile warned.bas
 check profile bad.bas
 check profile nowhere.bas
-printf 'n 3\np\nb 30\nb\nw A\nc\nrc\nt 9\nt 2\nl\nv\nv A\ne A*2-1\nr\no\nk 7,8\nc\ns 9\nx\nm C000\ni\nh\nz\nq\n' >commands
+printf 'n 3\np\n\nb 30\nb\nw A\nf\nc\nrc\nt 9\nt 2\nl\nv\nv A\ne A*2-1\nr\no\nk 7,8\nc\ns 9\nx\nm C000\ni\nh\nz\nq\n' >commands
 check debug all.bas
 check debug all.bas --keys 332c350d --rude 7
 check debug bad.bas
 check debug nowhere.bas
+printf '10 A=0\n20 PRINT 1/A\n' >fault.bas
+printf 'f\nc\nv\nc\nf\nq\n' >commands
+check debug fault.bas
 : >commands
 check --version
 check --help
@@ -250,6 +256,7 @@ large=$root/examples/startrek.bas
 stride=101
 check build "$large" out.prg --fit
 check build "$large" out.prg --fit --labels beside.vs --list beside.s --map beside.map
+check build "$large" out.prg --map beside.map
 check check "$large" --fit
 printf '0d' >long.keys
 check run "$large" --fit --keys-file long.keys

@@ -74,7 +74,7 @@ def without_dead_variants(files):
                 name = re.escape(f"{enum[1]}::{variant}(")
                 if re.search(rf"(?m)^(?!.*{name}.* => ).*{name}| => .*{name}", text):
                     continue
-                dead = rf"(?m)^(?: +///.*\n)* +{variant}\(.*\),\n", rf"(?m)^ +{name}.* => .*,\n"
+                dead = rf"(?m)^(?: +///.*\n)* +{variant}\(.*\),\n", rf"(?m)^ +{name}.* => .*,\n| \| {name}.*?\)(?= \|| =>)"
                 for those in files.values():
                     those[:] = [(above, re.sub(dead[0] if it.startswith(enum[0]) else dead[1], "", it)) for above, it in those]
 
