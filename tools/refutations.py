@@ -140,8 +140,8 @@ CHANGES = [
         ("ce 6c c0 d0", "ca ea ea .."),
     ]),
     Change("line_dropped_at_comma", "a comma drops the rest of the line by a loop in place of the unused Poll, and ends it", "inputs_two", [
-        ("comma", "c9 2c f0 .. a9 00 8d 35 c0", "4c poll ea" + " .." * 5),
-        ("poll: " + ".. " * 13, "c9 0d f0 06 20 cf ff 4c poll 4c comma+4"),
+        ("4e 6d c0 90 .. ce 35 c0", "20 poll ea ea" + " .." * 3),
+        ("poll: " + ".. " * 13, "ad 6d c0 c9 0d f0 ~pop+34 20 cf ff 4c poll+3"),
     ]),
     Change("calls_by_jsr", "JSR to the line instead of a note: the return is kept on the stack", "calls_itself", [
         ("line10: " + POLL + " ae 3d c0", ".. " * 7 + "20 line10"),

@@ -30,7 +30,7 @@ join : (es others fs gs : List Entry) → Alike es others → Alike fs gs → Al
 join es others fs gs a b = map-append shape es fs ∙ (λ i. a i ++ b i) ∙ sym (map-append shape others gs)
 
 module _ (ns : List ℕ) (seed other : ℕ) where
-  drawn : (none : Bool) (n : ℕ) (a : Source) (to : ℕ) → Alike (lined none n (handed RANDOM_AT RESULT a (FixedWord seed) to)) (lined none n (handed RANDOM_AT RESULT a (FixedWord other) to))
+  drawn : (none : Bool) (n : ℕ) (a : Source) (to : ℕ) → Alike (lined none n (handed RANDOM_AT RESULT (FixedWord seed) a to)) (lined none n (handed RANDOM_AT RESULT (FixedWord other) a to))
   drawn true n a to = refl
   drawn false n a to = refl
 

@@ -175,18 +175,18 @@ module _ (table seed_option : ℕ) (numbers : List ℕ) (start : ℕ → ℕ) (f
         faulting f lo hi fits block l h 5 (let s : 5 < 10 = omega arith in s) m text answers j line e _ _ 6 (limit_by keys) (omega arith)
         (pop_none_law (under f own) (omega (arith, fits)) block l h text answers m x y z n v i c d (return_addresses m [] count tt (let s : 0 ≤ deepest = omega arith in s)))
         (unchanged m));
-    random = λ l h m text answers a seed left right stored_at range.
+    random = λ l h m text answers a seed right left stored_at range.
         let g = not_zero a range in
         let now = seed_at m seed_option seed stored_at in
         from_here f _ _ m text answers _ [] (limit_by keys) (λ x y z n v i c d.
-        beside f own _ _ _ _ _ _ [] 437 (limit_by keys) (omega arith)
-        (subst (λ s. Comes (under f own) (view x y z n v i c d RANDOM_AT (l ∷ h ∷ []) m text answers) (Back l h text answers (Drawn m a s)) [] 437) now.2
-        (random_law (under f own) (omega (arith, fits)) block l h text answers m x y z n v i c d a seed_option now.0 left right now.1 g.0 g.1))
+        beside f own _ _ _ _ _ _ [] 242 (limit_by keys) (omega arith)
+        (subst (λ s. Comes (under f own) (view x y z n v i c d RANDOM_AT (l ∷ h ∷ []) m text answers) (Back l h text answers (Drawn m a s)) [] 242) now.2
+        (random_law (under f own) (omega (arith, fits)) block l h text answers m x y z n v i c d a seed_option now.0 right left now.1 g.0 g.1))
         (λ w k. k));
-    random_fails = λ l h m text answers a j left range line e.
+    random_fails = λ l h m text answers a j right range line e.
         from_here f _ _ m text answers _ (fault_text 3 j) (limit_by keys) (λ x y z n v i c d.
-        faulting f lo hi fits block l h 3 (let s : 3 < 10 = omega arith in s) m text answers j line e _ _ 7 (limit_by keys) (omega arith)
-        (random_range_law (under f own) (omega (arith, fits)) block l h text answers m x y z n v i c d a left (bad_range a range))
+        faulting f lo hi fits block l h 3 (let s : 3 < 10 = omega arith in s) m text answers j line e _ _ 6 (limit_by keys) (omega arith)
+        (random_range_law (under f own) (omega (arith, fits)) block l h text answers m x y z n v i c d a right (bad_range a range))
         (unchanged m));
     push = λ l h m text answers return_address returns left count is few.
         from_here f _ _ m text answers _ [] (limit_by keys) (λ x y z n v i c d.

@@ -1,7 +1,7 @@
 -- Input.
 use Rattle.std.proofs.Common.{◌≡◌, ◌≢◌, ℕ, ◌+◌, ◌-◌, ◌*◌, ◌%◌, ◌/◌, ◌<◌, ◌≤◌, Bool, true, false, ◌&&◌, ◌||◌}
 use Rattle.std.proofs.Common.{List, [], ◌∷◌, ◌++◌, length, refl, sym, ap, ◌∙◌, subst, ⊎_elim, inl, inr, ◌⊎◌, arith, eqb, leb}
-use Rattle.std.proofs.Common.{if◌then◌else◌, length-append}
+use Rattle.std.proofs.Common.{not, if◌then◌else◌, length-append}
 use Rattle.std.proofs.lemmas.Bool.{ne_eqb, eq-eqb, cases_eq, cases_lt, lt-leb, le-leb, false≢true, and_left, and_right}
 use Rattle.tb_cpu.specs.Operands.{word_in}
 use Rattle.tb_memmap.specs.Bytes.{with_byte}
@@ -43,6 +43,18 @@ saying : (f : Setup) (own : List ℕ) → Fits (under f own) 2 → Holds block_p
 saying f own fits block lo hi text answers m a x y n v i z c small q u k next =
     calls f own a x y n v i z c SEND_AT lo hi m text answers (Sent nowhere m (a ∷ [])) q (a ∷ []) u 7 k (send_law (under f own) fits block lo hi text answers m a x y n v i z c small)
     (λ a' x y n v i z c w s. next a' x y n v i z c w s.column (λ p z. s.others p refl z))
+
+-- bit 0 of a byte, which LSR moves out
+abbrev is_odd : ℕ → Bool
+is_odd b = eqb (b / 1 % 2) 1
+
+-- memory after LSR BYTE, which tells a 13 from a comma
+abbrev read_on : (ℕ → ℕ) → ℕ → ℕ
+read_on m = with_byte m BYTE (m BYTE / 2)
+
+-- memory after LSR SCRATCH, which tells digits from what else was seen
+abbrev seen_on : (ℕ → ℕ) → ℕ → ℕ
+seen_on m = with_byte m SCRATCH (m SCRATCH / 2)
 
 -- ---- a reading, in memory
 abbrev state : Reading → ℕ
@@ -130,11 +142,11 @@ module _ (f : Setup) (room : ℕ) (most : 13 ≤ room) (fits : Fits f room) (blo
 
   -- fault 6
   bad : (a x y : ℕ) (n v i z c : Bool) (m : ℕ → ℕ) (text : List ℕ) → Changes is_changed m0 m
-      → Comes f (view a x y n v i z c (INPUT_AT + 0x8B) (lo ∷ hi ∷ own) m text answers) (IsHome f) (fault_text 6 line) (84 + 458)
+      → Comes f (view a x y n v i z c (INPUT_AT + 0x87) (lo ∷ hi ∷ own) m text answers) (IsHome f) (fault_text 6 line) (84 + 458)
   bad a x y n v i z c m text k =
       let here : Entered f hlo hhi m = record { homed = entered.homed; kept = ap (λ s. s + 2) (k HOME_S refl) ∙ entered.kept } in
       looser f _ _ _ (fault_text 6 line) (2 + (82 + 458)) (84 + 458) (omega arith) (λ w h. h)
-      (after_on f own 4 free input_part st 1 (view a x y n v i z c (INPUT_AT + 0x8B) (lo ∷ hi ∷ []) m text answers) _ _ (82 + 458) refl
+      (after_on f own 4 free input_part st 1 (view a x y n v i z c (INPUT_AT + 0x87) (lo ∷ hi ∷ []) m text answers) _ _ (82 + 458) refl
       (fault_law f room most fits block hlo hhi (lo ∷ hi ∷ above) (omega (arith, deep)) text answers m here line
       (same_place m0 m LINE line is_line (k LINE refl) (k (LINE + 1) refl)) 6 _ _ _ _ _ _ _ (omega arith)))
 
@@ -146,16 +158,16 @@ module _ (f : Setup) (room : ℕ) (most : 13 ≤ room) (fits : Fits f room) (blo
     column : m COLUMN ≡ column_after col before % 256
     others : Changes is_changed m0 m
 
-  finish : (value : ℕ) (stays : Bool) (a x y : ℕ) (n v i z c : Bool) (m : ℕ → ℕ) (text : List ℕ) → Read value m → compares_same (m BYTE) 44 ≡ stays
-      → Comes f (view a x y n v i z c (INPUT_AT + 0xAF) (lo ∷ hi ∷ own) m text answers) (Goal (Got value stays text)) (sends (Got value stays text)) 14
+  finish : (value : ℕ) (stays : Bool) (a x y : ℕ) (n v i z c : Bool) (m : ℕ → ℕ) (text : List ℕ) → Read value m → is_odd (m BYTE) ≡ not stays
+      → Comes f (view a x y n v i z c (INPUT_AT + 0xA9) (lo ∷ hi ∷ own) m text answers) (Goal (Got value stays text)) (sends (Got value stays text)) 12
   finish value true a x y n v i z c m text h e =
-      looser f _ _ _ [] (3 + 1) 14 (omega arith) (λ w h. h)
-      (after_on f own 4 free input_part st 2 (view a x y n v i z c (INPUT_AT + 0xAF) (lo ∷ hi ∷ []) m text answers) _ _ 1 refl
-      (rw e (ending_on f own 4 free input_part st 0 (view _ _ _ _ _ _ _ _ (INPUT_AT + 0xC0) (lo ∷ hi ∷ []) m text answers) _ refl
-      (leaves_now refl (record { gives = record { result = holds_word m RESULT value h.is_word h.value_is; others = h.others }; line_open = h.line_open; column_is = h.column })))))
+      looser f _ _ _ [] (2 + 1) 12 (omega arith) (λ w h. h)
+      (after_on f own 4 free input_part st 1 (view a x y n v i z c (INPUT_AT + 0xA9) (lo ∷ hi ∷ []) m text answers) _ _ 1 refl
+      (rw e (ending_on f own 4 free input_part st 0 (view _ _ _ _ _ _ _ _ (INPUT_AT + 0xB6) (lo ∷ hi ∷ []) (read_on m) text answers) _ refl
+      (leaves_now refl (record { gives = record { result = holds_word (read_on m) RESULT value h.is_word h.value_is; others = changes_put _ _ _ BYTE _ refl h.others }; line_open = h.line_open; column_is = h.column })))))
   finish value false a x y n v i z c m text h e =
-      after_on f own 4 free input_part st 2 (view a x y n v i z c (INPUT_AT + 0xAF) (lo ∷ hi ∷ []) m text answers) _ _ (4 + 7) refl
-      (rw e (after_on f own 4 free input_part st 3 (view _ _ _ _ _ _ _ _ (INPUT_AT + 0xB6) (lo ∷ hi ∷ []) m text answers) _ _ 7 refl
+      after_on f own 4 free input_part st 1 (view a x y n v i z c (INPUT_AT + 0xA9) (lo ∷ hi ∷ []) m text answers) _ _ (3 + 7) refl
+      (rw e (after_on f own 4 free input_part st 2 (view _ _ _ _ _ _ _ _ (INPUT_AT + 0xAE) (lo ∷ hi ∷ []) (read_on m) text answers) _ _ 7 refl
       (looser f _ _ _ (13 ∷ []) 7 7 (omega arith) (λ w g. subst (Goal (Got value false text)) g.2
       (record {
         pc = g.1.pc;
@@ -165,96 +177,98 @@ module _ (f : Setup) (room : ℕ) (most : 13 ≤ room) (fits : Fits f room) (blo
         same_answers = g.1.same_answers;
         memory = record {
           gives = record {
-            result = same_place m g.0.mem RESULT value (holds_word m RESULT value h.is_word h.value_is)
+            result = same_place (read_on m) g.0.mem RESULT value (holds_word (read_on m) RESULT value h.is_word h.value_is)
                 (g.1.memory.others RESULT refl (λ e. omega (arith, e))) (g.1.memory.others (RESULT + 1) refl (λ e. omega (arith, e)));
-            others = λ a t. g.1.memory.others a refl (λ x. false≢true (sym t ∙ ap is_changed x)) ∙ changes_put _ _ _ OPEN _ refl h.others a t;
+            others = λ a t. g.1.memory.others a refl (λ x. false≢true (sym t ∙ ap is_changed x)) ∙ changes_put _ _ _ OPEN _ refl (changes_put _ _ _ BYTE _ refl h.others) a t;
           };
-          line_open = g.1.memory.others OPEN refl (λ e. omega (arith, e));
+          line_open = g.1.memory.others OPEN refl (λ e. omega (arith, e)) ∙ (let shut : (m OPEN + 255) % 256 ≡ 0 = omega (arith, h.line_open) in shut);
           column_is = g.1.memory.column;
         };
       }))
-      (framed f own (view 13 _ _ _ _ _ _ _ SEND_AT (lo ∷ hi ∷ []) (with_byte m OPEN 0) text answers) _ (13 ∷ []) 7
+      (framed f own (view 13 _ _ _ _ _ _ _ SEND_AT (lo ∷ hi ∷ []) (with_byte (read_on m) OPEN ((m OPEN + 255) % 256)) text answers) _ (13 ∷ []) 7
       (send_law (under f own) (omega (arith, free)) block lo hi text answers _ _ _ _ _ _ _ _ _ (omega arith))))))
 
   -- the number ends
-  done : (r : Reading) (stays : Bool) (a x y : ℕ) (n v i z c : Bool) (m : ℕ → ℕ) (text : List ℕ) → Held r m → compares_same (m BYTE) 44 ≡ stays
-      → Comes f (view a x y n v i z c (INPUT_AT + 0x90) (lo ∷ hi ∷ own) m text answers) (Goal (number_end r stays text)) (sends (number_end r stays text)) (87 + 458)
+  done : (r : Reading) (stays : Bool) (a x y : ℕ) (n v i z c : Bool) (m : ℕ → ℕ) (text : List ℕ) → Held r m → is_odd (m BYTE) ≡ not stays
+      → Comes f (view a x y n v i z c (INPUT_AT + 0x8C) (lo ∷ hi ∷ own) m text answers) (Goal (number_end r stays text)) (sends (number_end r stays text)) (87 + 458)
   done Nothing stays a x y n v i z c m text h e =
-      let t : compares_same (m SCRATCH) 2 ≡ false = ne_eqb _ _ (λ e. omega (arith, h.seen, e)) in
-      looser f _ _ _ (fault_text 6 line) (3 + (84 + 458)) (87 + 458) (omega arith) (λ w h. h)
-      (after_on f own 4 free input_part st 2 (view a x y n v i z c (INPUT_AT + 0x90) (lo ∷ hi ∷ []) m text answers) _ _ (84 + 458) refl
-      (rw t (bad _ _ _ _ _ _ _ _ m text h.others)))
+      let t : eqb (m SCRATCH / 2) 0 ≡ true = eq-eqb _ _ (omega (arith, h.seen)) in
+      looser f _ _ _ (fault_text 6 line) (2 + (84 + 458)) (87 + 458) (omega arith) (λ w h. h)
+      (after_on f own 4 free input_part st 1 (view a x y n v i z c (INPUT_AT + 0x8C) (lo ∷ hi ∷ []) m text answers) _ _ (84 + 458) refl
+      (rw t (bad _ _ _ _ _ _ _ _ (seen_on m) text (changes_put _ _ _ SCRATCH _ refl h.others))))
   done (Sign negative) stays a x y n v i z c m text h e =
-      let t : compares_same (m SCRATCH) 2 ≡ false = ne_eqb _ _ (λ e. omega (arith, h.seen, e)) in
-      looser f _ _ _ (fault_text 6 line) (3 + (84 + 458)) (87 + 458) (omega arith) (λ w h. h)
-      (after_on f own 4 free input_part st 2 (view a x y n v i z c (INPUT_AT + 0x90) (lo ∷ hi ∷ []) m text answers) _ _ (84 + 458) refl
-      (rw t (bad _ _ _ _ _ _ _ _ m text h.others)))
+      let t : eqb (m SCRATCH / 2) 0 ≡ true = eq-eqb _ _ (omega (arith, h.seen)) in
+      looser f _ _ _ (fault_text 6 line) (2 + (84 + 458)) (87 + 458) (omega arith) (λ w h. h)
+      (after_on f own 4 free input_part st 1 (view a x y n v i z c (INPUT_AT + 0x8C) (lo ∷ hi ∷ []) m text answers) _ _ (84 + 458) refl
+      (rw t (bad _ _ _ _ _ _ _ _ (seen_on m) text (changes_put _ _ _ SCRATCH _ refl h.others))))
   done (Digits false k) stays a x y n v i z c m text h e =
-      let t : compares_same (m SCRATCH) 2 ≡ true = eq-eqb _ _ (omega (arith, h.seen)) in
-      looser f _ _ _ (sends (Got (k % 65536) stays text)) (3 + (3 + 14)) (87 + 458) (omega arith) (λ w h. h)
-      (after_on f own 4 free input_part st 2 (view a x y n v i z c (INPUT_AT + 0x90) (lo ∷ hi ∷ []) m text answers) _ _ (3 + 14) refl
-      (rw t (after_on f own 4 free input_part st 2 (view _ _ _ _ _ _ _ _ (INPUT_AT + 0x97) (lo ∷ hi ∷ []) m text answers) _ _ 14 refl
-      (rw h.minus (finish (k % 65536) stays _ _ _ _ _ _ _ _ m text (record { is_word = h.is_word; value_is = h.value; line_open = h.line_open; column = h.column; others = h.others }) e)))))
+      let t : eqb (m SCRATCH / 2) 0 ≡ false = ne_eqb _ _ (λ e. omega (arith, h.seen, e)) in
+      looser f _ _ _ (sends (Got (k % 65536) stays text)) (2 + (3 + 12)) (87 + 458) (omega arith) (λ w h. h)
+      (after_on f own 4 free input_part st 1 (view a x y n v i z c (INPUT_AT + 0x8C) (lo ∷ hi ∷ []) m text answers) _ _ (3 + 12) refl
+      (rw t (after_on f own 4 free input_part st 2 (view _ _ _ _ _ _ _ _ (INPUT_AT + 0x91) (lo ∷ hi ∷ []) (seen_on m) text answers) _ _ 12 refl
+      (rw h.minus (finish (k % 65536) stays _ _ _ _ _ _ _ _ (seen_on m) text
+      (record { is_word = h.is_word; value_is = h.value; line_open = h.line_open; column = h.column; others = changes_put _ _ _ SCRATCH _ refl h.others }) e)))))
   done (Digits true k) stays a x y n v i z c m text h e =
-      let t : compares_same (m SCRATCH) 2 ≡ true = eq-eqb _ _ (omega (arith, h.seen)) in
-      looser f _ _ _ (sends (Got ((65536 - k % 65536) % 65536) stays text)) (3 + (3 + (7 + 14))) (87 + 458) (omega arith) (λ w h. h)
-      (after_on f own 4 free input_part st 2 (view a x y n v i z c (INPUT_AT + 0x90) (lo ∷ hi ∷ []) m text answers) _ _ (3 + (7 + 14)) refl
-      (rw t (after_on f own 4 free input_part st 2 (view _ _ _ _ _ _ _ _ (INPUT_AT + 0x97) (lo ∷ hi ∷ []) m text answers) _ _ (7 + 14) refl
-      (rw h.minus (after_on f own 4 free input_part st 6 (view _ _ _ _ _ _ _ _ (INPUT_AT + 0x9E) (lo ∷ hi ∷ []) m text answers) _ _ 14 refl
+      let t : eqb (m SCRATCH / 2) 0 ≡ false = ne_eqb _ _ (λ e. omega (arith, h.seen, e)) in
+      looser f _ _ _ (sends (Got ((65536 - k % 65536) % 65536) stays text)) (2 + (3 + (7 + 12))) (87 + 458) (omega arith) (λ w h. h)
+      (after_on f own 4 free input_part st 1 (view a x y n v i z c (INPUT_AT + 0x8C) (lo ∷ hi ∷ []) m text answers) _ _ (3 + (7 + 12)) refl
+      (rw t (after_on f own 4 free input_part st 2 (view _ _ _ _ _ _ _ _ (INPUT_AT + 0x91) (lo ∷ hi ∷ []) (seen_on m) text answers) _ _ (7 + 12) refl
+      (rw h.minus (after_on f own 4 free input_part st 6 (view _ _ _ _ _ _ _ _ (INPUT_AT + 0x98) (lo ∷ hi ∷ []) (seen_on m) text answers) _ _ 12 refl
       (finish ((65536 - k % 65536) % 65536) stays _ _ _ _ _ _ _ _ _ text
       (record {
         is_word = (small_byte _, small_byte _);
         value_is = taken_from_zero (m RESULT) (m (RESULT + 1)) h.is_word.0 h.is_word.1 ∙ ap (λ w. (65536 - w) % 65536) h.value;
         line_open = h.line_open;
         column = h.column;
-        others = changes_put _ _ _ (RESULT + 1) _ refl (changes_put _ _ _ RESULT _ refl h.others);
+        others = changes_put _ _ _ (RESULT + 1) _ refl (changes_put _ _ _ RESULT _ refl (changes_put _ _ _ SCRATCH _ refl h.others));
       }) e))))))
 
   -- ---- a turn goes on
   Reads : List ℕ → Type 0
   Reads text = (r : Reading) (a x y : ℕ) (n v i z c : Bool) (m : ℕ → ℕ) → Held r m → AreBytes text
-      → Comes f (view a x y n v i z c (INPUT_AT + 0x22) (lo ∷ hi ∷ own) m text answers) (Goal (turn r text)) (sends (turn r text)) (45 * length text + (102 + 458))
+      → Comes f (view a x y n v i z c (INPUT_AT + 0x20) (lo ∷ hi ∷ own) m text answers) (Goal (turn r text)) (sends (turn r text)) (45 * length text + (102 + 458))
 
   -- a sign
   at_sign : (r : Reading) (negative : Bool) (a x y : ℕ) (n v i z c : Bool) (m : ℕ → ℕ) (text : List ℕ) → Reads text → Held r m
-      → compares_same (m BYTE) 45 ≡ negative → AreBytes text → Comes f (view a x y n v i z c (INPUT_AT + 0x79) (lo ∷ hi ∷ own) m text answers)
+      → compares_same (m BYTE) 45 ≡ negative → AreBytes text → Comes f (view a x y n v i z c (INPUT_AT + 0x77) (lo ∷ hi ∷ own) m text answers)
       (Goal (signed_turn r (turn (Sign negative) text))) (sends (signed_turn r (turn (Sign negative) text))) (45 * length text + (109 + 458))
   unfolding Reads
   at_sign Nothing negative a x y n v i z c m text go h e bs =
       let t : eqb (m SCRATCH) 0 ≡ true = eq-eqb _ _ h.seen in
-      looser f _ _ _ (sends (turn (Sign negative) text)) (2 + (5 + (45 * length text + (102 + 458)))) (45 * length text + (109 + 458)) (omega arith) (λ w h. h)
-      (after_on f own 4 free input_part st 1 (view a x y n v i z c (INPUT_AT + 0x79) (lo ∷ hi ∷ []) m text answers) _ _ (5 + (45 * length text + (102 + 458))) refl
-      (rw t (after_on f own 4 free input_part st 4 (view _ _ _ _ _ _ _ _ (INPUT_AT + 0x7E) (lo ∷ hi ∷ []) m text answers) _ _ (45 * length text + (102 + 458)) refl
-      (go (Sign negative) _ _ _ _ _ _ _ _ _
+      let counted : eqb ((m SCRATCH + 1) % 256) 0 ≡ false = ne_eqb _ _ (λ e. omega (arith, h.seen, e)) in
+      looser f _ _ _ (sends (turn (Sign negative) text)) (2 + (4 + (45 * length text + (102 + 458)))) (45 * length text + (109 + 458)) (omega arith) (λ w h. h)
+      (after_on f own 4 free input_part st 1 (view a x y n v i z c (INPUT_AT + 0x77) (lo ∷ hi ∷ []) m text answers) _ _ (4 + (45 * length text + (102 + 458))) refl
+      (rw t (after_on f own 4 free input_part st 3 (view _ _ _ _ _ _ _ _ (INPUT_AT + 0x7C) (lo ∷ hi ∷ []) m text answers) _ _ (45 * length text + (102 + 458)) refl
+      (rw counted (go (Sign negative) _ _ _ _ _ _ _ _ _
       (record {
-        seen = refl;
+        seen = omega (arith, h.seen);
         minus = e;
         is_word = h.is_word;
         value = h.value;
         line_open = h.line_open;
         column = h.column;
         others = changes_put _ _ _ SCRATCH _ refl (changes_put _ _ _ MINUS _ refl h.others);
-      }) bs))))
+      }) bs)))))
   at_sign (Sign before) negative a x y n v i z c m text go h e bs =
       let t : eqb (m SCRATCH) 0 ≡ false = ne_eqb _ _ (λ e. omega (arith, h.seen, e)) in
       looser f _ _ _ (fault_text 6 line) (2 + (84 + 458)) (45 * length text + (109 + 458)) (omega arith) (λ w h. h)
-      (after_on f own 4 free input_part st 1 (view a x y n v i z c (INPUT_AT + 0x79) (lo ∷ hi ∷ []) m text answers) _ _ (84 + 458) refl
+      (after_on f own 4 free input_part st 1 (view a x y n v i z c (INPUT_AT + 0x77) (lo ∷ hi ∷ []) m text answers) _ _ (84 + 458) refl
       (rw t (bad _ _ _ _ _ _ _ _ m text h.others)))
   at_sign (Digits before k) negative a x y n v i z c m text go h e bs =
       let t : eqb (m SCRATCH) 0 ≡ false = ne_eqb _ _ (λ e. omega (arith, h.seen, e)) in
       looser f _ _ _ (fault_text 6 line) (2 + (84 + 458)) (45 * length text + (109 + 458)) (omega arith) (λ w h. h)
-      (after_on f own 4 free input_part st 1 (view a x y n v i z c (INPUT_AT + 0x79) (lo ∷ hi ∷ []) m text answers) _ _ (84 + 458) refl
+      (after_on f own 4 free input_part st 1 (view a x y n v i z c (INPUT_AT + 0x77) (lo ∷ hi ∷ []) m text answers) _ _ (84 + 458) refl
       (rw t (bad _ _ _ _ _ _ _ _ m text h.others)))
 
   -- a digit, which BYTE holds
   at_digit : (r : Reading) (d : ℕ) (a x y : ℕ) (n v i z c : Bool) (m : ℕ → ℕ) (text : List ℕ) → Reads text → Held r m → m BYTE ≡ d → d < 10
-      → AreBytes text → Comes f (view a x y n v i z c (INPUT_AT + 0x46) (lo ∷ hi ∷ own) m text answers) (Goal (turn (with_digit r d) text))
+      → AreBytes text → Comes f (view a x y n v i z c (INPUT_AT + 0x44) (lo ∷ hi ∷ own) m text answers) (Goal (turn (with_digit r d) text))
       (sends (turn (with_digit r d) text)) (27 + (45 * length text + (102 + 458)))
   unfolding Reads
   at_digit r d a x y n v i z c m text go h e small bs =
       let ten = times_ten (m RESULT) (m (RESULT + 1)) (m BYTE) h.is_word.0 h.is_word.1 (omega (arith, e)) in
       looser f _ _ _ (sends (turn (with_digit r d) text)) (25 + (45 * length text + (102 + 458))) (27 + (45 * length text + (102 + 458))) (omega arith) (λ w h. h)
-      (after_on f own 4 free input_part st 24 (view a x y n v i z c (INPUT_AT + 0x46) (lo ∷ hi ∷ []) m text answers) _ _ (45 * length text + (102 + 458)) refl
+      (after_on f own 4 free input_part st 24 (view a x y n v i z c (INPUT_AT + 0x44) (lo ∷ hi ∷ []) m text answers) _ _ (45 * length text + (102 + 458)) refl
       (go (with_digit r d) _ _ _ _ _ _ _ _ _
       (record {
         seen = state_digit r d;
@@ -274,72 +288,72 @@ module _ (f : Setup) (room : ℕ) (most : 13 ≤ room) (fits : Fits f room) (blo
   -- ---- a byte was read
   abbrev Byte : ℕ → List ℕ → Reading → Type 0
   Byte b text r = (x y : ℕ) (n v i z c : Bool) (m : ℕ → ℕ) → Held r m → AreBytes text
-      → Comes f (view b x y n v i z c (INPUT_AT + 0x25) (lo ∷ hi ∷ own) m text answers) (Goal (turn r (b ∷ text))) (sends (turn r (b ∷ text))) (45 * length text + (145 + 458))
+      → Comes f (view b x y n v i z c (INPUT_AT + 0x23) (lo ∷ hi ∷ own) m text answers) (Goal (turn r (b ∷ text))) (sends (turn r (b ∷ text))) (45 * length text + (145 + 458))
 
   space : (text : List ℕ) → Reads text → (r : Reading) → Byte 32 text r
   unfolding Reads
   space text go r x y n v i z c m h bs =
       looser f _ _ _ (sends (turn r text)) (3 + (45 * length text + (102 + 458))) (45 * length text + (145 + 458)) (omega arith) (λ w h. h)
-      (after_on f own 4 free input_part st 2 (view 32 x y n v i z c (INPUT_AT + 0x25) (lo ∷ hi ∷ []) m text answers) _ _ (45 * length text + (102 + 458)) refl
+      (after_on f own 4 free input_part st 2 (view 32 x y n v i z c (INPUT_AT + 0x23) (lo ∷ hi ∷ []) m text answers) _ _ (45 * length text + (102 + 458)) refl
       (go r _ _ _ _ _ _ _ _ _ (held_byte r m 32 h) bs))
 
   plus : (text : List ℕ) → Reads text → (r : Reading) → Byte 43 text r
   plus text go r x y n v i z c m h bs =
       looser f _ _ _ (sends (signed_turn r (turn (Sign false) text))) (5 + (45 * length text + (109 + 458))) (45 * length text + (145 + 458)) (omega arith) (λ w h. h)
-      (after_on f own 4 free input_part st 4 (view 43 x y n v i z c (INPUT_AT + 0x25) (lo ∷ hi ∷ []) m text answers) _ _ (45 * length text + (109 + 458)) refl
+      (after_on f own 4 free input_part st 4 (view 43 x y n v i z c (INPUT_AT + 0x23) (lo ∷ hi ∷ []) m text answers) _ _ (45 * length text + (109 + 458)) refl
       (at_sign r false _ _ _ _ _ _ _ _ _ text go (held_byte r m 43 h) refl bs))
 
   minus : (text : List ℕ) → Reads text → (r : Reading) → Byte 45 text r
   minus text go r x y n v i z c m h bs =
       looser f _ _ _ (sends (signed_turn r (turn (Sign true) text))) (7 + (45 * length text + (109 + 458))) (45 * length text + (145 + 458)) (omega arith) (λ w h. h)
-      (after_on f own 4 free input_part st 6 (view 45 x y n v i z c (INPUT_AT + 0x25) (lo ∷ hi ∷ []) m text answers) _ _ (45 * length text + (109 + 458)) refl
+      (after_on f own 4 free input_part st 6 (view 45 x y n v i z c (INPUT_AT + 0x23) (lo ∷ hi ∷ []) m text answers) _ _ (45 * length text + (109 + 458)) refl
       (at_sign r true _ _ _ _ _ _ _ _ _ text go (held_byte r m 45 h) refl bs))
 
   comma : (text : List ℕ) (r : Reading) → Byte 44 text r
   comma text r x y n v i z c m h bs =
       looser f _ _ _ (sends (number_end r true text)) (9 + (87 + 458)) (45 * length text + (145 + 458)) (omega arith) (λ w h. h)
-      (after_on f own 4 free input_part st 8 (view 44 x y n v i z c (INPUT_AT + 0x25) (lo ∷ hi ∷ []) m text answers) _ _ (87 + 458) refl
+      (after_on f own 4 free input_part st 8 (view 44 x y n v i z c (INPUT_AT + 0x23) (lo ∷ hi ∷ []) m text answers) _ _ (87 + 458) refl
       (done r true _ _ _ _ _ _ _ _ _ text (held_byte r m 44 h) refl))
 
   return : (text : List ℕ) (r : Reading) → Byte 13 text r
   return text r x y n v i z c m h bs =
       looser f _ _ _ (sends (number_end r false text)) (11 + (87 + 458)) (45 * length text + (145 + 458)) (omega arith) (λ w h. h)
-      (after_on f own 4 free input_part st 10 (view 13 x y n v i z c (INPUT_AT + 0x25) (lo ∷ hi ∷ []) m text answers) _ _ (87 + 458) refl
+      (after_on f own 4 free input_part st 10 (view 13 x y n v i z c (INPUT_AT + 0x23) (lo ∷ hi ∷ []) m text answers) _ _ (87 + 458) refl
       (done r false _ _ _ _ _ _ _ _ _ text (held_byte r m 13 h) refl))
 
   -- a byte that may be a digit
   digit : (text : List ℕ) → Reads text → (r : Reading) (b : ℕ) → 48 ≤ b → b ≤ 57 → (x y : ℕ) (n v i z c : Bool) (m : ℕ → ℕ) → Held r m → AreBytes text
-      → Comes f (view b x y n v i z c (INPUT_AT + 0x3C) (lo ∷ hi ∷ own) m text answers) (Goal (turn r (b ∷ text))) (sends (turn r (b ∷ text)))
+      → Comes f (view b x y n v i z c (INPUT_AT + 0x3A) (lo ∷ hi ∷ own) m text answers) (Goal (turn r (b ∷ text))) (sends (turn r (b ∷ text)))
       (5 + (27 + (45 * length text + (102 + 458))))
   digit text go r b from to x y n v i z c m h bs =
       let d : (b + 256 - 48) % 256 ≡ b - 48 = omega arith in
       let t : leb 10 ((b + 256 - 48) % 256) ≡ false = lt-leb 10 _ (omega arith) in
-      subst (λ u. Comes f (view b x y n v i z c (INPUT_AT + 0x3C) (lo ∷ hi ∷ own) m text answers) (Goal u) (sends u) (5 + (27 + (45 * length text + (102 + 458))))) (turn_digit r b text from to)
-      (after_on f own 4 free input_part st 4 (view b x y n v i z c (INPUT_AT + 0x3C) (lo ∷ hi ∷ []) m text answers) _ _ (27 + (45 * length text + (102 + 458))) refl
+      subst (λ u. Comes f (view b x y n v i z c (INPUT_AT + 0x3A) (lo ∷ hi ∷ own) m text answers) (Goal u) (sends u) (5 + (27 + (45 * length text + (102 + 458))))) (turn_digit r b text from to)
+      (after_on f own 4 free input_part st 4 (view b x y n v i z c (INPUT_AT + 0x3A) (lo ∷ hi ∷ []) m text answers) _ _ (27 + (45 * length text + (102 + 458))) refl
       (rw t (at_digit r (b - 48) _ _ _ _ _ _ _ _ _ text go (held_byte r m _ h) d (omega arith) bs)))
 
   stray : (text : List ℕ) (r : Reading) (b : ℕ) → b < 256 → (leb 48 b && leb b 57) ≡ false → leb 10 ((b + 256 - 48) % 256) ≡ true
-      → (x y : ℕ) (n v i z c : Bool) (m : ℕ → ℕ) → Held r m → Comes f (view b x y n v i z c (INPUT_AT + 0x3C) (lo ∷ hi ∷ own) m text answers)
+      → (x y : ℕ) (n v i z c : Bool) (m : ℕ → ℕ) → Held r m → Comes f (view b x y n v i z c (INPUT_AT + 0x3A) (lo ∷ hi ∷ own) m text answers)
       (IsHome f) (fault_text 6 line) (5 + (84 + 458))
   stray text r b small out t x y n v i z c m h =
-      after_on f own 4 free input_part st 4 (view b x y n v i z c (INPUT_AT + 0x3C) (lo ∷ hi ∷ []) m text answers) _ _ (84 + 458) refl
+      after_on f own 4 free input_part st 4 (view b x y n v i z c (INPUT_AT + 0x3A) (lo ∷ hi ∷ []) m text answers) _ _ (84 + 458) refl
       (rw t (bad _ _ _ _ _ _ _ _ _ text (changes_put _ _ _ BYTE _ refl h.others)))
 
   -- past the five tests
   past : (text : List ℕ) (b : ℕ) (u : Turn) (k : ℕ) → b < 256 → b ≢ 32 → b ≢ 43 → b ≢ 45 → b ≢ 44 → b ≢ 13 → (x y : ℕ) (n v i z c : Bool) (m : ℕ → ℕ)
-      → ((n z c : Bool) → Comes f (view b x y n v i z c (INPUT_AT + 0x3C) (lo ∷ hi ∷ own) (with_byte m BYTE b) text answers) (Goal u) (sends u) k)
-      → Comes f (view b x y n v i z c (INPUT_AT + 0x25) (lo ∷ hi ∷ own) m text answers) (Goal u) (sends u) (3 + (2 + (2 + (2 + (2 + k)))))
+      → ((n z c : Bool) → Comes f (view b x y n v i z c (INPUT_AT + 0x3A) (lo ∷ hi ∷ own) (with_byte m BYTE b) text answers) (Goal u) (sends u) k)
+      → Comes f (view b x y n v i z c (INPUT_AT + 0x23) (lo ∷ hi ∷ own) m text answers) (Goal u) (sends u) (3 + (2 + (2 + (2 + (2 + k)))))
   past text b u k small n32 n43 n45 n44 n13 x y n v i z c m next =
       let t32 : compares_same b 32 ≡ false = other_byte b 32 small (omega arith) n32 in
       let t43 : compares_same b 43 ≡ false = other_byte b 43 small (omega arith) n43 in
       let t45 : compares_same b 45 ≡ false = other_byte b 45 small (omega arith) n45 in
       let t44 : compares_same b 44 ≡ false = other_byte b 44 small (omega arith) n44 in
       let t13 : compares_same b 13 ≡ false = other_byte b 13 small (omega arith) n13 in
-      after_on f own 4 free input_part st 2 (view b x y n v i z c (INPUT_AT + 0x25) (lo ∷ hi ∷ []) m text answers) _ _ (2 + (2 + (2 + (2 + k)))) refl
-      (rw t32 (after_on f own 4 free input_part st 1 (view _ _ _ _ _ _ _ _ (INPUT_AT + 0x2C) (lo ∷ hi ∷ []) (with_byte m BYTE b) text answers) _ _ (2 + (2 + (2 + k))) refl
-      (rw t43 (after_on f own 4 free input_part st 1 (view _ _ _ _ _ _ _ _ (INPUT_AT + 0x30) (lo ∷ hi ∷ []) (with_byte m BYTE b) text answers) _ _ (2 + (2 + k)) refl
-      (rw t45 (after_on f own 4 free input_part st 1 (view _ _ _ _ _ _ _ _ (INPUT_AT + 0x34) (lo ∷ hi ∷ []) (with_byte m BYTE b) text answers) _ _ (2 + k) refl
-      (rw t44 (after_on f own 4 free input_part st 1 (view _ _ _ _ _ _ _ _ (INPUT_AT + 0x38) (lo ∷ hi ∷ []) (with_byte m BYTE b) text answers) _ _ k refl
+      after_on f own 4 free input_part st 2 (view b x y n v i z c (INPUT_AT + 0x23) (lo ∷ hi ∷ []) m text answers) _ _ (2 + (2 + (2 + (2 + k)))) refl
+      (rw t32 (after_on f own 4 free input_part st 1 (view _ _ _ _ _ _ _ _ (INPUT_AT + 0x2A) (lo ∷ hi ∷ []) (with_byte m BYTE b) text answers) _ _ (2 + (2 + (2 + k))) refl
+      (rw t43 (after_on f own 4 free input_part st 1 (view _ _ _ _ _ _ _ _ (INPUT_AT + 0x2E) (lo ∷ hi ∷ []) (with_byte m BYTE b) text answers) _ _ (2 + (2 + k)) refl
+      (rw t45 (after_on f own 4 free input_part st 1 (view _ _ _ _ _ _ _ _ (INPUT_AT + 0x32) (lo ∷ hi ∷ []) (with_byte m BYTE b) text answers) _ _ (2 + k) refl
+      (rw t44 (after_on f own 4 free input_part st 1 (view _ _ _ _ _ _ _ _ (INPUT_AT + 0x36) (lo ∷ hi ∷ []) (with_byte m BYTE b) text answers) _ _ k refl
       (rw t13 (next _ _ _))))))))))
 
   not_digit : (b : ℕ) → b < 256 → (b < 48) ⊎ (57 < b) → ((leb 48 b && leb b 57) ≡ false) × (leb 10 ((b + 256 - 48) % 256) ≡ true)
@@ -348,7 +362,7 @@ module _ (f : Setup) (room : ℕ) (most : 13 ≤ room) (fits : Fits f room) (blo
   other_stray : (text : List ℕ) (r : Reading) (b : ℕ) → b < 256 → b ≢ 32 → b ≢ 43 → b ≢ 45 → b ≢ 44 → b ≢ 13 → (b < 48) ⊎ (57 < b) → Byte b text r
   other_stray text r b small n32 n43 n45 n44 n13 out x y n v i z c m h bs =
       let p = not_digit b small out in
-      subst (λ u. Comes f (view b x y n v i z c (INPUT_AT + 0x25) (lo ∷ hi ∷ own) m text answers) (Goal u) (sends u) (45 * length text + (145 + 458))) (turn_bad r b text n32 n43 n45 n44 n13 p.0)
+      subst (λ u. Comes f (view b x y n v i z c (INPUT_AT + 0x23) (lo ∷ hi ∷ own) m text answers) (Goal u) (sends u) (45 * length text + (145 + 458))) (turn_bad r b text n32 n43 n45 n44 n13 p.0)
       (looser f _ _ _ (sends Bad) (3 + (2 + (2 + (2 + (2 + (5 + (84 + 458))))))) (45 * length text + (145 + 458)) (omega arith) (λ w h. h)
       (past text b Bad (5 + (84 + 458)) small n32 n43 n45 n44 n13 x y n v i z c m (λ n z c. stray text r b small p.0 p.1 x y n v i z c (with_byte m BYTE b) (held_byte r m b h))))
 
@@ -373,20 +387,20 @@ module _ (f : Setup) (room : ℕ) (most : 13 ≤ room) (fits : Fits f room) (blo
   unfolding Reads
   reads_all [] r a x y n v i z c m h bs =
       looser f _ _ _ [] 1 (45 * 0 + (102 + 458)) (omega arith) (λ w h. h)
-      (ending_on f own 4 free input_part st 0 (view a x y n v i z c (INPUT_AT + 0x22) (lo ∷ hi ∷ []) m [] answers) _ refl (record { pc = refl; text = refl }, (omega arith)))
+      (ending_on f own 4 free input_part st 0 (view a x y n v i z c (INPUT_AT + 0x20) (lo ∷ hi ∷ []) m [] answers) _ refl (record { pc = refl; text = refl }, (omega arith)))
   reads_all (b ∷ text) r a x y n v i z c m h bs =
       looser f _ _ _ (sends (turn r (b ∷ text))) (1 + (1 + (45 * length text + (145 + 458)))) (45 * length (b ∷ text) + (102 + 458)) (omega arith) (λ w h. h)
-      (after_on f own 4 free input_part st 0 (view a x y n v i z c (INPUT_AT + 0x22) (lo ∷ hi ∷ []) m (b ∷ text) answers) _ _ (1 + (45 * length text + (145 + 458))) refl
+      (after_on f own 4 free input_part st 0 (view a x y n v i z c (INPUT_AT + 0x20) (lo ∷ hi ∷ []) m (b ∷ text) answers) _ _ (1 + (45 * length text + (145 + 458))) refl
       (serving f room fits Chrin _ _ _ _ _ (sends (turn r (b ∷ text))) (45 * length text + (145 + 458))
       (le-leb _ _ (omega (arith, deep, length-append above (hlo ∷ hhi ∷ [])))) refl refl refl (λ j.
       any text (reads_all text) r b bs.0 j.x j.y j.n j.v j.i j.z j.c m h bs.1)))
 
   start : (a x y : ℕ) (n v i z c : Bool) (m : ℕ → ℕ) (text : List ℕ) → AreBytes text → m OPEN ≡ 1 → m COLUMN ≡ column_after col before % 256
-      → Changes is_changed m0 m → Comes f (view a x y n v i z c (INPUT_AT + 0x14) (lo ∷ hi ∷ own) m text answers) (Goal (turn Nothing text))
+      → Changes is_changed m0 m → Comes f (view a x y n v i z c (INPUT_AT + 0x12) (lo ∷ hi ∷ own) m text answers) (Goal (turn Nothing text))
       (sends (turn Nothing text)) (5 + (45 * length text + (102 + 458)))
   unfolding Reads
   start a x y n v i z c m text bs o e k =
-      after_on f own 4 free input_part st 4 (view a x y n v i z c (INPUT_AT + 0x14) (lo ∷ hi ∷ []) m text answers) _ _ (45 * length text + (102 + 458)) refl
+      after_on f own 4 free input_part st 4 (view a x y n v i z c (INPUT_AT + 0x12) (lo ∷ hi ∷ []) m text answers) _ _ (45 * length text + (102 + 458)) refl
       (reads_all text Nothing _ _ _ _ _ _ _ _ _
       (record {
         seen = refl;
@@ -414,7 +428,7 @@ input_law f room most fits block hlo hhi above deep lo hi text answers m e line 
     let inside : Fits (under f (lo ∷ hi ∷ own)) 2 = omega (arith, fits, deep, length-append own f.rest, size) in
     let st = input_in f.code block in
     let t : eqb (m OPEN) 0 ≡ true = eq-eqb _ _ o in
-    let rest = 2 + (5 + (45 * length text + (102 + 458))) in
+    let rest = 1 + (5 + (45 * length text + (102 + 458))) in
     let last = turn_sends line (turn Nothing text) in
     looser f _ _ _ (63 ∷ 32 ∷ last) (2 + (2 + (7 + (2 + (7 + rest))))) (45 * length text + (129 + 458)) (omega arith) (λ w h. h)
     (after_on f own 4 free input_part st 1 (view a x y n v i z c INPUT_AT (lo ∷ hi ∷ []) m text answers) _ _ (2 + (7 + (2 + (7 + rest)))) refl
@@ -423,6 +437,6 @@ input_law f room most fits block hlo hhi above deep lo hi text answers m e line 
     (32 ∷ last) (2 + (7 + rest)) (λ a x y n v i z c m1 c1 k1.
     after_on f own 4 free input_part st 1 (view a x y n v i z c (INPUT_AT + 0xA) (lo ∷ hi ∷ []) m1 text answers) _ _ (7 + rest) refl
     (saying f (lo ∷ hi ∷ own) inside block ((INPUT_AT + 0xE) % 256) ((INPUT_AT + 0xE) / 256) text answers m1 32 _ _ _ _ _ _ _ (omega arith) _ last rest (λ a x y n v i z c m2 c2 k2.
-    after_on f own 4 free input_part st 1 (view a x y n v i z c (INPUT_AT + 0xF) (lo ∷ hi ∷ []) m2 text answers) _ _ (5 + (45 * length text + (102 + 458))) refl
-    (start f room most fits block hlo hhi above deep lo hi answers m e line is_line col (63 ∷ 32 ∷ []) _ _ _ _ _ _ _ _ _ text bs refl (omega (arith, column, c1, c2))
+    after_on f own 4 free input_part st 0 (view a x y n v i z c (INPUT_AT + 0xF) (lo ∷ hi ∷ []) m2 text answers) _ _ (5 + (45 * length text + (102 + 458))) refl
+    (start f room most fits block hlo hhi above deep lo hi answers m e line is_line col (63 ∷ 32 ∷ []) _ _ _ _ _ _ _ _ _ text bs (omega (arith, o, k1 OPEN (λ e. omega (arith, e)), k2 OPEN (λ e. omega (arith, e)))) (omega (arith, column, c1, c2))
     (changes_put _ _ _ OPEN _ refl (λ a t. let away : a ≢ COLUMN = λ x. false≢true (sym t ∙ ap is_changed x) in k2 a away ∙ k1 a away))))))))))

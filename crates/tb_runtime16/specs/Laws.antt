@@ -181,12 +181,12 @@ pub record Drawn (m0 : ℕ → ℕ) (bound seed : ℕ) (m : ℕ → ℕ) : Type 
 abbrev pub RandomLaw : Type 0
 RandomLaw =
     (f : Setup) → Fits f 6 → Holds block_part f.code → (lo hi : ℕ) (text answers : List ℕ) (m : ℕ → ℕ) (a x y : ℕ) (n v i z c : Bool)
-    (bound option stored : ℕ) → WordAt m LEFT bound → WordAt m RIGHT option → WordAt m SEED stored → 1 ≤ bound → bound < 32768 →
-    Comes f (view a x y n v i z c RANDOM_AT (lo ∷ hi ∷ []) m text answers) (Back lo hi text answers (Drawn m bound (seed_of m option stored))) [] 437
+    (bound option stored : ℕ) → WordAt m RIGHT bound → WordAt m LEFT option → WordAt m SEED stored → 1 ≤ bound → bound < 32768 →
+    Comes f (view a x y n v i z c RANDOM_AT (lo ∷ hi ∷ []) m text answers) (Back lo hi text answers (Drawn m bound (seed_of m option stored))) [] 242
 
 -- for a bound below 1, Random goes to Fault with 3, with memory unchanged
 abbrev pub RandomRangeLaw : Type 0
 RandomRangeLaw =
     (f : Setup) → Fits f 2 → Holds block_part f.code → (lo hi : ℕ) (text answers : List ℕ) (m : ℕ → ℕ) (a x y : ℕ) (n v i z c : Bool) (bound : ℕ)
-    → WordAt m LEFT bound → (bound ≡ 0) ⊎ (32768 ≤ bound) →
-    Comes f (view a x y n v i z c RANDOM_AT (lo ∷ hi ∷ []) m text answers) (Faults lo hi text answers 3 (λ w. w ≡ m)) [] 7
+    → WordAt m RIGHT bound → (bound ≡ 0) ⊎ (32768 ≤ bound) →
+    Comes f (view a x y n v i z c RANDOM_AT (lo ∷ hi ∷ []) m text answers) (Faults lo hi text answers 3 (λ w. w ≡ m)) [] 6

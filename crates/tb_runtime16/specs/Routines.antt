@@ -108,10 +108,10 @@ pub record Routines (table seed_option : ℕ) (numbers : List ℕ) (start : ℕ 
       Moves f (Here POP_AT (l ∷ h ∷ lo ∷ hi ∷ []) m text answers) (Leaves (back_at l h) (lo ∷ hi ∷ []) text answers (Popped m return_address returns)) [] limit
   pub pop_fails : (l h : ℕ) (m : ℕ → ℕ) (text answers : List ℕ) (n : ℕ) → WordAt m NOTES 0 → WordAt m LINE n → Entered f lo hi m →
       Moves f (Here POP_AT (l ∷ h ∷ lo ∷ hi ∷ []) m text answers) (IsHome f) (fault_text 5 n) limit
-  pub random : (l h : ℕ) (m : ℕ → ℕ) (text answers : List ℕ) (a seed : ℕ) → WordAt m LEFT a → WordAt m RIGHT seed_option → SeedAt m seed_option seed
+  pub random : (l h : ℕ) (m : ℕ → ℕ) (text answers : List ℕ) (a seed : ℕ) → WordAt m RIGHT a → WordAt m LEFT seed_option → SeedAt m seed_option seed
       → (nat_eq a 0 || nat_le 32768 a) ≡ false →
       Moves f (Here RANDOM_AT (l ∷ h ∷ lo ∷ hi ∷ []) m text answers) (Leaves (back_at l h) (lo ∷ hi ∷ []) text answers (Drawn m a seed)) [] limit
-  pub random_fails : (l h : ℕ) (m : ℕ → ℕ) (text answers : List ℕ) (a n : ℕ) → WordAt m LEFT a → (nat_eq a 0 || nat_le 32768 a) ≡ true → WordAt m LINE n → Entered f lo hi m →
+  pub random_fails : (l h : ℕ) (m : ℕ → ℕ) (text answers : List ℕ) (a n : ℕ) → WordAt m RIGHT a → (nat_eq a 0 || nat_le 32768 a) ≡ true → WordAt m LINE n → Entered f lo hi m →
       Moves f (Here RANDOM_AT (l ∷ h ∷ lo ∷ hi ∷ []) m text answers) (IsHome f) (fault_text 3 n) limit
   pub push : (l h : ℕ) (m : ℕ → ℕ) (text answers : List ℕ) (return_address : ℕ) (returns : List ℕ) → WordAt m LEFT return_address → WordAt m NOTES (length returns)
       → AreReturns m returns → length returns < deepest →

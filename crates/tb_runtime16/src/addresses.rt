@@ -62,7 +62,7 @@ pub const MULTIPLY_LENGTH: usize = 41;
 /// Bytes of Divide.
 pub const DIVIDE_LENGTH: usize = 175;
 /// Bytes of Random.
-pub const RANDOM_LENGTH: usize = 82;
+pub const RANDOM_LENGTH: usize = 92;
 /// Bytes of Number.
 pub const NUMBER_LENGTH: usize = 84;
 /// Bytes of Text.
@@ -70,7 +70,7 @@ pub const TEXT_LENGTH: usize = 24;
 /// Bytes of Zone.
 pub const ZONE_LENGTH: usize = 13;
 /// Bytes of Input.
-pub const INPUT_LENGTH: usize = 193;
+pub const INPUT_LENGTH: usize = 183;
 /// Bytes of Search.
 pub const SEARCH_LENGTH: usize = 186;
 /// Bytes of Push.
@@ -123,7 +123,7 @@ pub enum Routine {
     Multiply,
     /// `LEFT` = `LEFT` / `RIGHT`, signed, `RESULT` = the remainder's size; fault 2 if `RIGHT` is 0.
     Divide,
-    /// `RESULT` = the next RND state modulo `LEFT`; the first state is in `RIGHT`; fault 3 if `LEFT` is below 1.
+    /// `RESULT` = the next RND state modulo `RIGHT`; the first state is in `LEFT`; fault 3 if `RIGHT` is below 1.
     Random,
     /// Sends the word in `LEFT` in decimal.
     Number,

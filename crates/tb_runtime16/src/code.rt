@@ -12,8 +12,8 @@ use crate::addresses::{
     SEARCH_LENGTH, SEND_LENGTH, TEXT_LENGTH, ZONE_LENGTH,
 };
 use crate::targets::{
-    DIVIDEBY, FAULT, LINES, MULTIPLY, NEGATE, NUMBER, OPPOSITE, POWERS_HIGH, POWERS_LOW, SEARCH,
-    SEND, STORE, UNSIGNED,
+    DIVIDEBY, FAULT, LINES, NEGATE, NUMBER, OPPOSITE, POWERS_HIGH, POWERS_LOW, SEARCH, SEND, STORE,
+    UNSIGNED,
 };
 
 // The prologue: decimal mode off, $C000 to $C03D cleared, S kept at HOME_S, and on to the first line.
@@ -176,48 +176,60 @@ macro_rules! divide {
     };
 }
 
-// Random: stores the next RND state, and gives it modulo LEFT in RESULT; fault 3 if LEFT is below 1.
+// Random: stores the next RND state, 25,173 times the last one and 13,849, and gives it modulo RIGHT in RESULT; fault 3
+// if RIGHT is below 1. Four turns of 4 times the word and the state, from 98 times the state's low byte.
 macro_rules! random {
     ([$($before:tt)*] $next:ident $($others:ident)*) => {
         $next!([$($before)*
-        0xa5, 0xfc, // 0 RANDOM: LDA LEFT+1
-        0x30, 0x06, // 2: BMI RANDOMBAD
-        0xd0, 0x09, // 4: BNE RANDOMGO
-        0xa5, 0xfb, // 6: LDA LEFT
-        0xd0, 0x05, // 8: BNE RANDOMGO
-        0xa9, 0x03, // 10 RANDOMBAD: LDA #$03
-        0x4c, FAULT.0, FAULT.1, // 12: JMP FAULT
-        0xad, 0x36, 0xc0, // 15 RANDOMGO: LDA SEEDED
-        0xf0, 0x0a, // 18: BEQ RANDOMFIRST
-        0xad, 0x38, 0xc0, // 20: LDA SEED
-        0x85, 0xfd, // 23: STA RIGHT
-        0xad, 0x39, 0xc0, // 25: LDA SEED+1
-        0x85, 0xfe, // 28: STA RIGHT+1
-        0xa9, 0x01, // 30 RANDOMFIRST: LDA #$01
-        0x8d, 0x36, 0xc0, // 32: STA SEEDED
-        0xa5, 0xfb, // 35: LDA LEFT
-        0x48, // 37: PHA
-        0xa5, 0xfc, // 38: LDA LEFT+1
-        0x48, // 40: PHA
-        0xa9, 0x55, // 41: LDA #$55
-        0x85, 0xfb, // 43: STA LEFT
-        0xa9, 0x62, // 45: LDA #$62
-        0x85, 0xfc, // 47: STA LEFT+1
-        0x20, MULTIPLY.0, MULTIPLY.1, // 49: JSR MULTIPLY
-        0x18, // 52: CLC
-        0xad, 0x66, 0xc0, // 53: LDA RESULT
-        0x69, 0x19, // 56: ADC #$19
-        0x8d, 0x38, 0xc0, // 58: STA SEED
-        0x85, 0xfb, // 61: STA LEFT
-        0xad, 0x67, 0xc0, // 63: LDA RESULT+1
-        0x69, 0x36, // 66: ADC #$36
-        0x8d, 0x39, 0xc0, // 68: STA SEED+1
-        0x85, 0xfc, // 71: STA LEFT+1
-        0x68, // 73: PLA
-        0x85, 0xfe, // 74: STA RIGHT+1
-        0x68, // 76: PLA
-        0x85, 0xfd, // 77: STA RIGHT
-        0x4c, UNSIGNED.0, UNSIGNED.1, // 79: JMP UNSIGNED
+        0xa5, 0xfe, // 0 RANDOM: LDA RIGHT+1
+        0x30, 0x04, // 2: BMI RANDOMBAD
+        0x05, 0xfd, // 4: ORA RIGHT
+        0xd0, 0x05, // 6: BNE RANDOMGO
+        0xa9, 0x03, // 8 RANDOMBAD: LDA #$03
+        0x4c, FAULT.0, FAULT.1, // 10: JMP FAULT
+        0xad, 0x36, 0xc0, // 13 RANDOMGO: LDA SEEDED
+        0xd0, 0x0a, // 16: BNE RANDOMSTORED
+        0xa5, 0xfc, // 18: LDA LEFT+1
+        0x8d, 0x39, 0xc0, // 20: STA SEED+1
+        0xa5, 0xfb, // 23: LDA LEFT
+        0x8d, 0x38, 0xc0, // 25: STA SEED
+        0xad, 0x38, 0xc0, // 28 RANDOMSTORED: LDA SEED
+        0x85, 0xfb, // 31: STA LEFT
+        0xa2, 0x04, // 33: LDX #$04
+        0x0a, // 35: ASL A
+        0x18, // 36: CLC
+        0x65, 0xfb, // 37: ADC LEFT
+        0x0a, // 39: ASL A
+        0x0a, // 40: ASL A
+        0x0a, // 41: ASL A
+        0x0a, // 42: ASL A
+        0x18, // 43: CLC
+        0x65, 0xfb, // 44: ADC LEFT
+        0x0a, // 46: ASL A
+        0x0a, // 47 RANDOMTURN: ASL A
+        0x26, 0xfc, // 48: ROL LEFT+1
+        0x0a, // 50: ASL A
+        0x26, 0xfc, // 51: ROL LEFT+1
+        0x18, // 53: CLC
+        0x65, 0xfb, // 54: ADC LEFT
+        0xa8, // 56: TAY
+        0xa5, 0xfc, // 57: LDA LEFT+1
+        0x6d, 0x39, 0xc0, // 59: ADC SEED+1
+        0x85, 0xfc, // 62: STA LEFT+1
+        0x98, // 64: TYA
+        0xca, // 65: DEX
+        0xd0, 0xeb, // 66: BNE RANDOMTURN
+        0xe8, // 68: INX
+        0x8e, 0x36, 0xc0, // 69: STX SEEDED
+        0x18, // 72: CLC
+        0x69, 0x19, // 73: ADC #$19
+        0x8d, 0x38, 0xc0, // 75: STA SEED
+        0x85, 0xfb, // 78: STA LEFT
+        0xa5, 0xfc, // 80: LDA LEFT+1
+        0x69, 0x36, // 82: ADC #$36
+        0x8d, 0x39, 0xc0, // 84: STA SEED+1
+        0x85, 0xfc, // 87: STA LEFT+1
+        0x4c, UNSIGNED.0, UNSIGNED.1, // 89: JMP UNSIGNED
         ] $($others)*)
     };
 }
@@ -306,90 +318,85 @@ macro_rules! input {
     ([$($before:tt)*] $next:ident $($others:ident)*) => {
         $next!([$($before)*
         0xad, 0x35, 0xc0, // 0 INPUT: LDA OPEN
-        0xd0, 0x0f, // 3: BNE INPUT1
+        0xd0, 0x0d, // 3: BNE INPUT1
         0xa9, 0x3f, // 5: LDA #$3F
         0x20, SEND.0, SEND.1, // 7: JSR SEND
         0xa9, 0x20, // 10: LDA #$20
         0x20, SEND.0, SEND.1, // 12: JSR SEND
-        0xa9, 0x01, // 15: LDA #$01
-        0x8d, 0x35, 0xc0, // 17: STA OPEN
-        0xa9, 0x00, // 20 INPUT1: LDA #$00
-        0x8d, 0x66, 0xc0, // 22: STA RESULT
-        0x8d, 0x67, 0xc0, // 25: STA RESULT+1
-        0x8d, 0x6e, 0xc0, // 28: STA SCRATCH
-        0x8d, 0x6f, 0xc0, // 31: STA SCRATCH+1
-        0x20, 0xcf, 0xff, // 34 READ: JSR CHRIN
-        0x8d, 0x6d, 0xc0, // 37: STA BYTE
-        0xc9, 0x20, // 40: CMP #$20
-        0xf0, 0xf6, // 42: BEQ READ
-        0xc9, 0x2b, // 44: CMP #$2B
-        0xf0, 0x49, // 46: BEQ SIGN
-        0xc9, 0x2d, // 48: CMP #$2D
-        0xf0, 0x45, // 50: BEQ SIGN
-        0xc9, 0x2c, // 52: CMP #$2C
-        0xf0, 0x58, // 54: BEQ DONE
-        0xc9, 0x0d, // 56: CMP #$0D
-        0xf0, 0x54, // 58: BEQ DONE
-        0x38, // 60: SEC
-        0xe9, 0x30, // 61: SBC #$30
-        0x8d, 0x6d, 0xc0, // 63: STA BYTE
-        0xc9, 0x0a, // 66: CMP #$0A
-        0xb0, 0x45, // 68: BCS BAD
-        0xad, 0x67, 0xc0, // 70: LDA RESULT+1
-        0x85, 0xfc, // 73: STA LEFT+1
-        0xad, 0x66, 0xc0, // 75: LDA RESULT
-        0x0a, // 78: ASL A
-        0x26, 0xfc, // 79: ROL LEFT+1
-        0x0a, // 81: ASL A
-        0x26, 0xfc, // 82: ROL LEFT+1
-        0x18, // 84: CLC
-        0x6d, 0x66, 0xc0, // 85: ADC RESULT
-        0xaa, // 88: TAX
-        0xa5, 0xfc, // 89: LDA LEFT+1
-        0x6d, 0x67, 0xc0, // 91: ADC RESULT+1
-        0x85, 0xfc, // 94: STA LEFT+1
-        0x8a, // 96: TXA
-        0x0a, // 97: ASL A
-        0x26, 0xfc, // 98: ROL LEFT+1
-        0x18, // 100: CLC
-        0x6d, 0x6d, 0xc0, // 101: ADC BYTE
-        0x8d, 0x66, 0xc0, // 104: STA RESULT
-        0xa5, 0xfc, // 107: LDA LEFT+1
-        0x69, 0x00, // 109: ADC #$00
-        0x8d, 0x67, 0xc0, // 111: STA RESULT+1
-        0xa9, 0x02, // 114: LDA #$02
-        0x8d, 0x6e, 0xc0, // 116: STA SCRATCH
-        0xd0, 0xa9, // 119: BNE READ
-        0xad, 0x6e, 0xc0, // 121 SIGN: LDA SCRATCH
-        0xd0, 0x0d, // 124: BNE BAD
-        0xad, 0x6d, 0xc0, // 126: LDA BYTE
-        0x8d, 0x6f, 0xc0, // 129: STA SCRATCH+1
-        0xa9, 0x01, // 132: LDA #$01
-        0x8d, 0x6e, 0xc0, // 134: STA SCRATCH
-        0xd0, 0x97, // 137: BNE READ
-        0xa9, 0x06, // 139 BAD: LDA #$06
-        0x4c, FAULT.0, FAULT.1, // 141: JMP FAULT
-        0xad, 0x6e, 0xc0, // 144 DONE: LDA SCRATCH
-        0xc9, 0x02, // 147: CMP #$02
-        0xd0, 0xf4, // 149: BNE BAD
-        0xad, 0x6f, 0xc0, // 151: LDA SCRATCH+1
-        0xc9, 0x2d, // 154: CMP #$2D
-        0xd0, 0x11, // 156: BNE DONE1
-        0x38, // 158: SEC
-        0xa9, 0x00, // 159: LDA #$00
-        0xed, 0x66, 0xc0, // 161: SBC RESULT
-        0x8d, 0x66, 0xc0, // 164: STA RESULT
-        0xa9, 0x00, // 167: LDA #$00
-        0xed, 0x67, 0xc0, // 169: SBC RESULT+1
-        0x8d, 0x67, 0xc0, // 172: STA RESULT+1
-        0xad, 0x6d, 0xc0, // 175 DONE1: LDA BYTE
-        0xc9, 0x2c, // 178: CMP #$2C
-        0xf0, 0x0a, // 180: BEQ DONE2
-        0xa9, 0x00, // 182: LDA #$00
-        0x8d, 0x35, 0xc0, // 184: STA OPEN
-        0xa9, 0x0d, // 187: LDA #$0D
-        0x4c, SEND.0, SEND.1, // 189: JMP SEND
-        0x60, // 192 DONE2: RTS
+        0xee, 0x35, 0xc0, // 15: INC OPEN
+        0xa9, 0x00, // 18 INPUT1: LDA #$00
+        0x8d, 0x66, 0xc0, // 20: STA RESULT
+        0x8d, 0x67, 0xc0, // 23: STA RESULT+1
+        0x8d, 0x6e, 0xc0, // 26: STA SCRATCH
+        0x8d, 0x6f, 0xc0, // 29: STA SCRATCH+1
+        0x20, 0xcf, 0xff, // 32 READ: JSR CHRIN
+        0x8d, 0x6d, 0xc0, // 35: STA BYTE
+        0xc9, 0x20, // 38: CMP #$20
+        0xf0, 0xf6, // 40: BEQ READ
+        0xc9, 0x2b, // 42: CMP #$2B
+        0xf0, 0x49, // 44: BEQ SIGN
+        0xc9, 0x2d, // 46: CMP #$2D
+        0xf0, 0x45, // 48: BEQ SIGN
+        0xc9, 0x2c, // 50: CMP #$2C
+        0xf0, 0x56, // 52: BEQ DONE
+        0xc9, 0x0d, // 54: CMP #$0D
+        0xf0, 0x52, // 56: BEQ DONE
+        0x38, // 58: SEC
+        0xe9, 0x30, // 59: SBC #$30
+        0x8d, 0x6d, 0xc0, // 61: STA BYTE
+        0xc9, 0x0a, // 64: CMP #$0A
+        0xb0, 0x43, // 66: BCS BAD
+        0xad, 0x67, 0xc0, // 68: LDA RESULT+1
+        0x85, 0xfc, // 71: STA LEFT+1
+        0xad, 0x66, 0xc0, // 73: LDA RESULT
+        0x0a, // 76: ASL A
+        0x26, 0xfc, // 77: ROL LEFT+1
+        0x0a, // 79: ASL A
+        0x26, 0xfc, // 80: ROL LEFT+1
+        0x18, // 82: CLC
+        0x6d, 0x66, 0xc0, // 83: ADC RESULT
+        0xaa, // 86: TAX
+        0xa5, 0xfc, // 87: LDA LEFT+1
+        0x6d, 0x67, 0xc0, // 89: ADC RESULT+1
+        0x85, 0xfc, // 92: STA LEFT+1
+        0x8a, // 94: TXA
+        0x0a, // 95: ASL A
+        0x26, 0xfc, // 96: ROL LEFT+1
+        0x18, // 98: CLC
+        0x6d, 0x6d, 0xc0, // 99: ADC BYTE
+        0x8d, 0x66, 0xc0, // 102: STA RESULT
+        0xa5, 0xfc, // 105: LDA LEFT+1
+        0x69, 0x00, // 107: ADC #$00
+        0x8d, 0x67, 0xc0, // 109: STA RESULT+1
+        0xa9, 0x02, // 112: LDA #$02
+        0x8d, 0x6e, 0xc0, // 114: STA SCRATCH
+        0xd0, 0xa9, // 117: BNE READ
+        0xad, 0x6e, 0xc0, // 119 SIGN: LDA SCRATCH
+        0xd0, 0x0b, // 122: BNE BAD
+        0xad, 0x6d, 0xc0, // 124: LDA BYTE
+        0x8d, 0x6f, 0xc0, // 127: STA SCRATCH+1
+        0xee, 0x6e, 0xc0, // 130: INC SCRATCH
+        0xd0, 0x99, // 133: BNE READ
+        0xa9, 0x06, // 135 BAD: LDA #$06
+        0x4c, FAULT.0, FAULT.1, // 137: JMP FAULT
+        0x4e, 0x6e, 0xc0, // 140 DONE: LSR SCRATCH
+        0xf0, 0xf6, // 143: BEQ BAD
+        0xad, 0x6f, 0xc0, // 145: LDA SCRATCH+1
+        0xc9, 0x2d, // 148: CMP #$2D
+        0xd0, 0x11, // 150: BNE DONE1
+        0x38, // 152: SEC
+        0xa9, 0x00, // 153: LDA #$00
+        0xed, 0x66, 0xc0, // 155: SBC RESULT
+        0x8d, 0x66, 0xc0, // 158: STA RESULT
+        0xa9, 0x00, // 161: LDA #$00
+        0xed, 0x67, 0xc0, // 163: SBC RESULT+1
+        0x8d, 0x67, 0xc0, // 166: STA RESULT+1
+        0x4e, 0x6d, 0xc0, // 169 DONE1: LSR BYTE
+        0x90, 0x08, // 172: BCC DONE2
+        0xce, 0x35, 0xc0, // 174: DEC OPEN
+        0xa9, 0x0d, // 177: LDA #$0D
+        0x4c, SEND.0, SEND.1, // 179: JMP SEND
+        0x60, // 182 DONE2: RTS
         ] $($others)*)
     };
 }

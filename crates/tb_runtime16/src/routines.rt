@@ -47,7 +47,7 @@ pub fn number()
     ensures { NumberLaw }
 {}
 
-/// Random: a number below LEFT.
+/// Random: a number below RIGHT.
 pub fn random()
     ensures { RandomLaw }
 {}

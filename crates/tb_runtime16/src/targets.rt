@@ -1,7 +1,5 @@
 //! The addresses of the block that its own code jumps to or calls, each as its two bytes, low byte first.
-use crate::addresses::{
-    DIVIDE_AT, FAULT_AT, LINES_AT, MULTIPLY_AT, NUMBER_AT, POP_AT, SEARCH_AT, SEND_AT,
-};
+use crate::addresses::{DIVIDE_AT, FAULT_AT, LINES_AT, NUMBER_AT, POP_AT, SEARCH_AT, SEND_AT};
 
 // The two bytes of an address.
 macro_rules! word {
@@ -14,8 +12,6 @@ macro_rules! word {
 pub const LINES: (u8, u8) = word!(LINES_AT);
 /// Send.
 pub const SEND: (u8, u8) = word!(SEND_AT);
-/// Multiply.
-pub const MULTIPLY: (u8, u8) = word!(MULTIPLY_AT);
 /// Number.
 pub const NUMBER: (u8, u8) = word!(NUMBER_AT);
 /// Fault.

@@ -163,7 +163,7 @@ computed_forms None n skip op a b to = calculated_forms n op a b to
 
 converted_forms : (n seed : ℕ) (what : Conversion) (a : Source) (to : ℕ) → list_all has_form (converted n seed what a to) ≡ true
 converted_forms n seed Negated a to = taken_forms (FixedWord 0) a to
-converted_forms n seed Drawn a to = lined_forms (may_have_none a) n (handed RANDOM_AT RESULT a (FixedWord seed) to) (handed_forms RANDOM_AT RESULT a (FixedWord seed) to)
+converted_forms n seed Drawn a to = lined_forms (may_have_none a) n (handed RANDOM_AT RESULT (FixedWord seed) a to) (handed_forms RANDOM_AT RESULT (FixedWord seed) a to)
 
 used_forms : (n : ℕ) (next : Target) (how : Usage) (a : Source) → list_all has_form (used n next how a) ≡ true
 used_forms n next AsNumber (FixedWord w) = refl

@@ -199,10 +199,11 @@ computed_fits None n skip op a b to = calculated_fits n op a b to
 converted_fits : (n seed k : ℕ) (what : Conversion) (a : Source) (to : ℕ) → most (converted n seed what a to) ≤ room (convert what k)
 converted_fits n seed k Negated a to = let p = low_most Sbc a in let q = high_most Sbc a in omega (arith, p, q)
 converted_fits n seed k Drawn a to =
-    let code = handed RANDOM_AT RESULT a (FixedWord seed) to in
-    let e = most_append (brought a LEFT) (brought (FixedWord seed) RIGHT ++ (call RANDOM_AT ∷ copied RESULT to)) in
-    let l = left_fits a in let k = lined_most (may_have_none a) n code in
-    omega (arith, e, l, k)
+    let code = handed RANDOM_AT RESULT (FixedWord seed) a to in
+    let e = most_append (brought (FixedWord seed) LEFT) (brought a RIGHT ++ (call RANDOM_AT ∷ copied RESULT to)) in
+    let f = most_append (brought a RIGHT) (call RANDOM_AT ∷ copied RESULT to) in
+    let r = right_fits a in let k = lined_most (may_have_none a) n code in
+    omega (arith, e, f, r, k)
 
 used_fits : (n : ℕ) (next : Target) (how : Usage) (a : Source) → most (used n next how a) ≤ room (use_of how)
 used_fits n next AsNumber a = let l = low_most Lda a in let h = high_most Lda a in omega (arith, l, h)

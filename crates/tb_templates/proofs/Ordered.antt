@@ -133,8 +133,8 @@ calculated_rises low high n Divide a b to up = divided_rises low high n (shifts 
 
 converted_rises : (low high n seed : ℕ) (what : Conversion) (a : Source) (to : ℕ) → low ≤ high → Rising low (converted n seed what a to) high
 converted_rises low high n seed Negated a to up = joined_rises low high up Sbc (FixedWord 0) a to
-converted_rises low high n seed Drawn a to up = lined_rises low high (may_have_none a) n (handed RANDOM_AT RESULT a (FixedWord seed) to)
-    (handed_rises low high RANDOM_AT RESULT a (FixedWord seed) to up)
+converted_rises low high n seed Drawn a to up = lined_rises low high (may_have_none a) n (handed RANDOM_AT RESULT (FixedWord seed) a to)
+    (handed_rises low high RANDOM_AT RESULT (FixedWord seed) a to up)
 
 used_rises : (low high n : ℕ) (next : Target) (how : Usage) (a : Source) → low ≤ high → Rising low (used n next how a) high
 used_rises low high n next AsNumber (FixedWord w) up = up

@@ -218,7 +218,7 @@ module _ (labels : List (Name × ℕ)) (ns : List ℕ) (known : Known labels ns)
 
   converted_known : (n seed : ℕ) (what : Conversion) (a : Source) (to : ℕ) → AllKnown labels (converted n seed what a to)
   converted_known n seed Negated a to = (refl ▹ joined_known Sbc (FixedWord 0) a to)
-  converted_known n seed Drawn a to = lined_known (may_have_none a) n (handed RANDOM_AT RESULT a (FixedWord seed) to) (handed_known RANDOM_AT RESULT a (FixedWord seed) to)
+  converted_known n seed Drawn a to = lined_known (may_have_none a) n (handed RANDOM_AT RESULT (FixedWord seed) a to) (handed_known RANDOM_AT RESULT (FixedWord seed) a to)
 
   searched_known : (n : ℕ) (a : Source) → AllKnown labels (searched n a)
   searched_known n a =

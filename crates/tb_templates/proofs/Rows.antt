@@ -45,7 +45,7 @@ negation = refl
 -- 10 LET A=RND(6), which cannot fault and of which the first state is 1: the two go to $FB and $FD, the number is left at $C066
 draw : items 10 (Let 0 (Random (Number 6)))
     ≡ here (Line 10) ∷ going 10
-    (const Lda 6 ∷ at_zero Sta 0xFB ∷ const Lda 0 ∷ at_zero Sta 0xFC ∷ const Lda 1 ∷ at_zero Sta 0xFD ∷ const Lda 0 ∷ at_zero Sta 0xFE ∷ call RANDOM_AT
+    (const Lda 1 ∷ at_zero Sta 0xFB ∷ const Lda 0 ∷ at_zero Sta 0xFC ∷ const Lda 6 ∷ at_zero Sta 0xFD ∷ const Lda 0 ∷ at_zero Sta 0xFE ∷ call RANDOM_AT
     ∷ at Lda 0xC066 ∷ at Sta 0xC000 ∷ at Lda 0xC067 ∷ at Sta 0xC001 ∷ [])
 draw = refl
 

@@ -93,7 +93,7 @@ stepped n skip behind op a b by c to = computed n skip op a b to ++ computed n b
 -- a word made of one in line n: 0 minus it, or a random number below it; the seed is the first RND state
 abbrev pub converted : ℕ → ℕ → Conversion → Source → ℕ → List Entry
 converted n seed Negated a to = taken (FixedWord 0) a to
-converted n seed Drawn a to = lined (may_have_none a) n (handed RANDOM_AT RESULT a (FixedWord seed) to)
+converted n seed Drawn a to = lined (may_have_none a) n (handed RANDOM_AT RESULT (FixedWord seed) a to)
 
 -- the search in the line table for a word: it may fault, and so the line's number is set first
 abbrev pub searched : ℕ → Source → List Entry

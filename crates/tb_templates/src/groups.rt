@@ -158,12 +158,12 @@ fn put_drawn(
 ) -> Result<(), AllocError>
     requires { IsWhole bound × (to < 65535) }
     ensures { Puts result items.old items.new (groups.lined (groups.may_have_none bound) line
-        (groups.handed places.RANDOM_AT places.RESULT bound (sources.FixedWord seed) to)) }
+        (groups.handed places.RANDOM_AT places.RESULT (sources.FixedWord seed) bound to)) }
 {
     put_lined(items, may_have_none(bound), line)?;
     let words = Words {
-        left: bound,
-        right: Source::FixedWord(seed),
+        left: Source::FixedWord(seed),
+        right: bound,
     };
     put_handed(items, Routine::Random, RESULT, words, to)?;
     Ok(())

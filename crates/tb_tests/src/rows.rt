@@ -41,7 +41,7 @@ const HELLO: Row<'static> = Row {
     ..PLAIN
 };
 
-static ROWS: [Row<'static>; 48] = [
+static ROWS: [Row<'static>; 51] = [
     Row {
         shown: "HELLO\n",
         ..HELLO
@@ -107,6 +107,25 @@ static ROWS: [Row<'static>; 48] = [
     Row {
         source: "10 PRINT RND(10);RND(10)\n20 END",
         shown: "27\n",
+        ..PLAIN
+    },
+    // Below bounds of a byte and of a word, from the option's state and from stored ones; the same bounds in a variable.
+    Row {
+        source: "10 PRINT RND(1);\" \";RND(2);\" \";RND(100);\" \";RND(255);\" \";RND(256);\" \";RND(1000);\" \";RND(32767)\n\
+            20 END",
+        shown: "0 1 96 125 42 259 32449\n",
+        ..PLAIN
+    },
+    Row {
+        source: "10 A=32767\n20 B=100\n30 C=256\n40 PRINT RND(A);\" \";RND(B);\" \";RND(C)\n50 END",
+        seed: 65535,
+        shown: "21445 97 10\n",
+        ..PLAIN
+    },
+    Row {
+        source: "10 PRINT RND(32767);\" \";RND(100);\" \";RND(256)\n20 END",
+        seed: 256,
+        shown: "2842 34 247\n",
         ..PLAIN
     },
     Row {

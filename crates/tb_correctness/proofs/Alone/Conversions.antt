@@ -10,7 +10,7 @@ use Rattle.tb_reaching.specs.View.{Comes, Fits, View}
 use Rattle.tb_runtime16.specs.Laws.{Drawn}
 use Rattle.tb_runtime16.specs.Routines.{is_state}
 use Rattle.tb_templates.specs.GroupTemplates.{may_have_none}
-use Rattle.tb_runtime16.specs.Addresses.{HOME_S, LEFT, RANDOM_AT, RESULT, SEED, SEEDED}
+use Rattle.tb_runtime16.specs.Addresses.{HOME_S, RANDOM_AT, RESULT, RIGHT, SEED, SEEDED}
 use Rattle.tb_runtime16.proofs.StatePlaces.{not_argument, not_scratch, not_seed}
 use Rattle.tb_simulation.proofs.Frames.{low_is_state, state_drawn}
 use Rattle.tb_simulation.proofs.Joins.{sent_in}
@@ -87,7 +87,7 @@ module _ (around : Surroundings) (fits : Fits around.f 16) (code : SlotCode) (n 
     risky = may_have_none src
 
     abbrev code_of : List Piece
-    code_of = routine RANDOM_AT RESULT src (FixedWord ly.seed) (destination_at d)
+    code_of = routine RANDOM_AT RESULT (FixedWord ly.seed) src (destination_at d)
 
     open going_on h risky use {at, m, c}
 
@@ -97,13 +97,13 @@ module _ (around : Surroundings) (fits : Fits around.f 16) (code : SlotCode) (n 
     fit : ConvertFits a d
     fit = convert_fits IsDrawn a d h.ranged
 
-    bound_holds : SourceHolds m src x
-    bound_holds = operand_held ly s (live js) r m k a c.state c.read fit.word (asked IsDrawn)
+    option_holds : SourceHolds m (FixedWord ly.seed) ly.seed
+    option_holds = record { low_byte = refl; high_byte = refl; small = seed_small }
 
-    option_holds : (m' : ℕ → ℕ) → Kept around (live js) s r m' → SourceHolds m' (FixedWord ly.seed) ly.seed
-    option_holds m' q = record { low_byte = refl; high_byte = refl; small = seed_small }
+    bound_holds : (m' : ℕ → ℕ) → Kept around (live js) s r m' → SourceHolds m' src x
+    bound_holds m' q = operand_held ly s (live js) r m' k a q.state q.read fit.word (asked IsDrawn)
 
-    rest : GroupsLie ly f.code n (at + pieces_size (routine RANDOM_AT RESULT src (FixedWord ly.seed) (destination_at d))) (select is)
+    rest : GroupsLie ly f.code n (at + pieces_size (routine RANDOM_AT RESULT (FixedWord ly.seed) src (destination_at d))) (select is)
     rest = rest_by h risky code_of h.rest
 
     -- the state after it
@@ -127,8 +127,8 @@ module _ (around : Surroundings) (fits : Fits around.f 16) (code : SlotCode) (n 
         subst (λ x. Comes f w (Target around x) (sent_in x) (17 + limit)) (sym (draw_goes code n a d is s r h.read.all_words fit.slot good))
         (looser f w _ _ [] (4 + (13 + limit)) (17 + limit) (omega arith) (λ u z. z)
         (lines_by fits h risky code_of h.lies _ [] (13 + limit)
-        (gives fits h RANDOM_AT RESULT at src (FixedWord ly.seed) d m c lies x ly.seed
-        (operand_apart k a LEFT (omega arith) fit.slot fit.word) tt bound_holds option_holds
+        (gives fits h RANDOM_AT RESULT at (FixedWord ly.seed) src d m c lies ly.seed x
+        tt (operand_apart k a RIGHT (omega arith) fit.slot fit.word) option_holds bound_holds
         code drawn (with_fetched s r k a) (seed_after s.seed % x) limit result_gives fit.dest (convert_lasting IsDrawn a d is s r h.free) rest h.text h.answers h.short
         (λ l k' m' g u e. looser f u _ _ [] limit limit (omega arith)
         (λ u q. record {
@@ -136,7 +136,7 @@ module _ (around : Surroundings) (fits : Fits around.f 16) (code : SlotCode) (n 
           result = q.memory.result;
           kept = drawn_kept x m' u.mem g.kept q.memory;
         })
-        (rs.random l k' m' w.text w.answers x s.seed g.left g.right g.kept.state.seeded good u e)))))
+        (rs.random l k' m' w.text w.answers x s.seed g.right g.left g.kept.state.seeded good u e)))))
 
     -- a constant from 1 to 32,767 is known
     never : (k : ℕ) (a : Operand) → may_have_none (source_of k a) ≡ false → (nat_eq (fetched s r k a) 0 || nat_le 32768 (fetched s r k a)) ≡ false
@@ -150,6 +150,6 @@ module _ (around : Surroundings) (fits : Fits around.f 16) (code : SlotCode) (n 
         subst (λ x. Comes f w (Target around x) (sent_in x) (17 + limit)) (sym (draw_fails code n a d is s r h.read.all_words fit.slot bad))
         (looser f w _ _ (fault_text 3 n) (4 + (9 + limit)) (17 + limit) (omega arith) (λ u z. z)
         (lines_by fits h risky code_of h.lies _ (fault_text 3 n) (9 + limit)
-        (asks fits h RANDOM_AT RESULT at src (FixedWord ly.seed) d m c lies x ly.seed
-        (operand_apart k a LEFT (omega arith) fit.slot fit.word) tt bound_holds option_holds
-        _ (fault_text 3 n) limit (λ m' g. rs.random_fails _ _ m' w.text w.answers x n g.left bad (g.line (number_set h risky (λ e. true≢false (sym bad ∙ never k a e)))) g.kept.homed))))
+        (asks fits h RANDOM_AT RESULT at (FixedWord ly.seed) src d m c lies ly.seed x
+        tt (operand_apart k a RIGHT (omega arith) fit.slot fit.word) option_holds bound_holds
+        _ (fault_text 3 n) limit (λ m' g. rs.random_fails _ _ m' w.text w.answers x n g.right bad (g.line (number_set h risky (λ e. true≢false (sym bad ∙ never k a e)))) g.kept.homed))))

@@ -273,13 +273,13 @@ module _ (labels : List (Name × ℕ)) (ns : List ℕ) (seed n : ℕ) (seed_smal
 
     converted_straight : (what : Conversion) (x : Source) (to : ℕ) → list_all is_straight (items.converted n seed what x to) ≡ true
     converted_straight Negated x to = joined_straight Sbc (FixedWord 0) x to
-    converted_straight Drawn x to = lined_straight (items.may_have_none x) n (items.handed RANDOM_AT RESULT x (FixedWord seed) to) (handed_straight RANDOM_AT RESULT x (FixedWord seed) to)
+    converted_straight Drawn x to = lined_straight (items.may_have_none x) n (items.handed RANDOM_AT RESULT (FixedWord seed) x to) (handed_straight RANDOM_AT RESULT (FixedWord seed) x to)
 
     converted_emits : (at : ℕ) (what : Conversion) (x : Source) (to : ℕ) → IsWord x → Emits labels at (map kept (items.converted n seed what x to)) (coded.convert_code ly n what x to)
     converted_emits at Negated x to w = block labels (items.taken (FixedWord 0) x to) (coded.taken (FixedWord 0) x to) ((taken_bytes labels (FixedWord 0) x to (omega arith) w).same _) (ends labels)
     converted_emits at Drawn x to w =
-        lined_emits labels at (items.may_have_none x) n n_small (items.handed RANDOM_AT RESULT x (FixedWord seed) to)
-        (coded.routine RANDOM_AT RESULT x (FixedWord seed) to) (λ b. handed_emits labels {at = b} RANDOM_AT RESULT x (FixedWord seed) to w seed_small)
+        lined_emits labels at (items.may_have_none x) n n_small (items.handed RANDOM_AT RESULT (FixedWord seed) x to)
+        (coded.routine RANDOM_AT RESULT (FixedWord seed) x to) (λ b. handed_emits labels {at = b} RANDOM_AT RESULT (FixedWord seed) x to seed_small w)
 
     -- the forms of each group without branches of a single instruction emit it
     pub group_emitted : (i at : ℕ) (g : Group) (fs : List Form) → coded.is_branching g ≡ false → IsAlone g → AreInRange 256 (expand g)

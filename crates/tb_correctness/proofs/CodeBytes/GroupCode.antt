@@ -149,7 +149,7 @@ calc_code n Divide a b to = quotient_code n (shifts b) a b to
 -- a conversion of a word of line n: 0 minus it, or a random number below it
 abbrev pub convert_code : Layout → ℕ → Conversion → Source → ℕ → List Piece
 convert_code ly n Negated a to = Code (taken (FixedWord 0) a to) ∷ []
-convert_code ly n Drawn a to = lined_code (may_have_none a) n (routine RANDOM_AT RESULT a (FixedWord ly.seed) to)
+convert_code ly n Drawn a to = lined_code (may_have_none a) n (routine RANDOM_AT RESULT (FixedWord ly.seed) a to)
 
 -- the line table is searched for a word
 abbrev pub searched : Layout → ℕ → Source → List Piece → List Piece

@@ -263,57 +263,70 @@ WIDELESS:
         STA $FC
         RTS
 
-; ---- Random: RESULT = the next RND state modulo LEFT
+; ---- Random: RESULT = the next RND state modulo RIGHT
 ;
-; In:      LEFT: the bound. RIGHT: the first RND state, used only where SEEDED is 0.
-; Out:     RESULT: 0 to LEFT - 1.
-; Changes: SEED: 25173 times the state before, plus 13849, modulo 65,536; SEEDED: 1; SCRATCH.
-; Fault:   3 where LEFT is below 1.
-; Stack:   4.  Time: 437, and 7 up to the fault.
+; In:      RIGHT: the bound. LEFT: the first RND state, used only where SEEDED is 0.
+; Out:     RESULT: 0 to RIGHT - 1.
+; Changes: SEED: 25173 times the state before, plus 13849, modulo 65,536; SEEDED: 1.
+; Fault:   3 where RIGHT is below 1.
+; Stack:   0.  Time: 242, and 6 up to the fault.
 ;
-; The bound waits on the stack while Multiply has LEFT and RIGHT. The state is read without a sign, as Unsigned
-; does, and the remainder that Unsigned leaves in RESULT is the answer.
+; 25173 is 256 * 98 + 85. So four turns of 4 times the word and the state, from 98 times the state's low byte, make
+; 25173 times the state: what LEFT + 1 held is shifted out. X counts the turns.
+; The state is read without a sign, as Unsigned does, and the remainder that Unsigned leaves in RESULT is the answer.
 RANDOM:
-        LDA $FC                 ; LEFT
+        LDA $FE                 ; RIGHT
         BMI RANDOMBAD
-        BNE RANDOMGO
-        LDA $FB
+        ORA $FD
         BNE RANDOMGO
 RANDOMBAD:
         LDA #$03
         JMP FAULT
 RANDOMGO:
         LDA $C036               ; SEEDED
-        BEQ RANDOMFIRST
-        LDA $C038               ; RIGHT = SEED
-        STA $FD
-        LDA $C039
-        STA $FE
-RANDOMFIRST:
-        LDA #$01
-        STA $C036               ; SEEDED
-        LDA $FB                 ; the bound
-        PHA
-        LDA $FC
-        PHA
-        LDA #$55                ; LEFT = 25173
+        BNE RANDOMSTORED
+        LDA $FC                 ; SEED = LEFT
+        STA $C039
+        LDA $FB
+        STA $C038
+RANDOMSTORED:
+        LDA $C038               ; LEFT = SEED's low byte
         STA $FB
-        LDA #$62
-        STA $FC
-        JSR MULTIPLY
+        LDX #$04
+        ASL A                   ; 98 times that byte: 2 times
         CLC
-        LDA $C066               ; SEED = LEFT = RESULT + 13849
+        ADC $FB                 ; 3 times
+        ASL A
+        ASL A
+        ASL A
+        ASL A                   ; 48 times
+        CLC
+        ADC $FB                 ; 49 times
+        ASL A
+RANDOMTURN:
+        ASL A                   ; A and LEFT + 1: 4 times the word, and SEED
+        ROL $FC
+        ASL A
+        ROL $FC
+        CLC
+        ADC $FB
+        TAY
+        LDA $FC
+        ADC $C039
+        STA $FC
+        TYA
+        DEX
+        BNE RANDOMTURN
+        INX
+        STX $C036               ; SEEDED
+        CLC                     ; SEED = LEFT = that + 13849
         ADC #$19
         STA $C038
         STA $FB
-        LDA $C067
+        LDA $FC
         ADC #$36
         STA $C039
         STA $FC
-        PLA                     ; RIGHT = the bound
-        STA $FE
-        PLA
-        STA $FD
         JMP UNSIGNED
 
 ; ---- Number: sends a signed word in decimal, as short as can be
@@ -428,8 +441,7 @@ INPUT:
         JSR SEND
         LDA #$20
         JSR SEND
-        LDA #$01
-        STA $C035               ; OPEN
+        INC $C035               ; OPEN
 INPUT1:
         LDA #$00
         STA $C066               ; RESULT = 0
@@ -484,16 +496,14 @@ SIGN:
         BNE BAD
         LDA $C06D               ; SCRATCH + 1 = BYTE
         STA $C06F
-        LDA #$01
-        STA $C06E               ; SCRATCH: a sign seen
+        INC $C06E               ; SCRATCH: a sign seen
         BNE READ                ; always
 BAD:
         LDA #$06
         JMP FAULT
 DONE:
-        LDA $C06E               ; SCRATCH: digits must have come
-        CMP #$02
-        BNE BAD
+        LSR $C06E               ; SCRATCH: digits must have come
+        BEQ BAD
         LDA $C06F               ; SCRATCH + 1
         CMP #$2D
         BNE DONE1
@@ -505,11 +515,9 @@ DONE:
         SBC $C067
         STA $C067
 DONE1:
-        LDA $C06D               ; BYTE
-        CMP #$2C
-        BEQ DONE2
-        LDA #$00
-        STA $C035               ; OPEN
+        LSR $C06D               ; BYTE: odd where it is a 13
+        BCC DONE2
+        DEC $C035               ; OPEN
         LDA #$0D
         JMP SEND
 DONE2:

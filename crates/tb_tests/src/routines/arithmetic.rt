@@ -95,7 +95,7 @@ fn divide_takes_each_way(rt: HostRuntime) -> Result<(), Fail> {
     Ok(())
 }
 
-// Random over a bound, with the state at an address: RIGHT if none is stored yet, else SEED.
+// Random over a bound, with the state at an address: LEFT if none is stored yet, else SEED.
 fn draw(
     alloc: Global,
     rom: Option<u16>,
@@ -104,7 +104,7 @@ fn draw(
     seeded: u8,
 ) -> Result<Called, Fail> {
     Call {
-        words: &[(LEFT, bound), state, (LINE, 10)],
+        words: &[(RIGHT, bound), state, (LINE, 10)],
         bytes: &[(SEEDED, seeded)],
         ..plain(Routine::Random)
     }
@@ -130,7 +130,7 @@ fn has_drawn(called: &Called, seed: u16) -> bool {
 #[test]
 fn random_takes_the_next_state(rt: HostRuntime) -> Result<(), Fail> {
     for pair in pairs(rt.alloc())? {
-        for (place, seeded) in [(RIGHT, 0), (SEED, 1)] {
+        for (place, seeded) in [(LEFT, 0), (SEED, 1)] {
             let holds = draws(rt.alloc(), pair, place, seeded)?;
             assert!(rt; holds, "{} from {}", pair.left, pair.right);
         }
@@ -140,8 +140,8 @@ fn random_takes_the_next_state(rt: HostRuntime) -> Result<(), Fail> {
 
 // Whether state 1 gives 2 below 10 and leaves 39022, and a bound of 0 is fault 3.
 fn begins_with_two(alloc: Global, rom: Option<u16>) -> Result<bool, Fail> {
-    let two = draw(alloc, rom, 10, (RIGHT, 1), 0)?;
-    let none = draw(alloc, rom, 0, (RIGHT, 1), 0)?;
+    let two = draw(alloc, rom, 10, (LEFT, 1), 0)?;
+    let none = draw(alloc, rom, 0, (LEFT, 1), 0)?;
     Ok(two.gives(2) && has_drawn(&two, 39022) && none.faults(b"", 3))
 }
 
