@@ -1,12 +1,38 @@
 #!/usr/bin/env bash
 # Measures how long `tbc debug` takes to go on by some events, and then to go back by a line.
 #
-#   tools/measure_debugger.sh [EVENTS]      default: 100000000 events; needs the built program
+#   tools/measure_debugger.sh [EVENTS]        default: 100000000 events; needs the built program
+#   tools/measure_debugger.sh --instructions  how many instructions of this processor `debug` (going on) and `profile`
+#                                             take for an event, beside `run`; needs valgrind, and ends with status 1
+#                                             if they take more than 2.6 and 3 times as many as `run`
 . "$(dirname "${BASH_SOURCE[0]}")/setup.sh"
 needs_program
 events=${1:-100000000}
 
 printf '%s\n' '10 LET A=0' '20 LET A=A+1' '30 LET B=A*2' '40 IF B>20000 THEN LET A=0' '50 GOTO 20' >count.bas
+
+each_event() { # WORD..: the instructions that a command takes for an event, by what a million of them more take
+    awk -v few="$(counted "$@" --limit 200000 <go_on)" -v many="$(counted "$@" --limit 1200000 <go_on)" \
+        'BEGIN { printf "%.1f\n", (many - few) / 1e6 }'
+}
+
+if [ "$events" = --instructions ]; then
+    installs valgrind valgrind
+    echo c >go_on
+    run=$(each_event "$tbc" run count.bas)
+    status=0
+    for tool in debug profile; do
+        most=2.6
+        [ $tool = debug ] || most=3
+        own=$(each_event "$tbc" "$tool" count.bas)
+        awk -v tool="$tool" -v most="$most" -v own="$own" -v run="$run" 'BEGIN {
+            printf "%s: %.1f instructions an event, run %.1f, %.2f times as many\n", tool, own, run, own / run
+            exit own > most * run
+        }' || status=1
+    done
+    exit "$status"
+fi
+
 coproc debugger { "$tbc" debug count.bas --limit "$events"; }
 
 answered() { # COMMAND: the microseconds up to its answer, which ends when that to a second command comes

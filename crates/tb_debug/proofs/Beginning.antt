@@ -1,12 +1,12 @@
 -- Where lines begin along a run.
-use Rattle.std.proofs.Common.{◌≡◌, ℕ, suc, ◌+◌, ◌≤◌, ◌&&◌, Bool, true, false, List, refl, sym, ap, ◌∙◌, subst, inl, inr, add-one, arith}
-use Rattle.std.proofs.lemmas.Bool.{cases_eq}
+use Rattle.std.proofs.Common.{◌≡◌, ℕ, suc, ◌+◌, ◌<◌, ◌≤◌, ◌&&◌, Bool, true, false, List, refl, sym, ap, ◌∙◌, subst, inl, inr, add-one, arith}
+use Rattle.std.proofs.lemmas.Bool.{cases_eq, cases_lt}
 use Rattle.std.specs.Prelude.{if◌then◌else◌}
 use Rattle.tb_kernal.specs.declared.events.Event.{Event}
 use Rattle.tb_kernal.specs.declared.events.Event.TheVariants.{Go, Interrupt}
 use Rattle.tb_kernal.specs.Machine.{State, happens, is_stopped, status}
 use Rattle.tb_kernal.specs.Runs.{is_own}
-use Rattle.tb_debug.specs.Begins.{NoneBegins, comes_to, own_at}
+use Rattle.tb_debug.specs.Begins.{GoesBetween, NoneBegins, comes_to, own_at}
 use Rattle.tb_debug.specs.Runs.{Point, IsOfRun, is_marked, point_at}
 use Rattle.tb_debug.specs.declared.moment.Moment.{Moment}
 
@@ -15,7 +15,8 @@ at_suc : (marks : List Bool) (start : Point) (n : ℕ)
 unfolding comes_to
 at_suc marks start n = refl
 
-comes_next : (marks : List Bool) (start : Point) (n m : ℕ) → m ≡ n + 1
+-- whether a line begins after an event, by the event
+pub comes_next : (marks : List Bool) (start : Point) (n m : ℕ) → m ≡ n + 1
     → comes_to marks start m ≡ (own_at marks start n && is_marked marks (point_at marks start m).state.regs.pc)
 comes_next marks start n m e =
     subst (λ k. comes_to marks start k ≡ (own_at marks start n && is_marked marks (point_at marks start k).state.regs.pc))
@@ -42,6 +43,27 @@ none_more marks start m n next e none last k above below =
 -- if no line begins after n events, none begins before the next event
 pub none_before : (marks : List Bool) (start : Point) (m n next : ℕ) → next ≡ n + 1 → NoneBegins marks start m (suc n) → NoneBegins marks start m next
 none_before marks start m n next e none k above below = none k above (omega (arith, below, e))
+
+-- no line begins on a way on at whose events none begins
+pub none_between : (marks : List Bool) (start : Point) (m : ℕ) (p q : Moment) (begins : Bool) → NoneBegins marks start m (suc p.events)
+    → GoesBetween marks start p begins q → NoneBegins marks start m q.events
+none_between marks start m p q begins none on k above below =
+    elim (cases_lt p.events k) [
+      | inl after ↦ on.none k after below
+      | inr before ↦ none k above (omega (arith, before))
+    ]
+
+-- and none at its end, if none begins there
+pub none_on : (marks : List Bool) (start : Point) (m : ℕ) (p q : Moment) → p.events ≤ q.events → NoneBegins marks start m (suc p.events)
+    → GoesBetween marks start p false q → NoneBegins marks start m (suc q.events)
+none_on marks start m p q later none on k above below =
+    elim (cases_lt p.events k) [
+      | inr before ↦ none k above (omega (arith, before))
+      | inl after ↦ elim (cases_eq k q.events) [
+        | inl same ↦ ap (comes_to marks start) same ∙ on.comes (omega (arith, after, same))
+        | inr other ↦ on.none k after (omega (arith, below, other))
+      ]
+    ]
 
 -- an event that isn't the program's own leaves the program counter where it is
 pub stays_there : (s t : State) (e : Event) (own : Bool) → own ≡ is_own e → own ≡ false → t ≡ happens s e → t.regs.pc ≡ s.regs.pc
@@ -85,4 +107,19 @@ tally_more marks first p q false t counted kept off =
       here = λ marked.
           let (was, same) = t.here (ap (is_marked marks) (sym (kept refl)) ∙ marked) in
           (was, omega (arith, counted, same));
+    }
+
+-- the tally after a way on at whose events no line begins
+pub tally_on : (marks : List Bool) (first p q : Moment) → IsTally marks first p → p.events ≤ q.events → q.begun ≡ p.begun
+    → (q.events ≡ p.events → q.machine.regs.pc ≡ p.machine.regs.pc)
+    → ((p.events < q.events) × (is_marked marks q.machine.regs.pc ≡ true) → false ≡ true) → IsTally marks first q
+tally_on marks first p q t later same stays off =
+    record {
+      few = omega (arith, same, t.few);
+      here = λ marked. elim (cases_eq q.events p.events) [
+        | inl none ↦
+            let (was, begun) = t.here (ap (is_marked marks) (sym (stays none)) ∙ marked) in
+            (was, same ∙ begun)
+        | inr some ↦ let never = off (omega (arith, later, some), marked) in absurd (cc)
+      ];
     }

@@ -5,6 +5,8 @@ pub mod Roms
 pub mod Running
 -- where lines begin, event by event
 pub mod Beginning
+-- going on quickly, where no line begins
+pub mod Quietly
 -- how many lines are begun
 pub mod Counting
 -- the events of a run as a list

@@ -55,6 +55,11 @@ EndsAt marks start limit m (Ended why) n =
     NoneBegins marks start m.events (suc n.events) × (status (state_of n.machine) ≡ why) × (why ≢ Running)
 EndsAt marks start limit m Limit n = NoneBegins marks start m.events (suc n.events) × IsUsedUp limit m n
 
+-- a way on at whose events no line begins: none begins between, and at its end one does as is told
+pub record GoesBetween (marks : List Bool) (start : Point) (m : Moment) (begins : Bool) (n : Moment) : Type 0 where
+  pub none : NoneBegins marks start m.events n.events
+  pub comes : m.events < n.events → comes_to marks start n.events ≡ begins
+
 -- if the answer is that a line begins, events were taken; a way on doesn't end within a line
 abbrev pub Advances : Reached → Moment → Moment → Type 0
 Advances Line m n = m.events < n.events

@@ -1,8 +1,8 @@
 //! A moment of a run: a machine, and how much of the run lies before it.
-ghost use Rattle.std.specs.Prelude.{◌≡◌, ◌<◌, ◌≤◌, ◌+◌, ◌==◌, ◌&&◌, if◌then◌else◌, List, Bool, IfOk, OnOk, false};
+ghost use Rattle.std.specs.Prelude.{◌≡◌, ◌<◌, ◌≤◌, ◌+◌, ◌==◌, ◌&&◌, if◌then◌else◌, List, Bool, IfOk, IsTrue, ◌↔◌, OnOk, false, true};
 ghost use Rattle.tb_kernal.specs.Machine.{state_of, status};
 ghost use Rattle.tb_kernal.specs.declared.status.Status.TheVariants as status;
-ghost use Rattle.tb_debug.specs.Begins.{Advances, EndsAt, IsLimited, StandsBy, StepsBy, at_limit, own_at, standing_of};
+ghost use Rattle.tb_debug.specs.Begins.{Advances, EndsAt, GoesBetween, IsLimited, StandsBy, StepsBy, at_limit, own_at, standing_of};
 ghost use Rattle.tb_inspection.specs.Readings.{values_in};
 ghost use Rattle.tb_debug.specs.Runs.{Point, IsOfRun, IsTyped, StaysOnRun, first_point, is_marked};
 
@@ -151,6 +151,25 @@ impl Moment {
         Ok(is_own)
     }
 
+    // Goes on quickly beside a quiet ROM, by at most `limit` events, as long as no line begins: whether that led to a
+    // line's beginning.
+    fn go_between(&mut self, starts: &Starts, limit: u64) -> bool
+        requires countable { self.old.events + limit ≤ 18446744073709551615 }
+        ensures run { StaysOnRun starts.now self.old self.new }
+        ensures few { self.new.events ≤ self.old.events + limit }
+        ensures begun { self.new.begun ≡ self.old.begun }
+        ensures between { (start : Point) → IsOfRun starts.now start self.old → GoesBetween starts.now start self.old result self.new }
+        ensures led { IsTrue result ↔ ((self.old.events < self.new.events) × (is_marked starts.now self.new.machine.regs.pc ≡ true)) }
+        ensures stays { self.new.events ≡ self.old.events → self.new.machine.regs.pc ≡ self.old.machine.regs.pc }
+    {
+        if self.rom != Rom::Quiet {
+            return false;
+        }
+        let went = self.machine.go_to_mark(starts.marks(), limit);
+        self.events += went;
+        0 < went && self.begins(starts)
+    }
+
     /// Runs on until a line begins or the machine doesn't run, by at most `limit` events.
     pub fn to_next_start(&mut self, starts: &Starts, limit: u64) -> Result<Reached, AllocError>
         ensures run { OnOk result (StaysOnRun starts.now self.old self.new) }
@@ -174,6 +193,9 @@ impl Moment {
             let own = self.take_event(starts)?;
             let marked = self.begins(starts);
             if both(own, marked) {
+                return Ok(Reached::Line);
+            }
+            if self.go_between(starts, last - self.events) {
                 return Ok(Reached::Line);
             }
         }

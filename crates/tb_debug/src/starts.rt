@@ -1,5 +1,5 @@
 //! Where lines begin.
-ghost use Rattle.std.specs.Prelude.{◌≡◌, ◌<◌, ℕ, false, map, replicate, vec_len, IfOk};
+ghost use Rattle.std.specs.Prelude.{◌≡◌, ◌<◌, ℕ, false, length, map, replicate, vec_len, IfOk};
 ghost use Rattle.tb_codegen.specs.Compiled.{pair_of, starts_of};
 ghost use Rattle.tb_debug.specs.Runs.{begins_at, is_marked};
 
@@ -34,6 +34,14 @@ impl Starts {
         Ok(Starts {
             begins: marks(alloc, program.starts())?,
         })
+    }
+
+    /// For each address, whether a line begins there.
+    pub fn marks(&self) -> &[bool]
+        ensures marks { result.now ≡ self.now }
+        ensures all { length result.now ≡ 65536 }
+    {
+        self.begins.as_slice()
     }
 
     /// Whether a line begins at an address.

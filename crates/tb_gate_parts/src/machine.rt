@@ -1,10 +1,11 @@
 //! The machine with its ROM, its events and runs.
-ghost use Rattle.std.specs.Prelude.{◌≡◌, ◌<◌, ◌≤◌, OnErr, OnOk, Some, None, IfOk, IfErr, ℕ, List, drop};
+ghost use Rattle.std.specs.Prelude.{◌≡◌, ◌<◌, ◌≤◌, OnErr, OnOk, Some, None, IfOk, IfErr, ℕ, List, drop, length};
 ghost use Rattle.tb_memmap.specs.Bytes.{at};
 ghost use Rattle.tb_memmap.specs.Regions.{CODE_START};
 ghost use Rattle.tb_kernal.specs.Machine.{state_of, status, Happened, entry_refusal, entered};
+ghost use Rattle.tb_kernal.specs.declared.events.Event.{Event};
 ghost use Rattle.tb_kernal.specs.Outsides.{turn};
-ghost use Rattle.tb_kernal.specs.Runs.{RanOver};
+ghost use Rattle.tb_kernal.specs.Runs.{RanOver, WentQuietly};
 ghost use Rattle.tb_kernal.specs.Starts.{LieAt, HoldsBytes, IsStart};
 ghost use Rattle.tb_kernal.specs.Typing.{with_typed, with_more};
 ghost use Rattle.tb_kernal.specs.Undoing.{Undone, IsFormer, TakesBack};
@@ -55,6 +56,15 @@ pub fn event_taken(machine: &mut Machine, event: Event) -> Result<Status, EventE
     ensures { Happened machine.old event result machine.new }
 {
     machine.event(event)
+}
+
+/// Calls `Machine::go_to_mark`.
+pub fn gone_to_mark(machine: &mut Machine, marks: &[bool], limit: u64) -> u64
+    requires all { length marks.now ≡ 65536 }
+    ensures went { (es : List Event) × (length es ≡ result) × WentQuietly marks.now machine.old es machine.new }
+    ensures few { result ≤ limit }
+{
+    machine.go_to_mark(marks, limit)
 }
 
 /// Calls `Machine::type_text`.

@@ -1,9 +1,9 @@
 //! One instruction of the processor.
-ghost use Rattle.std.specs.Prelude.{◌≡◌, ◌≤◌};
+ghost use Rattle.std.specs.Prelude.{◌≡◌, ◌≤◌, [], length};
 ghost use Rattle.tb_memmap.specs.Bytes.{at};
-ghost use Rattle.tb_cpu.specs.Instructions.{Stepped, Went, next};
+ghost use Rattle.tb_cpu.specs.Instructions.{Stepped, Went, next, stops_at};
 
-use tb_cpu::{Regs, Wrong, run_quickly, step};
+use tb_cpu::{Regs, Wrong, run_quickly, run_to_mark, step};
 use tb_memmap::Memory;
 
 /// Calls `step`.
@@ -15,8 +15,23 @@ pub fn stepped(regs: &mut Regs, memory: &mut Memory) -> Result<(), Wrong>
 
 /// Calls `run_quickly`.
 pub fn ran_quickly(regs: &mut Regs, memory: &mut Memory, home: u16, limit: u64) -> u64
-    ensures went { Went home regs.old memory.old result regs.new memory.new }
+    ensures went { Went (stops_at home []) regs.old memory.old result regs.new memory.new }
     ensures few { result ≤ limit }
 {
     run_quickly(regs, memory, home, limit)
+}
+
+/// Calls `run_to_mark`.
+pub fn ran_to_mark(
+    regs: &mut Regs,
+    memory: &mut Memory,
+    home: u16,
+    marks: &[bool],
+    limit: u64,
+) -> u64
+    requires all { length marks.now ≡ 65536 }
+    ensures went { Went (stops_at home marks.now) regs.old memory.old result regs.new memory.new }
+    ensures few { result ≤ limit }
+{
+    run_to_mark(regs, memory, home, marks, limit)
 }

@@ -1,5 +1,5 @@
 -- A tally of steps, one event later.
-use Rattle.std.proofs.Common.{◌≡◌, ℕ, ◌+◌, ◌≤◌, false, List, [], ◌∷◌, ◌++◌, length, refl, sym, ap, ◌∙◌, arith, subst, slice_index, slice_index_or}
+use Rattle.std.proofs.Common.{◌≡◌, ℕ, ◌+◌, ◌<◌, ◌≤◌, Bool, true, false, List, [], ◌∷◌, ◌++◌, length, refl, sym, ap, ◌∙◌, arith, subst, slice_index, slice_index_or}
 use Rattle.std.specs.Prelude.{◌==◌, if◌then◌else◌}
 use Rattle.std.proofs.lemmas.List.{length-set, length_push}
 use Rattle.std.proofs.lemmas.List.Sums.{sum_by_push}
@@ -7,10 +7,11 @@ use Rattle.tb_cpu.specs.Operands.{reading}
 use Rattle.tb_kernal.specs.declared.events.Event.{Event}
 use Rattle.tb_kernal.specs.declared.events.Event.TheVariants.{Go, Interrupt}
 use Rattle.tb_kernal.specs.declared.events.Clobber.{Clobber}
-use Rattle.tb_kernal.specs.Machine.{State, happens}
-use Rattle.tb_kernal.specs.Runs.{run}
+use Rattle.tb_kernal.specs.Machine.{State, Content, state_of, happens}
+use Rattle.tb_kernal.specs.Runs.{run, Gave, GivesQuiet, WentQuietly}
+use Rattle.tb_kernal.proofs.Giving.{gave_room}
 use Rattle.tb_profile.specs.Steps.{Step, begins_line, line_by, step_of, steps, cycles_of_go, times_of, instructions_of, cycles_of}
-use Rattle.tb_profile.specs.Tallies.{Counted, IsTally, last_line, with_step, CountsEvent}
+use Rattle.tb_profile.specs.Tallies.{Counted, IsTally, last_line, with_step, after_step, CountsEvent, TookShortly}
 use Rattle.tb_profile.proofs.Marking.{more_at}
 
 -- a run has at most one step for each event
@@ -77,3 +78,35 @@ event_more starts es first now (Go k) t u same h (address, e) =
 event_more starts es first now (Interrupt ws) t u same h e =
     subst (λ us. IsTally starts us u) (sym (steps_interrupt starts 0 es (Interrupt ws) ws first refl))
     (subst (λ v. IsTally starts (steps starts 0 es first) v) (sym e) h)
+
+-- one quiet event that was counted
+pub took_one : {O : Type 0} (gives : O → Content → Event → O → Type 0) (o : O) (m : Content) (es : List Event) (n : Content) (t u : Counted)
+    → GivesQuiet gives o → length es ≡ 1 → WentQuietly [] m es n → m.regs.pc < 65536
+    → u ≡ after_step t m.regs.pc (cycles_of_go m.regs (reading (state_of m).mem)) → TookShortly gives o m t true n u
+took_one gives o m [] n t u quiet one w address counted = absurd (omega (arith, one))
+took_one gives o m (e ∷ []) n t u quiet one w address counted = (
+  w.0,
+  record {
+    event = e;
+    ready = m;
+    same = refl;
+    given = subst (λ x. gives o m x o) (sym w.2) (quiet m);
+    happened = w.3.2 ∙ w.3.1;
+    counted = subst (λ x. CountsEvent x (state_of m) t u) (sym w.2) (address, counted);
+  },
+)
+took_one gives o m (e ∷ f ∷ es) n t u quiet one w address counted = absurd (omega (arith, one))
+
+-- an event was taken by the short way
+pub took_shortly : {O : Type 0} (gives : O → Content → Event → O → Type 0) (o : O) (m n : Content) (t u : Counted) (b : Bool) → b ≡ true
+    → TookShortly gives o m t b n u → TookShortly gives o m t true n u
+took_shortly gives o m n t u b is w = subst (λ c. TookShortly gives o m t c n u) is w
+
+-- none was: so what was given and counted before is all
+pub took_none : {O : Type 0} (gives : O → Content → Event → O → Type 0) (first o : O) (start m n : Content) (starts : List ℕ) (es : List Event)
+    (t u : Counted) (b : Bool) → b ≡ false → TookShortly gives o m t b n u → Gave gives first start es o m
+    → IsTally starts (steps starts 0 es (state_of start)) t
+    → Gave gives first start es o n × IsTally starts (steps starts 0 es (state_of start)) u
+took_none gives first o start m n starts es t u b isnt w gave tally =
+    let (same, kept) = subst (λ c. TookShortly gives o m t c n u) isnt w in
+    (gave_room gives es _ _ _ _ _ gave same, subst (IsTally starts (steps starts 0 es (state_of start))) (sym kept) tally)

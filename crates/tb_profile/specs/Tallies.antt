@@ -1,9 +1,10 @@
 -- Tallies: what was counted, by address.
-use Rattle.std.specs.Prelude.{ℕ, ◌≡◌, ◌<◌, ◌≤◌, ◌+◌, Bool, false, List, [], ◌∷◌, length, slice_index, slice_index_or, slice_set, sum_by}
+use Rattle.std.specs.Prelude.{ℕ, ◌≡◌, ◌<◌, ◌≤◌, ◌+◌, Bool, true, false, List, [], ◌∷◌, length, slice_index, slice_index_or, slice_set, sum_by}
 use Rattle.tb_cpu.specs.Operands.{reading}
 use Rattle.tb_kernal.specs.declared.events.Event.{Event}
 use Rattle.tb_kernal.specs.declared.events.Event.TheVariants.{Go, Interrupt}
-use Rattle.tb_kernal.specs.Machine.{State, Content, state_of, happens}
+use Rattle.tb_kernal.specs.Machine.{State, Content, state_of, status, happens}
+use Rattle.tb_kernal.specs.declared.status.Status.TheVariants.{Running}
 use Rattle.tb_profile.specs.Steps.{Step, begins_line, line_by, cycles_of_go, times_of, instructions_of, cycles_of}
 
 -- what a tally holds: three lists of 65,536 counts, the line begun last, and the number of all steps and of their cycles
@@ -74,3 +75,8 @@ pub record Took {O : Type 0} (gives : O → Content → Event → O → Type 0) 
   pub given : gives o ready event p
   pub happened : state_of n ≡ happens (state_of ready) event
   pub counted : CountsEvent event (state_of ready) t u
+
+-- the same of an outside that stays as it is and a machine that runs, where that is told; else all stays as it is
+abbrev pub TookShortly : {O : Type 0} → (O → Content → Event → O → Type 0) → O → Content → Counted → Bool → Content → Counted → Type 0
+TookShortly gives o m t true n u = (status (state_of m) ≡ Running) × Took gives o m t o n u
+TookShortly gives o m t false n u = (state_of n ≡ state_of m) × (u ≡ t)
