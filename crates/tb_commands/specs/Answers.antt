@@ -3,7 +3,7 @@ use Rattle.std.specs.Prelude.{ℕ, List, ◌++◌, codes}
 use Rattle.std.specs.Fmt.{decimal}
 use Rattle.tb_inspection.specs.Texts.{limit, no_such_line, registers_text, status_text, value_text, what}
 use Rattle.tb_commands.specs.declared.answer.Answer.{Answer}
-use Rattle.tb_commands.specs.declared.answer.Answer.TheVariants.{Registers, NothingBack, At, NoSuchLine, Limit, Stands, Value, Depth, What}
+use Rattle.tb_commands.specs.declared.answer.Answer.TheVariants.{Registers, NothingBack, At, NoSuchLine, NoSource, Limit, Stands, Value, Depth, What}
 
 -- the line that shows an answer, without its line end
 abbrev pub text_of : Answer → List ℕ
@@ -11,6 +11,7 @@ text_of (Registers regs line status) = registers_text regs line status
 text_of NothingBack = codes "nothing back"
 text_of (At line) = codes "at " ++ decimal line
 text_of NoSuchLine = no_such_line
+text_of NoSource = codes "no source"
 text_of Limit = limit
 text_of (Stands status) = status_text status
 text_of (Value value) = value_text value

@@ -1,5 +1,5 @@
 -- The stepper's commands, and the lines that spell them.
-use Rattle.std.specs.Prelude.{ℕ, ◌==◌, nat_le, List, [], ◌∷◌, Option, Some, None, if◌then◌else◌}
+use Rattle.std.specs.Prelude.{ℕ, ◌==◌, nat_le, Bool, true, false, List, [], ◌∷◌, Option, Some, None, if◌then◌else◌}
 use Rattle.std.specs.Option.{option_and_then}
 use Rattle.tb_words.specs.Letters.{letter_index}
 use Rattle.tb_debug_commands.specs.Parts.{number_of, variable_in}
@@ -27,6 +27,17 @@ asked_of (command.Value text) = Value text.now
 asked_of command.Depth = Depth
 asked_of command.Quit = Quit
 asked_of command.Unknown = Unknown
+
+-- whether only a source tells what is asked for: its lines, its variables, and where its returns are noted
+abbrev pub needs_source : Asked → Bool
+needs_source Step = false
+needs_source Back = false
+needs_source (Go line) = true
+needs_source (Variable index) = true
+needs_source (Value text) = true
+needs_source Depth = true
+needs_source Quit = false
+needs_source Unknown = false
 
 -- the number that one to five digits spell, up to 65,535
 abbrev pub line_in : List ℕ → Option ℕ

@@ -1,5 +1,5 @@
 -- What a history answers to commands, and what becomes of it.
-use Rattle.std.specs.Prelude.{ℕ, ℤ, ◌≡◌, ◌⊎◌, List, [], ◌∷◌, ◌++◌, Option, Some, None, Result, Ok, Err}
+use Rattle.std.specs.Prelude.{ℕ, ℤ, ◌≡◌, ◌⊎◌, Bool, true, false, not, ◌&&◌, List, [], ◌∷◌, ◌++◌, Option, Some, None, is_some, Result, Ok, Err}
 use Rattle.tb_memmap.specs.Bytes.{at}
 use Rattle.std.specs.declared.alloc.AllocError.{AllocError}
 use Rattle.tb_words.specs.Words.{word_of}
@@ -8,9 +8,8 @@ use Rattle.tb_kernal.specs.declared.events.Event.{Event}
 use Rattle.tb_kernal.specs.Machine.{Content, state_of, status, SameKeyboard}
 use Rattle.tb_cpu.specs.Operands.{word_in}
 use Rattle.tb_runtime16.specs.Addresses.{NOTES}
-use Rattle.tb_codegen.specs.Compiled.{starts_of, table_of, line_in, start_in}
 use Rattle.tb_stepper.specs.Holding.{Holds, machines}
-use Rattle.tb_stepper.specs.History.{Stepped, ReachesLine}
+use Rattle.tb_stepper.specs.History.{Stepped, ReachesLine, begins_at, line_of}
 use Rattle.tb_inspection.specs.Readings.{variable_in, variables_in}
 use Rattle.tb_inspection.specs.Values.{IsValueOfText}
 use Rattle.tb_stepper.specs.declared.reached.Reached.{Reached}
@@ -18,14 +17,14 @@ use Rattle.tb_stepper.specs.declared.reached.Reached.TheVariants as reached
 use Rattle.tb_stepper.specs.declared.reached.StepError.{StepError}
 use Rattle.tb_stepper.specs.declared.reached.StepError.TheVariants as error
 use Rattle.tb_commands.specs.declared.answer.Answer.{Answer}
-use Rattle.tb_commands.specs.declared.answer.Answer.TheVariants.{Registers, NothingBack, At, NoSuchLine, Limit, Stands, Value, Depth, What}
+use Rattle.tb_commands.specs.declared.answer.Answer.TheVariants.{Registers, NothingBack, At, NoSuchLine, NoSource, Limit, Stands, Value, Depth, What}
 use Rattle.tb_commands.specs.Commands as asked
-use Rattle.tb_commands.specs.Commands.{Asked, asked_in}
+use Rattle.tb_commands.specs.Commands.{Asked, asked_in, needs_source}
 use Rattle.tb_commands.specs.Answers.{text_of}
 
 -- how the present machine stands
 abbrev pub registers_of : {O : Type 0} → Holds O → Answer
-registers_of h = Registers h.machine.regs (line_in (starts_of h.program) (table_of h.program) h.machine.regs.pc) (status (state_of h.machine))
+registers_of h = Registers h.machine.regs (line_of h.program h.machine.regs.pc) (status (state_of h.machine))
 
 -- a step, and how the machine then stands
 abbrev pub SaysStep : {O : Type 0} → (O → Content → Event → O → Type 0) → Holds O → Result Answer AllocError → Holds O → Type 0
@@ -55,7 +54,7 @@ walk_answer line (Err error.NoMemory) = Err (record {})
 -- a walk to a line
 abbrev pub SaysGo : {O : Type 0} → (O → Content → Event → O → Type 0) → (limit line : ℕ) → Holds O → Result Answer AllocError → Holds O → Type 0
 SaysGo gives limit line h result k =
-    (r : Result Reached StepError) × ReachesLine gives (start_in (starts_of h.program) line) limit h r k × (result ≡ walk_answer line r)
+    (r : Result Reached StepError) × ReachesLine gives (begins_at h.program line) limit h r k × (result ≡ walk_answer line r)
 
 -- the answer to a text that came to this: its value, or `what?`
 abbrev pub value_answer : Option (Result ℤ EvalError) → Answer
@@ -79,19 +78,32 @@ Answered says (Ok (Some answer)) = says (Ok answer)
 Answered says (Ok None) = ⊥
 Answered says (Err e) = says (Err e)
 
+-- what is answered to a command, and the history after it, unless a source is wanting
+abbrev pub Performs : {O : Type 0} → (O → Content → Event → O → Type 0) → ℕ → Holds O → Asked → Result (Option Answer) AllocError → Holds O → Type 0
+Performs gives limit h asked.Step result k = Answered (λ r. SaysStep gives h r k) result
+Performs gives limit h asked.Back (Ok (Some answer)) k = SaysBack h answer k
+Performs gives limit h asked.Back (Ok None) k = ⊥
+Performs gives limit h asked.Back (Err e) k = ⊥
+Performs gives limit h (asked.Go line) result k = Answered (λ r. SaysGo gives limit line h r k) result
+Performs gives limit h (asked.Variable index) result k =
+    Reads (λ answer. (v : ℤ) × (word_of v ≡ variable_in (at h.machine.memory) index) × (answer ≡ Value (Ok v))) h result k
+Performs gives limit h (asked.Value text) result k = Reads (SaysValue h text) h result k
+Performs gives limit h asked.Depth result k = Reads (λ answer. answer ≡ Depth (word_in (at h.machine.memory) NOTES)) h result k
+Performs gives limit h asked.Quit result k = (result ≡ Ok None) × (k ≡ h)
+Performs gives limit h asked.Unknown result k = Reads (λ answer. answer ≡ What) h result k
+
+-- whether a command asks for what only a source tells, and there is none
+abbrev pub lacks_source : {O : Type 0} → Holds O → Asked → Bool
+lacks_source h asked = needs_source asked && not (is_some h.program)
+
+-- the same, by whether a source is wanting: then nothing changes
+abbrev pub RespondsBy : {O : Type 0} → Bool → (O → Content → Event → O → Type 0) → ℕ → Holds O → Asked → Result (Option Answer) AllocError → Holds O → Type 0
+RespondsBy true gives limit h asked result k = (result ≡ Ok (Some NoSource)) × (k ≡ h)
+RespondsBy false gives limit h asked result k = Performs gives limit h asked result k
+
 -- what is answered to a command, and the history after it
 abbrev pub Responds : {O : Type 0} → (O → Content → Event → O → Type 0) → ℕ → Holds O → Asked → Result (Option Answer) AllocError → Holds O → Type 0
-Responds gives limit h asked.Step result k = Answered (λ r. SaysStep gives h r k) result
-Responds gives limit h asked.Back (Ok (Some answer)) k = SaysBack h answer k
-Responds gives limit h asked.Back (Ok None) k = ⊥
-Responds gives limit h asked.Back (Err e) k = ⊥
-Responds gives limit h (asked.Go line) result k = Answered (λ r. SaysGo gives limit line h r k) result
-Responds gives limit h (asked.Variable index) result k =
-    Reads (λ answer. (v : ℤ) × (word_of v ≡ variable_in (at h.machine.memory) index) × (answer ≡ Value (Ok v))) h result k
-Responds gives limit h (asked.Value text) result k = Reads (SaysValue h text) h result k
-Responds gives limit h asked.Depth result k = Reads (λ answer. answer ≡ Depth (word_in (at h.machine.memory) NOTES)) h result k
-Responds gives limit h asked.Quit result k = (result ≡ Ok None) × (k ≡ h)
-Responds gives limit h asked.Unknown result k = Reads (λ answer. answer ≡ What) h result k
+Responds gives limit h asked result k = RespondsBy (lacks_source h asked) gives limit h asked result k
 
 -- after a command: its answer's line and what `rest` says of the lines after it, or the end
 abbrev pub GoesOn : {O : Type 0} → (Holds O → List ℕ → Holds O → Type 0) → Option Answer → Holds O → List ℕ → Holds O → Type 0

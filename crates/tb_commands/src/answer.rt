@@ -23,6 +23,8 @@ pub enum Answer {
     At(u16),
     /// The program has no such line.
     NoSuchLine,
+    /// There is no source that would tell what was asked for.
+    NoSource,
     /// As many steps as the limit were taken.
     Limit,
     /// The machine doesn't run; this is how it stands.
@@ -58,6 +60,7 @@ impl Answer {
                 text.extend_from_slice(format!(in alloc; "at {line}")?.as_bytes())
             }
             Answer::NoSuchLine => text.extend_from_slice(NO_SUCH_LINE),
+            Answer::NoSource => text.extend_from_slice(b"no source"),
             Answer::Limit => text.extend_from_slice(LIMIT),
             Answer::Stands(status) => text.extend_from_slice(status_text(status).as_bytes()),
             Answer::Value(value) => push_value(text, value),

@@ -1,6 +1,6 @@
 //! The stepper's commands, as lines spell them.
 ghost use Rattle.std.specs.Prelude.{◌≡◌};
-ghost use Rattle.tb_commands.specs.Commands.{asked_of, asked_in, alone, with_text, line_in};
+ghost use Rattle.tb_commands.specs.Commands.{asked_of, asked_in, alone, with_text, line_in, needs_source};
 
 use tb_debug_commands::{number, variable};
 use tb_words::Letter;
@@ -27,6 +27,18 @@ pub enum Command<'a> {
     Quit,
     /// Any other line.
     Unknown,
+}
+
+impl Command<'_> {
+    /// Whether only a source tells what is asked for.
+    pub fn needs_source(&self) -> bool
+        ensures { result ≡ needs_source (asked_of self.now) }
+    {
+        match self {
+            Command::Go(_) | Command::Variable(_) | Command::Value(_) | Command::Depth => true,
+            Command::Step | Command::Back | Command::Quit | Command::Unknown => false,
+        }
+    }
 }
 
 /// The command that a line is. There is one space after the letter of a command with a word, and a number has one to

@@ -2,7 +2,7 @@
 ghost use Rattle.std.specs.Prelude.{◌≡◌, IfOk};
 ghost use Rattle.tb_commands.specs.Commands.{asked_of};
 ghost use Rattle.tb_commands.specs.Lines.{lines_of};
-ghost use Rattle.tb_commands.specs.Dialogue.{registers_of, SaysStep, SaysBack, SaysGo, SaysValue, Responds, Dialogue};
+ghost use Rattle.tb_commands.specs.Dialogue.{registers_of, SaysStep, SaysBack, SaysGo, SaysValue, Performs, Responds, Dialogue};
 
 use crate::answer::Answer;
 use crate::command::{Command, read_command};
@@ -13,7 +13,7 @@ use tb_kernal::Outside;
 use tb_stepper::{Reached, StepError, Stepper};
 
 /// Does what a command asks for, and answers it; there is no answer to `Quit`. A walk to a line takes at most `limit`
-/// steps.
+/// steps. What only a source tells is answered by `NoSource` without one.
 ///
 /// After AllocError all is as before, but for a walk: then the machine is as after the steps so far.
 pub fn respond<O: Outside + Drop>(
@@ -23,6 +23,21 @@ pub fn respond<O: Outside + Drop>(
     limit: u64,
 ) -> Result<Option<Answer>, AllocError>
     ensures { Responds O.gives limit stepper.old (asked_of command.entry) result stepper.new }
+{
+    if command.needs_source() && !stepper.has_source() {
+        return Ok(Some(Answer::NoSource));
+    }
+    perform(alloc, stepper, command, limit)
+}
+
+// Does what a command asks for, and answers it, with or without a source.
+fn perform<O: Outside + Drop>(
+    alloc: Global,
+    stepper: &mut Stepper<'_, O>,
+    command: Command<'_>,
+    limit: u64,
+) -> Result<Option<Answer>, AllocError>
+    ensures { Performs O.gives limit stepper.old (asked_of command.entry) result stepper.new }
 {
     let answer = match command {
         Command::Step => step(stepper)?,

@@ -1,12 +1,15 @@
 -- What comes of a source and of commands.
-use Rattle.std.specs.Prelude.{ℕ, ◌≡◌, ◌⊎◌, List, [], Ok, Err}
+use Rattle.std.specs.Prelude.{ℕ, ◌≡◌, ◌⊎◌, List, [], length, Some, None, Result, Ok, Err}
 use Rattle.std.specs.Io.KnownBytes.{Consumes}
 use Rattle.tb_memmap.specs.Regions.{BASIC_START}
+use Rattle.tb_memmap.specs.Bytes.{IsOpenRange}
 use Rattle.tb_meaning.specs.declared.missing.Warning.{Warning}
 use Rattle.tb_kernal.specs.declared.outside.Quiet.{Quiet}
 use Rattle.tb_codegen.specs.Compiled.{loaded_of}
 use Rattle.tb_codegen.specs.declared.compiled.Compiled.{Compiled}
 use Rattle.tb_codegen.specs.declared.settings.CompileSettings.{CompileSettings}
+use Rattle.tb_prg.specs.declared.PrgError.{PrgError}
+use Rattle.tb_prg.specs.Prg.{content_of}
 use Rattle.tb_stepper.specs.Holding.{Holds}
 use Rattle.tb_commands.specs.Lines.{lines_of}
 use Rattle.tb_commands.specs.Dialogue.{Dialogue}
@@ -18,11 +21,12 @@ use Rattle.tb_driver.specs.Sources.{FromSource}
 use Rattle.tb_engines.specs.declared.outcome.End.TheVariants.{Done}
 use Rattle.tb_engines.specs.declared.outcome.Outcome.{Outcome}
 use Rattle.tb_engines.specs.declared.outcome.Outcome.TheVariants.{Ended, Refused, ReadFault, WriteFault, NoMemory}
+use Rattle.tb_engines.specs.declared.outcome.Refusal.TheVariants.{Prg, NotRam}
 
 -- the history of a program's start machine alone
 abbrev pub start_of_history : Settings Quiet → Compiled → Holds Quiet
 start_of_history s program =
-    record { machine = start BASIC_START (loaded_of program) s.text s.answers; outside = s.outside; undos = []; program = program }
+    record { machine = start BASIC_START (loaded_of program) s.text s.answers; outside = s.outside; undos = []; program = Some program }
 
 -- the answers to commands, over a program
 abbrev pub Steps : Settings Quiet → Compiled → List ℕ → Product → Type 0
@@ -33,6 +37,26 @@ Steps s program commands (Err e) = ⊥
 -- what comes of a source and of commands
 abbrev pub StepsThrough : Settings Quiet → CompileSettings → List Warning → List ℕ → List ℕ → Product → Type 0
 StepsThrough s settings warnings source commands product = FromSource settings (λ program. Steps s program commands) warnings source product
+
+-- the history of a machine at the start of a program at an address, alone; there is no source
+abbrev pub start_of_prg : Settings Quiet → ℕ → List ℕ → Holds Quiet
+start_of_prg s at bytes =
+    record { machine = start at bytes s.text s.answers; outside = s.outside; undos = []; program = None }
+
+-- the answers to commands, over a program at an address, if all of it lies in RAM
+abbrev pub StepsAt : Settings Quiet → ℕ → List ℕ → List ℕ → Product → Type 0
+StepsAt s at bytes commands (Ok (shown, end)) =
+    (k : Holds Quiet) × IsOpenRange at (length bytes) × Dialogue s.gives s.limit (start_of_prg s at bytes) (lines_of commands) shown k × (end ≡ Done)
+StepsAt s at bytes commands (Err e) = (e ≡ NotRam) × ¬ (IsOpenRange at (length bytes))
+
+-- what comes of commands and the load address and the bytes of a PRG file, or of a file that is no PRG file
+abbrev pub StepsContent : Settings Quiet → Result (ℕ × List ℕ) PrgError → List ℕ → Product → Type 0
+StepsContent s (Ok p) commands product = StepsAt s p.0 p.1 commands product
+StepsContent s (Err e) commands product = product ≡ Err (Prg e)
+
+-- what comes of a PRG file and of commands
+abbrev pub StepsPrg : Settings Quiet → List ℕ → List ℕ → Product → Type 0
+StepsPrg s file commands product = StepsContent s (content_of file) commands product
 
 -- made from all that a reader had, all of which was taken from it
 abbrev pub MadeFromTaken : Use → (List ℕ → Product → Type 0) → Product → Type 0

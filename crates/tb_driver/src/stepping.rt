@@ -1,11 +1,11 @@
-//! Stepping through a source by commands.
+//! Stepping through a source or a PRG file by commands.
 ghost use Rattle.tb_streams.specs.Uses.{use_of, TakesInput};
 ghost use Rattle.tb_play.specs.Plays.{quietly};
 ghost use Rattle.tb_engines.specs.Delivery.{Makes};
 ghost use Rattle.tb_codegen.specs.Settings.{by_cost};
 ghost use Rattle.tb_driver.specs.Sources.{WarnsOfRead};
 ghost use Rattle.tb_driver.specs.Starting.{IsLoadable};
-ghost use Rattle.tb_driver.specs.Stepping.{AnswersBoth, FaultsOfBoth, Steps, StepsThrough};
+ghost use Rattle.tb_driver.specs.Stepping.{AnswersBoth, FaultsOfBoth, Steps, StepsPrg, StepsThrough};
 
 use crate::reading::compile_source;
 use crate::starting::start_program;
@@ -13,7 +13,7 @@ use std::alloc::Global;
 use std::io::{Read, Write};
 use tb_codegen::{CompileSettings, Compiled};
 use tb_commands::answers;
-use tb_engines::{End, NoText, Report, Text, deliver, without_input};
+use tb_engines::{End, NoText, Outcome, Report, Text, deliver, start_file, without_input};
 use tb_kernal::{Keyboard, Quiet};
 use tb_stepper::Stepper;
 use tb_streams::{Tracked, read_input};
@@ -31,6 +31,29 @@ fn step_program(
 {
     let machine = start_program(alloc, program, keyboard)?;
     let Ok(mut stepper) = Stepper::new(alloc, machine, program, Quiet) else {
+        return Err(NoText::NoMemory);
+    };
+    match answers(alloc, &mut stepper, commands, limit) {
+        Ok(bytes) => Ok(Text {
+            bytes,
+            end: End::Done,
+        }),
+        Err(_) => Err(NoText::NoMemory),
+    }
+}
+
+// The answers to commands, over a stepper of the machine at the start of a PRG file.
+fn step_file(
+    alloc: Global,
+    file: &[u8],
+    keyboard: Keyboard,
+    commands: &[u8],
+    limit: u64,
+) -> Result<Text, NoText>
+    ensures { Makes (StepsPrg (quietly keyboard.text.items keyboard.answers.items limit) file.now commands.now) result }
+{
+    let machine = start_file(alloc, file, keyboard)?;
+    let Ok(mut stepper) = Stepper::without_source(alloc, machine, Quiet) else {
         return Err(NoText::NoMemory);
     };
     match answers(alloc, &mut stepper, commands, limit) {
@@ -116,4 +139,37 @@ pub fn step_within<R: Read, C: Read, W: Write>(
         ),
         warnings: source.program.into_warnings(),
     }
+}
+
+/// Reads a PRG file and then commands, and writes the answers to the commands, each a line, up to `q` or the end. The
+/// machine is the one that `run_prg` starts with, and the outside is `Quiet`. There is no source.
+pub fn step_prg<R: Read, C: Read, W: Write>(
+    alloc: Global,
+    prg: &mut Tracked<R>,
+    commands: &mut Tracked<C>,
+    writer: &mut Tracked<W>,
+    keyboard: Keyboard,
+    limit: u64,
+) -> Outcome
+    ensures answers { AnswersBoth (StepsPrg (quietly keyboard.text.items keyboard.answers.items limit)) result
+        (use_of R.remaining prg.old prg.new) (use_of C.remaining commands.old commands.new)
+        (use_of W.contents writer.old writer.new) }
+    ensures faults { FaultsOfBoth result
+        (use_of R.remaining prg.old prg.new) (use_of C.remaining commands.old commands.new)
+        (use_of W.contents writer.old writer.new) }
+    ensures prg_taken { TakesInput (use_of R.remaining prg.old prg.new) }
+    ensures commands_taken { TakesInput (use_of C.remaining commands.old commands.new) }
+{
+    let file = match read_input(alloc, prg) {
+        Ok(file) => file,
+        Err(error) => return without_input(error),
+    };
+    let commands = match read_input(alloc, commands) {
+        Ok(commands) => commands,
+        Err(error) => return without_input(error),
+    };
+    deliver(
+        writer,
+        step_file(alloc, file.as_slice(), keyboard, commands.as_slice(), limit),
+    )
 }

@@ -7,6 +7,7 @@ ghost use Rattle.tb_engines.specs.Outcomes.{AnswersInput, Faults};
 ghost use Rattle.tb_engines.specs.Programs.{settings_of, StartsPrg};
 ghost use Rattle.tb_play.specs.Lines.{most_typed};
 ghost use Rattle.tb_play.specs.Plays.{PlaysFile, PlayFaults, RunsTyped, Shows, WritesFileBeforeReading};
+ghost use Rattle.tb_profile_engine.specs.Prgs.{ProfilesPrg};
 ghost use Rattle.tb_profile_engine.specs.Profiles.{ProfilesSource};
 ghost use Rattle.tb_driver.specs.Sources.{IsFile, FromSource, RunsText, WarnsOfRead};
 ghost use Rattle.tb_driver.specs.Output.{RunsSource, ShowsSources};
@@ -23,7 +24,7 @@ use tb_driver::{
 use tb_engines::NoText;
 use tb_kernal::{Keyboard, Machine, Outside};
 use tb_meaning::Warning;
-use tb_profile_engine::{Named, Profiled, profile_text};
+use tb_profile_engine::{Named, Profiled, profile_prg, profile_text};
 use tb_streams::Tracked;
 
 /// Calls `Compiled::into_warnings`.
@@ -184,4 +185,21 @@ pub fn source_profiled<R: Read, W: Write, O: Outside>(
     profile_text(
         alloc, named, reader, writer, settings, keyboard, limit, outside,
     )
+}
+
+/// Calls `profile_prg`.
+pub fn prg_profiled<R: Read, W: Write, O: Outside>(
+    alloc: Global,
+    reader: &mut Tracked<R>,
+    writer: &mut Tracked<W>,
+    keyboard: Keyboard,
+    limit: u32,
+    outside: &mut O,
+) -> Outcome
+    ensures answers { AnswersInput (ProfilesPrg (settings_of O.gives outside.old keyboard limit)) result
+        (use_of R.remaining reader.old reader.new) (use_of W.contents writer.old writer.new) }
+    ensures faults { Faults result (use_of R.remaining reader.old reader.new) (use_of W.contents writer.old writer.new) }
+    ensures taken { TakesInput (use_of R.remaining reader.old reader.new) }
+{
+    profile_prg(alloc, reader, writer, keyboard, limit, outside)
 }

@@ -1,25 +1,36 @@
 //! Stepping, and the commands that ask for it.
-ghost use Rattle.std.specs.Prelude.{◌≡◌, ◌++◌, [], ◌∷◌, IfOk, OnOk, OnErr};
+ghost use Rattle.std.specs.Prelude.{◌≡◌, ◌++◌, [], ◌∷◌, None, IfErr, IfOk, OnOk, OnErr};
 ghost use Rattle.tb_streams.specs.Uses.{use_of, TakesInput};
 ghost use Rattle.tb_kernal.specs.Machine.{state_of, SameKeyboard};
-ghost use Rattle.tb_codegen.specs.Compiled.{starts_of, table_of, line_in, start_in};
 ghost use Rattle.tb_codegen.specs.Settings.{by_cost};
-ghost use Rattle.tb_stepper.specs.History.{machines, Stepped, ReachesLine};
-ghost use Rattle.tb_commands.specs.Commands.{asked_of, asked_in};
+ghost use Rattle.tb_stepper.specs.History.{machines, Stepped, ReachesLine, begins_at, line_of};
+ghost use Rattle.tb_commands.specs.Commands.{asked_of, asked_in, needs_source};
 ghost use Rattle.tb_commands.specs.Lines.{lines_of};
-ghost use Rattle.tb_commands.specs.Dialogue.{Dialogue};
+ghost use Rattle.tb_commands.specs.Dialogue.{Dialogue, Responds};
 ghost use Rattle.tb_play.specs.Plays.{quietly};
 ghost use Rattle.tb_driver.specs.Sources.{WarnsOfRead};
-ghost use Rattle.tb_driver.specs.Stepping.{AnswersBoth, FaultsOfBoth, StepsThrough};
+ghost use Rattle.tb_driver.specs.Stepping.{AnswersBoth, FaultsOfBoth, StepsPrg, StepsThrough};
 
 use std::alloc::{AllocError, Global};
 use std::io::{Read, Write};
 use tb_codegen::CompileSettings;
-use tb_commands::{Command, answers, read_command};
-use tb_driver::{Report, step_text, step_within};
+use tb_commands::{Answer, Command, answers, read_command, respond};
+use tb_driver::{Outcome, Report, step_prg, step_text, step_within};
 use tb_kernal::{Event, EventError, Keyboard, Machine, Outside, Status};
-use tb_stepper::{NothingBack, Reached, StepError, Stepper};
+use tb_stepper::{NothingBack, Reached, Refused, StepError, Stepper};
 use tb_streams::Tracked;
+
+/// Calls `Stepper::without_source`.
+pub fn stepper_without_source<'a, O: Outside + Drop>(
+    alloc: Global,
+    machine: Machine,
+    outside: O,
+) -> Result<Stepper<'a, O>, Refused<O>>
+    ensures held { IfOk result (λ h. h ≡ record { machine = machine; outside = outside; undos = []; program = None }) }
+    ensures handed_back { IfErr result (λ e. (e.machine ≡ machine) × (e.outside ≡ outside)) }
+{
+    Stepper::without_source(alloc, machine, outside)
+}
 
 /// Calls `Stepper::step`.
 pub fn stepped<O: Outside + Drop>(stepper: &mut Stepper<'_, O>) -> Result<Status, AllocError>
@@ -51,7 +62,7 @@ pub fn there_and_back(machine: &mut Machine, event: Event) -> Result<Status, Eve
 
 /// Calls `Stepper::line`.
 pub fn line_here<O: Outside + Drop>(stepper: &Stepper<'_, O>) -> Option<u16>
-    ensures { result ≡ line_in (starts_of stepper.now.program) (table_of stepper.now.program) stepper.now.machine.regs.pc }
+    ensures { result ≡ line_of stepper.now.program stepper.now.machine.regs.pc }
 {
     stepper.line()
 }
@@ -62,7 +73,7 @@ pub fn gone_to_line<O: Outside + Drop>(
     line: u16,
     limit: u64,
 ) -> Result<Reached, StepError>
-    ensures { ReachesLine O.gives (start_in (starts_of stepper.old.program) line) limit stepper.old result stepper.new }
+    ensures { ReachesLine O.gives (begins_at stepper.old.program line) limit stepper.old result stepper.new }
 {
     stepper.to_line(line, limit)
 }
@@ -72,6 +83,25 @@ pub fn statement_of(line: &[u8]) -> Command<'_>
     ensures { asked_of result ≡ asked_in line.now }
 {
     read_command(line)
+}
+
+/// Calls `Command::needs_source`.
+pub fn is_of_a_source(command: &Command<'_>) -> bool
+    ensures { result ≡ needs_source (asked_of command.now) }
+{
+    command.needs_source()
+}
+
+/// Calls `respond`.
+pub fn response_to<O: Outside + Drop>(
+    alloc: Global,
+    stepper: &mut Stepper<'_, O>,
+    command: Command<'_>,
+    limit: u64,
+) -> Result<Option<Answer>, AllocError>
+    ensures { Responds O.gives limit stepper.old (asked_of command.entry) result stepper.new }
+{
+    respond(alloc, stepper, command, limit)
 }
 
 /// Calls `answers`.
@@ -132,4 +162,25 @@ pub fn source_stepped<R: Read, C: Read, W: Write>(
     ensures commands_taken { TakesInput (use_of C.remaining commands.old commands.new) }
 {
     step_within(alloc, source, commands, writer, settings, keyboard, limit)
+}
+
+/// Calls `step_prg`.
+pub fn prg_stepped<R: Read, C: Read, W: Write>(
+    alloc: Global,
+    prg: &mut Tracked<R>,
+    commands: &mut Tracked<C>,
+    writer: &mut Tracked<W>,
+    keyboard: Keyboard,
+    limit: u64,
+) -> Outcome
+    ensures answers { AnswersBoth (StepsPrg (quietly keyboard.text.items keyboard.answers.items limit)) result
+        (use_of R.remaining prg.old prg.new) (use_of C.remaining commands.old commands.new)
+        (use_of W.contents writer.old writer.new) }
+    ensures faults { FaultsOfBoth result
+        (use_of R.remaining prg.old prg.new) (use_of C.remaining commands.old commands.new)
+        (use_of W.contents writer.old writer.new) }
+    ensures prg_taken { TakesInput (use_of R.remaining prg.old prg.new) }
+    ensures commands_taken { TakesInput (use_of C.remaining commands.old commands.new) }
+{
+    step_prg(alloc, prg, commands, writer, keyboard, limit)
 }

@@ -1,3 +1,4 @@
 pub mod Running
 pub mod Facts
 pub mod Profiles
+pub mod Prgs

@@ -2,3 +2,4 @@ pub mod Appending
 pub mod Adding
 pub mod Tabling
 pub mod Largest
+pub mod Addressing

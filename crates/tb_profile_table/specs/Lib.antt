@@ -6,3 +6,4 @@ pub mod About
 pub mod Cells
 pub mod Page
 pub mod Texts
+pub mod Addresses

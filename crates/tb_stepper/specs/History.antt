@@ -6,6 +6,8 @@ use Rattle.tb_kernal.specs.declared.events.Event.{Event}
 use Rattle.tb_kernal.specs.declared.status.Status.{Status}
 use Rattle.tb_kernal.specs.Machine.{State, Content, state_of, status, is_stopped, happens}
 use Rattle.tb_kernal.specs.declared.status.Status.TheVariants.{Running}
+use Rattle.tb_codegen.specs.Compiled.{starts_of, table_of, line_in, start_in}
+use Rattle.tb_codegen.specs.declared.compiled.Compiled.{Compiled}
 use Rattle.tb_stepper.specs.declared.reached.StepError.{StepError}
 use Rattle.tb_stepper.specs.declared.reached.StepError.TheVariants.{NoSuchLine, NoMemory as NoRoom}
 use Rattle.tb_stepper.specs.declared.reached.Reached.{Reached}
@@ -78,3 +80,13 @@ ReachesStart gives address limit h (Err NoSuchLine) k = ⊥
 abbrev pub ReachesLine : {O : Type 0} → (O → Content → Event → O → Type 0) → Option ℕ → ℕ → Holds O → Result Reached StepError → Holds O → Type 0
 ReachesLine gives None limit h result k = (result ≡ Err NoSuchLine) × (k ≡ h)
 ReachesLine gives (Some address) limit h result k = ReachesStart gives address limit h result k
+
+-- where a line begins; none does without a source
+abbrev pub begins_at : Option Compiled → ℕ → Option ℕ
+begins_at None line = None
+begins_at (Some program) line = start_in (starts_of program) line
+
+-- the line in whose code an address is; none without a source
+abbrev pub line_of : Option Compiled → ℕ → Option ℕ
+line_of None address = None
+line_of (Some program) address = line_in (starts_of program) (table_of program) address

@@ -1,17 +1,18 @@
 -- What undos give back.
-use Rattle.std.specs.Prelude.{ℕ, ◌≡◌, ◌++◌, Bool, true, ◌&&◌, nat_le, List, [], ◌∷◌, length, take, drop}
+use Rattle.std.specs.Prelude.{ℕ, ◌≡◌, ◌++◌, Bool, true, ◌&&◌, nat_le, List, [], ◌∷◌, length, take, drop, Option}
 use Rattle.tb_kernal.specs.declared.events.Event.{Event}
 use Rattle.tb_kernal.specs.Former.{Former}
 use Rattle.tb_codegen.specs.declared.compiled.Compiled.{Compiled}
 use Rattle.tb_kernal.specs.Rom.{written_open}
 use Rattle.tb_kernal.specs.Machine.{State, Content, state_of, is_lawful, happens}
 
--- what a stepper holds: the present machine, the outside, an undo of each step that can be taken back, the oldest first, and the program
+-- what a stepper holds: the present machine, the outside, an undo of each step that can be taken back, the oldest first, and the
+-- program that its source was compiled to, if it has a source
 pub record Holds (O : Type 0) : Type 0 where
   pub machine : Content
   pub outside : O
   pub undos : List Former
-  pub program : Compiled
+  pub program : Option Compiled
 
 -- the state before an event, which its undo gives back from the state after it; the first two are the keyboard's whole text and answers
 abbrev pub given_back : List ℕ → List ℕ → Former → State → State

@@ -1,9 +1,8 @@
 //! A machine, with undos that take its last steps back.
-ghost use Rattle.std.specs.Prelude.{◌≡◌, ◌≤◌, ◌+◌, ◌<◌, ◌++◌, [], ◌∷◌, true, length, nat_lt, OnOk, OnErr, IfOk, IfErr, MatchResult};
+ghost use Rattle.std.specs.Prelude.{◌≡◌, ◌≤◌, ◌+◌, ◌<◌, ◌++◌, [], ◌∷◌, true, length, nat_lt, is_some, Some, None, OnOk, OnErr, IfOk, IfErr, MatchResult};
 ghost use Rattle.tb_kernal.specs.Machine.{state_of, is_stopped, SameKeyboard};
-ghost use Rattle.tb_codegen.specs.Compiled.{starts_of, table_of, line_in, start_in};
 ghost use Rattle.tb_stepper.specs.Holding.{EachFollows};
-ghost use Rattle.tb_stepper.specs.History.{Holds, machines, Moved, Stepped, Reaches, ReachesLine, end_at};
+ghost use Rattle.tb_stepper.specs.History.{Holds, machines, Moved, Stepped, Reaches, ReachesLine, begins_at, end_at, line_of};
 
 use crate::reached::{Reached, StepError};
 use circular_buffer::HeapCircularBuffer;
@@ -35,38 +34,39 @@ fn has_stopped(status: Status) -> bool
     matches!(status, Status::Returned | Status::Wrong(_))
 }
 
-/// A compiled program's machine with its outside, and the last 1,000 machines before it.
+/// A machine with its outside, and the last 1,000 machines before it; and the compiled program that it runs, if there is
+/// a source.
 #[derive(Drop)]
 pub struct Stepper<'a, O: Outside + Drop> {
     machine: Machine,
     outside: O,
     undos: HeapCircularBuffer<Undo>,
-    program: &'a Compiled,
+    program: Option<&'a Compiled>,
 }
 
 impl<'a, O: Outside + Drop> Model for Stepper<'a, O> {
-    ghost use Rattle.std.specs.Prelude.{◌≡◌, ◌≤◌, true, length};
+    ghost use Rattle.std.specs.Prelude.{◌≡◌, ◌≤◌, true, length, option_map};
     ghost use Rattle.tb_stepper.specs.Holding.{Holds, machines, all_fit, EachFollows};
 
     ghost Value = { Holds O };
 
-    ghost view = { λ h. record { machine = h.machine; outside = h.outside; undos = h.undos.items; program = h.program.now } };
+    ghost view = { λ h. record { machine = h.machine; outside = h.outside; undos = h.undos.items; program = option_map (λ p. p.now) h.program } };
 
     ghost invariant = { λ h. (h.undos.capacity ≡ 1000)
         × (all_fit h.machine.all_text h.machine.all_answers h.undos.items ≡ true)
-        × EachFollows (machines (record { machine = h.machine; outside = h.outside; undos = h.undos.items; program = h.program.now }))
+        × EachFollows (machines (record { machine = h.machine; outside = h.outside; undos = h.undos.items; program = option_map (λ p. p.now) h.program }))
         × (length h.undos.items ≤ 1000) };
 }
 
 impl<'a, O: Outside + Drop> Stepper<'a, O> {
-    /// The history that holds a machine alone.
+    /// The history that holds the machine of a compiled program alone.
     pub fn new(
         alloc: Global,
         machine: Machine,
         program: &'a Compiled,
         outside: O,
     ) -> Result<Stepper<'a, O>, Refused<O>>
-        ensures held { IfOk result (λ h. h ≡ record { machine = machine; outside = outside; undos = []; program = program.now }) }
+        ensures held { IfOk result (λ h. h ≡ record { machine = machine; outside = outside; undos = []; program = Some program.now }) }
         ensures handed_back { IfErr result (λ e. (e.machine ≡ machine) × (e.outside ≡ outside)) }
     {
         match HeapCircularBuffer::with_capacity(alloc, KEPT) {
@@ -74,10 +74,37 @@ impl<'a, O: Outside + Drop> Stepper<'a, O> {
                 machine,
                 outside,
                 undos,
-                program,
+                program: Some(program),
             }),
             Err(_) => Err(Refused { machine, outside }),
         }
+    }
+
+    /// The history that holds a machine alone, of which there is no source.
+    pub fn without_source(
+        alloc: Global,
+        machine: Machine,
+        outside: O,
+    ) -> Result<Stepper<'a, O>, Refused<O>>
+        ensures held { IfOk result (λ h. h ≡ record { machine = machine; outside = outside; undos = []; program = None }) }
+        ensures handed_back { IfErr result (λ e. (e.machine ≡ machine) × (e.outside ≡ outside)) }
+    {
+        match HeapCircularBuffer::with_capacity(alloc, KEPT) {
+            Ok(undos) => Ok(Stepper {
+                machine,
+                outside,
+                undos,
+                program: None,
+            }),
+            Err(_) => Err(Refused { machine, outside }),
+        }
+    }
+
+    /// Whether there is a source.
+    pub fn has_source(&self) -> bool
+        ensures { result ≡ is_some self.now.program }
+    {
+        self.program.is_some()
     }
 
     /// The present machine. Each machine that is held comes from the one before it by one event.
@@ -169,21 +196,27 @@ impl<'a, O: Outside + Drop> Stepper<'a, O> {
 
     /// The line in whose code PC lies.
     pub fn line(&self) -> Option<u16>
-        ensures { result ≡ line_in (starts_of self.now.program) (table_of self.now.program) self.now.machine.regs.pc }
+        ensures { result ≡ line_of self.now.program self.now.machine.regs.pc }
     {
-        self.program.line_at(self.machine.regs().pc)
+        match self.program {
+            Some(program) => program.line_at(self.machine.regs().pc),
+            None => None,
+        }
     }
 
     /// Takes steps until PC is where the code of a line begins, after at least one step, or the
     /// machine isn't Running, or `limit` steps were taken; before each step this is looked at in
     /// this order.
     ///
-    /// Refused as NoSuchLine if the program has no such line; then nothing changes. After
-    /// AllocError the machine is as after the steps so far.
+    /// Refused as NoSuchLine if there is no source or the program has no such line; then nothing
+    /// changes. After NoMemory the machine is as after the steps so far.
     pub fn to_line(&mut self, line: u16, limit: u64) -> Result<Reached, StepError>
-        ensures { ReachesLine O.gives (start_in (starts_of self.old.program) line) limit self.old result self.new }
+        ensures { ReachesLine O.gives (begins_at self.old.program line) limit self.old result self.new }
     {
-        let Some(address) = self.program.start_of(line) else {
+        let Some(program) = self.program else {
+            return Err(StepError::NoSuchLine);
+        };
+        let Some(address) = program.start_of(line) else {
             return Err(StepError::NoSuchLine);
         };
         match self.to_address(address, limit) {

@@ -1,6 +1,6 @@
 -- The goals of `Stepper::take_event` in src/stepper.rt.
 use Rattle.std.proofs.Common.{◌≡◌, ◌≤◌, ◌++◌, ◌∷◌, [], length, ap, refl, sym, subst, ◌∙◌}
-use Rattle.std.specs.Prelude.{Ok}
+use Rattle.std.specs.Prelude.{Ok, option_map}
 use Rattle.circular_buffer.specs.Buffer.{keep_last}
 use Rattle.tb_kernal.specs.Machine.{Happened}
 use Rattle.tb_kernal.specs.Former.{Former}
@@ -17,8 +17,8 @@ invariant_of-self-in-Ok g c =
     c.reserve.ensures.rest c.note-undo.ensures happened c.self.invariant.1 in
     let undos : c.push_back.new.self.items ≡ keep_last 1000 (c.self.inside.undos.items ++ c.note-undo.result ∷ []) =
     ap (λ (b : Buffer Former). b.items) c.push_back.ensures.items ∙ ap (λ n. keep_last n (c.self.inside.undos.items ++ c.note-undo.result ∷ [])) c.self.invariant.0 in
-    let before : Holds g.row.O.Denot = record { machine = c.self.inside.machine; outside = c.self.inside.outside; undos = c.self.inside.undos.items; program = c.self.inside.program.now } in
-    let after : Holds g.row.O.Denot = record { machine = c.event.new.self; outside = c.next-event.new.self; undos = c.push_back.new.self.items; program = c.self.inside.program.now } in
+    let before : Holds g.row.O.Denot = record { machine = c.self.inside.machine; outside = c.self.inside.outside; undos = c.self.inside.undos.items; program = option_map (λ p. p.now) c.self.inside.program } in
+    let after : Holds g.row.O.Denot = record { machine = c.event.new.self; outside = c.next-event.new.self; undos = c.push_back.new.self.items; program = option_map (λ p. p.now) c.self.inside.program } in
     let more : Added g.O.Outside.gives before after =
     added g.O.Outside.gives before after c.reserve.new.self c.next-event.result c.in-Ok.status c.note-undo.result c.reserve.ensures.rest
     c.next-event.ensures c.note-undo.ensures happened undos refl in (
@@ -39,12 +39,12 @@ returns g c =
         machine = c.self.inside.machine;
         outside = c.self.inside.outside;
         undos = c.self.inside.undos.items;
-        program = c.self.inside.program.now;
+        program = option_map (λ p. p.now) c.self.inside.program;
       }) (record {
         machine = c.event.new.self;
         outside = c.next-event.new.self;
         undos = c.push_back.new.self.items;
-        program = c.self.inside.program.now;
+        program = option_map (λ p. p.now) c.self.inside.program;
       }) c.reserve.new.self c.next-event.result c.in-Ok.status c.note-undo.result
           c.reserve.ensures.rest c.next-event.ensures c.note-undo.ensures happened undos refl,
       happened.2,
