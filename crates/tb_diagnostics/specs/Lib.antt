@@ -1,0 +1,4 @@
+pub mod Codes
+pub mod Values
+pub mod Diagnostics
+pub mod Published

@@ -1,0 +1,34 @@
+-- What is published of a text.
+use Rattle.std.specs.Prelude.{ℕ, ℤ, ◌≡◌, ◌≤◌, ◌<◌, List, [], ◌∷◌, codes, length, Option, Some, None}
+use Rattle.serde_json.specs.Data.{Data, array, member, no_members, number, object, string}
+use Rattle.serde_json.specs.Find.{of_integer}
+use Rattle.serde_json.specs.View.{items_of}
+use Rattle.tb_streams.specs.Streams.{most_input}
+use Rattle.tb_parser.specs.Lines.{lines_of_file}
+use Rattle.tb_codegen.specs.declared.settings.SizeLimit.TheVariants.{Cost}
+use Rattle.tb_check.specs.Findings.{AreFindings}
+use Rattle.tb_check.specs.declared.examination.Findings.{Findings}
+use Rattle.tb_messages.specs.Messages.{Says}
+use Rattle.tb_diagnostics.specs.Diagnostics.{diagnostics_of, too_long}
+
+-- the params of what is published, with the version of the text if that is known
+abbrev pub params_of : List ℕ → Option ℤ → List Data → Data
+params_of uri None found = object (member (codes "diagnostics") (array (items_of found)) (member (codes "uri") (string uri) no_members))
+params_of uri (Some version) found =
+    object (member (codes "diagnostics") (array (items_of found)) (member (codes "uri") (string uri) (member (codes "version") (number (of_integer version)) no_members)))
+
+-- the message that publishes diagnostics of a text
+abbrev pub published_of : List ℕ → Option ℤ → List Data → Data
+published_of uri version found =
+    object (member (codes "jsonrpc") (string (codes "2.0")) (member (codes "method") (string (codes "textDocument/publishDiagnostics"))
+    (member (codes "params") (params_of uri version found) no_members)))
+
+-- diagnostics of a source: those of its findings, which are what `check` says of it; or that it has too many bytes
+abbrev pub Diagnoses : List ℕ → List ℕ → List Data → Type 0
+Diagnoses uri source found =
+    (length source ≤ most_input → (f : Findings) × AreFindings Cost source f × (found ≡ diagnostics_of uri (lines_of_file source) f))
+    × (most_input < length source → found ≡ too_long ∷ [])
+
+-- a content that publishes diagnostics of a source
+abbrev pub Publishes : List ℕ → Option ℤ → List ℕ → List ℕ → Type 0
+Publishes uri version source content = (found : List Data) × Diagnoses uri source found × Says content (published_of uri version found)

@@ -1,0 +1,72 @@
+//! What is published of a text.
+ghost use Rattle.std.specs.Prelude.{◌≡◌, [], IfOk, None, map};
+ghost use Rattle.serde_json.specs.View.{view};
+ghost use Rattle.tb_messages.specs.Messages.{Says};
+ghost use Rattle.tb_diagnostics.specs.Published.{Diagnoses, Publishes, published_of};
+
+use crate::findings::{Lines, diagnostics, too_long};
+use serde_json::{Value, json};
+use std::alloc::{AllocError, Global};
+use tb_check::examine;
+use tb_codegen::SizeLimit;
+use tb_streams::MOST_INPUT;
+
+/// The diagnostics of a source.
+pub fn diagnose(alloc: Global, uri: &str, source: &[u8]) -> Result<Vec<Value>, AllocError>
+    ensures { IfOk result (λ found. Diagnoses uri.now source.now (map view found.items)) }
+{
+    if source.len() > MOST_INPUT {
+        return too_long(alloc);
+    }
+    let examined = examine(alloc, source, SizeLimit::Cost)?;
+    let text = Lines {
+        uri,
+        lines: examined.lines.as_slice(),
+    };
+    diagnostics(alloc, &text, &examined.findings)
+}
+
+// The message that publishes diagnostics of a text.
+fn message(
+    alloc: Global,
+    uri: &str,
+    version: Option<i64>,
+    found: Vec<Value>,
+) -> Result<Value, AllocError>
+    ensures { IfOk result (λ v. view v ≡ published_of uri.now version (map view found.items)) }
+{
+    let diagnostics = Value::Array(found);
+    let params = match version {
+        Some(version) => {
+            json!(in alloc; {"diagnostics": diagnostics, "uri": uri, "version": version})?
+        }
+        None => json!(in alloc; {"diagnostics": diagnostics, "uri": uri})?,
+    };
+    json!(in alloc; {
+        "jsonrpc": "2.0",
+        "method": "textDocument/publishDiagnostics",
+        "params": params
+    })
+}
+
+/// The content that publishes what `check` finds of a source.
+pub fn publish(
+    alloc: Global,
+    uri: &str,
+    version: Option<i64>,
+    source: &[u8],
+) -> Result<Vec<u8>, AllocError>
+    ensures { IfOk result (λ content. Publishes uri.now version source.now content.items) }
+{
+    let found = diagnose(alloc, uri, source)?;
+    let message = message(alloc, uri, version, found)?;
+    message.to_vec(alloc)
+}
+
+/// The content that publishes nothing of a text.
+pub fn publish_none(alloc: Global, uri: &str) -> Result<Vec<u8>, AllocError>
+    ensures { IfOk result (λ content. Says content.items (published_of uri.now None [])) }
+{
+    let message = message(alloc, uri, None, Vec::new(alloc))?;
+    message.to_vec(alloc)
+}

@@ -1,0 +1,109 @@
+//! Diagnostics as JSON values.
+ghost use Rattle.std.specs.Prelude.{◌≡◌, IfOk};
+ghost use Rattle.serde_json.specs.View.{view};
+ghost use Rattle.tb_diagnostics.specs.Values.{location_of, place_of, plain, range_of, related, severity_number, superseded, tags};
+
+use serde_json::{Value, json};
+use std::alloc::{AllocError, Global};
+use tb_places::Span;
+
+/// How bad it is.
+#[derive(Clone, Copy, Debug, PartialEq, Eq, Drop)]
+pub enum Severity {
+    Error,
+    Warning,
+}
+
+impl Severity {
+    // Its number.
+    fn number(self) -> u32
+        ensures { result ≡ severity_number self }
+    {
+        match self {
+            Severity::Error => 1,
+            Severity::Warning => 2,
+        }
+    }
+}
+
+/// What is said of a span.
+#[derive(Clone, Copy, Drop)]
+pub struct Said<'a> {
+    pub span: Span,
+    pub severity: Severity,
+    pub code: &'a str,
+    pub message: &'a str,
+}
+
+fn place_value(alloc: Global, line: usize, character: usize) -> Result<Value, AllocError>
+    ensures { IfOk result (λ v. view v ≡ place_of line character) }
+{
+    json!(in alloc; {"character": character, "line": line})
+}
+
+/// A span as a range.
+pub fn range_value(alloc: Global, span: Span) -> Result<Value, AllocError>
+    ensures { IfOk result (λ v. view v ≡ range_of span) }
+{
+    let end = place_value(alloc, span.line, span.end)?;
+    let start = place_value(alloc, span.line, span.start)?;
+    json!(in alloc; {"end": end, "start": start})
+}
+
+/// A span of a text as a location.
+pub fn location_value(alloc: Global, uri: &str, span: Span) -> Result<Value, AllocError>
+    ensures { IfOk result (λ v. view v ≡ location_of uri.now span) }
+{
+    let range = range_value(alloc, span)?;
+    json!(in alloc; {"range": range, "uri": uri})
+}
+
+/// A diagnostic.
+pub fn plain(alloc: Global, said: Said<'_>) -> Result<Value, AllocError>
+    ensures { IfOk result (λ v. view v ≡ plain said.entry.code.now said.entry.message.now said.entry.span (severity_number said.entry.severity)) }
+{
+    let range = range_value(alloc, said.span)?;
+    let (code, message, severity) = (said.code, said.message, said.severity.number());
+    json!(in alloc; {
+        "code": code,
+        "message": message,
+        "range": range,
+        "severity": severity,
+        "source": "tbc"
+    })
+}
+
+// Where the line is that does away with another.
+fn related_value(alloc: Global, uri: &str, by: Span) -> Result<Value, AllocError>
+    ensures { IfOk result (λ v. view v ≡ related uri.now by) }
+{
+    let location = location_value(alloc, uri, by)?;
+    json!(in alloc; [{"location": location, "message": "by this line"}])
+}
+
+// The tag of what is unnecessary.
+fn tags_value(alloc: Global) -> Result<Value, AllocError>
+    ensures { IfOk result (λ v. view v ≡ tags) }
+{
+    json!(in alloc; [1])
+}
+
+/// A diagnostic of a line that a later one, at this span, does away with: an editor shows it as unnecessary.
+pub fn superseded(alloc: Global, uri: &str, said: Said<'_>, by: Span) -> Result<Value, AllocError>
+    ensures { IfOk result (λ v. view v ≡ superseded uri.now said.entry.code.now said.entry.message.now said.entry.span
+        (severity_number said.entry.severity) by) }
+{
+    let range = range_value(alloc, said.span)?;
+    let related = related_value(alloc, uri, by)?;
+    let tags = tags_value(alloc)?;
+    let (code, message, severity) = (said.code, said.message, said.severity.number());
+    json!(in alloc; {
+        "code": code,
+        "message": message,
+        "range": range,
+        "relatedInformation": related,
+        "severity": severity,
+        "source": "tbc",
+        "tags": tags
+    })
+}

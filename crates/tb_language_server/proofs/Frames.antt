@@ -1,0 +1,31 @@
+-- What was said to a frame.
+use Rattle.std.proofs.Common.{◌≡◌, ◌≢◌, ℕ, List, Option, Some, Ok, Err, subst}
+use Rattle.std.specs.Io.KnownBytes.{Appends}
+use Rattle.tb_frames.specs.Frames.{ReadsFrame, WritesFrame, frame_of}
+use Rattle.tb_streams.specs.Streams.{AppendsPrefix}
+use Rattle.tb_frames.specs.declared.reading.Frame.{Frame}
+use Rattle.tb_frames.specs.declared.reading.FrameError.{FrameError}
+use Rattle.tb_frames.specs.declared.reading.FrameError.TheVariants.{Fault}
+use Rattle.tb_language_server.specs.Dialogue.{TakesOne}
+use Rattle.tb_language_server.specs.declared.server.Reply.{Reply}
+use Rattle.tb_language_server.specs.declared.server.Server.{Server}
+
+-- a frame was read and replied to, by what was found
+pub one_taken : (had left : Option (List ℕ)) (read read_after : ℕ) (found : Option Frame) (f : Frame) (given reply : Reply) (old new : Server)
+    → found ≡ Some f → given ≡ reply → ReadsFrame (Ok found) had left read read_after → TakesOne f old given new
+    → (f : Frame) × ReadsFrame (Ok (Some f)) had left read read_after × TakesOne f old reply new
+one_taken had left read read_after found f given reply old new is says taken said =
+    (f, subst (λ x. ReadsFrame (Ok x) had left read read_after) is taken, subst (λ r. TakesOne f old r new) says said)
+
+-- the frame of the same bytes was written
+pub written : (old new : Option (List ℕ)) (text content : List ℕ) → text ≡ content → Appends old new (frame_of text) → Appends old new (frame_of content)
+written old new text content is = subst (λ t. Appends old new (frame_of t)) is
+
+-- a prefix of it was written
+pub begun : (old new : Option (List ℕ)) (text content : List ℕ) → text ≡ content → AppendsPrefix old new (frame_of text) → AppendsPrefix old new (frame_of content)
+begun old new text content is = subst (λ t. AppendsPrefix old new (frame_of t)) is
+
+-- a writer failed, by the error that says so
+pub failed_by : (content : List ℕ) (e : FrameError) (old new : Option (List ℕ)) (n m : ℕ) → e ≡ Fault → WritesFrame content (Err e) old new n m
+    → AppendsPrefix old new (frame_of content) × (m ≢ n)
+failed_by content e old new n m is = subst (λ e. WritesFrame content (Err e) old new n m) is

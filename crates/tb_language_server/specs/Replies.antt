@@ -1,0 +1,163 @@
+-- What a server says to messages.
+use Rattle.std.specs.Prelude.{ℕ, ℤ, ◌≡◌, Bool, true, false, List, [], codes, Option, Some, None, unwrap_or}
+use Rattle.std.specs.Str.{bytes_eq}
+use Rattle.std.specs.declared.alloc.Global.{Global}
+use Rattle.std.specs.declared.vec.Vec.{Vec}
+use Rattle.serde_json.specs.Data.{Data, boolean, member, no_members, null, number, object, string, unsigned}
+use Rattle.serde_json.specs.View.{view}
+use Rattle.tb_messages.specs.Messages.{Says, Tells, failure_of, seen, success_of}
+use Rattle.tb_messages.specs.declared.messages.Message.{Message}
+use Rattle.tb_messages.specs.declared.messages.Message.TheVariants as message
+use Rattle.tb_messages.specs.declared.refusals.Refusal.{Refusal}
+use Rattle.tb_messages.specs.declared.refusals.Refusal.TheVariants.{NoMessage}
+use Rattle.tb_diagnostics.specs.Published.{Publishes, published_of}
+use Rattle.tb_language_server.specs.Life.{decision_of}
+use Rattle.tb_language_server.specs.Notices.{Told, open_text, change_text, close_text, notice_of}
+use Rattle.tb_language_server.specs.Texts.{Opens, has, without}
+use Rattle.tb_language_server.specs.declared.life.Decision.{Decision}
+use Rattle.tb_language_server.specs.declared.life.Decision.TheVariants.{Begin, End, Refuse}
+use Rattle.tb_language_server.specs.declared.life.Stage.{Stage}
+use Rattle.tb_language_server.specs.declared.life.Stage.TheVariants.{New, Ready, Shut}
+use Rattle.tb_language_server.specs.declared.server.Reply.{Reply}
+use Rattle.tb_language_server.specs.declared.server.Reply.TheVariants.{Nothing, Content, Exit}
+use Rattle.tb_language_server.specs.declared.server.Server.{Server}
+
+-- ── what it can do ──
+-- texts are told of as a whole
+abbrev pub synchronization : Data
+synchronization = object (member (codes "change") (number (unsigned 1)) (member (codes "openClose") (boolean true) no_members))
+
+-- what it can do
+abbrev pub capabilities : Data
+capabilities = object (member (codes "positionEncoding") (string (codes "utf-16")) (member (codes "textDocumentSync") synchronization no_members))
+
+-- what it is, with its version
+abbrev pub information : List ℕ → Data
+information version = object (member (codes "name") (string (codes "tbc")) (member (codes "version") (string version) no_members))
+
+-- what it answers when it is initialized
+abbrev pub initialized : List ℕ → Data
+initialized version = object (member (codes "capabilities") capabilities (member (codes "serverInfo") (information version) no_members))
+
+-- ── states ──
+-- a new server
+pub record IsNew (version : List ℕ) (s : Server) : Type 0 where
+  pub stage : s.stage ≡ New
+  pub texts : s.texts.all.items ≡ []
+  pub named : s.version.now ≡ version
+
+-- nothing changed
+pub record IsSame (old new : Server) : Type 0 where
+  pub stage : new.stage ≡ old.stage
+  pub texts : new.texts.all.items ≡ old.texts.all.items
+  pub version : new.version.now ≡ old.version.now
+
+-- the stage changed, and nothing else
+pub record Becomes (stage : Stage) (old new : Server) : Type 0 where
+  pub now : new.stage ≡ stage
+  pub texts : new.texts.all.items ≡ old.texts.all.items
+  pub version : new.version.now ≡ old.version.now
+
+-- a text was opened, and nothing else
+pub record OpensText (uri text : List ℕ) (old new : Server) : Type 0 where
+  pub stage : new.stage ≡ old.stage
+  pub texts : Opens uri text old.texts.all.items new.texts.all.items
+  pub version : new.version.now ≡ old.version.now
+
+-- a text was closed, and nothing else
+pub record ClosesText (uri : List ℕ) (old new : Server) : Type 0 where
+  pub stage : new.stage ≡ old.stage
+  pub texts : new.texts.all.items ≡ without uri old.texts.all.items
+  pub version : new.version.now ≡ old.version.now
+
+-- ── requests ──
+-- what a request with this id is answered, by what is done with it
+abbrev pub AnswersBy : Decision → Data → Server → Vec ℕ Global → Server → Type 0
+AnswersBy Begin id old content new = Becomes Ready old new × Says content.items (success_of id (initialized old.version.now))
+AnswersBy End id old content new = Becomes Shut old new × Says content.items (success_of id null)
+AnswersBy (Refuse refusal) id old content new = IsSame old new × Says content.items (failure_of id refusal)
+
+-- ── notifications ──
+-- a text is taken, and what is said of it is published
+abbrev pub TakesText : (uri text : List ℕ) → Option ℤ → Server → Reply → Server → Type 0
+TakesText uri text version old (Content content) new = OpensText uri text old new × Publishes uri version text content.items
+TakesText uri text version old Nothing new = ⊥
+TakesText uri text version old Exit new = ⊥
+
+-- nothing is said, and nothing changes
+abbrev pub Ignores : Server → Reply → Server → Type 0
+Ignores old Nothing new = IsSame old new
+Ignores old (Content content) new = ⊥
+Ignores old Exit new = ⊥
+
+-- a text is closed, and nothing is published of it any more
+abbrev pub DropsText : List ℕ → Server → Reply → Server → Type 0
+DropsText uri old (Content content) new = ClosesText uri old new × Says content.items (published_of uri None [])
+DropsText uri old Nothing new = ⊥
+DropsText uri old Exit new = ⊥
+
+-- a text was changed, by whether it is open: one that isn't is not taken
+abbrev pub TakesChange : Bool → (uri text : List ℕ) → Option ℤ → Server → Reply → Server → Type 0
+TakesChange true uri text version old reply new = TakesText uri text version old reply new
+TakesChange false uri text version old reply new = Ignores old reply new
+
+-- a text is open no more, by whether it was
+abbrev pub TakesClose : Bool → List ℕ → Server → Reply → Server → Type 0
+TakesClose true uri old reply new = DropsText uri old reply new
+TakesClose false uri old reply new = Ignores old reply new
+
+-- what is told of a text is done
+abbrev pub TakesNotice : Told → Server → Reply → Server → Type 0
+TakesNotice (open_text uri text version) old reply new = TakesText uri text version old reply new
+TakesNotice (change_text uri text version) old reply new = TakesChange (has uri old.texts.all.items) uri text version old reply new
+TakesNotice (close_text uri) old reply new = TakesClose (has uri old.texts.all.items) uri old reply new
+
+-- the same, if something is told
+abbrev pub TakesTold : Option Told → Server → Reply → Server → Type 0
+TakesTold None old reply new = Ignores old reply new
+TakesTold (Some t) old reply new = TakesNotice t old reply new
+
+-- what is told at a stage
+abbrev pub TakesAt : Stage → Option Told → Server → Reply → Server → Type 0
+TakesAt New t old reply new = Ignores old reply new
+TakesAt Ready t old reply new = TakesTold t old reply new
+TakesAt Shut t old reply new = Ignores old reply new
+
+-- it ends
+abbrev pub Exits : Server → Reply → Server → Type 0
+Exits old Exit new = IsSame old new
+Exits old Nothing new = ⊥
+Exits old (Content content) new = ⊥
+
+-- a notification, by whether it asks for the end
+abbrev pub TakesOther : Bool → List ℕ → Option Data → Server → Reply → Server → Type 0
+TakesOther true method params old reply new = Exits old reply new
+TakesOther false method params old reply new = TakesAt old.stage (notice_of method params) old reply new
+
+-- a notification
+abbrev pub TakesNotification : List ℕ → Option Data → Server → Reply → Server → Type 0
+TakesNotification method params old reply new = TakesOther (bytes_eq method (codes "exit")) method params old reply new
+
+-- ── messages ──
+-- a request is answered
+abbrev pub TakesRequest : Data → List ℕ → Server → Reply → Server → Type 0
+TakesRequest id method old (Content content) new = AnswersBy (decision_of old.stage method) id old content new
+TakesRequest id method old Nothing new = ⊥
+TakesRequest id method old Exit new = ⊥
+
+-- a message is refused, and nothing changes
+abbrev pub Refuses : Data → Refusal → Server → Reply → Server → Type 0
+Refuses id refusal old (Content content) new = IsSame old new × Says content.items (failure_of id refusal)
+Refuses id refusal old Nothing new = ⊥
+Refuses id refusal old Exit new = ⊥
+
+-- what is said to a message
+abbrev pub TakesMessage : Message → Server → Reply → Server → Type 0
+TakesMessage (message.Request id method params) old reply new = TakesRequest (view id.now) method.now old reply new
+TakesMessage (message.Notification method params) old reply new = TakesNotification method.now (seen params) old reply new
+TakesMessage message.Answer old reply new = Ignores old reply new
+TakesMessage (message.NoMessage id) old reply new = Refuses (unwrap_or (seen id) null) NoMessage old reply new
+
+-- what is said to a value: what is told of it is done
+abbrev pub Takes : Data → Server → Reply → Server → Type 0
+Takes d old reply new = (m : Message) × Tells d m × TakesMessage m old reply new

@@ -1,0 +1,117 @@
+//! The dialogue with an editor.
+ghost use Rattle.std.specs.Prelude.{◌≡◌};
+ghost use Rattle.serde_json.specs.Data.{null};
+ghost use Rattle.tb_language_server.specs.Dialogue.{Replies, TakesContent, ServesNew, TakesFrame, TakesOne, moment, streams};
+ghost use Rattle.tb_streams.specs.Failures.{failures_of};
+ghost use Rattle.tb_language_server.specs.Outcomes.{end_of};
+ghost use Rattle.tb_language_server.specs.Replies.{Refuses};
+
+use crate::life::Stage;
+use crate::outcome::ServerOutcome;
+use crate::server::{Reply, Server};
+use std::alloc::Global;
+use std::io::{Read, Write};
+use tb_frames::{Frame, FrameError, read_frame, write_frame};
+use tb_messages::{Refusal, Unreadable, failure, read_value};
+use tb_streams::Tracked;
+
+// How a server ends that is asked to, or whose input ends.
+fn end_of(stage: Stage) -> ServerOutcome
+    ensures { result ≡ end_of stage }
+{
+    match stage {
+        Stage::Shut => ServerOutcome::Ended,
+        Stage::New | Stage::Ready => ServerOutcome::NotShutDown,
+    }
+}
+
+// What is said to a frame that is no message.
+fn refuse(alloc: Global, server: &mut Server, refusal: Refusal) -> Result<Reply, ServerOutcome>
+    ensures { Replies (λ reply. Refuses null refusal server.old reply server.new) result }
+{
+    match failure(alloc, None, refusal) {
+        Ok(content) => Ok(Reply::Content(content)),
+        Err(_) => Err(ServerOutcome::NoMemory),
+    }
+}
+
+// What is said to a content.
+fn reply_to_content(
+    alloc: Global,
+    server: &mut Server,
+    content: &[u8],
+) -> Result<Reply, ServerOutcome>
+    ensures { Replies (λ reply. TakesContent content.now server.old reply server.new) result }
+{
+    match read_value(alloc, content) {
+        Ok(value) => match server.take(alloc, &value) {
+            Ok(reply) => Ok(reply),
+            Err(_) => Err(ServerOutcome::NoMemory),
+        },
+        Err(Unreadable::NotJson) => refuse(alloc, server, Refusal::NoJson),
+        Err(Unreadable::NoMemory) => Err(ServerOutcome::NoMemory),
+    }
+}
+
+// What is said to a frame.
+fn reply_to_frame(alloc: Global, server: &mut Server, frame: &Frame) -> Result<Reply, ServerOutcome>
+    ensures { Replies (λ reply. TakesOne frame.now server.old reply server.new) result }
+{
+    match frame {
+        Frame::Content(content) => reply_to_content(alloc, server, content),
+        Frame::TooLong(_) => refuse(alloc, server, Refusal::TooLarge),
+    }
+}
+
+// Takes a frame, and says what there is to say to it: the end, if the dialogue ends with it.
+fn take_frame<R: Read, W: Write>(
+    alloc: Global,
+    server: &mut Server,
+    reader: &mut Tracked<R>,
+    writer: &mut Tracked<W>,
+) -> Result<(), ServerOutcome>
+    ensures { TakesFrame (streams (R.remaining reader.old.stream) (R.remaining reader.new.stream)
+        (failures_of reader.old) (failures_of reader.new) (W.contents writer.old.stream) (W.contents writer.new.stream)
+        (failures_of writer.old) (failures_of writer.new)) server.old result server.new }
+{
+    let frame = match read_frame(alloc, reader) {
+        Ok(Some(frame)) => frame,
+        Ok(None) => return Err(end_of(server.stage)),
+        Err(FrameError::Fault) => return Err(ServerOutcome::ReadFault),
+        Err(FrameError::Bad) => return Err(ServerOutcome::BadFrame),
+        Err(FrameError::NoMemory) => return Err(ServerOutcome::NoMemory),
+    };
+    let content = match reply_to_frame(alloc, server, &frame) {
+        Ok(Reply::Nothing) => return Ok(()),
+        Ok(Reply::Content(content)) => content,
+        Ok(Reply::Exit) => return Err(end_of(server.stage)),
+        Err(outcome) => return Err(outcome),
+    };
+    match write_frame(alloc, writer, content.as_slice()) {
+        Ok(()) => Ok(()),
+        Err(FrameError::Fault) => Err(ServerOutcome::WriteFault),
+        Err(FrameError::Bad) => unreachable!(),
+        Err(FrameError::NoMemory) => Err(ServerOutcome::NoMemory),
+    }
+}
+
+/// Reads messages and answers each before the next one is read, up to the end.
+pub fn serve<R: Read, W: Write>(
+    alloc: Global,
+    version: &'static str,
+    reader: &mut Tracked<R>,
+    writer: &mut Tracked<W>,
+) -> ServerOutcome
+    ensures { ServesNew version.now
+        (λ s. moment s (R.remaining reader.old.stream) (failures_of reader.old) (W.contents writer.old.stream) (failures_of writer.old))
+        result
+        (λ s. moment s (R.remaining reader.new.stream) (failures_of reader.new) (W.contents writer.new.stream) (failures_of writer.new)) }
+{
+    let mut server = Server::new(alloc, version);
+    for _ in 0..u64::MAX {
+        if let Err(outcome) = take_frame(alloc, &mut server, reader, writer) {
+            return outcome;
+        }
+    }
+    end_of(server.stage)
+}

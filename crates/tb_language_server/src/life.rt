@@ -1,0 +1,43 @@
+//! The life of a server: what is done with requests at each stage of it.
+ghost use Rattle.std.specs.Prelude.{◌≡◌};
+ghost use Rattle.tb_language_server.specs.Life.{decision_of};
+
+use tb_messages::Refusal;
+
+/// How far a server's life is.
+#[derive(Clone, Copy, Debug, PartialEq, Eq, Drop)]
+pub enum Stage {
+    /// It was not initialized.
+    New,
+    Ready,
+    /// It was shut down.
+    Shut,
+}
+
+/// What is done with a request.
+#[derive(Clone, Copy, Debug, PartialEq, Eq, Drop)]
+pub enum Decision {
+    /// It tells what it can do, and is ready.
+    Begin,
+    /// It shuts down.
+    End,
+    Refuse(Refusal),
+}
+
+/// What is done with a request at a stage.
+pub fn decide(stage: Stage, method: &str) -> Decision
+    ensures { result ≡ decision_of stage method.now }
+{
+    match stage {
+        Stage::New => match method {
+            "initialize" => Decision::Begin,
+            _ => Decision::Refuse(Refusal::NotInitialized),
+        },
+        Stage::Ready => match method {
+            "initialize" => Decision::Refuse(Refusal::Initialized),
+            "shutdown" => Decision::End,
+            _ => Decision::Refuse(Refusal::UnknownMethod),
+        },
+        Stage::Shut => Decision::Refuse(Refusal::ShutDown),
+    }
+}
