@@ -1,11 +1,13 @@
 #!/usr/bin/env python3
-"""Copies what a trial run of a program needs, so that it has less to build: tools/trial_copy.py FOLDER PROGRAM [COMMAND]
+"""Copies what a trial run of a program needs, so that it has less to build: tools/trial_copy.py FOLDER PROGRAM [WORD..]
 
 The copy has the sources of the program and of the crates below it, and no definitions: a trial run tests no contract, and
-the toolchain would read them for a hint alone. With a COMMAND of tbc, the matches of jobs in crates/tbc/src/tasks.rt
-keep the arms of that command and of texts. Then whatever nothing names any more is left out: functions, types, variants,
-modules and crates. What is kept is word for word what the repository has. Ends with status 1 if there is no such match;
-whether the copy means anything is left to the compiler."""
+the toolchain would read them for a hint alone. With the WORDs of a command of tbc, the matches of jobs in
+crates/tbc/src/tasks.rt keep the arms of that command and of texts. Then whatever nothing names any more is left out:
+functions, types, variants, modules and crates. What is kept is word for word what the repository has, but for one
+function: where the words are `run FILE` and no more, the copy takes the FILE without reading options, so that it doesn't
+need the reader of the command line, which is a third of all that there is to build. Ends with status 1 if there is no
+such match; whether the copy means anything is left to the compiler."""
 import re
 import shutil
 import sys
@@ -20,6 +22,27 @@ MODULE = re.compile(r"(?:pub )?mod \w+;")
 MATCH = re.compile(r"(?m)^ {4}(?:Ok\(Some\()?match job \{\n")
 OTHERS = {"fn run_job<": "return Ok(None)", "fn other_job<": "Err(Failure::NoMemory)"}  # what all other commands do there
 AT_A_TERMINAL = {"hinting", "noting", "places", "refusals"}  # modules of what is said to a person
+# What takes the place of the function that makes a job of words, where they are `run FILE`.
+RUN_FILE = """fn job_of_words<R: Env + AllocGlobal>(rt: &R) -> Result<Job, Failure> {
+    let mut words = words(rt)?;
+    let source = match words.pop() {
+        Some(word) => word,
+        None => return Err(Failure::NotUtf8),
+    };
+    let settings = Settings {
+        seed: USUAL_SEED,
+        fit: false,
+        keys: Typed::Digits(String::new(rt.alloc())),
+        answers: String::new(rt.alloc()),
+        limit: Limit::default_limit(),
+    };
+    Ok(Job::Run {
+        what: Runnable::Source(source),
+        settings,
+        rude: None,
+    })
+}
+"""
 TYPE = re.compile(r"impl.*? for (\w+)|impl(?:<[^{]*?>)? (\w+)")
 
 
@@ -142,12 +165,30 @@ def with_one_command(files, tasks, command):
     return narrowed({file: [] if file.stem in AT_A_TERMINAL else [(above, without_notes(it)) for above, it in items] for file, items in files.items()})
 
 
-def main(folder, program, command=None):
+def is_plain(words):
+    """Whether the words are `run FILE`."""
+    return len(words) == 2 and words[0] == "run" and not words[1].startswith("-")
+
+
+def without_reader(files, main):
+    """The files of the program without the reader of the command line, for the words `run FILE`."""
+    moved = {"use tb_command_line::{Failure, Job, job};": "use tb_jobs::{Failure, Job};", "use tb_command_line::": "use tb_jobs::"}
+    for old, new in moved.items():
+        files = {file: [(above, it.replace(old, new)) for above, it in items] for file, items in files.items()}
+    files[main] = [("", RUN_FILE) if it.startswith("fn job_of_words<") else (above, it) for above, it in files[main]]
+    files[main].insert(1, ("", "use tb_jobs::{Limit, Runnable, Settings, Typed, USUAL_SEED};\n"))
+    return files
+
+
+def main(folder, program, *command):
     to, source = Path(folder), ROOT / "crates" / program / "src"
     table = crates((ROOT / "crates.txt").read_text())
     if command:
         files = {it: items_of(it.read_text()) for it in sorted(source.glob("*.rt"))}
-        files = with_one_command(files, source / "tasks.rt", command)
+        if is_plain(command):
+            files = without_reader(files, source / "main.rt")
+            table[program].append("tb_jobs")
+        files = with_one_command(files, source / "tasks.rt", command[0])
         used = set().union(*(names(it) for items in files.values() for _, it in items))
         table[program] = [it for it in table[program] if it in used]
     needed, left = set(), [program]

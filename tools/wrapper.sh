@@ -256,9 +256,17 @@ rm -f stub/pid
 AS=slow unbuilt/tbc --build 2>&1 >/dev/null | head -n 1 >/dev/null
 is_so 'a build whose pipe is closed leaves a prover' test ! -d "/proc/$(<stub/pid)"
 
-# One trial run by the toolchain itself
+# Two trial runs by the toolchain itself: the first answer of all, in so much processor time, and one with an option
 PATH=$real_path
+longest=60 # seconds; 37 on a busy machine
+children_seconds() { awk 'NR == 2 { split($1, user, /[ms]/); split($2, kernel, /[ms]/); print (user[1] + kernel[1]) * 60 + user[2] + kernel[2] }' "$1"; }
+times >times_before
 row 0 "$trial" HELLO unbuilt/tbc run hello.bas
+times >times_after
+took=$(awk -v before="$(children_seconds times_before)" -v after="$(children_seconds times_after)" 'BEGIN { print after - before }')
+echo "the first answer, with nothing built, takes $took s of processor time"
+is_so "it should take $longest s at most" awk -v took="$took" -v most="$longest" 'BEGIN { exit !(took <= most) }'
+row 0 "$trial" HELLO unbuilt/tbc run --seed 1 hello.bas
 
 echo "$rows calls of ./tbc, $failed other than they should be"
 [ "$failed" = 0 ]
