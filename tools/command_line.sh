@@ -940,16 +940,31 @@ step_rows() {
     steps '' '' let.bas
     file commands ''
     row 0 'tbc: warning: line 20: no line 30' '' step warn.bas
+    steps $'C002 A=48 X=00 Y=00 S=F0 P=30 - running\nFFD2 A=48 X=00 Y=00 S=EE P=30 - running\nC002 A=48 X=00 Y=00 S=F0 P=30 - running' \
+        's\ns\nb\nq\n' --prg routine.prg
+    steps $'no source\nno source\nno source\nno source\nwhat\\?\nnothing back' 'g 10\nv A\ne 1\nd\nx\nb\n' --prg routine.prg
+    steps '080E A=00 X=00 Y=00 S=F0 P=30 - running' 's\n' --prg built.prg --seed 2 --fit
+    steps $'FFE4 A=00 X=00 Y=00 S=EE P=30 - running\nC003 A=41 X=00 Y=00 S=F0 P=30 - running' 's\ns\n' --prg poll.prg --answers 41
+    each 1 bad.prg step --prg bad.prg <<'END'
+not a PRG: too short|\x01
+not a PRG: runs past the end|\xff\xff\x60\x60
+not a PRG: not RAM|\x00\xd0\x60
+END
     refused_sources step SOURCE
     row 2 'tbc: bad key list' '' step nowhere.bas --keys 0
+    row 2 'tbc: bad key list' '' step --prg nowhere.prg --answers 0
+    row 3 'tbc: read fault' '' step --prg nowhere.prg
+    row 2 'error: *' '' step hello.bas --prg routine.prg
     row 3 'tbc: read fault' '' step nowhere.bas
     from=folder
     row 3 'tbc: read fault' '' step let.bas
     row 3 'tbc: read fault' '' step long.bas
+    row 3 'tbc: read fault' '' step --prg routine.prg
     from=commands
     to=/dev/full
     file commands 's\n'
     row 3 'tbc: write fault' '' step let.bas
+    row 3 'tbc: write fault' '' step --prg routine.prg
     to=shown
     from=/dev/null
 }
@@ -961,6 +976,28 @@ profile_rows() {
     row 6 'tbc: waits for a key' $' line *\n  sum *' profile wait.bas
     row 0 '' $' line *\n  sum *' profile wait.bas --type '12\n'
     row 0 '' $' line *\n  sum *' profile let.bas --rude 7
+    row 0 '' $' addr      times        cycles   share  instruction
+ C000          1             2   10.0%  LDA #$48
+ C002          1             6   30.0%  JSR $FFD2
+ C005          1             6   30.0%  RTS
+ FFD2          1             6   30.0%  chrout
+  sum          4            20  100.0%' profile --prg routine.prg
+    row 5 'tbc: step limit' $' addr *\n C000 *\n C002 *\n  sum          2             8  100.0%' profile --prg routine.prg --limit 2
+    row 6 'tbc: waits for a key' $' addr *\n  sum *' profile --prg echo.prg
+    row 0 '' $' addr *\n FFE4 * getin\n  sum          5 *' profile --prg poll.prg --answers 41 --seed 2 --fit
+    row 0 '' $' addr *\n  sum *' profile --prg spoilt.prg --rude 1
+    row 2 'error: *' '' profile --prg routine.prg --html page.html
+    row 2 'error: *' '' profile hello.bas --prg routine.prg
+    row 2 'tbc: bad key list' '' profile --prg nowhere.prg --keys 0
+    row 3 'tbc: read fault' '' profile --prg nowhere.prg
+    to=/dev/full
+    row 3 'tbc: write fault' '' profile --prg routine.prg
+    to=shown
+    each 1 bad.prg profile --prg bad.prg <<'END'
+not a PRG: too short|\x01
+not a PRG: runs past the end|\xff\xff\x60\x60
+not a PRG: not RAM|\x00\xd0\x60
+END
     file less.bas '10 PRINT "<&>"\n20 GOTO 40\n30 PRINT\n40 END\n'
     row 0 '' $'*\n   30          0            0             0    0.0%  PRINT\n   40 *' profile less.bas --html page.html
     sed -n '/^<h1>/,$p' page.html >page.body
@@ -1124,6 +1161,39 @@ debug_walk() {
     by=()
 }
 debug_walk
+
+frames() { # CONTENT..: the messages, each in a frame
+    local it
+    for it; do printf 'Content-Length: %d\r\n\r\n%s' "${#it}" "$it"; done >messages
+}
+
+server_rows() {
+    local at='"textDocument":{"uri":"file:///a.bas","languageId":"tinybasic"' end='{"jsonrpc":"2.0","method":"exit"}'
+    from=messages
+    frames
+    row 1 '' '' lsp
+    frames '{"jsonrpc":"2.0","id":7,"method":"shutdown"}' "$end"
+    row 1 '' $'Content-Length: 76\r\n\r\n{"error":{"code":-32002,"message":"not initialized"},"id":7,"jsonrpc":"2.0"}' lsp
+    frames '{' '{"jsonrpc":"2.0"}'
+    row 1 '' '*{"error":{"code":-32700,"message":"no JSON"},"id":null,*{"error":{"code":-32600,"message":"no message"},"id":null,*' lsp
+    frames '{"jsonrpc":"2.0","id":1,"method":"initialize","params":{}}' \
+        '{"jsonrpc":"2.0","method":"textDocument/didOpen","params":{'"$at"',"version":3,"text":"10 PRIMT\n"}}}' \
+        '{"jsonrpc":"2.0","id":"two","method":"shutdown"}' "$end"
+    row 0 '' '*"serverInfo":{"name":"tbc",*"message":"syntax: did you mean PRINT","range":*"version":3}}*"id":"two","jsonrpc":"2.0","result":null}' lsp
+    file messages 'Content-Length: x\r\n\r\n'
+    row 3 'tbc: bad frame' '' lsp
+    file messages 'Content-Length: 9\r\n\r\n{}'
+    row 3 'tbc: bad frame' '' lsp
+    to=/dev/full
+    frames '{"jsonrpc":"2.0","id":7,"method":"shutdown"}'
+    row 3 'tbc: write fault' '' lsp
+    to=shown
+    from=/
+    row 3 'tbc: read fault' '' lsp
+    from=/dev/null
+    row 2 'error: *' '' lsp WORD
+}
+server_rows
 
 echo "$rows calls of tbc, $failed other than they should be"
 [ "$failed" = 0 ]

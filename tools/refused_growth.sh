@@ -235,6 +235,7 @@ check profile all.bas --keys 332c350d0d --answers 0000 --rude 7 --fit --html pag
 check profile warned.bas
 check profile bad.bas
 check profile nowhere.bas
+check profile --prg hello.prg
 printf 'n 3\np\n\nb 30\nb\nw A\nf\nc\nrc\nt 9\nt 2\nl\nv\nv A\ne A*2-1\nr\no\nk 7,8\nc\ns 9\nx\nm C000\ni\nh\nz\nq\n' >commands
 check debug all.bas
 check debug all.bas --keys 332c350d --rude 7
@@ -267,6 +268,7 @@ step_rows() {
     check step all.bas --keys 332c350d
     printf 'b\ns\nb\ng 15\ng 20\nv A\ne A*2-1\ne 1/0\ne RND(2)\nx\nq\n' >commands
     check step let.bas
+    check step --prg hello.prg
     check step hello.bas --limit 3
     check step bad.bas
     check step nowhere.bas

@@ -248,5 +248,5 @@ pub const ONLY_CHECK: Argument = Argument {
 pub const PAGE: Argument = Argument {
     name: "html",
     help: "Write a page with the same figures to this file too",
-    form: Form::FileOption,
+    form: Form::FileInPlaceOf(PRG_NAME),
 };

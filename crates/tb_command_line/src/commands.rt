@@ -22,6 +22,7 @@ pub enum CommandName {
     Disk,
     Check,
     Format,
+    Lsp,
     Version,
 }
 
@@ -45,7 +46,7 @@ pub fn rows() -> &'static [CommandRow]
     &COMMANDS
 }
 
-static COMMANDS: [CommandRow; 12] = [
+static COMMANDS: [CommandRow; 13] = [
     CommandRow {
         command: CommandName::Build,
         name: "build",
@@ -95,9 +96,19 @@ static COMMANDS: [CommandRow; 12] = [
     CommandRow {
         command: CommandName::Step,
         name: "step",
-        help: "Step through a source by commands from standard input",
-        usage: None,
-        arguments: &[SOURCE, SEED, FIT, KEYS, KEY_FILE, TYPE, ANSWERS, LIMIT],
+        help: "Step through a source or a PRG file by commands from standard input",
+        usage: Some("tbc step [OPTIONS] <SOURCE>\n       tbc step [OPTIONS] --prg <FILE>"),
+        arguments: &[
+            SOURCE_OR_PRG,
+            PRG,
+            SEED,
+            FIT,
+            KEYS,
+            KEY_FILE,
+            TYPE,
+            ANSWERS,
+            LIMIT,
+        ],
     },
     CommandRow {
         command: CommandName::Debug,
@@ -111,10 +122,20 @@ static COMMANDS: [CommandRow; 12] = [
     CommandRow {
         command: CommandName::Profile,
         name: "profile",
-        help: "Run a source, and show what each of its lines took",
-        usage: None,
+        help: "Run a source or a PRG file, and show what each of its lines or instructions took",
+        usage: Some("tbc profile [OPTIONS] <SOURCE>\n       tbc profile [OPTIONS] --prg <FILE>"),
         arguments: &[
-            SOURCE, SEED, FIT, KEYS, KEY_FILE, TYPE, ANSWERS, LIMIT, RUDE, PAGE,
+            SOURCE_OR_PRG,
+            PRG,
+            SEED,
+            FIT,
+            KEYS,
+            KEY_FILE,
+            TYPE,
+            ANSWERS,
+            LIMIT,
+            RUDE,
+            PAGE,
         ],
     },
     CommandRow {
@@ -137,6 +158,13 @@ static COMMANDS: [CommandRow; 12] = [
         help: "Write a source with tidy lines",
         usage: None,
         arguments: &[SOURCE, IN_PLACE, ONLY_CHECK],
+    },
+    CommandRow {
+        command: CommandName::Lsp,
+        name: "lsp",
+        help: "Serve an editor as its language server, over standard input and output",
+        usage: None,
+        arguments: &[],
     },
     CommandRow {
         command: CommandName::Version,

@@ -7,6 +7,7 @@ mod parser;
 mod values;
 mod words;
 
+pub use parser::VERSION;
 pub use tb_jobs::{
     BuildExtras, Failure, FormatTarget, Job, JobError, Limit, Runnable, Settings, Typed, typed_keys,
 };

@@ -75,6 +75,7 @@ fn job_of(alloc: Global, command: CommandName, found: &ArgMatches<'_>) -> Result
         CommandName::Disk => disk_job(alloc, found),
         CommandName::Check => check_job(alloc, found),
         CommandName::Format => format_job(alloc, found),
+        CommandName::Lsp => Ok(Job::Lsp),
         CommandName::Version => version_job(alloc),
     }
 }
@@ -140,7 +141,7 @@ fn step_job(alloc: Global, found: &ArgMatches<'_>) -> Result<Job, AllocError>
     ensures { IfOk result IsWithinLimit }
 {
     Ok(Job::Step {
-        source: text(alloc, found, &SOURCE)?,
+        what: runnable_of(alloc, found)?,
         settings: settings_of(alloc, found)?,
     })
 }
@@ -159,7 +160,7 @@ fn profile_job(alloc: Global, found: &ArgMatches<'_>) -> Result<Job, AllocError>
     ensures { IfOk result IsWithinLimit }
 {
     Ok(Job::Profile {
-        source: text(alloc, found, &SOURCE)?,
+        what: runnable_of(alloc, found)?,
         settings: settings_of(alloc, found)?,
         rude: rude_of(found),
         html: optional_text(alloc, found, &PAGE)?,

@@ -7,7 +7,7 @@ use Rattle.tb_jobs.specs.declared.jobs.Typed.TheVariants.{Digits, File, Text}
 use Rattle.tb_jobs.specs.declared.jobs.Runnable.{Runnable}
 use Rattle.tb_jobs.specs.declared.jobs.Runnable.TheVariants.{Source, Prg}
 use Rattle.tb_jobs.specs.declared.jobs.Job.{Job}
-use Rattle.tb_jobs.specs.declared.jobs.Job.TheVariants.{Build, Run, Play, Asm, Dis, Step, Debug, Profile, Disk, Check, Format, Show}
+use Rattle.tb_jobs.specs.declared.jobs.Job.TheVariants.{Build, Run, Play, Asm, Dis, Step, Debug, Profile, Disk, Check, Format, Lsp, Show}
 
 -- where standard input is found as a file
 abbrev pub standard_input : List ℕ
@@ -36,7 +36,7 @@ keys_of (Digits digits) = []
 keys_of (File file) = input_path (string_bytes file) ∷ []
 keys_of (Text text) = []
 
--- what is run or played
+-- what is run, played or profiled
 abbrev pub path_of : Runnable → List ℕ
 path_of (Source program) = string_bytes program
 path_of (Prg program) = string_bytes program
@@ -46,14 +46,15 @@ abbrev pub kept_of : Job → List (List ℕ)
 kept_of (Build source out seed fit beside) = input_path (string_bytes source) ∷ []
 kept_of (Play what seed fit limit made) = input_path (path_of what) ∷ standard_input ∷ standard_output ∷ []
 kept_of (Asm text out at) = input_path (string_bytes text) ∷ []
-kept_of (Profile source settings rude html) = input_path (string_bytes source) ∷ standard_output ∷ keys_of settings.keys
+kept_of (Profile what settings rude html) = input_path (path_of what) ∷ standard_output ∷ keys_of settings.keys
 kept_of (Disk out files) = map (λ f. input_path (string_bytes f)) files.items
 kept_of (Run what settings rude) = []
 kept_of (Dis prg) = []
-kept_of (Step source settings) = []
+kept_of (Step what settings) = []
 kept_of (Debug source settings rude) = []
 kept_of (Check sources fit) = []
 kept_of (Format source target) = []
+kept_of Lsp = []
 kept_of (Show text) = []
 
 -- The files that a job writes, in the order in which it writes them. The tidy text of a source takes the source's own
@@ -63,12 +64,13 @@ written_of (Build source out seed fit beside) =
     output_path (string_bytes out) ∷ wanted beside.labels ++ wanted beside.listing ++ wanted beside.map
 written_of (Play what seed fit limit made) = wanted made
 written_of (Asm text out at) = output_path (string_bytes out) ∷ []
-written_of (Profile source settings rude html) = wanted html
+written_of (Profile what settings rude html) = wanted html
 written_of (Disk out files) = output_path (string_bytes out) ∷ []
 written_of (Run what settings rude) = []
 written_of (Dis prg) = []
-written_of (Step source settings) = []
+written_of (Step what settings) = []
 written_of (Debug source settings rude) = []
 written_of (Check sources fit) = []
 written_of (Format source target) = []
+written_of Lsp = []
 written_of (Show text) = []

@@ -100,12 +100,9 @@ impl Job {
                 paths.push(STANDARD_OUTPUT)?;
                 Ok(paths)
             }
-            Job::Profile {
-                source,
-                settings,
-                ..
-            } => {
-                let mut paths = one(alloc, input_path(source.as_str()))?;
+            Job::Profile { what, settings, .. } => {
+                let (Runnable::Source(program) | Runnable::Prg(program)) = what;
+                let mut paths = one(alloc, input_path(program.as_str()))?;
                 paths.push(STANDARD_OUTPUT)?;
                 with_keys(paths, &settings.keys)
             }

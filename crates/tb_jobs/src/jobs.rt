@@ -152,9 +152,9 @@ pub enum Job {
     Dis {
         prg: String,
     },
-    /// Steps through a source by commands from standard input.
+    /// Steps through a program by commands from standard input.
     Step {
-        source: String,
+        what: Runnable,
         settings: Settings,
     },
     /// Debugs a source by commands from standard input.
@@ -164,13 +164,13 @@ pub enum Job {
         /// The seed of rude events, where they are wanted.
         rude: Option<u16>,
     },
-    /// Runs a source, and shows what its lines took.
+    /// Runs a program, and shows what its lines took, or the instructions of a PRG file.
     Profile {
-        source: String,
+        what: Runnable,
         settings: Settings,
         /// The seed of rude events, where they are wanted.
         rude: Option<u16>,
-        /// The page that is written, if it is wanted.
+        /// The page that is written, if it is wanted. A PRG file has none.
         html: Option<String>,
     },
     /// Writes a disk image.
@@ -191,6 +191,8 @@ pub enum Job {
         source: String,
         target: FormatTarget,
     },
+    /// Serves an editor as its language server.
+    Lsp,
     /// A help text or the version, to be shown.
     Show {
         text: String,

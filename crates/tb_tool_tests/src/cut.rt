@@ -3,3 +3,4 @@ mod commands;
 mod engines;
 mod failing;
 mod lengths;
+mod prgs;

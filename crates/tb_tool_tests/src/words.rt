@@ -4,7 +4,7 @@ use std::test::Fail;
 use tb_command_line::{Failure, job};
 
 /// Words, and the job that they become.
-static JOBS: [(&[&str], &str); 36] = [
+static JOBS: [(&[&str], &str); 39] = [
     (
         &["build", "a", "b"],
         "Ok(Build { source: \"a\", out: \"b\", seed: 1, fit: false, beside: BuildExtras { labels: None, listing: None, map: None } })",
@@ -113,7 +113,7 @@ static JOBS: [(&[&str], &str); 36] = [
     ),
     (
         &["profile", "a"],
-        "Ok(Profile { source: \"a\", settings: Settings { seed: 1, fit: false, keys: Digits(\"\"), answers: \"\", limit: Limit { events: 10000000 } }, rude: None, html: None })",
+        "Ok(Profile { what: Source(\"a\"), settings: Settings { seed: 1, fit: false, keys: Digits(\"\"), answers: \"\", limit: Limit { events: 10000000 } }, rude: None, html: None })",
     ),
     (
         &[
@@ -127,7 +127,11 @@ static JOBS: [(&[&str], &str); 36] = [
             "--limit",
             "9",
         ],
-        "Ok(Profile { source: \"a\", settings: Settings { seed: 1, fit: false, keys: File(\"k\"), answers: \"\", limit: Limit { events: 9 } }, rude: Some(7), html: Some(\"p\") })",
+        "Ok(Profile { what: Source(\"a\"), settings: Settings { seed: 1, fit: false, keys: File(\"k\"), answers: \"\", limit: Limit { events: 9 } }, rude: Some(7), html: Some(\"p\") })",
+    ),
+    (
+        &["profile", "--prg=a", "--rude", "7"],
+        "Ok(Profile { what: Prg(\"a\"), settings: Settings { seed: 1, fit: false, keys: Digits(\"\"), answers: \"\", limit: Limit { events: 10000000 } }, rude: Some(7), html: None })",
     ),
     (
         &["disk", "o", "a"],
@@ -157,21 +161,26 @@ static JOBS: [(&[&str], &str); 36] = [
         &["format", "a", "--check"],
         "Ok(Format { source: \"a\", target: Check })",
     ),
+    (&["lsp"], "Ok(Lsp)"),
     (
         &["check", "a", "b", "--", "-c"],
         "Ok(Check { sources: [\"a\", \"b\", \"-c\"], fit: false })",
     ),
     (
         &["step", "a", "--fit", "--seed", "2"],
-        "Ok(Step { source: \"a\", settings: Settings { seed: 2, fit: true, keys: Digits(\"\"), answers: \"\", limit: Limit { events: 10000000 } } })",
+        "Ok(Step { what: Source(\"a\"), settings: Settings { seed: 2, fit: true, keys: Digits(\"\"), answers: \"\", limit: Limit { events: 10000000 } } })",
+    ),
+    (
+        &["step", "--prg", "a", "--seed", "2", "--fit", "--type", "b"],
+        "Ok(Step { what: Prg(\"a\"), settings: Settings { seed: 2, fit: true, keys: Text(\"b\"), answers: \"\", limit: Limit { events: 10000000 } } })",
     ),
     (
         &["step", "a"],
-        "Ok(Step { source: \"a\", settings: Settings { seed: 1, fit: false, keys: Digits(\"\"), answers: \"\", limit: Limit { events: 10000000 } } })",
+        "Ok(Step { what: Source(\"a\"), settings: Settings { seed: 1, fit: false, keys: Digits(\"\"), answers: \"\", limit: Limit { events: 10000000 } } })",
     ),
     (
         &["step", "--keys-file=k", "a"],
-        "Ok(Step { source: \"a\", settings: Settings { seed: 1, fit: false, keys: File(\"k\"), answers: \"\", limit: Limit { events: 10000000 } } })",
+        "Ok(Step { what: Source(\"a\"), settings: Settings { seed: 1, fit: false, keys: File(\"k\"), answers: \"\", limit: Limit { events: 10000000 } } })",
     ),
     (
         &[
@@ -186,18 +195,21 @@ static JOBS: [(&[&str], &str); 36] = [
             "--seed",
             "7",
         ],
-        "Ok(Step { source: \"a\", settings: Settings { seed: 7, fit: false, keys: Digits(\"31\"), answers: \"03\", limit: Limit { events: 5 } } })",
+        "Ok(Step { what: Source(\"a\"), settings: Settings { seed: 7, fit: false, keys: Digits(\"31\"), answers: \"03\", limit: Limit { events: 5 } } })",
     ),
 ];
 
 /// Words that are refused.
-static REFUSED: [&[&str]; 34] = [
+static REFUSED: [&[&str]; 37] = [
     &["format"],
     &["format", "a", "--check", "--in-place"],
     &[],
     &["run", "a", "--fit=yes"],
     &["dis", "a", "--fit"],
     &["jump"],
+    &["step", "a", "--prg", "b"],
+    &["profile", "a", "--prg", "b"],
+    &["profile", "--prg", "a", "--html", "b"],
     &["run"],
     &["run", "a", "--prg", "b"],
     &["run", "a", "b"],

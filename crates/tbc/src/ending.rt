@@ -4,6 +4,7 @@ use tb_check_engine::CheckOutcome;
 use tb_disk_engine::DiskOutcome;
 use tb_driver::Report;
 use tb_format_engine::FormatOutcome;
+use tb_language_server::ServerOutcome;
 use tb_run_notes::NotedRun;
 
 /// How a job ended.
@@ -19,6 +20,8 @@ pub enum Ending {
     Check(CheckOutcome),
     /// The formatting of a source.
     Format(FormatOutcome),
+    /// The serving of an editor.
+    Server(ServerOutcome),
 }
 
 impl Ending {
@@ -29,6 +32,7 @@ impl Ending {
             Ending::Disk(outcome) => outcome.status(),
             Ending::Check(outcome) => outcome.status(),
             Ending::Format(outcome) => outcome.status(),
+            Ending::Server(outcome) => outcome.status(),
         }
     }
 }
@@ -44,6 +48,8 @@ impl fmt::Display for Ending {
             Ending::Check(outcome) => writeln!(f, "tbc: {outcome}"),
             Ending::Format(FormatOutcome::Done | FormatOutcome::Untidy) => Ok(()),
             Ending::Format(outcome) => writeln!(f, "tbc: {outcome}"),
+            Ending::Server(ServerOutcome::Ended | ServerOutcome::NotShutDown) => Ok(()),
+            Ending::Server(outcome) => writeln!(f, "tbc: {outcome}"),
         }
     }
 }

@@ -13,6 +13,7 @@ mod playing;
 mod profiling;
 mod reading;
 mod refusals;
+mod serving;
 mod tasks;
 mod waiting;
 

@@ -36,7 +36,7 @@ pub fn note<R: Files + Print + Eprint + Input + AllocGlobal>(
         Ok(Ending::Format(FormatOutcome::ReadFault | FormatOutcome::WriteFault)) => {
             file_note(host, None)
         }
-        Ok(Ending::Format(_)) => {}
+        Ok(Ending::Format(_) | Ending::Server(_)) => {}
         Err(Failure::SameFile) => clash(host, job),
         Err(Failure::ReadFault) => file_note(host, Some(Purpose::Keys)),
         Err(_) => {}

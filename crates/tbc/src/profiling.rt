@@ -1,16 +1,60 @@
-//! Profiles: the table is written on standard output, and then the page to its file.
+//! Profiles: the table is written on standard output, and then the page to its file. A PRG file has no page.
 use crate::host::Host;
 use crate::reading::settings_of;
 use std::io;
 use std::rt::Files;
-use tb_command_line::Settings;
+use tb_command_line::{Runnable, Settings};
 use tb_driver::{Outcome, Report, Tracked};
 use tb_file_engine::{opened, save};
 use tb_kernal::{Keyboard, Outside};
-use tb_profile_engine::{Named, Profiled, profile_text};
+use tb_profile_engine::{Named, Profiled, profile_prg, profile_text};
 
-/// Profiles a source, and writes the page if there is a table and the page is wanted.
-pub fn profile_file<R: Files + Print + Input + AllocGlobal, O: Outside>(
+/// Profiles a source or a PRG file.
+pub fn profile<R: Files + Print + Input + AllocGlobal, O: Outside>(
+    host: &mut Host<'_, R>,
+    what: &Runnable,
+    settings: &Settings,
+    keyboard: Keyboard,
+    rude: Option<u16>,
+    outside: &mut O,
+    html: Option<&str>,
+) -> Report {
+    match what {
+        Runnable::Source(source) => {
+            let named = Named {
+                name: source.as_str(),
+                rude,
+            };
+            profile_source(host, named, settings, keyboard, outside, html)
+        }
+        Runnable::Prg(prg) => {
+            let outcome = profile_file(host, prg.as_str(), settings, keyboard, outside);
+            Report::new(host.rt.alloc(), outcome)
+        }
+    }
+}
+
+// Profiles a PRG file.
+fn profile_file<R: Files + Print + Input + AllocGlobal, O: Outside>(
+    host: &mut Host<'_, R>,
+    path: &str,
+    settings: &Settings,
+    keyboard: Keyboard,
+    outside: &mut O,
+) -> Outcome {
+    let rt = host.rt;
+    match opened(host, path) {
+        Ok(mut file) => {
+            let mut screen = Tracked::new(io::writer(rt));
+            let limit = settings.limit.events;
+            profile_prg(rt.alloc(), &mut file, &mut screen, keyboard, limit, outside)
+        }
+        Err(outcome) => outcome,
+    }
+}
+
+// Profiles a source, and writes the page if there is a table and the page is wanted.
+fn profile_source<R: Files + Print + Input + AllocGlobal, O: Outside>(
     host: &mut Host<'_, R>,
     named: Named<'_>,
     settings: &Settings,

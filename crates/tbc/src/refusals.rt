@@ -139,14 +139,17 @@ fn compiled_by(job: &Job) -> Option<Compiles<'_>> {
             settings,
             ..
         }
-        | Job::Step { source, settings }
+        | Job::Step {
+            what: Runnable::Source(source),
+            settings,
+        }
         | Job::Debug {
             source,
             settings,
             ..
         }
         | Job::Profile {
-            source,
+            what: Runnable::Source(source),
             settings,
             ..
         } => Some(compiled_with(source, settings)),

@@ -5,8 +5,9 @@ use crate::ending::Ending;
 use crate::formatting::format_file;
 use crate::host::Host;
 use crate::playing::play;
-use crate::profiling::profile_file;
+use crate::profiling::profile;
 use crate::reading::{settings_of, size_limit};
+use crate::serving::serve_editor;
 use crate::waiting::Progress;
 use std::alloc::Global;
 use std::io;
@@ -15,12 +16,11 @@ use std::time::Clock;
 use tb_command_line::{BuildExtras, Failure, Job, Runnable, Settings, Typed, typed_keys};
 use tb_driver::{
     CompileSettings, End, KeyError, KeyFileError, Outcome, Report, Tracked, address, dis_text,
-    key_list, read_key_file, run_prg, step_within, write_output,
+    key_list, read_key_file, run_prg, step_prg, step_within, write_output,
 };
 use tb_file_engine::{BuildNames, assemble_file, build_file, disk_file, opened};
 use tb_files::{Barred, may_write};
 use tb_kernal::{Keyboard, Outside, Quiet, Rude};
-use tb_profile_engine::Named;
 use tb_run_notes::{NotedRun, run_noted};
 
 /// Does what the words ask for, if the files that are to be written may be. A prompt is shown before a debugger's command
@@ -67,23 +67,24 @@ fn run_job<R: Files + Clock + Print + Eprint + Input + AllocGlobal>(
             plain_ending(host.rt, outcome)
         }
         Job::Profile {
-            source,
+            what,
             settings,
             rude,
             html,
-        } => Ending::Report(profile_beside(host, source, settings, *rude, name_of(html))?),
+        } => Ending::Report(profile_beside(host, what, settings, *rude, name_of(html))?),
         Job::Debug {
             source,
             settings,
             rude,
         } => debug_beside(host, source, settings, *rude, prompts)?,
-        Job::Step { source, settings } => Ending::Report(step_file(host, source, settings)?),
+        Job::Step { what, settings } => Ending::Report(step_file(host, what, settings)?),
         Job::Build { .. }
         | Job::Asm { .. }
         | Job::Dis { .. }
         | Job::Disk { .. }
         | Job::Check { .. }
         | Job::Format { .. }
+        | Job::Lsp
         | Job::Show { .. } => return Ok(None),
     }))
 }
@@ -112,6 +113,7 @@ fn other_job<R: Files + Print + Input + AllocGlobal>(
             Ok(Ending::Check(checked))
         }
         Job::Format { source, target } => Ok(Ending::Format(format_file(host, source, *target))),
+        Job::Lsp => Ok(Ending::Server(serve_editor(rt))),
         Job::Show { text } => Ok(plain_ending(rt, show(rt, text))),
         Job::Run { .. }
         | Job::Play { .. }
@@ -193,16 +195,18 @@ fn run_beside<R: Files + Clock + Print + Eprint + Input + AllocGlobal>(
 // A profile with a rude ROM, if one is asked for.
 fn profile_beside<R: Files + Print + Input + AllocGlobal>(
     host: &mut Host<'_, R>,
-    source: &str,
+    what: &Runnable,
     settings: &Settings,
     rude: Option<u16>,
     html: Option<&str>,
 ) -> Result<Report, Failure> {
     let keyboard = keyboard(host, settings)?;
-    let named = Named { name: source, rude };
     Ok(match rude {
-        Some(rude) => profile_file(host, named, settings, keyboard, &mut Rude::new(rude), html),
-        None => profile_file(host, named, settings, keyboard, &mut Quiet, html),
+        Some(seed) => {
+            let outside = &mut Rude::new(seed);
+            profile(host, what, settings, keyboard, rude, outside, html)
+        }
+        None => profile(host, what, settings, keyboard, rude, &mut Quiet, html),
     })
 }
 
@@ -324,26 +328,44 @@ fn run_file<R: Files + Clock + Print + Eprint + Input + AllocGlobal, O: Outside>
 // The commands come from standard input.
 fn step_file<R: Files + Print + Input + AllocGlobal>(
     host: &mut Host<'_, R>,
-    source: &str,
+    what: &Runnable,
     settings: &Settings,
 ) -> Result<Report, Failure> {
+    let (Runnable::Source(path) | Runnable::Prg(path)) = what;
     let rt = host.rt;
     let keyboard = keyboard(host, settings)?;
-    let mut file = match opened(host, source) {
+    let mut file = match opened(host, path.as_str()) {
         Ok(file) => file,
         Err(outcome) => return Ok(plain(rt, outcome)),
     };
     let mut commands = Tracked::new(rt.reader());
     let mut screen = Tracked::new(io::writer(rt));
-    Ok(step_within(
-        rt.alloc(),
-        &mut file,
-        &mut commands,
-        &mut screen,
-        settings_of(settings.seed, settings.fit),
-        keyboard,
-        u64::from(settings.limit.events),
-    ))
+    let alloc = rt.alloc();
+    let limit = u64::from(settings.limit.events);
+    Ok(match what {
+        Runnable::Source(_) => {
+            step_within(
+                alloc,
+                &mut file,
+                &mut commands,
+                &mut screen,
+                settings_of(settings.seed, settings.fit),
+                keyboard,
+                limit,
+            )
+        }
+        Runnable::Prg(_) => {
+            let outcome = step_prg(
+                alloc,
+                &mut file,
+                &mut commands,
+                &mut screen,
+                keyboard,
+                limit,
+            );
+            plain(rt, outcome)
+        }
+    })
 }
 
 fn list_file<R: Files + Print + Input + AllocGlobal>(

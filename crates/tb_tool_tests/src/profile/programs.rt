@@ -104,9 +104,9 @@ start          1          192           634   52.1%
         table: " line      times instructions        cycles   share  statement
 start          1          192           634   37.1%
    10          1          116           473   27.7%  PRINT \"HOW MANY\"
-   20          1          184           603   35.3%  INPUT A,B
+   20          1          179           603   35.3%  INPUT A,B
    30          0            0             0    0.0%  PRINT A+B
-  sum          2          492          1710  100.0%
+  sum          2          487          1710  100.0%
 ",
     },
     Program {

@@ -1,6 +1,6 @@
 -- Each command is found by its name, by computing. A command that no row has, or a name that an earlier row has, is refused here.
 use Rattle.std.proofs.Common.{codes, refl}
-use Rattle.tb_command_line.specs.declared.commands.CommandName.TheVariants.{Build, Run, Play, Asm, Dis, Step, Debug, Profile, Disk, Check, Format, Version}
+use Rattle.tb_command_line.specs.declared.commands.CommandName.TheVariants.{Build, Run, Play, Asm, Dis, Step, Debug, Profile, Disk, Check, Format, Lsp, Version}
 use Rattle.tb_command_line.proofs.commands.rows.Goals as goal
 
 pub returns : goal.returns
@@ -15,4 +15,5 @@ returns c Profile = (codes "profile", refl)
 returns c Disk = (codes "disk", refl)
 returns c Check = (codes "check", refl)
 returns c Format = (codes "format", refl)
+returns c Lsp = (codes "lsp", refl)
 returns c Version = (codes "version", refl)

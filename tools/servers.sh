@@ -1,0 +1,14 @@
+#!/usr/bin/env bash
+# Tries `tbc lsp` with clients that are not ours, without a screen: neovim's own client, and Emacs's eglot, as Debian has
+# them. They edit a source, and what they show of it is compared each time with what they should show.
+. "$(dirname "${BASH_SOURCE[0]}")/setup.sh"
+needs_program
+installs nvim neovim
+installs emacs emacs-nox
+dpkg -s elpa-eglot >/dev/null 2>&1 || gets elpa-eglot
+
+printf '10 PRINT "é"\n20 GOTO 99\n30 PRIMT\n' >worked.bas
+TBC=$tbc nvim --headless -u NONE -i NONE -c "luafile $root/tools/clients/neovim.lua" worked.bas
+TBC=$tbc emacs -q --batch -L "$root/editors/emacs" --eval '(package-initialize)' -l "$root/tools/clients/eglot.el" \
+    2>said || { cat said >&2; exit 1; }
+echo "neovim and Emacs show what tbc lsp publishes: 5 and 4 states of a source, and the server ends in good order"
