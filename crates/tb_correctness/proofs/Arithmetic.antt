@@ -21,5 +21,7 @@ pub mod InPlace
 pub mod Stepping
 -- a word's quotient times the divisor is the word again if the remainder is 0, and how that is seen
 pub mod Remainders
+-- a remainder by a power of two: what its code does, and that it is the remainder with the word's sign
+pub mod MaskedRests
 -- the law of a variable's remainder: its slot instructions and its code give the remainder's size with its sign
 pub mod Rests

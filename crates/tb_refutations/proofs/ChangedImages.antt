@@ -17,11 +17,13 @@ use Rattle.tb_refutations.specs.Programs.{goes_nowhere, inputs_two, calls_itself
 use Rattle.tb_refutations.specs.Programs.{prints_if_zero}
 use Rattle.tb_refutations.specs.Changed.{quotient_rounded_down, difference_wrapped}
 use Rattle.tb_refutations.specs.Changed.{sign_not_turned}
+use Rattle.tb_refutations.specs.Changed.{sign_not_looked_at}
 use Rattle.tb_refutations.specs.Changed.{zero_not_asked}
 use Rattle.tb_refutations.specs.Changed.{high_byte_ignored}
 use Rattle.tb_refutations.specs.Changed.{upper_byte_rounded_down}
 use Rattle.tb_refutations.specs.Programs.{prints_negative_quotient, compares_far}
 use Rattle.tb_refutations.specs.Programs.{prints_if_below_256}
+use Rattle.tb_refutations.specs.Programs.{prints_rest}
 use Rattle.tb_refutations.specs.Programs.{prints_if_positive}
 use Rattle.tb_refutations.specs.Programs.{prints_if_256}
 use Rattle.tb_refutations.specs.Programs.{prints_quotient_by_256}
@@ -121,6 +123,11 @@ zero_is_positive = sends_after zero_not_asked prints_if_positive 1 plain refl 30
 pub negative_is_above_constant : IsRefuted sign_not_turned prints_if_below_256
 unfolding decoded
 negative_is_above_constant = returns_after sign_not_turned prints_if_below_256 1 plain refl 230 [] refl refl 2 refl
+
+-- it sends 3
+pub remainder_without_its_sign : IsRefuted sign_not_looked_at prints_rest
+unfolding decoded
+remainder_without_its_sign = sends_after sign_not_looked_at prints_rest 1 plain refl 600 (51 ∷ fault_text 7 20) refl 3 refl
 
 -- it sends the 9 of the interrupts
 pub temporary_in_rom_memory : IsRefuted digit_in_rom_memory goes_nowhere

@@ -26,6 +26,7 @@ use Rattle.tb_refutations.specs.Compiled.{goes_nowhere_image, prints_two_image, 
 use Rattle.tb_refutations.specs.Compiled.{calls_itself_image, calls_and_returns_image, goes_to_sum_image, prints_forever_image}
 use Rattle.tb_refutations.specs.Compiled.{prints_if_zero_image, prints_negative_quotient_image, compares_far_image}
 use Rattle.tb_refutations.specs.Compiled.{prints_if_below_256_image}
+use Rattle.tb_refutations.specs.Compiled.{prints_rest_image}
 use Rattle.tb_refutations.specs.Compiled.{prints_if_positive_image}
 use Rattle.tb_refutations.specs.Compiled.{prints_if_256_image}
 use Rattle.tb_refutations.specs.Compiled.{prints_quotient_by_256_image}
@@ -310,6 +311,14 @@ prints_if_positive = compiled_keeps program.prints_if_positive (more (omega arit
       ((tt, (tt, tt)), omega arith, tt),
     )
     (omega arith) (omega arith) (omega arith) refl prints_if_positive_image refl
+
+-- 10 LET A=A-1, 20 PRINT A-A/4*4;
+pub prints_rest : IsKept prints_rest_image program.prints_rest
+unfolding encoded
+prints_rest = compiled_keeps program.prints_rest (more (omega arith) (more (omega arith) none))
+    (omega arith, omega arith, (omega arith, omega arith, tt))
+    ((tt, ((omega arith, omega arith), ((omega arith, omega arith), (omega arith, (omega arith, tt))))), omega arith, ((tt, ((omega arith, omega arith), ((omega arith, omega arith), ((omega arith, omega arith), (omega arith, ((omega arith, omega arith), (omega arith, (omega arith, (tt, tt))))))))), omega arith, tt))
+    (omega arith) (omega arith) (omega arith) refl prints_rest_image refl
 
 -- 10 IF A-1<256 THEN PRINT "A";, 20 END
 pub prints_if_below_256 : IsKept prints_if_below_256_image program.prints_if_below_256

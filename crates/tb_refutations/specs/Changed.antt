@@ -4,8 +4,9 @@ use Rattle.tb_memmap.specs.Regions.{BASIC_START}
 use Rattle.tb_refutations.specs.Compiled.{goto_itself_image, ends_image, prints_variable_image, prints_two_image, prints_and_faults_image}
 use Rattle.tb_refutations.specs.Compiled.{prints_quotient_image, prints_negative_quotient_image, compares_far_image}
 use Rattle.tb_refutations.specs.Compiled.{prints_quotient_by_256_image, prints_if_256_image, prints_if_positive_image}
-use Rattle.tb_refutations.specs.Compiled.{prints_if_below_256_image, goes_nowhere_image, inputs_two_image, calls_itself_image}
-use Rattle.tb_refutations.specs.Compiled.{calls_and_returns_image, goes_to_sum_image, prints_forever_image, prints_if_zero_image}
+use Rattle.tb_refutations.specs.Compiled.{prints_if_below_256_image, prints_rest_image, goes_nowhere_image, inputs_two_image}
+use Rattle.tb_refutations.specs.Compiled.{calls_itself_image, calls_and_returns_image, goes_to_sum_image, prints_forever_image}
+use Rattle.tb_refutations.specs.Compiled.{prints_if_zero_image}
 
 -- other bytes from an address on
 abbrev pub changed : List ℕ → ℕ → List ℕ → List ℕ
@@ -43,8 +44,8 @@ line_10_left_out = changed prints_two_image 0x0c00 (0x4c ∷ 0x25 ∷ 0x0c ∷ [
 abbrev pub quotient_before_text : List ℕ
 quotient_before_text = changed prints_and_faults_image 0x0c11 (
     0x0a ∷ 0x8d ∷ 0x3a ∷ 0xc0 ∷ 0xa9 ∷ 0x00 ∷ 0x8d ∷ 0x3b ∷ 0xc0 ∷ 0xa9 ∷ 0x01 ∷ 0x85 ∷ 0xfb ∷ 0xa9 ∷ 0x00 ∷ 0x85 ∷ 0xfc ∷ 0xa9 ∷ 0x00 ∷ 0x85 ∷
-    0xfd ∷ 0xa9 ∷ 0x00 ∷ 0x85 ∷ 0xfe ∷ 0x20 ∷ 0x57 ∷ 0x08 ∷ 0xa5 ∷ 0xfb ∷ 0x8d ∷ 0x40 ∷ 0xc0 ∷ 0xa5 ∷ 0xfc ∷ 0x8d ∷ 0x41 ∷ 0xc0 ∷ 0xa9 ∷ 0x4a ∷
-    0x85 ∷ 0xfb ∷ 0xa9 ∷ 0x0c ∷ 0x85 ∷ 0xfc ∷ 0xa9 ∷ 0x01 ∷ 0x8d ∷ 0x6c ∷ 0xc0 ∷ 0x20 ∷ 0xb6 ∷ 0x09 ∷ 0x4c ∷ 0x4b ∷ 0x0c ∷ 0x41 ∷ [])
+    0xfd ∷ 0xa9 ∷ 0x00 ∷ 0x85 ∷ 0xfe ∷ 0x20 ∷ 0x2e ∷ 0x08 ∷ 0xa5 ∷ 0xfb ∷ 0x8d ∷ 0x40 ∷ 0xc0 ∷ 0xa5 ∷ 0xfc ∷ 0x8d ∷ 0x41 ∷ 0xc0 ∷ 0xa9 ∷ 0x4a ∷
+    0x85 ∷ 0xfb ∷ 0xa9 ∷ 0x0c ∷ 0x85 ∷ 0xfc ∷ 0xa9 ∷ 0x01 ∷ 0x8d ∷ 0x6c ∷ 0xc0 ∷ 0x20 ∷ 0xd0 ∷ 0x09 ∷ 0x4c ∷ 0x4b ∷ 0x0c ∷ 0x41 ∷ [])
 
 -- 0 instead of 1, and three NOP instead of the division
 abbrev pub folded_to_zero : List ℕ
@@ -52,11 +53,11 @@ folded_to_zero = changed (changed prints_and_faults_image 0x0c2f (0x00 ∷ [])) 
 
 -- STY and STX, of 0, instead of each last ROL that completes a byte of the quotient
 abbrev pub quotient_left_zero : List ℕ
-quotient_left_zero = changed (changed prints_quotient_image 0x08c4 (0x94 ∷ [])) 0x08f7 (0x86 ∷ [])
+quotient_left_zero = changed (changed prints_quotient_image 0x08bc (0x84 ∷ [])) 0x08ec (0x86 ∷ [])
 
 -- complements instead of the negations before and after a division of a negative number
 abbrev pub quotient_rounded_down : List ℕ
-quotient_rounded_down = changed (changed prints_negative_quotient_image 0x086e (0xf6 ∷ 0x0b ∷ 0x4c ∷ 0xf3 ∷ 0x0b ∷ [])) 0x0bf4 (0x88 ∷ 0x08 ∷ 0xa2 ∷ 0x00 ∷ 0x18 ∷ 0x4c ∷ 0x76 ∷ 0x08 ∷ [])
+quotient_rounded_down = changed (changed (changed prints_negative_quotient_image 0x0865 (0xf6 ∷ 0x0b ∷ [])) 0x0848 (0x4c ∷ 0xf3 ∷ 0x0b ∷ [])) 0x0bf4 (0x60 ∷ 0x08 ∷ 0xa2 ∷ 0x00 ∷ 0x18 ∷ 0x4c ∷ 0x4e ∷ 0x08 ∷ [])
 
 -- four NOP instead of BVC and EOR, which mend the sign of a difference that does not fit
 abbrev pub difference_wrapped : List ℕ
@@ -78,6 +79,10 @@ zero_not_asked = changed prints_if_positive_image 0x0c18 (0xea ∷ 0xea ∷ [])
 abbrev pub sign_not_turned : List ℕ
 sign_not_turned = changed prints_if_below_256_image 0x0c24 (0xea ∷ 0xea ∷ [])
 
+-- 0 in place of the high byte whose sign a remainder gets
+abbrev pub sign_not_looked_at : List ℕ
+sign_not_looked_at = changed prints_rest_image 0x0c32 (0xa0 ∷ 0x00 ∷ 0xea ∷ [])
+
 -- the fault's digit at $026D, which the ROM may write, instead of $C06D
 abbrev pub digit_in_rom_memory : List ℕ
 digit_in_rom_memory = changed (changed goes_nowhere_image 0x0bb8 (0x02 ∷ [])) 0x0bc9 (0x02 ∷ [])
@@ -88,12 +93,12 @@ digit_below_s = changed (changed goes_nowhere_image 0x0bb7 (0x80 ∷ 0x01 ∷ []
 
 -- LDX and DEX instead of LDA and DEC: the bytes left are counted in X over CHROUT
 abbrev pub text_counted_in_x : List ℕ
-text_counted_in_x = changed (changed prints_two_image 0x09b6 (0xae ∷ [])) 0x09c8 (0xca ∷ 0xea ∷ 0xea ∷ [])
+text_counted_in_x = changed (changed prints_two_image 0x09d0 (0xae ∷ [])) 0x09e2 (0xca ∷ 0xea ∷ 0xea ∷ [])
 
 -- a comma drops the rest of the line by a loop in place of the unused Poll, and ends it
 abbrev pub line_dropped_at_comma : List ℕ
-line_dropped_at_comma = changed (changed inputs_two_image 0x0a84 (0x20 ∷ 0xf3 ∷ 0x0b ∷ 0xea ∷ 0xea ∷ [])) 0x0bf3 (
-    0xad ∷ 0x6d ∷ 0xc0 ∷ 0xc9 ∷ 0x0d ∷ 0xf0 ∷ 0xa4 ∷ 0x20 ∷ 0xcf ∷ 0xff ∷ 0x4c ∷ 0xf6 ∷ [])
+line_dropped_at_comma = changed (changed inputs_two_image 0x0a86 (0x20 ∷ 0xf3 ∷ 0x0b ∷ 0xea ∷ [])) 0x0bf3 (
+    0x98 ∷ 0xc9 ∷ 0x0d ∷ 0xf0 ∷ 0xa6 ∷ 0x20 ∷ 0xcf ∷ 0xff ∷ 0xa8 ∷ 0x4c ∷ 0xf4 ∷ 0x0b ∷ [])
 
 -- JSR to the line instead of a note: the return is kept on the stack
 abbrev pub calls_by_jsr : List ℕ
@@ -113,7 +118,7 @@ poll_at_jump_alone = changed prints_forever_image 0x0c00 (0x4c ∷ 0x10 ∷ 0x0c
 
 -- the text's call goes by way of one more poll, in place of the unused Poll
 abbrev pub poll_after_if : List ℕ
-poll_after_if = changed (changed prints_if_zero_image 0x0c28 (0xf3 ∷ 0x0b ∷ [])) 0x0bf9 (0x03 ∷ 0x4c ∷ 0xb6 ∷ 0x09 ∷ 0x4c ∷ 0x07 ∷ 0x0c ∷ [])
+poll_after_if = changed (changed prints_if_zero_image 0x0c28 (0xf3 ∷ 0x0b ∷ [])) 0x0bf9 (0x03 ∷ 0x4c ∷ 0xd0 ∷ 0x09 ∷ 0x4c ∷ 0x07 ∷ 0x0c ∷ [])
 
 -- where the line table of END begins, as if its line began there
 abbrev pub line_table : ℕ → ℕ

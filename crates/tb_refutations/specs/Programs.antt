@@ -1,7 +1,7 @@
 -- The programs of the images.
 use Rattle.std.specs.Prelude.{ℕ, false, [], ◌∷◌}
 use Rattle.tb_words.specs.declared.Rel.TheVariants.{Eq, Gt, Lt}
-use Rattle.tb_syntax.specs.declared.expressions.Operator.TheVariants.{Add, Subtract, Divide}
+use Rattle.tb_syntax.specs.declared.expressions.Operator.TheVariants.{Add, Subtract, Multiply, Divide}
 use Rattle.tb_syntax.specs.Source.{Program, Numbered, Statement, Number, Variable, Binary, Text, Value}
 use Rattle.tb_syntax.specs.Source.{Let, Print, Input, If, Goto, Gosub, Return, End}
 
@@ -110,6 +110,13 @@ prints_if_positive = line 10 (If (Variable 0) Gt (Number 0) print_a) ∷ line 20
 -- 20 END
 abbrev pub prints_if_below_256 : Program
 prints_if_below_256 = line 10 (If (Binary Subtract (Variable 0) (Number 1)) Lt (Number 256) print_a) ∷ line 20 End ∷ []
+
+-- 10 LET A=A-1
+-- 20 PRINT A-A/4*4;
+abbrev pub prints_rest : Program
+prints_rest =
+    line 10 (Let 0 (Binary Subtract (Variable 0) (Number 1)))
+    ∷ line 20 (Print (Value (Binary Subtract (Variable 0) (Binary Multiply (Binary Divide (Variable 0) (Number 4)) (Number 4))) ∷ []) false) ∷ []
 
 -- 10 LET A=1
 -- 20 PRINT A;

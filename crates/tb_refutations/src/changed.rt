@@ -6,6 +6,7 @@ ghost use Rattle.tb_refutations.specs.Changed.{line_10_left_out, end_without_cld
 ghost use Rattle.tb_refutations.specs.Changed.{quotient_before_text, folded_to_zero, quotient_left_zero};
 ghost use Rattle.tb_refutations.specs.Changed.{quotient_rounded_down, difference_wrapped};
 ghost use Rattle.tb_refutations.specs.Changed.{sign_not_turned};
+ghost use Rattle.tb_refutations.specs.Changed.{sign_not_looked_at};
 ghost use Rattle.tb_refutations.specs.Changed.{zero_not_asked};
 ghost use Rattle.tb_refutations.specs.Changed.{high_byte_ignored};
 ghost use Rattle.tb_refutations.specs.Changed.{upper_byte_rounded_down};
@@ -15,6 +16,7 @@ ghost use Rattle.tb_refutations.specs.Changed.{poll_at_jump_alone, poll_after_if
 ghost use Rattle.tb_refutations.specs.Programs.{ends, goto_itself, prints_two, prints_variable, prints_and_faults};
 ghost use Rattle.tb_refutations.specs.Programs.{prints_negative_quotient, compares_far};
 ghost use Rattle.tb_refutations.specs.Programs.{prints_if_below_256};
+ghost use Rattle.tb_refutations.specs.Programs.{prints_rest};
 ghost use Rattle.tb_refutations.specs.Programs.{prints_if_positive};
 ghost use Rattle.tb_refutations.specs.Programs.{prints_if_256};
 ghost use Rattle.tb_refutations.specs.Programs.{prints_quotient_by_256};
@@ -104,6 +106,11 @@ pub fn zero_is_positive()
 /// -1 is not below 256.
 pub fn negative_is_above_constant()
     ensures { IsRefuted sign_not_turned prints_if_below_256 }
+{}
+
+/// What is left over of -1 is 3.
+pub fn remainder_without_its_sign()
+    ensures { IsRefuted sign_not_looked_at prints_rest }
 {}
 
 /// A byte is kept where the ROM's interrupts may write.

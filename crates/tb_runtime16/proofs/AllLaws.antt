@@ -109,12 +109,12 @@ module _ (table seed_option : ℕ) (numbers : List ℕ) (start : ℕ → ℕ) (f
         (λ w k. k));
     divide = λ l h m text answers a b left right some.
         from_here f _ _ m text answers _ [] (limit_by keys) (λ x y z n v i c d.
-        beside f own _ _ _ _ _ _ [] 210 (limit_by keys) (omega arith)
+        beside f own _ _ _ _ _ _ [] 203 (limit_by keys) (omega arith)
         (divide_law (under f own) (omega (arith, fits)) block l h text answers m x y z n v i c d a b left right (⊎_elim (λ e. absurd (some e)) (λ e. e) (zero_or b)))
         (λ w k. k));
     divide_by_zero = λ l h m text answers a j left right line e.
         from_here f _ _ m text answers _ (fault_text 2 j) (limit_by keys) (λ x y z n v i c d.
-        faulting f lo hi fits block l h 2 (let s : 2 < 10 = omega arith in s) m text answers j line e _ _ 5 (limit_by keys) (omega arith)
+        faulting f lo hi fits block l h 2 (let s : 2 < 10 = omega arith in s) m text answers j line e _ _ 10 (limit_by keys) (omega arith)
         (divide_by_zero_law (under f own) (omega (arith, fits)) block l h text answers m x y z n v i c d right)
         (unchanged m));
     number = λ l h m text answers a left column.
@@ -137,7 +137,7 @@ module _ (table seed_option : ℕ) (numbers : List ℕ) (start : ℕ → ℕ) (f
         (λ w k. let s = k.column_small column in record { column = omega (arith, k.column, s); others = λ p o q. let r = not_pointer p (unless_scratch p o) in k.others p q r.0 r.1 r.2 }));
     zone = λ l h m text answers column.
         from_here f _ _ m text answers _ (zone (m COLUMN)) (limit_by keys) (λ x y z n v i c d.
-        beside f own _ _ _ _ _ _ (zone (m COLUMN)) 97 (limit_by keys) (omega arith)
+        beside f own _ _ _ _ _ _ (zone (m COLUMN)) 65 (limit_by keys) (omega arith)
         (zone_law (under f own) (omega (arith, fits)) block l h text answers m x y z n v i c d column)
         (λ w k. record { column = k.column; others = λ p o q. k.others p refl q }));
     send = λ l h m text answers b small.

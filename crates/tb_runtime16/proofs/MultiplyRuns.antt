@@ -38,133 +38,130 @@ module _ (f : Setup) (fits : Fits f 2) (block : Holds block_part f.code) (lo hi 
   record Held (m : ℕ → ℕ) : Type 0 where
     p : IsWord m LEFT
     q : IsWord m RIGHT
-    r : m (RESULT + 1) < 256
     others : Frame m0 m
 
-  -- after the sum, with the low byte of the result in A: RIGHT has k bits left
+  -- after the sum, with the low byte of the result in A and the high one in Y: RIGHT has k bits left
   Skip : ℕ → Type 0
-  Skip k = (a x y : ℕ) (n v i z c : Bool) (m : ℕ → ℕ) (product : ℕ) → a < 256 → Held m → word_in m RIGHT < pow2 k
-      → product ≡ (a + 256 * m (RESULT + 1) + 2 * word_in m LEFT * word_in m RIGHT) % 65536
-      → Comes f (view a x y n v i z c (MULTIPLY_AT + 25) (lo ∷ hi ∷ []) m text answers) (Back lo hi text answers (Gives is_argument m0 product)) [] (rounds k + 8)
+  Skip k = (a x y : ℕ) (n v i z c : Bool) (m : ℕ → ℕ) (product : ℕ) → a < 256 → y < 256 → Held m → word_in m RIGHT < pow2 k
+      → product ≡ (a + 256 * y + 2 * word_in m LEFT * word_in m RIGHT) % 65536
+      → Comes f (view a x y n v i z c (MULTIPLY_AT + 18) (lo ∷ hi ∷ []) m text answers) (Back lo hi text answers (Gives is_argument m0 product)) [] (rounds k + 9)
 
   Turn : ℕ → Type 0
-  Turn k = (a x y : ℕ) (n v i z c : Bool) (m : ℕ → ℕ) (product : ℕ) → a < 256 → Held m → word_in m RIGHT < pow2 k + pow2 k
-      → product ≡ (a + 256 * m (RESULT + 1) + word_in m LEFT * word_in m RIGHT) % 65536
-      → Comes f (view a x y n v i z c (MULTIPLY_AT + 6) (lo ∷ hi ∷ []) m text answers) (Back lo hi text answers (Gives is_argument m0 product)) [] (rounds k + 18)
+  Turn k = (a x y : ℕ) (n v i z c : Bool) (m : ℕ → ℕ) (product : ℕ) → a < 256 → y < 256 → Held m → word_in m RIGHT < pow2 k + pow2 k
+      → product ≡ (a + 256 * y + word_in m LEFT * word_in m RIGHT) % 65536
+      → Comes f (view a x y n v i z c (MULTIPLY_AT + 3) (lo ∷ hi ∷ []) m text answers) (Back lo hi text answers (Gives is_argument m0 product)) [] (rounds k + 19)
 
-  last : (a x y : ℕ) (n v i z c : Bool) (m : ℕ → ℕ) (product : ℕ) → a < 256 → Held m → product ≡ a + 256 * m (RESULT + 1)
-      → Comes f (view a x y n v i z c (MULTIPLY_AT + 37) (lo ∷ hi ∷ []) m text answers) (Back lo hi text answers (Gives is_argument m0 product)) [] 2
-  last a x y n v i z c m product small h e = ending f 2 fits multiply_part (multiply_in f.code block) 1 (view a x y n v i z c (MULTIPLY_AT + 37) (lo ∷ hi ∷ []) m text answers) _ refl
-      (leaves_now refl (record { result = holds_word _ RESULT product (small, h.r) (sym e); others = frame_put _ _ RESULT _ refl h.others }))
+  last : (a x y : ℕ) (n v i z c : Bool) (m : ℕ → ℕ) (product : ℕ) → a < 256 → y < 256 → Held m → product ≡ a + 256 * y
+      → Comes f (view a x y n v i z c (MULTIPLY_AT + 30) (lo ∷ hi ∷ []) m text answers) (Back lo hi text answers (Gives is_argument m0 product)) [] 3
+  last a x y n v i z c m product small least h e = ending f 2 fits multiply_part (multiply_in f.code block) 2 (view a x y n v i z c (MULTIPLY_AT + 30) (lo ∷ hi ∷ []) m text answers) _ refl
+      (leaves_now refl (record { result = holds_word _ RESULT product (small, least) (sym e); others = frame_put _ _ (RESULT + 1) _ refl (frame_put _ _ RESULT _ refl h.others) }))
 
   doubled_held : (m : ℕ → ℕ) → Held m → Held (with_byte (with_byte m LEFT (2 * m LEFT % 256)) (LEFT + 1) (2 * m (LEFT + 1) % 256 + bit (eqb (m LEFT / 128 % 2) 1)))
   doubled_held m h = record {
     p = (omega arith, omega (arith, doubled (m LEFT) (m (LEFT + 1)) h.p.0 h.p.1));
     q = h.q;
-    r = h.r;
     others = frame_put _ _ (LEFT + 1) _ refl (frame_put _ _ LEFT _ refl h.others);
   }
 
   -- RIGHT's low byte is 0: its high byte is looked at
-  high_none : (a x y : ℕ) (n v i z c : Bool) (m : ℕ → ℕ) (product : ℕ) → a < 256 → Held m → m (RIGHT + 1) ≡ 0 → product ≡ a + 256 * m (RESULT + 1)
-      → Comes f (view a x y n v i z c (MULTIPLY_AT + 33) (lo ∷ hi ∷ []) m text answers) (Back lo hi text answers (Gives is_argument m0 product)) [] 4
-  high_none a x y n v i z c m product small h none e =
+  high_none : (a x y : ℕ) (n v i z c : Bool) (m : ℕ → ℕ) (product : ℕ) → a < 256 → y < 256 → Held m → m (RIGHT + 1) ≡ 0 → product ≡ a + 256 * y
+      → Comes f (view a x y n v i z c (MULTIPLY_AT + 26) (lo ∷ hi ∷ []) m text answers) (Back lo hi text answers (Gives is_argument m0 product)) [] 5
+  high_none a x y n v i z c m product small least h none e =
       let t : eqb (m (RIGHT + 1)) 0 ≡ true = eq-eqb _ _ none in
-      after f 2 fits multiply_part (multiply_in f.code block) 1 (view a x y n v i z c (MULTIPLY_AT + 33) (lo ∷ hi ∷ []) m text answers) _ _ 2 refl
-      (rw t (last _ _ _ _ _ _ _ _ m product small h e))
+      after f 2 fits multiply_part (multiply_in f.code block) 1 (view a x y n v i z c (MULTIPLY_AT + 26) (lo ∷ hi ∷ []) m text answers) _ _ 3 refl
+      (rw t (last _ _ _ _ _ _ _ _ m product small least h e))
 
-  high_more : (k : ℕ) → Turn k → (a x y : ℕ) (n v i z c : Bool) (m : ℕ → ℕ) (product : ℕ) → a < 256 → Held m → m (RIGHT + 1) ≢ 0 → word_in m RIGHT
-      < pow2 k + pow2 k → product ≡ (a + 256 * m (RESULT + 1) + word_in m LEFT * word_in m RIGHT) % 65536
-      → Comes f (view a x y n v i z c (MULTIPLY_AT + 33) (lo ∷ hi ∷ []) m text answers) (Back lo hi text answers (Gives is_argument m0 product)) [] (2 + (rounds k + 18))
+  high_more : (k : ℕ) → Turn k → (a x y : ℕ) (n v i z c : Bool) (m : ℕ → ℕ) (product : ℕ) → a < 256 → y < 256 → Held m → m (RIGHT + 1) ≢ 0 → word_in m RIGHT
+      < pow2 k + pow2 k → product ≡ (a + 256 * y + word_in m LEFT * word_in m RIGHT) % 65536
+      → Comes f (view a x y n v i z c (MULTIPLY_AT + 26) (lo ∷ hi ∷ []) m text answers) (Back lo hi text answers (Gives is_argument m0 product)) [] (2 + (rounds k + 19))
   unfolding Turn
-  high_more k go a x y n v i z c m product small h some bound e =
+  high_more k go a x y n v i z c m product small least h some bound e =
       let t : eqb (m (RIGHT + 1)) 0 ≡ false = ne_eqb _ _ some in
-      after f 2 fits multiply_part (multiply_in f.code block) 1 (view a x y n v i z c (MULTIPLY_AT + 33) (lo ∷ hi ∷ []) m text answers) _ _ (rounds k + 18) refl
-      (rw t (go _ _ _ _ _ _ _ _ m product small h bound e))
+      after f 2 fits multiply_part (multiply_in f.code block) 1 (view a x y n v i z c (MULTIPLY_AT + 26) (lo ∷ hi ∷ []) m text answers) _ _ (rounds k + 19) refl
+      (rw t (go _ _ _ _ _ _ _ _ m product small least h bound e))
 
   -- LEFT is doubled, and nothing of RIGHT is left
-  stops : (a x y : ℕ) (n v i z c : Bool) (m : ℕ → ℕ) (product : ℕ) → a < 256 → Held m → m RIGHT ≡ 0 → m (RIGHT + 1) ≡ 0
-      → product ≡ (a + 256 * m (RESULT + 1) + 2 * word_in m LEFT * word_in m RIGHT) % 65536
-      → Comes f (view a x y n v i z c (MULTIPLY_AT + 25) (lo ∷ hi ∷ []) m text answers) (Back lo hi text answers (Gives is_argument m0 product)) [] 8
-  stops a x y n v i z c m product small h low high e =
+  stops : (a x y : ℕ) (n v i z c : Bool) (m : ℕ → ℕ) (product : ℕ) → a < 256 → y < 256 → Held m → m RIGHT ≡ 0 → m (RIGHT + 1) ≡ 0
+      → product ≡ (a + 256 * y + 2 * word_in m LEFT * word_in m RIGHT) % 65536
+      → Comes f (view a x y n v i z c (MULTIPLY_AT + 18) (lo ∷ hi ∷ []) m text answers) (Back lo hi text answers (Gives is_argument m0 product)) [] 9
+  stops a x y n v i z c m product small least h low high e =
       let t : eqb (m RIGHT) 0 ≡ true = eq-eqb _ _ low in
       let none : word_in m RIGHT ≡ 0 = omega (arith, low, high) in
-      let total : a + 256 * m (RESULT + 1) + 2 * word_in m LEFT * word_in m RIGHT ≡ a + 256 * m (RESULT + 1) = ap (λ q. a + 256 * m (RESULT + 1) + 2 * word_in m LEFT * q) none ∙ omega arith in
-      after f 2 fits multiply_part (multiply_in f.code block) 3 (view a x y n v i z c (MULTIPLY_AT + 25) (lo ∷ hi ∷ []) m text answers) _ _ 4 refl
-      (rw t (high_none _ _ _ _ _ _ _ _ _ product small (doubled_held m h) high (e ∙ omega (arith, total, small, h.r))))
+      let total : a + 256 * y + 2 * word_in m LEFT * word_in m RIGHT ≡ a + 256 * y = ap (λ q. a + 256 * y + 2 * word_in m LEFT * q) none ∙ omega arith in
+      after f 2 fits multiply_part (multiply_in f.code block) 3 (view a x y n v i z c (MULTIPLY_AT + 18) (lo ∷ hi ∷ []) m text answers) _ _ 5 refl
+      (rw t (high_none _ _ _ _ _ _ _ _ _ product small least (doubled_held m h) high (e ∙ omega (arith, total, small, least))))
 
   skip_none : Skip 0
   unfolding Skip
-  skip_none a x y n v i z c m product small h bound e = stops a x y n v i z c m product small h (omega (arith, bound)) (omega (arith, bound)) e
+  skip_none a x y n v i z c m product small least h bound e = stops a x y n v i z c m product small least h (omega (arith, bound)) (omega (arith, bound)) e
 
   -- the product with LEFT doubled
-  twice : (a : ℕ) (m : ℕ → ℕ) (product : ℕ) → Held m → product ≡ (a + 256 * m (RESULT + 1) + 2 * word_in m LEFT * word_in m RIGHT) % 65536
-      → product ≡ (a + 256 * m (RESULT + 1) + (2 * m LEFT % 256 + 256 * (2 * m (LEFT + 1) % 256 + bit (eqb (m LEFT / 128 % 2) 1))) * word_in m RIGHT) % 65536
-  twice a m product h e = e ∙ sym (turn_double (a + 256 * m (RESULT + 1)) (word_in m LEFT) (word_in m RIGHT))
-      ∙ ap (λ x. (a + 256 * m (RESULT + 1) + x * word_in m RIGHT) % 65536) (sym (doubled (m LEFT) (m (LEFT + 1)) h.p.0 h.p.1))
+  twice : (a y : ℕ) (m : ℕ → ℕ) (product : ℕ) → Held m → product ≡ (a + 256 * y + 2 * word_in m LEFT * word_in m RIGHT) % 65536
+      → product ≡ (a + 256 * y + (2 * m LEFT % 256 + 256 * (2 * m (LEFT + 1) % 256 + bit (eqb (m LEFT / 128 % 2) 1))) * word_in m RIGHT) % 65536
+  twice a y m product h e = e ∙ sym (turn_double (a + 256 * y) (word_in m LEFT) (word_in m RIGHT))
+      ∙ ap (λ x. (a + 256 * y + x * word_in m RIGHT) % 65536) (sym (doubled (m LEFT) (m (LEFT + 1)) h.p.0 h.p.1))
 
-  goes_on : (k : ℕ) → Turn k → (a x y : ℕ) (n v i z c : Bool) (m : ℕ → ℕ) (product : ℕ) → a < 256 → Held m → m RIGHT ≢ 0 → word_in m RIGHT
-      < pow2 k + pow2 k → product ≡ (a + 256 * m (RESULT + 1) + 2 * word_in m LEFT * word_in m RIGHT) % 65536
-      → Comes f (view a x y n v i z c (MULTIPLY_AT + 25) (lo ∷ hi ∷ []) m text answers) (Back lo hi text answers (Gives is_argument m0 product)) [] (4 + (rounds k + 18))
+  goes_on : (k : ℕ) → Turn k → (a x y : ℕ) (n v i z c : Bool) (m : ℕ → ℕ) (product : ℕ) → a < 256 → y < 256 → Held m → m RIGHT ≢ 0 → word_in m RIGHT
+      < pow2 k + pow2 k → product ≡ (a + 256 * y + 2 * word_in m LEFT * word_in m RIGHT) % 65536
+      → Comes f (view a x y n v i z c (MULTIPLY_AT + 18) (lo ∷ hi ∷ []) m text answers) (Back lo hi text answers (Gives is_argument m0 product)) [] (4 + (rounds k + 19))
   unfolding Turn
-  goes_on k go a x y n v i z c m product small h some bound e =
+  goes_on k go a x y n v i z c m product small least h some bound e =
       let t : eqb (m RIGHT) 0 ≡ false = ne_eqb _ _ some in
-      after f 2 fits multiply_part (multiply_in f.code block) 3 (view a x y n v i z c (MULTIPLY_AT + 25) (lo ∷ hi ∷ []) m text answers) _ _ (rounds k + 18) refl
-      (rw t (go _ _ _ _ _ _ _ _ _ product small (doubled_held m h) bound (twice a m product h e)))
+      after f 2 fits multiply_part (multiply_in f.code block) 3 (view a x y n v i z c (MULTIPLY_AT + 18) (lo ∷ hi ∷ []) m text answers) _ _ (rounds k + 19) refl
+      (rw t (go _ _ _ _ _ _ _ _ _ product small least (doubled_held m h) bound (twice a y m product h e)))
 
-  goes_high : (k : ℕ) → Turn k → (a x y : ℕ) (n v i z c : Bool) (m : ℕ → ℕ) (product : ℕ) → a < 256 → Held m → m RIGHT ≡ 0 → m (RIGHT + 1) ≢ 0
-      → word_in m RIGHT < pow2 k + pow2 k → product ≡ (a + 256 * m (RESULT + 1) + 2 * word_in m LEFT * word_in m RIGHT) % 65536
-      → Comes f (view a x y n v i z c (MULTIPLY_AT + 25) (lo ∷ hi ∷ []) m text answers) (Back lo hi text answers (Gives is_argument m0 product)) [] (4 + (2 + (rounds k + 18)))
-  goes_high k go a x y n v i z c m product small h low some bound e =
+  goes_high : (k : ℕ) → Turn k → (a x y : ℕ) (n v i z c : Bool) (m : ℕ → ℕ) (product : ℕ) → a < 256 → y < 256 → Held m → m RIGHT ≡ 0 → m (RIGHT + 1) ≢ 0
+      → word_in m RIGHT < pow2 k + pow2 k → product ≡ (a + 256 * y + 2 * word_in m LEFT * word_in m RIGHT) % 65536
+      → Comes f (view a x y n v i z c (MULTIPLY_AT + 18) (lo ∷ hi ∷ []) m text answers) (Back lo hi text answers (Gives is_argument m0 product)) [] (4 + (2 + (rounds k + 19)))
+  goes_high k go a x y n v i z c m product small least h low some bound e =
       let t : eqb (m RIGHT) 0 ≡ true = eq-eqb _ _ low in
-      after f 2 fits multiply_part (multiply_in f.code block) 3 (view a x y n v i z c (MULTIPLY_AT + 25) (lo ∷ hi ∷ []) m text answers) _ _ (2 + (rounds k + 18)) refl
-      (rw t (high_more k go _ _ _ _ _ _ _ _ _ product small (doubled_held m h) some bound (twice a m product h e)))
+      after f 2 fits multiply_part (multiply_in f.code block) 3 (view a x y n v i z c (MULTIPLY_AT + 18) (lo ∷ hi ∷ []) m text answers) _ _ (2 + (rounds k + 19)) refl
+      (rw t (high_more k go _ _ _ _ _ _ _ _ _ product small least (doubled_held m h) some bound (twice a y m product h e)))
 
   skip_more : (k : ℕ) → Turn k → Skip (suc k)
   unfolding Skip
-  skip_more k go a x y n v i z c m product small h bound e =
+  skip_more k go a x y n v i z c m product small least h bound e =
       ⊎_elim
       (λ low. ⊎_elim
-      (λ high. looser f _ _ _ [] 8 (rounds (suc k) + 8) (omega arith) (λ w h. h) (stops a x y n v i z c m product small h low high e))
+      (λ high. looser f _ _ _ [] 9 (rounds (suc k) + 9) (omega arith) (λ w h. h) (stops a x y n v i z c m product small least h low high e))
       (λ some. ⊎_elim
       (λ few. let none : m (RIGHT + 1) ≡ 0 = omega (arith, bound, byte_bits k few) in absurd (some none))
-      (λ many. looser f _ _ _ [] (4 + (2 + (rounds k + 18))) (rounds (suc k) + 8) (omega (arith, many)) (λ w h. h) (goes_high k go a x y n v i z c m product small h low some bound e))
+      (λ many. looser f _ _ _ [] (4 + (2 + (rounds k + 19))) (rounds (suc k) + 9) (omega (arith, many)) (λ w h. h) (goes_high k go a x y n v i z c m product small least h low some bound e))
       (cases_lt k 8))
       (cases_eq (m (RIGHT + 1)) 0))
-      (λ some. looser f _ _ _ [] (4 + (rounds k + 18)) (rounds (suc k) + 8) (omega arith) (λ w h. h) (goes_on k go a x y n v i z c m product small h some bound e))
+      (λ some. looser f _ _ _ [] (4 + (rounds k + 19)) (rounds (suc k) + 9) (omega arith) (λ w h. h) (goes_on k go a x y n v i z c m product small least h some bound e))
       (cases_eq (m RIGHT) 0)
 
   -- the result and LEFT
-  sum : (k : ℕ) → Skip k → (a x y : ℕ) (n v i z c : Bool) (m : ℕ → ℕ) (product : ℕ) → a < 256 → Held m → word_in m RIGHT < pow2 k
-      → product ≡ ((a + 256 * m (RESULT + 1) + word_in m LEFT) % 65536 + 2 * word_in m LEFT * word_in m RIGHT) % 65536
-      → Comes f (view a x y n v i z c (MULTIPLY_AT + 12) (lo ∷ hi ∷ []) m text answers) (Back lo hi text answers (Gives is_argument m0 product)) [] (7 + (rounds k + 8))
+  sum : (k : ℕ) → Skip k → (a x y : ℕ) (n v i z c : Bool) (m : ℕ → ℕ) (product : ℕ) → a < 256 → y < 256 → Held m → word_in m RIGHT < pow2 k
+      → product ≡ ((a + 256 * y + word_in m LEFT) % 65536 + 2 * word_in m LEFT * word_in m RIGHT) % 65536
+      → Comes f (view a x y n v i z c (MULTIPLY_AT + 9) (lo ∷ hi ∷ []) m text answers) (Back lo hi text answers (Gives is_argument m0 product)) [] (7 + (rounds k + 9))
   unfolding Skip
-  sum k go a x y n v i z c m product small h bound e =
-      let s = added a (m (RESULT + 1)) (m LEFT) (m (LEFT + 1)) small h.r h.p.0 h.p.1 in
-      after f 2 fits multiply_part (multiply_in f.code block) 6 (view a x y n v i z c (MULTIPLY_AT + 12) (lo ∷ hi ∷ []) m text answers) _ _ (rounds k + 8) refl
-      (go _ _ _ _ _ _ _ _ _ product (omega arith)
-      (record { p = h.p; q = h.q; r = omega arith; others = frame_put _ _ (RESULT + 1) _ refl h.others })
+  sum k go a x y n v i z c m product small least h bound e =
+      let s = added a y (m LEFT) (m (LEFT + 1)) small least h.p.0 h.p.1 in
+      after f 2 fits multiply_part (multiply_in f.code block) 6 (view a x y n v i z c (MULTIPLY_AT + 9) (lo ∷ hi ∷ []) m text answers) _ _ (rounds k + 9) refl
+      (go _ _ _ _ _ _ _ _ _ product (omega arith) (omega arith) h
       bound (e ∙ ap (λ x. (x + 2 * word_in m LEFT * word_in m RIGHT) % 65536) (sym s)))
 
   turn : (k : ℕ) → Skip k → Turn k
   unfolding Skip Turn
-  turn k go a x y n v i z c m product small h bound e =
+  turn k go a x y n v i z c m product small least h bound e =
       let half = halved (m RIGHT) (m (RIGHT + 1)) h.q.0 h.q.1 in
       let less : m RIGHT / 2 + 128 * bit (eqb (m (RIGHT + 1) / 1 % 2) 1) + 256 * (m (RIGHT + 1) / 2) < pow2 k = omega (arith, half) in
       let shifted : Held (with_byte (with_byte m (RIGHT + 1) (m (RIGHT + 1) / 2)) RIGHT (m RIGHT / 2 + 128 * bit (eqb (m (RIGHT + 1) / 1 % 2) 1))) =
-      record { p = h.p; q = (omega (arith, half, h.q.0, h.q.1), omega (arith, h.q.1)); r = h.r; others = frame_put _ _ RIGHT _ refl (frame_put _ _ (RIGHT + 1) _ refl h.others) } in
+      record { p = h.p; q = (omega (arith, half, h.q.0, h.q.1), omega (arith, h.q.1)); others = frame_put _ _ RIGHT _ refl (frame_put _ _ (RIGHT + 1) _ refl h.others) } in
       ⊎_elim
       (λ odd. let b : eqb (m RIGHT / 1 % 2) 1 ≡ true = eq-eqb _ _ (omega (arith, odd)) in
-      looser f _ _ _ [] (3 + (7 + (rounds k + 8))) (rounds k + 18) (omega arith) (λ w h. h)
-      (after f 2 fits multiply_part (multiply_in f.code block) 2 (view a x y n v i z c (MULTIPLY_AT + 6) (lo ∷ hi ∷ []) m text answers) _ _ (7 + (rounds k + 8)) refl
-      (rw b (sum k go _ _ _ _ _ _ _ _ _ product small shifted less
-      (e ∙ sym (turn_odd (a + 256 * m (RESULT + 1)) (word_in m LEFT) (word_in m RIGHT) (omega arith))
-      ∙ ap (λ q. ((a + 256 * m (RESULT + 1) + word_in m LEFT) % 65536 + 2 * word_in m LEFT * q) % 65536) (sym half))))))
+      looser f _ _ _ [] (3 + (7 + (rounds k + 9))) (rounds k + 19) (omega arith) (λ w h. h)
+      (after f 2 fits multiply_part (multiply_in f.code block) 2 (view a x y n v i z c (MULTIPLY_AT + 3) (lo ∷ hi ∷ []) m text answers) _ _ (7 + (rounds k + 9)) refl
+      (rw b (sum k go _ _ _ _ _ _ _ _ _ product small least shifted less
+      (e ∙ sym (turn_odd (a + 256 * y) (word_in m LEFT) (word_in m RIGHT) (omega arith))
+      ∙ ap (λ q. ((a + 256 * y + word_in m LEFT) % 65536 + 2 * word_in m LEFT * q) % 65536) (sym half))))))
       (λ even. let b : eqb (m RIGHT / 1 % 2) 1 ≡ false = ne_eqb _ _ (λ h. even (omega (arith, h))) in
-      looser f _ _ _ [] (3 + (rounds k + 8)) (rounds k + 18) (omega arith) (λ w h. h)
-      (after f 2 fits multiply_part (multiply_in f.code block) 2 (view a x y n v i z c (MULTIPLY_AT + 6) (lo ∷ hi ∷ []) m text answers) _ _ (rounds k + 8) refl
-      (rw b (go _ _ _ _ _ _ _ _ _ product small shifted less
-      (e ∙ sym (turn_even (a + 256 * m (RESULT + 1)) (word_in m LEFT) (word_in m RIGHT) (omega arith)) ∙ ap (λ q. (a + 256 * m (RESULT + 1) + 2 * word_in m LEFT * q) % 65536) (sym half))))))
+      looser f _ _ _ [] (3 + (rounds k + 9)) (rounds k + 19) (omega arith) (λ w h. h)
+      (after f 2 fits multiply_part (multiply_in f.code block) 2 (view a x y n v i z c (MULTIPLY_AT + 3) (lo ∷ hi ∷ []) m text answers) _ _ (rounds k + 9) refl
+      (rw b (go _ _ _ _ _ _ _ _ _ product small least shifted less
+      (e ∙ sym (turn_even (a + 256 * y) (word_in m LEFT) (word_in m RIGHT) (omega arith)) ∙ ap (λ q. (a + 256 * y + 2 * word_in m LEFT * q) % 65536) (sym half))))))
       (cases_eq (m RIGHT % 2) 1)
 
   skips : (k : ℕ) → Skip k
@@ -176,10 +173,10 @@ module _ (f : Setup) (fits : Fits f 2) (block : Holds block_part f.code) (lo hi 
       (Back lo hi text answers (Gives is_argument m0 ((word_in m0 LEFT * word_in m0 RIGHT) % 65536))) [] 245
   unfolding Turn
   whole a x y n v i z c p q =
-      looser f _ _ _ [] (3 + 242) 245 (omega arith) (λ w h. h)
-      (after f 2 fits multiply_part (multiply_in f.code block) 2 (view a x y n v i z c MULTIPLY_AT (lo ∷ hi ∷ []) m0 text answers) _ _ 242 refl
-      (turn 15 (skips 15) _ _ _ _ _ _ _ _ _ ((word_in m0 LEFT * word_in m0 RIGHT) % 65536) (omega arith)
-      (record { p = p; q = q; r = omega arith; others = frame_put _ _ (RESULT + 1) _ refl (λ a e. refl) })
+      looser f _ _ _ [] (2 + 243) 245 (omega arith) (λ w h. h)
+      (after f 2 fits multiply_part (multiply_in f.code block) 1 (view a x y n v i z c MULTIPLY_AT (lo ∷ hi ∷ []) m0 text answers) _ _ 243 refl
+      (turn 15 (skips 15) _ _ _ _ _ _ _ _ _ ((word_in m0 LEFT * word_in m0 RIGHT) % 65536) (omega arith) (omega arith)
+      (record { p = p; q = q; others = λ a e. refl })
       (omega (arith, p, q)) (let z : 0 + 256 * 0 + word_in m0 LEFT * word_in m0 RIGHT ≡ word_in m0 LEFT * word_in m0 RIGHT = omega arith in ap (λ x. x % 65536) (sym z))))
 
 -- Multiply's law, from the block's bytes

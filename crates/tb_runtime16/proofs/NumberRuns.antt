@@ -21,7 +21,7 @@ use Rattle.tb_runtime16.proofs.Words.{borrow, sign_of, sign_small, sign_none, ne
 use Rattle.tb_runtime16.proofs.Frames.{skip}
 use Rattle.tb_runtime16.proofs.Pointed.{carry_at_least, carry_below}
 use Rattle.tb_runtime16.proofs.Called.{calls, back_looser}
-use Rattle.tb_runtime16.proofs.SendRuns.{column_on, send_law}
+use Rattle.tb_runtime16.proofs.SendRuns.{column_on, plain_law}
 use Rattle.tb_runtime16.proofs.DivideRuns.{Turned, turned, sign_case, negate_left}
 use Rattle.tb_runtime16.proofs.DigitTexts.{sent, base, digit_alone, digit_text, skipped, begins, hundreds, ten_thousands}
 
@@ -69,8 +69,8 @@ module _ (f : Setup) (fits : Fits f 6) (block : Holds block_part f.code) (lo hi 
       let low : m LEFT ≡ w = omega (arith, h.is, small, h.is_word) in
       let d : bit_or (m LEFT) 48 ≡ 48 + w = ap (λ l. bit_or l 48) low ∙ digit_alone w small in
       after f 6 fits number_part (number_in f.code block) 4 (view a 0 y n v i z c (NUMBER_AT + 66) own m text answers) _ _ 7 refl
-      (rw d (back_looser f _ lo hi text answers _ _ ((48 + w) ∷ []) 7 7 (omega arith)
-      (send_law f (omega (arith, fits)) block lo hi text answers m (48 + w) _ _ _ _ _ _ _ (omega (arith, small)))
+      (rw d (back_looser f _ lo hi text answers _ _ ((48 + w) ∷ []) 3 7 (omega arith)
+      (plain_law f (omega (arith, fits)) block lo hi text answers m (48 + w) _ _ _ _ _ _ _ (λ e. omega (arith, e)))
       (λ u g. (g.column ∙ ap (λ n. n % 256) (column_on (m COLUMN) (48 + w) (λ x. omega (arith, x))) ∙ e, λ a s t. g.others a refl t ∙ h.others a s t))))
 
   -- ---- on to the next power
@@ -95,8 +95,9 @@ module _ (f : Setup) (fits : Fits f 6) (block : Holds block_part f.code) (lo hi 
       let m1 = with_byte (with_byte m RIGHT 48) (RIGHT + 1) x in
       after f 6 fits number_part (number_in f.code block) 1 (view a x y n v i z c (NUMBER_AT + 50) own m text answers) _ _ (5 + (7 + (1 + k))) refl
       (rw t (after f 6 fits number_part (number_in f.code block) 4 (view y x y _ v i _ c (NUMBER_AT + 53) own m text answers) _ _ (7 + (1 + k)) refl
-      (rw b (calls f own _ _ _ _ _ _ _ _ SEND_AT ((NUMBER_AT + 63) % 256) ((NUMBER_AT + 63) / 256) m1 text answers _ _ ((48 + d) ∷ []) (sent ps true w) 7 (1 + k)
-      (send_law (under f own) (omega (arith, fits)) block ((NUMBER_AT + 63) % 256) ((NUMBER_AT + 63) / 256) text answers m1 (48 + d) _ _ _ _ _ _ _ (omega (arith, few)))
+      (rw b (calls f own _ _ _ _ _ _ _ _ (SEND_AT + 9) ((NUMBER_AT + 63) % 256) ((NUMBER_AT + 63) / 256) m1 text answers _ _ ((48 + d) ∷ []) (sent ps true w) 7 (1 + k)
+      (looser (under f own) _ _ _ ((48 + d) ∷ []) 3 7 (omega arith) (λ w h. h)
+      (plain_law (under f own) (omega (arith, fits)) block ((NUMBER_AT + 63) % 256) ((NUMBER_AT + 63) / 256) text answers m1 (48 + d) _ _ _ _ _ _ _ (λ e. omega (arith, e))))
       (λ a x' y n v i z c u g.
       let kept : (p : ℕ) → p ≢ COLUMN → u p ≡ m1 p = λ p z. g.others p refl z in
       let x_is : u (RIGHT + 1) ≡ x = kept (RIGHT + 1) (λ q. omega (arith, q)) in
@@ -314,8 +315,9 @@ module _ (f : Setup) (fits : Fits f 6) (block : Holds block_part f.code) (lo hi 
   unfolding Rest
   minus a x y n v i z c m col p t r l =
       after f 6 fits number_part (number_in f.code block) 1 (view a x y n v i z c (NUMBER_AT + 4) own m text answers) _ _ (7 + (1 + (9 + 437))) refl
-      (calls f own 45 x y _ v i _ c SEND_AT ((NUMBER_AT + 8) % 256) ((NUMBER_AT + 8) / 256) m text answers _ _ (45 ∷ []) _ 7 (1 + (9 + 437))
-      (send_law (under f own) (omega (arith, fits)) block ((NUMBER_AT + 8) % 256) ((NUMBER_AT + 8) / 256) text answers m 45 x y _ v i _ c (omega arith))
+      (calls f own 45 x y _ v i _ c (SEND_AT + 9) ((NUMBER_AT + 8) % 256) ((NUMBER_AT + 8) / 256) m text answers _ _ (45 ∷ []) _ 7 (1 + (9 + 437))
+      (looser (under f own) _ _ _ (45 ∷ []) 3 7 (omega arith) (λ w h. h)
+      (plain_law (under f own) (omega (arith, fits)) block ((NUMBER_AT + 8) % 256) ((NUMBER_AT + 8) / 256) text answers m 45 x y _ v i _ c (λ e. omega (arith, e))))
       (λ a x y n v i z c u g.
       let low : u LEFT ≡ m LEFT = g.others LEFT refl (λ q. omega (arith, q)) in
       let high : u (LEFT + 1) ≡ m (LEFT + 1) = g.others (LEFT + 1) refl (λ q. omega (arith, q)) in

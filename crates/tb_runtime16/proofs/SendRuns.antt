@@ -47,3 +47,9 @@ module _ (f : Setup) (fits : Fits f 2) (block : Holds block_part f.code) (lo hi 
 -- Send's law, from the block's bytes
 pub send_law : SendLaw
 send_law f fits block lo hi text answers m a x y n v i z c small = whole f fits block lo hi text answers m a x y n v i z c small
+
+-- past the test for 13, a byte other than that is sent
+pub plain_law : (f : Setup) → Fits f 2 → Holds block_part f.code → (lo hi : ℕ) (text answers : List ℕ) (m : ℕ → ℕ) (a x y : ℕ) (n v i z c : Bool) → a ≢ 13
+    → Comes f (view a x y n v i z c (SEND_AT + 0x9) (lo ∷ hi ∷ []) m text answers) (Back lo hi text answers (Sent nowhere m (a ∷ []))) (a ∷ []) 3
+plain_law f fits block lo hi text answers m a x y n v i z c on =
+    count f fits block lo hi text answers m a x y n v i z c m (sym (ap (λ n. n % 256) (column_on (m COLUMN) a on))) (λ a p. refl)

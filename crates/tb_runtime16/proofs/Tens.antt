@@ -13,21 +13,31 @@ high_sum l h k j = (h + j + bit (nat_lt 255 (l + k + 0))) % 256
 high_twice_small : (l h : ℕ) → l < 256 → high_twice l h < 256
 high_twice_small l h p = omega (arith, one_high l p)
 
--- a word times ten and a digit: doubled twice, the word added, doubled, and the digit added
-pub times_ten : (l h d : ℕ) → l < 256 → h < 256 → d < 256 →
-    (2 * ((2 * (2 * l % 256) % 256 + l + 0) % 256) % 256 + d + 0) % 256
-    + 256 * high_sum (2 * ((2 * (2 * l % 256) % 256 + l + 0) % 256) % 256) (high_twice ((2 * (2 * l % 256) % 256 + l + 0) % 256)
-    (high_sum (2 * (2 * l % 256) % 256) (high_twice (2 * l % 256) (high_twice l h)) l h)) d 0
-    ≡ (10 * (l + 256 * h) + d) % 65536
-times_ten l h d p q r =
+-- a word times five: doubled twice, and the word added
+abbrev pub five_low : ℕ → ℕ
+five_low l = (2 * (2 * l % 256) % 256 + l + 0) % 256
+
+abbrev pub five_high : ℕ → ℕ → ℕ
+five_high l h = high_sum (2 * (2 * l % 256) % 256) (high_twice (2 * l % 256) (high_twice l h)) l h
+
+-- a word times ten: times five, and doubled
+abbrev pub ten_low : ℕ → ℕ
+ten_low l = 2 * five_low l % 256
+
+abbrev pub ten_high : ℕ → ℕ → ℕ
+ten_high l h = high_twice (five_low l) (five_high l h)
+
+-- the bytes of ten times a word
+pub times_ten : (l h : ℕ) → l < 256 → h < 256 → (ten_low l < 256) × (ten_high l h < 256) × (ten_low l + 256 * ten_high l h ≡ 10 * (l + 256 * h) % 65536)
+times_ten l h p q =
     let a = 2 * l % 256 in
     let a' = high_twice l h in
     let b = 2 * a % 256 in
     let b' = high_twice a a' in
-    let s = (b + l + 0) % 256 in
-    let s' = high_sum b b' l h in
-    let t = 2 * s % 256 in
-    let t' = high_twice s s' in
+    let s = five_low l in
+    let s' = five_high l h in
+    let t = ten_low l in
+    let t' = ten_high l h in
     let la : a < 256 = omega arith in
     let la' : a' < 256 = high_twice_small l h p in
     let bs : b < 256 = omega arith in
@@ -40,9 +50,8 @@ times_ten l h d p q r =
     let e2 : b + 256 * b' ≡ 2 * (a + 256 * a') % 65536 = doubled a a' la la' in
     let e3 : s + 256 * s' ≡ (b + 256 * b' + (l + 256 * h)) % 65536 = added b b' l h bs bs' p q in
     let e4 : t + 256 * t' ≡ 2 * (s + 256 * s') % 65536 = doubled s s' ss ss' in
-    let e5 : (t + d + 0) % 256 + 256 * high_sum t t' d 0 ≡ (t + 256 * t' + (d + 256 * 0)) % 65536 = added t t' d 0 ts ts' r (let z : 0 < 256 = omega arith in z) in
     let w = l + 256 * h in
     let f2 : b + 256 * b' ≡ 4 * w % 65536 = e2 ∙ ap (λ x. 2 * x % 65536) e1 ∙ (let g : 2 * (2 * w % 65536) % 65536 ≡ 4 * w % 65536 = omega arith in g) in
     let f3 : s + 256 * s' ≡ 5 * w % 65536 = e3 ∙ ap (λ x. (x + w) % 65536) f2 ∙ (let g : (4 * w % 65536 + w) % 65536 ≡ 5 * w % 65536 = omega arith in g) in
     let f4 : t + 256 * t' ≡ 10 * w % 65536 = e4 ∙ ap (λ x. 2 * x % 65536) f3 ∙ (let g : 2 * (5 * w % 65536) % 65536 ≡ 10 * w % 65536 = omega arith in g) in
-    e5 ∙ ap (λ x. (x + (d + 256 * 0)) % 65536) f4 ∙ (let g : (10 * w % 65536 + (d + 256 * 0)) % 65536 ≡ (10 * w + d) % 65536 = omega arith in g)
+    (ts, ts', f4)

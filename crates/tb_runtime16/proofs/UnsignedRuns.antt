@@ -16,23 +16,23 @@ use Rattle.tb_runtime16.proofs.NarrowRuns.{by_low_byte, by_both_bytes}
 use Rattle.tb_runtime16.proofs.Words.{small_byte}
 use Rattle.tb_runtime16.proofs.Frames.{frame_put}
 
-module _ (f : Setup) (fits : Fits f 2) (block : Holds block_part f.code) (lo hi : ℕ) (text answers : List ℕ) (m : ℕ → ℕ) (p : IsWord m LEFT)
+module _ (f : Setup) (fits : Fits f 4) (block : Holds block_part f.code) (lo hi : ℕ) (text answers : List ℕ) (m : ℕ → ℕ) (p : IsWord m LEFT)
     (q : IsWord m RIGHT) (some : 1 ≤ word_in m RIGHT) (most : word_in m RIGHT ≤ 32768) where
   abbrev Goal : View → ℕ → Type 0
   Goal v n = Comes f v (Back lo hi text answers (Parted m (word_in m LEFT / word_in m RIGHT) (word_in m LEFT % word_in m RIGHT))) [] n
 
   -- RIGHT is not below 128, and LEFT's high byte, as it is or less RIGHT, is the rest to begin with
-  by_word : (a y : ℕ) (n v i z c : Bool) (m1 : ℕ → ℕ) → Begun f fits block lo hi text answers m q most c m1
-      → Goal (view a 0 y n v i z c (DIVIDE_AT + 127) (lo ∷ hi ∷ []) m1 text answers) 146
-  by_word a y n v i z c m1 g = wide f fits block lo hi text answers m q most c m1 g a y n v i z
+  by_word : (a y : ℕ) (n v i z c : Bool) (m1 : ℕ → ℕ) → Begun f (omega (arith, fits)) block lo hi text answers m q most c m1
+      → Goal (view a 0 y n v i z c (DIVIDE_AT + 157) (lo ∷ hi ∷ []) m1 text answers) 146
+  by_word a y n v i z c m1 g = wide f (omega (arith, fits)) block lo hi text answers m q most c m1 g a y n v i z
 
   -- RIGHT is a byte of 128 or more
   large_right : (y : ℕ) (n v i z c : Bool) → m (RIGHT + 1) ≡ 0 → 128 ≤ m RIGHT → nat_le (m RIGHT) (m (LEFT + 1)) ≡ c
-      → Goal (view (m (LEFT + 1)) 0 y n v i z c (DIVIDE_AT + 121) (lo ∷ hi ∷ []) m text answers) (3 + 146)
+      → Goal (view (m (LEFT + 1)) 0 y n v i z c (DIVIDE_AT + 151) (lo ∷ hi ∷ []) m text answers) (3 + 146)
   large_right y n v i z false top many t =
       let less : m (LEFT + 1) < m RIGHT = leb-false (m RIGHT) (m (LEFT + 1)) t in
       looser f _ _ _ [] (1 + 146) (3 + 146) (omega arith) (λ w h. h)
-      (after f 2 fits divide_part (divide_in f.code block) 0 (view (m (LEFT + 1)) 0 y n v i z false (DIVIDE_AT + 121) (lo ∷ hi ∷ []) m text answers) _ _ 146 refl
+      (after f 4 fits divide_part (divide_in f.code block) 0 (view (m (LEFT + 1)) 0 y n v i z false (DIVIDE_AT + 151) (lo ∷ hi ∷ []) m text answers) _ _ 146 refl
       (by_word _ _ _ _ _ _ false m
       (record { left = p; low = refl; high = refl; others = λ a e. refl; less = omega (arith, less); total = omega arith })))
   large_right y n v i z true top many t =
@@ -40,7 +40,7 @@ module _ (f : Setup) (fits : Fits f 2) (block : Holds block_part f.code) (lo hi 
       let r = (m (LEFT + 1) + 256 - (m RIGHT + 0)) % 256 in
       let u : nat_le (m RIGHT + 0) (m (LEFT + 1)) ≡ true = le-leb _ _ (omega (arith, more)) in
       let rest : r + m RIGHT ≡ m (LEFT + 1) = omega (arith, more, p) in
-      after f 2 fits divide_part (divide_in f.code block) 2 (view (m (LEFT + 1)) 0 y n v i z true (DIVIDE_AT + 121) (lo ∷ hi ∷ []) m text answers) _ _ 146 refl
+      after f 4 fits divide_part (divide_in f.code block) 2 (view (m (LEFT + 1)) 0 y n v i z true (DIVIDE_AT + 151) (lo ∷ hi ∷ []) m text answers) _ _ 146 refl
       (rw u (by_word _ _ _ _ _ _ true (with_byte m (LEFT + 1) r)
       (record {
         left = (p.0, small_byte _);
@@ -53,24 +53,24 @@ module _ (f : Setup) (fits : Fits f 2) (block : Holds block_part f.code) (lo hi 
 
   -- RIGHT is a byte below 128: LEFT's high byte against it
   small_right : (y : ℕ) (n v i z c : Bool) → m (RIGHT + 1) ≡ 0 → m RIGHT < 128 → nat_le (m RIGHT) (m (LEFT + 1)) ≡ c
-      → Goal (view (m (LEFT + 1)) 0 y n v i z c (DIVIDE_AT + 78) (lo ∷ hi ∷ []) m text answers) (4 + 107)
+      → Goal (view (m (LEFT + 1)) 0 y n v i z c (DIVIDE_AT + 80) (lo ∷ hi ∷ []) m text answers) (1 + 106)
   small_right y n v i z false top few t =
-      looser f _ _ _ [] (1 + 56) (4 + 107) (omega arith) (λ w h. h)
-      (after f 2 fits divide_part (divide_in f.code block) 0 (view (m (LEFT + 1)) 0 y n v i z false (DIVIDE_AT + 78) (lo ∷ hi ∷ []) m text answers) _ _ 56 refl
+      looser f _ _ _ [] (1 + 50) (1 + 106) (omega arith) (λ w h. h)
+      (after f 4 fits divide_part (divide_in f.code block) 0 (view (m (LEFT + 1)) 0 y n v i z false (DIVIDE_AT + 80) (lo ∷ hi ∷ []) m text answers) _ _ 50 refl
       (by_low_byte f fits block lo hi text answers m top few _ _ _ _ _ _ p (leb-false (m RIGHT) (m (LEFT + 1)) t)))
   small_right y n v i z true top few t =
-      after f 2 fits divide_part (divide_in f.code block) 3 (view (m (LEFT + 1)) 0 y n v i z true (DIVIDE_AT + 78) (lo ∷ hi ∷ []) m text answers) _ _ 107 refl
-      (by_both_bytes f fits block lo hi text answers m top few _ _ _ _ _ _ p (omega (arith, some, top)))
+      after f 4 fits divide_part (divide_in f.code block) 0 (view (m (LEFT + 1)) 0 y n v i z true (DIVIDE_AT + 80) (lo ∷ hi ∷ []) m text answers) _ _ 106 refl
+      (by_both_bytes f fits block lo hi text answers m top few _ _ _ _ _ _ p (omega (arith, some, top)) (leb-true (m RIGHT) (m (LEFT + 1)) t))
 
-  byte_right : (a y : ℕ) (n v i z c : Bool) → m (RIGHT + 1) ≡ 0 → Goal (view a 0 y n v i z c (DIVIDE_AT + 70) (lo ∷ hi ∷ []) m text answers) (4 + (3 + 146))
+  byte_right : (a y : ℕ) (n v i z c : Bool) → m (RIGHT + 1) ≡ 0 → Goal (view a 0 y n v i z c (DIVIDE_AT + 72) (lo ∷ hi ∷ []) m text answers) (4 + (3 + 146))
   byte_right a y n v i z c top =
       ⊎_elim
       (λ few. let b : eqb (m RIGHT / 128 % 2) 1 ≡ false = ne_eqb _ _ (λ e. omega (arith, few, e)) in
-      looser f _ _ _ [] (4 + (4 + 107)) (4 + (3 + 146)) (omega arith) (λ w h. h)
-      (after f 2 fits divide_part (divide_in f.code block) 3 (view a 0 y n v i z c (DIVIDE_AT + 70) (lo ∷ hi ∷ []) m text answers) _ _ (4 + 107) refl
+      looser f _ _ _ [] (4 + (1 + 106)) (4 + (3 + 146)) (omega arith) (λ w h. h)
+      (after f 4 fits divide_part (divide_in f.code block) 3 (view a 0 y n v i z c (DIVIDE_AT + 72) (lo ∷ hi ∷ []) m text answers) _ _ (1 + 106) refl
       (rw b (small_right _ _ _ _ _ _ top few refl))))
       (λ many. let b : eqb (m RIGHT / 128 % 2) 1 ≡ true = eq-eqb _ _ (omega (arith, many, q.0)) in
-      after f 2 fits divide_part (divide_in f.code block) 3 (view a 0 y n v i z c (DIVIDE_AT + 70) (lo ∷ hi ∷ []) m text answers) _ _ (3 + 146) refl
+      after f 4 fits divide_part (divide_in f.code block) 3 (view a 0 y n v i z c (DIVIDE_AT + 72) (lo ∷ hi ∷ []) m text answers) _ _ (3 + 146) refl
       (rw b (large_right _ _ _ _ _ _ top many refl)))
       (cases_lt (m RIGHT) 128)
 
@@ -78,12 +78,12 @@ module _ (f : Setup) (fits : Fits f 2) (block : Holds block_part f.code) (lo hi 
   whole a x y n v i z c =
       ⊎_elim
       (λ none. let b : eqb ((0 + 256 - m (RIGHT + 1)) % 256) 0 ≡ true = eq-eqb _ _ (omega (arith, none)) in
-      after f 2 fits divide_part (divide_in f.code block) 2 (view a x y n v i z c unsigned_at (lo ∷ hi ∷ []) m text answers) _ _ (4 + (3 + 146)) refl
+      after f 4 fits divide_part (divide_in f.code block) 2 (view a x y n v i z c unsigned_at (lo ∷ hi ∷ []) m text answers) _ _ (4 + (3 + 146)) refl
       (rw b (byte_right _ _ _ _ _ _ _ none)))
       (λ any. let b : eqb ((0 + 256 - m (RIGHT + 1)) % 256) 0 ≡ false = ne_eqb _ _ (λ e. any (omega (arith, e, q.1))) in
       let t : nat_le (m (RIGHT + 1)) 0 ≡ false = lt-leb _ _ (omega (arith, any)) in
       looser f _ _ _ [] (3 + 146) 156 (omega arith) (λ w h. h)
-      (after f 2 fits divide_part (divide_in f.code block) 2 (view a x y n v i z c unsigned_at (lo ∷ hi ∷ []) m text answers) _ _ 146 refl
+      (after f 4 fits divide_part (divide_in f.code block) 2 (view a x y n v i z c unsigned_at (lo ∷ hi ∷ []) m text answers) _ _ 146 refl
       (rw b (rw t (by_word _ _ _ _ _ _ false m
       (record { left = p; low = refl; high = refl; others = λ a e. refl; less = omega (arith, any, p); total = omega arith }))))))
       (cases_eq (m (RIGHT + 1)) 0)

@@ -84,15 +84,15 @@ module _ (f : Setup) (fits : Fits f 2) (block : Holds block_part f.code) (lo hi 
 
   Less : ℕ → Type 0
   Less k = (a x y : ℕ) (n v i z c : Bool) (m : ℕ → ℕ) (j q : ℕ) → Held j q a c m → x ≡ suc k → j + k ≡ 8
-      → Goal (view a x y n v i z c (DIVIDE_AT + 157) (lo ∷ hi ∷ []) m text answers) (17 * k + 10)
+      → Goal (view a x y n v i z c (DIVIDE_AT + 187) (lo ∷ hi ∷ []) m text answers) (17 * k + 10)
 
   Next : ℕ → Type 0
   Next k = (a x y : ℕ) (n v i z c : Bool) (m : ℕ → ℕ) (j q : ℕ) → Held j q a c m → x ≡ suc k → suc j + k ≡ 8
-      → Goal (view a x y n v i z c (DIVIDE_AT + 130) (lo ∷ hi ∷ []) m text answers) (17 * k + 25)
+      → Goal (view a x y n v i z c (DIVIDE_AT + 160) (lo ∷ hi ∷ []) m text answers) (17 * k + 25)
 
   -- the last shift, and the words into their places
   last : Begun → (a x y : ℕ) (n v i z c : Bool) (m : ℕ → ℕ) (q : ℕ) → Held 8 q a c m → x ≡ 0
-      → Goal (view a x y n v i z c (DIVIDE_AT + 160) (lo ∷ hi ∷ []) m text answers) 8
+      → Goal (view a x y n v i z c (DIVIDE_AT + 190) (lo ∷ hi ∷ []) m text answers) 8
   last g a x y n v i z c m q h none =
       let e = word_in m0 RIGHT in
       let r = m (LEFT + 1) + 256 * a in
@@ -108,7 +108,7 @@ module _ (f : Setup) (fits : Fits f 2) (block : Holds block_part f.code) (lo hi 
       let small : a < 128 = omega (arith, h.less, most) in
       let total : (q + 256 * bit c0) * e + r ≡ word_in m0 LEFT = ap (λ p. p + r) (joined q (bit c0) e) ∙ omega (arith, part, g.total) in
       let w = with_byte (with_byte (with_byte (with_byte m LEFT l) (RESULT + 1) a) RESULT (m (LEFT + 1))) (LEFT + 1) u in
-      ending f 2 fits divide_part (divide_in f.code block) 7 (view a x y n v i z c (DIVIDE_AT + 160) (lo ∷ hi ∷ []) m text answers) _ refl
+      ending f 2 fits divide_part (divide_in f.code block) 7 (view a x y n v i z c (DIVIDE_AT + 190) (lo ∷ hi ∷ []) m text answers) _ refl
       (leaves_now refl (record {
         parts = record {
           left = holds_word w LEFT _ (omega (arith, low, h.few), omega (arith, high, zero)) (omega (arith, low, high) ∙ sym (div-mul-add (q + 256 * bit c0) e r h.less) ∙ ap (λ n. n / e) total);
@@ -124,7 +124,7 @@ module _ (f : Setup) (fits : Fits f 2) (block : Holds block_part f.code) (lo hi 
   less_none g a x y n v i z c m j q h e s =
       let none : (x + 255) % 256 ≡ 0 = omega (arith, e) in
       let done : eqb ((x + 255) % 256) 0 ≡ true = eq-eqb _ _ none in
-      after f 2 fits divide_part (divide_in f.code block) 1 (view a x y n v i z c (DIVIDE_AT + 157) (lo ∷ hi ∷ []) m text answers) _ _ 8 refl
+      after f 2 fits divide_part (divide_in f.code block) 1 (view a x y n v i z c (DIVIDE_AT + 187) (lo ∷ hi ∷ []) m text answers) _ _ 8 refl
       (rw done (last g _ _ _ _ _ _ _ _ m q (subst (λ j. Held j q a c m) (let t : j ≡ 8 = omega (arith, s) in t) h) none))
 
   less_more : (k : ℕ) → Next k → Less (suc k)
@@ -133,17 +133,17 @@ module _ (f : Setup) (fits : Fits f 2) (block : Holds block_part f.code) (lo hi 
       let less : (x + 255) % 256 ≡ suc k = omega (arith, e, s) in
       let more : eqb ((x + 255) % 256) 0 ≡ false = ne_eqb _ _ (λ x. omega (arith, less, x)) in
       looser f _ _ _ [] (2 + (17 * k + 25)) (17 * suc k + 10) (omega arith) (λ w h. h)
-      (after f 2 fits divide_part (divide_in f.code block) 1 (view a x y n v i z c (DIVIDE_AT + 157) (lo ∷ hi ∷ []) m text answers) _ _ (17 * k + 25) refl
+      (after f 2 fits divide_part (divide_in f.code block) 1 (view a x y n v i z c (DIVIDE_AT + 187) (lo ∷ hi ∷ []) m text answers) _ _ (17 * k + 25) refl
       (rw more (go _ _ _ _ _ _ _ _ m j q h less (omega (arith, s)))))
 
   -- the divisor goes into the rest
   keep : (k : ℕ) → Less k → (a x y : ℕ) (n v i z : Bool) (m : ℕ → ℕ) (j q : ℕ)
       → Held j q ((a + 256 - (m (RIGHT + 1) + bit (not (nat_le (m RIGHT + 0) (m (LEFT + 1)))))) % 256)
       (nat_le (m (RIGHT + 1) + bit (not (nat_le (m RIGHT + 0) (m (LEFT + 1))))) a) (with_byte m (LEFT + 1) ((m (LEFT + 1) + 256 - (m RIGHT + 0)) % 256))
-      → x ≡ suc k → j + k ≡ 8 → Goal (view a x y n v i z true (DIVIDE_AT + 147) (lo ∷ hi ∷ []) m text answers) (6 + (17 * k + 10))
+      → x ≡ suc k → j + k ≡ 8 → Goal (view a x y n v i z true (DIVIDE_AT + 177) (lo ∷ hi ∷ []) m text answers) (6 + (17 * k + 10))
   unfolding Less
   keep k go a x y n v i z m j q h e s =
-      after f 2 fits divide_part (divide_in f.code block) 5 (view a x y n v i z true (DIVIDE_AT + 147) (lo ∷ hi ∷ []) m text answers) _ _ (17 * k + 10) refl
+      after f 2 fits divide_part (divide_in f.code block) 5 (view a x y n v i z true (DIVIDE_AT + 177) (lo ∷ hi ∷ []) m text answers) _ _ (17 * k + 10) refl
       (go _ _ _ _ _ _ _ _ _ j q h e s)
 
   turn : (k : ℕ) → Less k → Next k
@@ -199,7 +199,7 @@ module _ (f : Setup) (fits : Fits f 2) (block : Holds block_part f.code) (lo hi 
       -- the high bytes tell that it doesn't
       (λ below. let t : nat_le (m (RIGHT + 1)) r1 ≡ false = lt-leb _ _ below in
       looser f _ _ _ [] (5 + (17 * k + 10)) (17 * k + 25) (omega arith) (λ w h. h)
-      (after f 2 fits divide_part (divide_in f.code block) 4 (view a x y n v i z c (DIVIDE_AT + 130) (lo ∷ hi ∷ []) m text answers) _ _ (17 * k + 10) refl
+      (after f 2 fits divide_part (divide_in f.code block) 4 (view a x y n v i z c (DIVIDE_AT + 160) (lo ∷ hi ∷ []) m text answers) _ _ (17 * k + 10) refl
       (rw t (go r1 x y _ _ _ _ false w (suc j) (q + q) (without (omega (arith, below, small0))) e s))))
       (λ least. let t : nat_le (m (RIGHT + 1)) r1 ≡ true = le-leb _ _ least in
       ⊎_elim
@@ -208,22 +208,22 @@ module _ (f : Setup) (fits : Fits f 2) (block : Holds block_part f.code) (lo hi 
       -- the high bytes are equal, and the low ones tell that it doesn't
       (λ below. let u : nat_le (m RIGHT) r0 ≡ false = lt-leb _ _ below in
       looser f _ _ _ [] (5 + (1 + (3 + (17 * k + 10)))) (17 * k + 25) (omega arith) (λ w h. h)
-      (after f 2 fits divide_part (divide_in f.code block) 4 (view a x y n v i z c (DIVIDE_AT + 130) (lo ∷ hi ∷ []) m text answers) _ _ (1 + (3 + (17 * k + 10))) refl
-      (rw t (after f 2 fits divide_part (divide_in f.code block) 0 (view r1 x y _ _ _ _ true (DIVIDE_AT + 139) (lo ∷ hi ∷ []) w text answers) _ _ (3 + (17 * k + 10)) refl
-      (rw tz (after f 2 fits divide_part (divide_in f.code block) 2 (view r1 x y _ _ _ _ true (DIVIDE_AT + 141) (lo ∷ hi ∷ []) w text answers) _ _ (17 * k + 10) refl
+      (after f 2 fits divide_part (divide_in f.code block) 4 (view a x y n v i z c (DIVIDE_AT + 160) (lo ∷ hi ∷ []) m text answers) _ _ (1 + (3 + (17 * k + 10))) refl
+      (rw t (after f 2 fits divide_part (divide_in f.code block) 0 (view r1 x y _ _ _ _ true (DIVIDE_AT + 169) (lo ∷ hi ∷ []) w text answers) _ _ (3 + (17 * k + 10)) refl
+      (rw tz (after f 2 fits divide_part (divide_in f.code block) 2 (view r1 x y _ _ _ _ true (DIVIDE_AT + 171) (lo ∷ hi ∷ []) w text answers) _ _ (17 * k + 10) refl
       (rw u (go r1 x _ _ _ _ _ false w (suc j) (q + q) (without (omega (arith, below, equal))) e s))))))))
       (λ more. let u : nat_le (m RIGHT) r0 ≡ true = le-leb _ _ more in
       looser f _ _ _ [] (5 + (1 + (3 + (6 + (17 * k + 10))))) (17 * k + 25) (omega arith) (λ w h. h)
-      (after f 2 fits divide_part (divide_in f.code block) 4 (view a x y n v i z c (DIVIDE_AT + 130) (lo ∷ hi ∷ []) m text answers) _ _ (1 + (3 + (6 + (17 * k + 10)))) refl
-      (rw t (after f 2 fits divide_part (divide_in f.code block) 0 (view r1 x y _ _ _ _ true (DIVIDE_AT + 139) (lo ∷ hi ∷ []) w text answers) _ _ (3 + (6 + (17 * k + 10))) refl
-      (rw tz (after f 2 fits divide_part (divide_in f.code block) 2 (view r1 x y _ _ _ _ true (DIVIDE_AT + 141) (lo ∷ hi ∷ []) w text answers) _ _ (6 + (17 * k + 10)) refl
+      (after f 2 fits divide_part (divide_in f.code block) 4 (view a x y n v i z c (DIVIDE_AT + 160) (lo ∷ hi ∷ []) m text answers) _ _ (1 + (3 + (6 + (17 * k + 10)))) refl
+      (rw t (after f 2 fits divide_part (divide_in f.code block) 0 (view r1 x y _ _ _ _ true (DIVIDE_AT + 169) (lo ∷ hi ∷ []) w text answers) _ _ (3 + (6 + (17 * k + 10))) refl
+      (rw tz (after f 2 fits divide_part (divide_in f.code block) 2 (view r1 x y _ _ _ _ true (DIVIDE_AT + 171) (lo ∷ hi ∷ []) w text answers) _ _ (6 + (17 * k + 10)) refl
       (rw u (keep k go r1 x _ _ _ _ _ w (suc j) (q + q + 1) (within (omega (arith, more, equal))) e s))))))))
       (cases_lt r0 (m RIGHT)))
       -- the high bytes tell that it does
       (λ apart. let tz : eqb ((r1 + 256 - m (RIGHT + 1)) % 256) 0 ≡ false = ne_eqb _ _ (λ z. apart (omega (arith, z, least, small1))) in
       looser f _ _ _ [] (5 + (1 + (6 + (17 * k + 10)))) (17 * k + 25) (omega arith) (λ w h. h)
-      (after f 2 fits divide_part (divide_in f.code block) 4 (view a x y n v i z c (DIVIDE_AT + 130) (lo ∷ hi ∷ []) m text answers) _ _ (1 + (6 + (17 * k + 10))) refl
-      (rw t (after f 2 fits divide_part (divide_in f.code block) 0 (view r1 x y _ _ _ _ true (DIVIDE_AT + 139) (lo ∷ hi ∷ []) w text answers) _ _ (6 + (17 * k + 10)) refl
+      (after f 2 fits divide_part (divide_in f.code block) 4 (view a x y n v i z c (DIVIDE_AT + 160) (lo ∷ hi ∷ []) m text answers) _ _ (1 + (6 + (17 * k + 10))) refl
+      (rw t (after f 2 fits divide_part (divide_in f.code block) 0 (view r1 x y _ _ _ _ true (DIVIDE_AT + 169) (lo ∷ hi ∷ []) w text answers) _ _ (6 + (17 * k + 10)) refl
       (rw tz (keep k go r1 x y _ _ _ _ w (suc j) (q + q + 1) (within (exceeds r0 r1 (m RIGHT) (m (RIGHT + 1)) least apart right.0)) e s))))))
       (cases_eq r1 (m (RIGHT + 1))))
       (cases_lt r1 (m (RIGHT + 1)))
@@ -236,10 +236,10 @@ module _ (f : Setup) (fits : Fits f 2) (block : Holds block_part f.code) (lo hi 
   lesses g (suc k) = less_more k (turn k (lesses g k))
 
   -- eight rounds divide LEFT by RIGHT
-  pub wide : Begun → (a y : ℕ) (n v i z : Bool) → Goal (view a 0 y n v i z c0 (DIVIDE_AT + 127) (lo ∷ hi ∷ []) m1 text answers) 146
+  pub wide : Begun → (a y : ℕ) (n v i z : Bool) → Goal (view a 0 y n v i z c0 (DIVIDE_AT + 157) (lo ∷ hi ∷ []) m1 text answers) 146
   unfolding Next
   wide g a y n v i z =
-      after f 2 fits divide_part (divide_in f.code block) 1 (view a 0 y n v i z c0 (DIVIDE_AT + 127) (lo ∷ hi ∷ []) m1 text answers) _ _ 144 refl
+      after f 2 fits divide_part (divide_in f.code block) 1 (view a 0 y n v i z c0 (DIVIDE_AT + 157) (lo ∷ hi ∷ []) m1 text answers) _ _ 144 refl
       (turn 7 (lesses g 7) _ _ _ _ _ _ _ _ _ 0 0
       (record {
         left = g.left;

@@ -83,17 +83,17 @@ text_on = TEXT_BYTES ++ zone_on
 abbrev number_on : List ℕ
 number_on = NUMBER_BYTES ++ text_on
 
+abbrev multiply_on : List ℕ
+multiply_on = MULTIPLY_BYTES ++ number_on
+
 abbrev random_on : List ℕ
-random_on = RANDOM_BYTES ++ number_on
+random_on = RANDOM_BYTES ++ multiply_on
 
 abbrev divide_on : List ℕ
 divide_on = DIVIDE_BYTES ++ random_on
 
-abbrev multiply_on : List ℕ
-multiply_on = MULTIPLY_BYTES ++ divide_on
-
 abbrev send_on : List ℕ
-send_on = SEND_BYTES ++ multiply_on
+send_on = SEND_BYTES ++ divide_on
 
 abbrev prologue_on : List ℕ
 prologue_on = PROLOGUE_BYTES ++ send_on
@@ -104,17 +104,17 @@ from_prologue = holds_itself block_part
 from_send : Holds (part_at SEND_AT send_on) block_part
 from_send = holds_then (part_at SEND_AT send_on) (part_at PROLOGUE_AT prologue_on) block_part (part_back PROLOGUE_AT PROLOGUE_BYTES send_on) from_prologue
 
-from_multiply : Holds (part_at MULTIPLY_AT multiply_on) block_part
-from_multiply = holds_then (part_at MULTIPLY_AT multiply_on) (part_at SEND_AT send_on) block_part (part_back SEND_AT SEND_BYTES multiply_on) from_send
-
 from_divide : Holds (part_at DIVIDE_AT divide_on) block_part
-from_divide = holds_then (part_at DIVIDE_AT divide_on) (part_at MULTIPLY_AT multiply_on) block_part (part_back MULTIPLY_AT MULTIPLY_BYTES divide_on) from_multiply
+from_divide = holds_then (part_at DIVIDE_AT divide_on) (part_at SEND_AT send_on) block_part (part_back SEND_AT SEND_BYTES divide_on) from_send
 
 from_random : Holds (part_at RANDOM_AT random_on) block_part
 from_random = holds_then (part_at RANDOM_AT random_on) (part_at DIVIDE_AT divide_on) block_part (part_back DIVIDE_AT DIVIDE_BYTES random_on) from_divide
 
+from_multiply : Holds (part_at MULTIPLY_AT multiply_on) block_part
+from_multiply = holds_then (part_at MULTIPLY_AT multiply_on) (part_at RANDOM_AT random_on) block_part (part_back RANDOM_AT RANDOM_BYTES multiply_on) from_random
+
 from_number : Holds (part_at NUMBER_AT number_on) block_part
-from_number = holds_then (part_at NUMBER_AT number_on) (part_at RANDOM_AT random_on) block_part (part_back RANDOM_AT RANDOM_BYTES number_on) from_random
+from_number = holds_then (part_at NUMBER_AT number_on) (part_at MULTIPLY_AT multiply_on) block_part (part_back MULTIPLY_AT MULTIPLY_BYTES number_on) from_multiply
 
 from_text : Holds (part_at TEXT_AT text_on) block_part
 from_text = holds_then (part_at TEXT_AT text_on) (part_at NUMBER_AT number_on) block_part (part_back NUMBER_AT NUMBER_BYTES text_on) from_number
@@ -150,12 +150,12 @@ prologue_in code block = holds_then prologue_part block_part code (holds_then pr
 
 -- the block holds Send
 pub send_in : (code : Part) → Holds block_part code → Holds send_part code
-send_in code block = holds_then send_part block_part code (holds_then send_part (part_at SEND_AT send_on) block_part (part_front SEND_AT SEND_BYTES multiply_on) from_send) block
+send_in code block = holds_then send_part block_part code (holds_then send_part (part_at SEND_AT send_on) block_part (part_front SEND_AT SEND_BYTES divide_on) from_send) block
 
 -- the block holds Multiply
 pub multiply_in : (code : Part) → Holds block_part code → Holds multiply_part code
 multiply_in code block = holds_then multiply_part block_part code (holds_then multiply_part (part_at MULTIPLY_AT multiply_on) block_part
-    (part_front MULTIPLY_AT MULTIPLY_BYTES divide_on) from_multiply) block
+    (part_front MULTIPLY_AT MULTIPLY_BYTES number_on) from_multiply) block
 
 -- the block holds Divide
 pub divide_in : (code : Part) → Holds block_part code → Holds divide_part code
@@ -163,7 +163,7 @@ divide_in code block = holds_then divide_part block_part code (holds_then divide
 
 -- the block holds Random
 pub random_in : (code : Part) → Holds block_part code → Holds random_part code
-random_in code block = holds_then random_part block_part code (holds_then random_part (part_at RANDOM_AT random_on) block_part (part_front RANDOM_AT RANDOM_BYTES number_on) from_random) block
+random_in code block = holds_then random_part block_part code (holds_then random_part (part_at RANDOM_AT random_on) block_part (part_front RANDOM_AT RANDOM_BYTES multiply_on) from_random) block
 
 -- the block holds Number
 pub number_in : (code : Part) → Holds block_part code → Holds number_part code

@@ -79,7 +79,7 @@ COUNT = 0xC06A
 abbrev pub LENGTH : ℕ
 LENGTH = 0xC06C
 
--- the byte that is sent or was read
+-- a byte that is sent
 abbrev pub BYTE : ℕ
 BYTE = 0xC06D
 

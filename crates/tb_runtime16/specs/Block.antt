@@ -11,7 +11,7 @@ use Rattle.tb_runtime16.specs.declared.code.TheConstants.{POLL_BYTES}
 -- the bytes of the block, which are those of the code's table, one routine after another
 abbrev pub block_bytes : List ℕ
 block_bytes =
-    PROLOGUE_BYTES ++ SEND_BYTES ++ MULTIPLY_BYTES ++ DIVIDE_BYTES ++ RANDOM_BYTES ++ NUMBER_BYTES ++ TEXT_BYTES ++ ZONE_BYTES ++ INPUT_BYTES
+    PROLOGUE_BYTES ++ SEND_BYTES ++ DIVIDE_BYTES ++ RANDOM_BYTES ++ MULTIPLY_BYTES ++ NUMBER_BYTES ++ TEXT_BYTES ++ ZONE_BYTES ++ INPUT_BYTES
     ++ SEARCH_BYTES ++ PUSH_BYTES ++ POP_BYTES ++ FAULT_LINE_BYTES ++ FAULT_BYTES ++ POLL_BYTES
 
 -- the bytes of the block at their addresses

@@ -1,26 +1,21 @@
 -- What Input promises: one variable's turn.
 use Rattle.std.specs.Prelude.{◌≡◌, ℕ, ◌+◌, ◌*◌, ◌%◌, ◌≤◌, Bool, true, false, ◌||◌, List, [], ◌∷◌, ◌++◌, length, ◌==◌}
 use Rattle.tb_cpu.specs.Effects.{bit}
-use Rattle.tb_memmap.specs.Regions.{within}
 use Rattle.tb_reaching.specs.View.{View, Setup, Holds, Fits, Comes, view, back_at}
 use Rattle.tb_reaching.specs.Start.{IsHome, IsWaiting}
 use Rattle.tb_meaning.specs.Control.{column_after, fault_text}
 use Rattle.tb_meaning.specs.Input.{Nothing, Turn, Got, Bad, Dry, turn}
-use Rattle.tb_runtime16.specs.Addresses.{INPUT_AT, COLUMN, LEFT, RESULT, LINE, BYTE, OPEN, SCRATCH}
+use Rattle.tb_runtime16.specs.Addresses.{INPUT_AT, COLUMN, LINE, OPEN}
 use Rattle.tb_runtime16.specs.Block.{block_part}
 use Rattle.tb_runtime16.specs.Ends.{Entered}
-use Rattle.tb_runtime16.specs.Laws.{WordAt, Leaves, Gives}
+use Rattle.tb_runtime16.specs.Laws.{WordAt, Leaves, Gives, is_argument}
 use Rattle.tb_opcodes.specs.Bytes.{AreBytes}
 
 -- ---- the law
 
--- where Input keeps the sign that it read, or 0 before one: the byte after SCRATCH
-abbrev pub MINUS : ℕ
-MINUS = SCRATCH + 1
-
 -- the addresses that Input changes
 abbrev pub is_changed : ℕ → Bool
-is_changed a = within LEFT (LEFT + 1) a || (within RESULT (RESULT + 1) a || (within BYTE MINUS a || (a == OPEN || a == COLUMN)))
+is_changed a = is_argument a || (a == OPEN || a == COLUMN)
 
 -- what Input sends before it reads: nothing if a line is open, else a question mark and a space
 abbrev pub prompt : Bool → List ℕ

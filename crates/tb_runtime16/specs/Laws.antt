@@ -102,7 +102,7 @@ TextLaw =
 abbrev pub ZoneLaw : Type 0
 ZoneLaw =
     (f : Setup) → Fits f 4 → Holds block_part f.code → (lo hi : ℕ) (text answers : List ℕ) (m : ℕ → ℕ) (a x y : ℕ) (n v i z c : Bool) → m COLUMN < 256 →
-    Comes f (view a x y n v i z c ZONE_AT (lo ∷ hi ∷ []) m text answers) (Back lo hi text answers (Sent nowhere m (zone (m COLUMN)))) (zone (m COLUMN)) 97
+    Comes f (view a x y n v i z c ZONE_AT (lo ∷ hi ∷ []) m text answers) (Back lo hi text answers (Sent nowhere m (zone (m COLUMN)))) (zone (m COLUMN)) 65
 
 -- ---- Multiply
 
@@ -117,7 +117,7 @@ MultiplyLaw =
 
 -- the entry of the division without signs, inside Divide
 abbrev pub unsigned_at : ℕ
-unsigned_at = DIVIDE_AT + 64
+unsigned_at = DIVIDE_AT + 66
 
 -- memory after the division without signs: quotient q at LEFT, remainder r at RESULT, and all else unchanged
 pub record Parted (m0 : ℕ → ℕ) (q r : ℕ) (m : ℕ → ℕ) : Type 0 where
@@ -128,7 +128,7 @@ pub record Parted (m0 : ℕ → ℕ) (q r : ℕ) (m : ℕ → ℕ) : Type 0 wher
 -- inside Divide: quotient and remainder of words without signs
 abbrev pub UnsignedLaw : Type 0
 UnsignedLaw =
-    (f : Setup) → Fits f 2 → Holds block_part f.code → (lo hi : ℕ) (text answers : List ℕ) (m : ℕ → ℕ) (a x y : ℕ) (n v i z c : Bool) (left right : ℕ)
+    (f : Setup) → Fits f 4 → Holds block_part f.code → (lo hi : ℕ) (text answers : List ℕ) (m : ℕ → ℕ) (a x y : ℕ) (n v i z c : Bool) (left right : ℕ)
     → WordAt m LEFT left → WordAt m RIGHT right → 1 ≤ right → right ≤ 32768 →
     Comes f (view a x y n v i z c unsigned_at (lo ∷ hi ∷ []) m text answers) (Back lo hi text answers (Parted m (left / right) (left % right))) [] 156
 
@@ -136,20 +136,20 @@ UnsignedLaw =
 
 -- the entry of what negates LEFT, inside Divide
 abbrev pub negate_left_at : ℕ
-negate_left_at = DIVIDE_AT + 28
+negate_left_at = DIVIDE_AT + 29
 
--- Divide gives the quotient of signed words, truncated toward zero, and the remainder's size, within 210 Go events
+-- Divide gives the quotient of signed words, truncated toward zero, and the remainder's size, within 203 Go events
 abbrev pub DivideLaw : Type 0
 DivideLaw =
     (f : Setup) → Fits f 6 → Holds block_part f.code → (lo hi : ℕ) (text answers : List ℕ) (m : ℕ → ℕ) (a x y : ℕ) (n v i z c : Bool) (left right : ℕ)
     → WordAt m LEFT left → WordAt m RIGHT right → 1 ≤ right →
-    Comes f (view a x y n v i z c DIVIDE_AT (lo ∷ hi ∷ []) m text answers) (Back lo hi text answers (Parts is_argument m (quotient left right) (magnitude left % magnitude right))) [] 210
+    Comes f (view a x y n v i z c DIVIDE_AT (lo ∷ hi ∷ []) m text answers) (Back lo hi text answers (Parts is_argument m (quotient left right) (magnitude left % magnitude right))) [] 203
 
 -- by 0, Divide goes to Fault with 2, with memory unchanged
 abbrev pub DivideByZeroLaw : Type 0
 DivideByZeroLaw =
     (f : Setup) → Fits f 2 → Holds block_part f.code → (lo hi : ℕ) (text answers : List ℕ) (m : ℕ → ℕ) (a x y : ℕ) (n v i z c : Bool) → WordAt m RIGHT 0 →
-    Comes f (view a x y n v i z c DIVIDE_AT (lo ∷ hi ∷ []) m text answers) (Faults lo hi text answers 2 (λ w. w ≡ m)) [] 5
+    Comes f (view a x y n v i z c DIVIDE_AT (lo ∷ hi ∷ []) m text answers) (Faults lo hi text answers 2 (λ w. w ≡ m)) [] 10
 
 -- ---- Number
 

@@ -43,7 +43,7 @@ pub const WANTED: u16 = 0xc068;
 pub const COUNT: u16 = 0xc06a;
 /// A text's length, a byte.
 pub const LENGTH: u16 = 0xc06c;
-/// The byte that is sent or was read.
+/// A byte that is sent.
 pub const BYTE: u16 = 0xc06d;
 /// Scratch bytes of the routines, up to $C07F.
 pub const SCRATCH: u16 = 0xc06e;
@@ -57,12 +57,12 @@ pub const RETURN_HIGH: u16 = 0xc300;
 pub const PROLOGUE_LENGTH: usize = 18;
 /// Bytes of Send.
 pub const SEND_LENGTH: usize = 15;
-/// Bytes of Multiply.
-pub const MULTIPLY_LENGTH: usize = 41;
 /// Bytes of Divide.
-pub const DIVIDE_LENGTH: usize = 175;
+pub const DIVIDE_LENGTH: usize = 205;
 /// Bytes of Random.
 pub const RANDOM_LENGTH: usize = 92;
+/// Bytes of Multiply.
+pub const MULTIPLY_LENGTH: usize = 37;
 /// Bytes of Number.
 pub const NUMBER_LENGTH: usize = 84;
 /// Bytes of Text.
@@ -70,7 +70,7 @@ pub const TEXT_LENGTH: usize = 24;
 /// Bytes of Zone.
 pub const ZONE_LENGTH: usize = 13;
 /// Bytes of Input.
-pub const INPUT_LENGTH: usize = 183;
+pub const INPUT_LENGTH: usize = 157;
 /// Bytes of Search.
 pub const SEARCH_LENGTH: usize = 186;
 /// Bytes of Push.
@@ -87,14 +87,14 @@ pub const POLL_LENGTH: usize = 13;
 pub const BLOCK_AT: u16 = CODE_START;
 /// Where Send begins, which sends the byte in A and updates `COLUMN`: what the other routines call for a single byte.
 pub const SEND_AT: u16 = BLOCK_AT + PROLOGUE_LENGTH as u16;
-/// Where Multiply begins.
-pub const MULTIPLY_AT: u16 = SEND_AT + SEND_LENGTH as u16;
 /// Where Divide begins.
-pub const DIVIDE_AT: u16 = MULTIPLY_AT + MULTIPLY_LENGTH as u16;
+pub const DIVIDE_AT: u16 = SEND_AT + SEND_LENGTH as u16;
 /// Where Random begins.
 pub const RANDOM_AT: u16 = DIVIDE_AT + DIVIDE_LENGTH as u16;
+/// Where Multiply begins.
+pub const MULTIPLY_AT: u16 = RANDOM_AT + RANDOM_LENGTH as u16;
 /// Where Number begins.
-pub const NUMBER_AT: u16 = RANDOM_AT + RANDOM_LENGTH as u16;
+pub const NUMBER_AT: u16 = MULTIPLY_AT + MULTIPLY_LENGTH as u16;
 /// Where Text begins.
 pub const TEXT_AT: u16 = NUMBER_AT + NUMBER_LENGTH as u16;
 /// Where Zone begins.

@@ -12,8 +12,8 @@ use crate::addresses::{
     SEARCH_LENGTH, SEND_LENGTH, TEXT_LENGTH, ZONE_LENGTH,
 };
 use crate::targets::{
-    DIVIDEBY, FAULT, LINES, NEGATE, NUMBER, OPPOSITE, POWERS_HIGH, POWERS_LOW, SEARCH, SEND, STORE,
-    UNSIGNED,
+    FAULT, LINES, NEGATE, NUMBER, OPPOSITE, PLAIN, POWERS_HIGH, POWERS_LOW, ROUNDS, SEARCH, SEND,
+    SIZES, STORE, UNSIGNED,
 };
 
 // The prologue: decimal mode off, $C000 to $C03D cleared, S kept at HOME_S, and on to the first line.
@@ -47,131 +47,117 @@ macro_rules! send {
     };
 }
 
-// Multiply: LEFT times RIGHT, modulo 65,536, into RESULT.
-macro_rules! multiply {
-    ([$($before:tt)*] $next:ident $($others:ident)*) => {
-        $next!([$($before)*
-        0xa2, 0x00, // 0 MULTIPLY: LDX #$00
-        0x8e, 0x67, 0xc0, // 2: STX RESULT+1
-        0x8a, // 5: TXA
-        0x46, 0xfe, // 6 MULTIPLY1: LSR RIGHT+1
-        0x66, 0xfd, // 8: ROR RIGHT
-        0x90, 0x0d, // 10: BCC MULTIPLY2
-        0x18, // 12: CLC
-        0x65, 0xfb, // 13: ADC LEFT
-        0xa8, // 15: TAY
-        0xad, 0x67, 0xc0, // 16: LDA RESULT+1
-        0x65, 0xfc, // 19: ADC LEFT+1
-        0x8d, 0x67, 0xc0, // 21: STA RESULT+1
-        0x98, // 24: TYA
-        0x06, 0xfb, // 25 MULTIPLY2: ASL LEFT
-        0x26, 0xfc, // 27: ROL LEFT+1
-        0xa6, 0xfd, // 29: LDX RIGHT
-        0xd0, 0xe5, // 31: BNE MULTIPLY1
-        0xa6, 0xfe, // 33: LDX RIGHT+1
-        0xd0, 0xe1, // 35: BNE MULTIPLY1
-        0x8d, 0x66, 0xc0, // 37: STA RESULT
-        0x60, // 40: RTS
-        ] $($others)*)
-    };
-}
-
 // Divide: the quotient of the signed words at LEFT and RIGHT into LEFT, the remainder's size into RESULT; fault 2 if
 // RIGHT is 0.
 macro_rules! divide {
     ([$($before:tt)*] $next:ident $($others:ident)*) => {
         $next!([$($before)*
-        0xa5, 0xfd, // 0 DIVIDE: LDA RIGHT
-        0x05, 0xfe, // 2: ORA RIGHT+1
-        0xf0, 0x26, // 4: BEQ DIVIDEZERO
-        0x30, 0x0a, // 6: BMI DIVIDESIGNED
-        0xa6, 0xfe, // 8: LDX RIGHT+1
-        0xd0, 0x06, // 10: BNE DIVIDESIGNED
-        0xa5, 0xfc, // 12: LDA LEFT+1
-        0xc5, 0xfd, // 14: CMP RIGHT
-        0x90, 0x42, // 16: BCC BYTEFEW
-        0xa5, 0xfc, // 18 DIVIDESIGNED: LDA LEFT+1
-        0x10, 0x1b, // 20: BPL DIVIDEBY
-        0x20, OPPOSITE.0, OPPOSITE.1, // 22: JSR NEGATELEFT
-        0x20, DIVIDEBY.0, DIVIDEBY.1, // 25: JSR DIVIDEBY
-        0xa2, 0x00, // 28 NEGATELEFT: LDX #$00
-        0x38, // 30 NEGATE: SEC
-        0xa9, 0x00, // 31: LDA #$00
-        0xf5, 0xfb, // 33: SBC LEFT,X
-        0x95, 0xfb, // 35: STA LEFT,X
-        0xa9, 0x00, // 37: LDA #$00
-        0xf5, 0xfc, // 39: SBC LEFT+1,X
-        0x95, 0xfc, // 41: STA LEFT+1,X
-        0x60, // 43: RTS
-        0xa9, 0x02, // 44 DIVIDEZERO: LDA #$02
-        0x4c, FAULT.0, FAULT.1, // 46: JMP FAULT
-        0xa5, 0xfe, // 49 DIVIDEBY: LDA RIGHT+1
-        0x10, 0x0b, // 51: BPL UNSIGNED
-        0xa2, 0x02, // 53: LDX #$02
-        0x20, NEGATE.0, NEGATE.1, // 55: JSR NEGATE
-        0x20, UNSIGNED.0, UNSIGNED.1, // 58: JSR UNSIGNED
-        0x4c, OPPOSITE.0, OPPOSITE.1, // 61: JMP NEGATELEFT
-        0xa2, 0x00, // 64 UNSIGNED: LDX #$00
-        0xe4, 0xfe, // 66: CPX RIGHT+1
-        0xd0, 0x39, // 68: BNE WIDE
-        0xa5, 0xfc, // 70: LDA LEFT+1
-        0xc5, 0xfd, // 72: CMP RIGHT
-        0xa4, 0xfd, // 74: LDY RIGHT
-        0x30, 0x2b, // 76: BMI WIDEHALF
-        0x90, 0x04, // 78: BCC BYTEFEW
-        0x8a, // 80: TXA
-        0xe8, // 81: INX
-        0xd0, 0x02, // 82: BNE BYTE
-        0x86, 0xfc, // 84 BYTEFEW: STX LEFT+1
-        0xa0, 0x04, // 86 BYTE: LDY #$04
-        0x36, 0xfb, // 88 BYTENEXT: ROL LEFT,X
-        0x2a, // 90: ROL A
-        0xc5, 0xfd, // 91: CMP RIGHT
-        0x90, 0x02, // 93: BCC BYTELESS
-        0xe5, 0xfd, // 95: SBC RIGHT
-        0x36, 0xfb, // 97 BYTELESS: ROL LEFT,X
-        0x2a, // 99: ROL A
-        0xc5, 0xfd, // 100: CMP RIGHT
-        0x90, 0x02, // 102: BCC BYTELESS2
-        0xe5, 0xfd, // 104: SBC RIGHT
-        0x88, // 106 BYTELESS2: DEY
-        0xd0, 0xeb, // 107: BNE BYTENEXT
-        0x36, 0xfb, // 109: ROL LEFT,X
-        0xca, // 111: DEX
-        0x10, 0xe4, // 112: BPL BYTE
-        0x8d, 0x66, 0xc0, // 114: STA RESULT
-        0x8c, 0x67, 0xc0, // 117: STY RESULT+1
-        0x60, // 120: RTS
-        0x90, 0x04, // 121 WIDEHALF: BCC WIDE
-        0xe5, 0xfd, // 123: SBC RIGHT
-        0x85, 0xfc, // 125: STA LEFT+1
-        0x8a, // 127 WIDE: TXA
-        0xa2, 0x08, // 128: LDX #$08
-        0x26, 0xfb, // 130 WIDENEXT: ROL LEFT
-        0x26, 0xfc, // 132: ROL LEFT+1
-        0x2a, // 134: ROL A
-        0xc5, 0xfe, // 135: CMP RIGHT+1
-        0x90, 0x12, // 137: BCC WIDELESS
-        0xd0, 0x06, // 139: BNE WIDEMORE
-        0xa4, 0xfc, // 141: LDY LEFT+1
-        0xc4, 0xfd, // 143: CPY RIGHT
-        0x90, 0x0a, // 145: BCC WIDELESS
-        0xa8, // 147 WIDEMORE: TAY
-        0xa5, 0xfc, // 148: LDA LEFT+1
-        0xe5, 0xfd, // 150: SBC RIGHT
-        0x85, 0xfc, // 152: STA LEFT+1
-        0x98, // 154: TYA
-        0xe5, 0xfe, // 155: SBC RIGHT+1
-        0xca, // 157 WIDELESS: DEX
-        0xd0, 0xe2, // 158: BNE WIDENEXT
-        0x26, 0xfb, // 160: ROL LEFT
-        0x8d, 0x67, 0xc0, // 162: STA RESULT+1
-        0xa5, 0xfc, // 165: LDA LEFT+1
-        0x8d, 0x66, 0xc0, // 167: STA RESULT
-        0x8a, // 170: TXA
-        0x2a, // 171: ROL A
-        0x85, 0xfc, // 172: STA LEFT+1
-        0x60, // 174: RTS
+        0x24, 0xfd, // 0 DIVIDE: BIT RIGHT
+        0x30, 0x0a, // 2: BMI DIVIDEANY
+        0xa5, 0xfc, // 4: LDA LEFT+1
+        0xc5, 0xfd, // 6: CMP RIGHT
+        0xb0, 0x04, // 8: BCS DIVIDEANY
+        0xa6, 0xfe, // 10: LDX RIGHT+1
+        0xf0, 0x55, // 12: BEQ BYTEFEW
+        0xa5, 0xfd, // 14 DIVIDEANY: LDA RIGHT
+        0x05, 0xfe, // 16: ORA RIGHT+1
+        0xf0, 0x19, // 18: BEQ DIVIDEZERO
+        0xa5, 0xfc, // 20: LDA LEFT+1
+        0x45, 0xfe, // 22: EOR RIGHT+1
+        0x10, 0x18, // 24: BPL DIVIDESIZES
+        0x20, SIZES.0, SIZES.1, // 26: JSR DIVIDESIZES
+        0xa2, 0x00, // 29 NEGATELEFT: LDX #$00
+        0x38, // 31 NEGATE: SEC
+        0xa9, 0x00, // 32: LDA #$00
+        0xf5, 0xfb, // 34: SBC LEFT,X
+        0x95, 0xfb, // 36: STA LEFT,X
+        0xa9, 0x00, // 38: LDA #$00
+        0xf5, 0xfc, // 40: SBC LEFT+1,X
+        0x95, 0xfc, // 42: STA LEFT+1,X
+        0x60, // 44: RTS
+        0xa9, 0x02, // 45 DIVIDEZERO: LDA #$02
+        0x4c, FAULT.0, FAULT.1, // 47: JMP FAULT
+        0xa5, 0xfc, // 50 DIVIDESIZES: LDA LEFT+1
+        0x10, 0x03, // 52: BPL DIVIDEBY
+        0x20, OPPOSITE.0, OPPOSITE.1, // 54: JSR NEGATELEFT
+        0xa5, 0xfe, // 57 DIVIDEBY: LDA RIGHT+1
+        0x10, 0x05, // 59: BPL UNSIGNED
+        0xa2, 0x02, // 61: LDX #$02
+        0x20, NEGATE.0, NEGATE.1, // 63: JSR NEGATE
+        0xa2, 0x00, // 66 UNSIGNED: LDX #$00
+        0xe4, 0xfe, // 68: CPX RIGHT+1
+        0xd0, 0x55, // 70: BNE WIDE
+        0xa5, 0xfc, // 72: LDA LEFT+1
+        0xc5, 0xfd, // 74: CMP RIGHT
+        0xa4, 0xfd, // 76: LDY RIGHT
+        0x30, 0x47, // 78: BMI WIDEHALF
+        0x90, 0x11, // 80: BCC BYTEFEW
+        0xa6, 0xfb, // 82: LDX LEFT
+        0x85, 0xfb, // 84: STA LEFT
+        0xa9, 0x00, // 86: LDA #$00
+        0x20, ROUNDS.0, ROUNDS.1, // 88: JSR ROUNDS
+        0xa4, 0xfb, // 91: LDY LEFT
+        0x86, 0xfb, // 93: STX LEFT
+        0x84, 0xfc, // 95: STY LEFT+1
+        0xd0, 0x02, // 97: BNE ROUNDS
+        0x86, 0xfc, // 99 BYTEFEW: STX LEFT+1
+        0xa0, 0x02, // 101 ROUNDS: LDY #$02
+        0x26, 0xfb, // 103 ROUND: ROL LEFT
+        0x2a, // 105: ROL A
+        0xc5, 0xfd, // 106: CMP RIGHT
+        0x90, 0x02, // 108: BCC ROUND2
+        0xe5, 0xfd, // 110: SBC RIGHT
+        0x26, 0xfb, // 112 ROUND2: ROL LEFT
+        0x2a, // 114: ROL A
+        0xc5, 0xfd, // 115: CMP RIGHT
+        0x90, 0x02, // 117: BCC ROUND3
+        0xe5, 0xfd, // 119: SBC RIGHT
+        0x26, 0xfb, // 121 ROUND3: ROL LEFT
+        0x2a, // 123: ROL A
+        0xc5, 0xfd, // 124: CMP RIGHT
+        0x90, 0x02, // 126: BCC ROUND4
+        0xe5, 0xfd, // 128: SBC RIGHT
+        0x26, 0xfb, // 130 ROUND4: ROL LEFT
+        0x2a, // 132: ROL A
+        0xc5, 0xfd, // 133: CMP RIGHT
+        0x90, 0x02, // 135: BCC ROUNDEND
+        0xe5, 0xfd, // 137: SBC RIGHT
+        0x88, // 139 ROUNDEND: DEY
+        0xd0, 0xd9, // 140: BNE ROUND
+        0x26, 0xfb, // 142: ROL LEFT
+        0x8d, 0x66, 0xc0, // 144: STA RESULT
+        0x8c, 0x67, 0xc0, // 147: STY RESULT+1
+        0x60, // 150: RTS
+        0x90, 0x04, // 151 WIDEHALF: BCC WIDE
+        0xe5, 0xfd, // 153: SBC RIGHT
+        0x85, 0xfc, // 155: STA LEFT+1
+        0x8a, // 157 WIDE: TXA
+        0xa2, 0x08, // 158: LDX #$08
+        0x26, 0xfb, // 160 WIDENEXT: ROL LEFT
+        0x26, 0xfc, // 162: ROL LEFT+1
+        0x2a, // 164: ROL A
+        0xc5, 0xfe, // 165: CMP RIGHT+1
+        0x90, 0x12, // 167: BCC WIDELESS
+        0xd0, 0x06, // 169: BNE WIDEMORE
+        0xa4, 0xfc, // 171: LDY LEFT+1
+        0xc4, 0xfd, // 173: CPY RIGHT
+        0x90, 0x0a, // 175: BCC WIDELESS
+        0xa8, // 177 WIDEMORE: TAY
+        0xa5, 0xfc, // 178: LDA LEFT+1
+        0xe5, 0xfd, // 180: SBC RIGHT
+        0x85, 0xfc, // 182: STA LEFT+1
+        0x98, // 184: TYA
+        0xe5, 0xfe, // 185: SBC RIGHT+1
+        0xca, // 187 WIDELESS: DEX
+        0xd0, 0xe2, // 188: BNE WIDENEXT
+        0x26, 0xfb, // 190: ROL LEFT
+        0x8d, 0x67, 0xc0, // 192: STA RESULT+1
+        0xa5, 0xfc, // 195: LDA LEFT+1
+        0x8d, 0x66, 0xc0, // 197: STA RESULT
+        0x8a, // 200: TXA
+        0x2a, // 201: ROL A
+        0x85, 0xfc, // 202: STA LEFT+1
+        0x60, // 204: RTS
         ] $($others)*)
     };
 }
@@ -234,6 +220,35 @@ macro_rules! random {
     };
 }
 
+// Multiply: LEFT times RIGHT, modulo 65,536, into RESULT, with the sum so far in A and Y.
+macro_rules! multiply {
+    ([$($before:tt)*] $next:ident $($others:ident)*) => {
+        $next!([$($before)*
+        0xa9, 0x00, // 0 MULTIPLY: LDA #$00
+        0xa8, // 2: TAY
+        0x46, 0xfe, // 3 MULTIPLY1: LSR RIGHT+1
+        0x66, 0xfd, // 5: ROR RIGHT
+        0x90, 0x09, // 7: BCC MULTIPLY2
+        0x18, // 9: CLC
+        0x65, 0xfb, // 10: ADC LEFT
+        0xaa, // 12: TAX
+        0x98, // 13: TYA
+        0x65, 0xfc, // 14: ADC LEFT+1
+        0xa8, // 16: TAY
+        0x8a, // 17: TXA
+        0x06, 0xfb, // 18 MULTIPLY2: ASL LEFT
+        0x26, 0xfc, // 20: ROL LEFT+1
+        0xa6, 0xfd, // 22: LDX RIGHT
+        0xd0, 0xe9, // 24: BNE MULTIPLY1
+        0xa6, 0xfe, // 26: LDX RIGHT+1
+        0xd0, 0xe5, // 28: BNE MULTIPLY1
+        0x8d, 0x66, 0xc0, // 30: STA RESULT
+        0x8c, 0x67, 0xc0, // 33: STY RESULT+1
+        0x60, // 36: RTS
+        ] $($others)*)
+    };
+}
+
 // Number: sends the signed word at LEFT in decimal.
 macro_rules! number {
     ([$($before:tt)*] $next:ident $($others:ident)*) => {
@@ -241,7 +256,7 @@ macro_rules! number {
         0xa5, 0xfc, // 0 NUMBER: LDA LEFT+1
         0x10, 0x08, // 2: BPL NUMBERPLAIN
         0xa9, 0x2d, // 4: LDA #$2D
-        0x20, SEND.0, SEND.1, // 6: JSR SEND
+        0x20, PLAIN.0, PLAIN.1, // 6: JSR SEND1
         0x20, OPPOSITE.0, OPPOSITE.1, // 9: JSR NEGATELEFT
         0xa9, 0x00, // 12 NUMBERPLAIN: LDA #$00
         0x85, 0xfd, // 14: STA RIGHT
@@ -267,13 +282,13 @@ macro_rules! number {
         0xa0, 0x30, // 55: LDY #$30
         0x84, 0xfd, // 57: STY RIGHT
         0x86, 0xfe, // 59: STX RIGHT+1
-        0x20, SEND.0, SEND.1, // 61: JSR SEND
+        0x20, PLAIN.0, PLAIN.1, // 61: JSR SEND1
         0xa6, 0xfe, // 64: LDX RIGHT+1
         0xca, // 66 NUMBERSKIP: DEX
         0x10, 0xd3, // 67: BPL NUMBERNEXT
         0xa5, 0xfb, // 69: LDA LEFT
         0x09, 0x30, // 71: ORA #$30
-        0x4c, SEND.0, SEND.1, // 73: JMP SEND
+        0x4c, PLAIN.0, PLAIN.1, // 73: JMP SEND1
         0x0a, 0x64, 0xe8, 0x10, // 76 POWERSLOW: 10, 100, 1000 and 10000, their low bytes
         0x00, 0x00, 0x03, 0x27, // 80 POWERSHIGH: their high bytes
         ] $($others)*)
@@ -304,7 +319,7 @@ macro_rules! zone {
     ([$($before:tt)*] $next:ident $($others:ident)*) => {
         $next!([$($before)*
         0xa9, 0x20, // 0 ZONE: LDA #$20
-        0x20, SEND.0, SEND.1, // 2: JSR SEND
+        0x20, PLAIN.0, PLAIN.1, // 2: JSR SEND1
         0xad, 0x34, 0xc0, // 5: LDA COLUMN
         0x29, 0x07, // 8: AND #$07
         0xd0, 0xf4, // 10: BNE ZONE
@@ -325,78 +340,74 @@ macro_rules! input {
         0x20, SEND.0, SEND.1, // 12: JSR SEND
         0xee, 0x35, 0xc0, // 15: INC OPEN
         0xa9, 0x00, // 18 INPUT1: LDA #$00
-        0x8d, 0x66, 0xc0, // 20: STA RESULT
-        0x8d, 0x67, 0xc0, // 23: STA RESULT+1
-        0x8d, 0x6e, 0xc0, // 26: STA SCRATCH
-        0x8d, 0x6f, 0xc0, // 29: STA SCRATCH+1
-        0x20, 0xcf, 0xff, // 32 READ: JSR CHRIN
-        0x8d, 0x6d, 0xc0, // 35: STA BYTE
-        0xc9, 0x20, // 38: CMP #$20
-        0xf0, 0xf6, // 40: BEQ READ
-        0xc9, 0x2b, // 42: CMP #$2B
-        0xf0, 0x49, // 44: BEQ SIGN
-        0xc9, 0x2d, // 46: CMP #$2D
-        0xf0, 0x45, // 48: BEQ SIGN
-        0xc9, 0x2c, // 50: CMP #$2C
-        0xf0, 0x56, // 52: BEQ DONE
-        0xc9, 0x0d, // 54: CMP #$0D
-        0xf0, 0x52, // 56: BEQ DONE
-        0x38, // 58: SEC
-        0xe9, 0x30, // 59: SBC #$30
-        0x8d, 0x6d, 0xc0, // 61: STA BYTE
-        0xc9, 0x0a, // 64: CMP #$0A
-        0xb0, 0x43, // 66: BCS BAD
-        0xad, 0x67, 0xc0, // 68: LDA RESULT+1
-        0x85, 0xfc, // 71: STA LEFT+1
-        0xad, 0x66, 0xc0, // 73: LDA RESULT
-        0x0a, // 76: ASL A
-        0x26, 0xfc, // 77: ROL LEFT+1
-        0x0a, // 79: ASL A
-        0x26, 0xfc, // 80: ROL LEFT+1
-        0x18, // 82: CLC
-        0x6d, 0x66, 0xc0, // 83: ADC RESULT
-        0xaa, // 86: TAX
-        0xa5, 0xfc, // 87: LDA LEFT+1
-        0x6d, 0x67, 0xc0, // 89: ADC RESULT+1
-        0x85, 0xfc, // 92: STA LEFT+1
-        0x8a, // 94: TXA
-        0x0a, // 95: ASL A
-        0x26, 0xfc, // 96: ROL LEFT+1
-        0x18, // 98: CLC
-        0x6d, 0x6d, 0xc0, // 99: ADC BYTE
-        0x8d, 0x66, 0xc0, // 102: STA RESULT
-        0xa5, 0xfc, // 105: LDA LEFT+1
-        0x69, 0x00, // 107: ADC #$00
-        0x8d, 0x67, 0xc0, // 109: STA RESULT+1
-        0xa9, 0x02, // 112: LDA #$02
-        0x8d, 0x6e, 0xc0, // 114: STA SCRATCH
-        0xd0, 0xa9, // 117: BNE READ
-        0xad, 0x6e, 0xc0, // 119 SIGN: LDA SCRATCH
-        0xd0, 0x0b, // 122: BNE BAD
-        0xad, 0x6d, 0xc0, // 124: LDA BYTE
-        0x8d, 0x6f, 0xc0, // 127: STA SCRATCH+1
-        0xee, 0x6e, 0xc0, // 130: INC SCRATCH
-        0xd0, 0x99, // 133: BNE READ
-        0xa9, 0x06, // 135 BAD: LDA #$06
-        0x4c, FAULT.0, FAULT.1, // 137: JMP FAULT
-        0x4e, 0x6e, 0xc0, // 140 DONE: LSR SCRATCH
-        0xf0, 0xf6, // 143: BEQ BAD
-        0xad, 0x6f, 0xc0, // 145: LDA SCRATCH+1
-        0xc9, 0x2d, // 148: CMP #$2D
-        0xd0, 0x11, // 150: BNE DONE1
-        0x38, // 152: SEC
-        0xa9, 0x00, // 153: LDA #$00
-        0xed, 0x66, 0xc0, // 155: SBC RESULT
-        0x8d, 0x66, 0xc0, // 158: STA RESULT
-        0xa9, 0x00, // 161: LDA #$00
-        0xed, 0x67, 0xc0, // 163: SBC RESULT+1
-        0x8d, 0x67, 0xc0, // 166: STA RESULT+1
-        0x4e, 0x6d, 0xc0, // 169 DONE1: LSR BYTE
-        0x90, 0x08, // 172: BCC DONE2
-        0xce, 0x35, 0xc0, // 174: DEC OPEN
-        0xa9, 0x0d, // 177: LDA #$0D
-        0x4c, SEND.0, SEND.1, // 179: JMP SEND
-        0x60, // 182 DONE2: RTS
+        0x85, 0xfb, // 20: STA LEFT
+        0x85, 0xfc, // 22: STA LEFT+1
+        0x85, 0xfd, // 24: STA RIGHT
+        0x85, 0xfe, // 26: STA RIGHT+1
+        0x20, 0xcf, 0xff, // 28 READ: JSR CHRIN
+        0xc9, 0x20, // 31: CMP #$20
+        0xf0, 0xf9, // 33: BEQ READ
+        0xc9, 0x2b, // 35: CMP #$2B
+        0xf0, 0x43, // 37: BEQ SIGN
+        0xc9, 0x2d, // 39: CMP #$2D
+        0xf0, 0x3f, // 41: BEQ SIGN
+        0xc9, 0x2c, // 43: CMP #$2C
+        0xf0, 0x4a, // 45: BEQ DONE
+        0xc9, 0x0d, // 47: CMP #$0D
+        0xf0, 0x46, // 49: BEQ DONE
+        0x38, // 51: SEC
+        0xe9, 0x30, // 52: SBC #$30
+        0xc9, 0x0a, // 54: CMP #$0A
+        0xb0, 0x3a, // 56: BCS BAD
+        0xaa, // 58: TAX
+        0xa5, 0xfc, // 59: LDA LEFT+1
+        0x8d, 0x66, 0xc0, // 61: STA RESULT
+        0xa5, 0xfb, // 64: LDA LEFT
+        0x0a, // 66: ASL A
+        0x2e, 0x66, 0xc0, // 67: ROL RESULT
+        0x0a, // 70: ASL A
+        0x2e, 0x66, 0xc0, // 71: ROL RESULT
+        0x18, // 74: CLC
+        0x65, 0xfb, // 75: ADC LEFT
+        0x85, 0xfb, // 77: STA LEFT
+        0xad, 0x66, 0xc0, // 79: LDA RESULT
+        0x65, 0xfc, // 82: ADC LEFT+1
+        0x85, 0xfc, // 84: STA LEFT+1
+        0x06, 0xfb, // 86: ASL LEFT
+        0x26, 0xfc, // 88: ROL LEFT+1
+        0x8a, // 90: TXA
+        0x18, // 91: CLC
+        0x65, 0xfb, // 92: ADC LEFT
+        0x85, 0xfb, // 94: STA LEFT
+        0x90, 0x02, // 96: BCC DIGIT
+        0xe6, 0xfc, // 98: INC LEFT+1
+        0xa9, 0x02, // 100 DIGIT: LDA #$02
+        0x85, 0xfd, // 102: STA RIGHT
+        0xd0, 0xb2, // 104: BNE READ
+        0xa4, 0xfd, // 106 SIGN: LDY RIGHT
+        0xd0, 0x06, // 108: BNE BAD
+        0x85, 0xfe, // 110: STA RIGHT+1
+        0xe6, 0xfd, // 112: INC RIGHT
+        0xd0, 0xa8, // 114: BNE READ
+        0xa9, 0x06, // 116 BAD: LDA #$06
+        0x4c, FAULT.0, FAULT.1, // 118: JMP FAULT
+        0xa8, // 121 DONE: TAY
+        0x46, 0xfd, // 122: LSR RIGHT
+        0xf0, 0xf6, // 124: BEQ BAD
+        0xa5, 0xfe, // 126: LDA RIGHT+1
+        0xc9, 0x2d, // 128: CMP #$2D
+        0xd0, 0x03, // 130: BNE DONE1
+        0x20, OPPOSITE.0, OPPOSITE.1, // 132: JSR NEGATELEFT
+        0xa5, 0xfb, // 135 DONE1: LDA LEFT
+        0x8d, 0x66, 0xc0, // 137: STA RESULT
+        0xa5, 0xfc, // 140: LDA LEFT+1
+        0x8d, 0x67, 0xc0, // 142: STA RESULT+1
+        0xc0, 0x0d, // 145: CPY #$0D
+        0xd0, 0x07, // 147: BNE DONE2
+        0xce, 0x35, 0xc0, // 149: DEC OPEN
+        0x98, // 152: TYA
+        0x4c, SEND.0, SEND.1, // 153: JMP SEND
+        0x60, // 156 DONE2: RTS
         ] $($others)*)
     };
 }
@@ -619,7 +630,7 @@ macro_rules! array {
 
 // The block: its routines one after another.
 static BLOCK: [u8; BLOCK_LENGTH] = prologue!(
-    [] send multiply divide random number text zone input search push pop fault_line fault poll array
+    [] send divide random multiply number text zone input search push pop fault_line fault poll array
 );
 
 // Each routine by itself.
@@ -627,11 +638,11 @@ pub const PROLOGUE_BYTES: [u8; PROLOGUE_LENGTH] = prologue!([] array);
 
 pub const SEND_BYTES: [u8; SEND_LENGTH] = send!([] array);
 
-pub const MULTIPLY_BYTES: [u8; MULTIPLY_LENGTH] = multiply!([] array);
-
 pub const DIVIDE_BYTES: [u8; DIVIDE_LENGTH] = divide!([] array);
 
 pub const RANDOM_BYTES: [u8; RANDOM_LENGTH] = random!([] array);
+
+pub const MULTIPLY_BYTES: [u8; MULTIPLY_LENGTH] = multiply!([] array);
 
 pub const NUMBER_BYTES: [u8; NUMBER_LENGTH] = number!([] array);
 

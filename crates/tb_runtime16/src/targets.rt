@@ -12,18 +12,22 @@ macro_rules! word {
 pub const LINES: (u8, u8) = word!(LINES_AT);
 /// Send.
 pub const SEND: (u8, u8) = word!(SEND_AT);
+/// Send's SEND1: a byte other than 13.
+pub const PLAIN: (u8, u8) = word!(SEND_AT + 9);
 /// Number.
 pub const NUMBER: (u8, u8) = word!(NUMBER_AT);
 /// Fault.
 pub const FAULT: (u8, u8) = word!(FAULT_AT);
 /// Divide's NEGATELEFT: LEFT is negated.
-pub const OPPOSITE: (u8, u8) = word!(DIVIDE_AT + 28);
+pub const OPPOSITE: (u8, u8) = word!(DIVIDE_AT + 29);
 /// Divide's NEGATE: the word at X bytes after LEFT is negated.
-pub const NEGATE: (u8, u8) = word!(DIVIDE_AT + 30);
-/// Divide's DIVIDEBY: the division of a LEFT without a sign.
-pub const DIVIDEBY: (u8, u8) = word!(DIVIDE_AT + 49);
+pub const NEGATE: (u8, u8) = word!(DIVIDE_AT + 31);
+/// Divide's DIVIDESIZES: the division of the sizes of LEFT and RIGHT.
+pub const SIZES: (u8, u8) = word!(DIVIDE_AT + 50);
 /// Divide's UNSIGNED: the division without signs.
-pub const UNSIGNED: (u8, u8) = word!(DIVIDE_AT + 64);
+pub const UNSIGNED: (u8, u8) = word!(DIVIDE_AT + 66);
+/// Divide's ROUNDS: eight rounds on the byte at LEFT, with the rest in A.
+pub const ROUNDS: (u8, u8) = word!(DIVIDE_AT + 101);
 /// Number's POWERSLOW: the low bytes of the powers of ten from 10 to 10,000.
 pub const POWERS_LOW: (u8, u8) = word!(NUMBER_AT + 76);
 /// Number's POWERSHIGH: their high bytes.

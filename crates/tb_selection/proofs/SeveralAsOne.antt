@@ -1,6 +1,6 @@
 -- Several groups that are one, and the one that takes their place.
 use Rattle.std.proofs.Common.{◌≡◌, ℕ, ◌+◌, Bool, true, false, if◌then◌else◌, List, ◌++◌, refl, sym, ap, ◌∙◌, Option, Some, None}
-use Rattle.std.specs.Prelude.{◌&&◌, not, nat_eq, option_map}
+use Rattle.std.specs.Prelude.{◌&&◌, nat_eq, option_map}
 use Rattle.std.proofs.lemmas.Bool.{and_parts, eqb-true}
 use Rattle.tb_words.specs.declared.Rel.{Rel}
 use Rattle.tb_words.specs.declared.Rel.TheVariants as rel
@@ -9,7 +9,7 @@ use Rattle.tb_lower.specs.Slots.{Instr, Load}
 use Rattle.tb_selection.specs.Groups.{Operand, Constant, Variable, InSlot, IntoHeld, Destination, IntoSlot, HeldBefore, HeldNow, Divisibility, Divisible}
 use Rattle.tb_selection.specs.Groups.{Indivisible, OnLeft, OnRight, Group, Calculate, Move, Test, TestGo, Divides, Remains, Single, compared, expand, slot_of}
 use Rattle.tb_selection.specs.Select.{provided, quotient_in, factor_in, difference_in, loaded_in, held_in, asked, equality_in, against_in, same_operand}
-use Rattle.tb_selection.specs.Select.{multiple_of, multiple_in, divides_left, divides_right, is_shifted, remains, or_else, three_as_one, four_as_one}
+use Rattle.tb_selection.specs.Select.{multiple_of, multiple_in, divides_left, divides_right, remains, or_else, three_as_one, four_as_one}
 
 -- a test of slot 0 with a variable, and one of the held word with slot 0
 abbrev test_of : Divisibility → ℕ → Option ℕ → Group
@@ -184,12 +184,11 @@ rest_is : (a b c e : Group) → IsFour a b c e (remains (loaded_in a) (multiple_
 rest_is a b c e = by (loaded_in a) (multiple_in b c) (difference_in e) (loaded_is a) (multiple_is b c) (difference_is e)
   where
     by : (l : Option (ℕ × ℕ)) (m : Option (ℕ × ℕ × Operand)) (d : Option Destination) → IsLoaded a l → AreMultiple b c m → IsDifference e d → IsFour a b c e (remains l m d)
-    by (Some l) (Some m) (Some d) ea es ee = go (nat_eq m.0 (l.0 + 1) && nat_eq m.1 l.1 && nat_eq l.0 (slot_of d) && not (is_shifted m.2)) refl
+    by (Some l) (Some m) (Some d) ea es ee = go (nat_eq m.0 (l.0 + 1) && nat_eq m.1 l.1 && nat_eq l.0 (slot_of d)) refl
       where
-        go : (so : Bool) → (nat_eq m.0 (l.0 + 1) && nat_eq m.1 l.1 && nat_eq l.0 (slot_of d) && not (is_shifted m.2)) ≡ so → IsFour a b c e (provided so (Remains m.1 m.2 d))
+        go : (so : Bool) → (nat_eq m.0 (l.0 + 1) && nat_eq m.1 l.1 && nat_eq l.0 (slot_of d)) ≡ so → IsFour a b c e (provided so (Remains m.1 m.2 d))
         go true q = λ is.
-            let p1 = and_parts (nat_eq m.0 (l.0 + 1) && nat_eq m.1 l.1 && nat_eq l.0 (slot_of d)) (not (is_shifted m.2)) q in
-            let p2 = and_parts (nat_eq m.0 (l.0 + 1) && nat_eq m.1 l.1) (nat_eq l.0 (slot_of d)) p1.0 in
+            let p2 = and_parts (nat_eq m.0 (l.0 + 1) && nat_eq m.1 l.1) (nat_eq l.0 (slot_of d)) q in
             let p3 = and_parts (nat_eq m.0 (l.0 + 1)) (nat_eq m.1 l.1) p2.0 in
             let into = eqb-true l.0 (slot_of d) p2.1 in
             let next = eqb-true m.0 (l.0 + 1) p3.0 ∙ ap (λ k. k + 1) into in

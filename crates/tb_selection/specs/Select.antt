@@ -1,5 +1,5 @@
 -- Slot instructions as groups, each as long as it can be.
-use Rattle.std.specs.Prelude.{ℕ, ◌+◌, Bool, true, false, ◌&&◌, ◌||◌, not, if◌then◌else◌, nat_eq, nat_le, List, [], ◌∷◌, length, Option, Some, None, option_map}
+use Rattle.std.specs.Prelude.{ℕ, ◌+◌, Bool, true, false, ◌&&◌, not, if◌then◌else◌, nat_eq, nat_le, List, [], ◌∷◌, length, Option, Some, None, option_map}
 use Rattle.tb_words.specs.declared.Rel.{Rel}
 use Rattle.tb_words.specs.declared.Rel.TheVariants as rel
 use Rattle.tb_syntax.specs.declared.expressions.Operator.{Operator}
@@ -243,15 +243,9 @@ divides_right (Some x) (Some m) None = None
 divides_right (Some x) None t = None
 divides_right None m t = None
 
--- a divisor by which quotients are made by shifts: for it the remainder is faster by shifts too
-abbrev pub is_shifted : Operand → Bool
-is_shifted (Constant w) = nat_eq w 2 || nat_eq w 4 || nat_eq w 8 || nat_eq w 16 || nat_eq w 32 || nat_eq w 64 || nat_eq w 128 || nat_eq w 256
-is_shifted (Variable x) = false
-is_shifted InSlot = false
-
 -- a variable before a multiple of it, and their difference
 abbrev pub remains : Option (ℕ × ℕ) → Option (ℕ × ℕ × Operand) → Option Destination → Option Group
-remains (Some l) (Some m) (Some d) = provided (nat_eq m.0 (l.0 + 1) && nat_eq m.1 l.1 && nat_eq l.0 (slot_of d) && not (is_shifted m.2)) (Remains m.1 m.2 d)
+remains (Some l) (Some m) (Some d) = provided (nat_eq m.0 (l.0 + 1) && nat_eq m.1 l.1 && nat_eq l.0 (slot_of d)) (Remains m.1 m.2 d)
 remains (Some l) (Some m) None = None
 remains (Some l) None d = None
 remains None m d = None

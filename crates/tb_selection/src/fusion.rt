@@ -130,16 +130,6 @@ fn multiple_in(quotient: Group<'_>, product: Group<'_>) -> Option<(u8, Letter, O
     (slot == again && same_operand(divisor, factor)).then_some((slot, x, divisor))
 }
 
-// A divisor by which quotients are made by shifts.
-fn is_shifted(divisor: Operand) -> bool
-    ensures { result ≡ select.is_shifted (operand_of divisor) }
-{
-    match divisor {
-        Operand::Constant(word) => matches!(word, 2 | 4 | 8 | 16 | 32 | 64 | 128 | 256),
-        _ => false,
-    }
-}
-
 // A variable that is held before a multiple of it and their test.
 fn divides_right<'a>(
     held: Group<'a>,
@@ -179,8 +169,7 @@ fn remains<'a>(
     let to = difference_in(difference)?;
     let is_one = u16::from(slot) == u16::from(into) + 1
         && y.index() == x.index()
-        && into == slot_of(to)
-        && !is_shifted(divisor);
+        && into == slot_of(to);
     is_one.then_some(Group::Remains(y, divisor, to))
 }
 

@@ -27,7 +27,7 @@ use Rattle.tb_templates.specs.Templates.{branch, here, slot_at, var_at, on, temp
 use Rattle.tb_templates.specs.Sources.{Source, FixedWord, AtAddress, source_of, tested_source, home_at, destination_at}
 use Rattle.tb_templates.specs.GroupTemplates.{brought, summed, taken, handed, multiplied, divided, calculated, computed, changed_or, converted, used, equal}
 use Rattle.tb_templates.specs.GroupTemplates.{unequal, tested, gone, may_fault, group_template, lined, may_be_zero, may_have_none, left_over, unless}
-use Rattle.tb_templates.specs.GroupTemplates.{divided_by, divided_gone, divides, asked_rest, signed_rest, remains, low_matched, high_matched}
+use Rattle.tb_templates.specs.GroupTemplates.{divided_by, divided_gone, divides, asked_rest, signed_rest, rest_by, low_matched, high_matched}
 use Rattle.tb_templates.specs.Scaled.{scaling, times, shifts, shifted}
 use Rattle.tb_templates.specs.InPlace.{Change, Increment, Decrement, Raise, Lower, Halve, Double, change_of, changed}
 use Rattle.tb_templates.specs.Masks.{mask}
@@ -239,8 +239,10 @@ divides_forms ns n how a b (Some to) = by (has_line ns to)
     by true = divided_by_forms n (contrary how) a b (Line to)
     by false = forms_append (divided_by n how a b (next_line ns n)) (faulted n 1) (divided_by_forms n how a b (next_line ns n)) refl
 
-remains_forms : (n : ℕ) (skip : Target) (a b : Source) (to : ℕ) → list_all has_form (remains n skip a b to) ≡ true
-remains_forms n skip a b to =
+remains_forms : (n : ℕ) (o : Option ℕ) (skip : Target) (a b : Source) (to : ℕ) → list_all has_form (rest_by n o skip a b to) ≡ true
+remains_forms n (Some bits) skip (FixedWord w) b to = refl
+remains_forms n (Some bits) skip (AtAddress p) b to = refl
+remains_forms n None skip a b to =
     forms_append (asked_rest n a b) (signed_rest skip a to) (plain_forms (asked_rest n a b) (asked_rest_plain n a b)) (by a)
   where
     by : (a : Source) → list_all has_form (signed_rest skip a to) ≡ true
@@ -262,7 +264,8 @@ group_forms ns seed n i (Use how a) = used_forms n (next_line ns n) how (source_
 group_forms ns seed n i (Test rel a b) = tested_forms rel (tested_source a) (source_of 0 b) (Inside Skip n i) (next_line ns n)
 group_forms ns seed n i (TestGo rel a b to) =
     gone_forms n rel (tested_source a) (source_of 0 b) (Inside Skip n i) (next_line ns n) (has_line ns to) to
-group_forms ns seed n i (Remains x d to) = remains_forms n (Inside Skip n i) (AtAddress (var_at x)) (source_of (slot_of to + 2) d) (destination_at to)
+group_forms ns seed n i (Remains x d to) =
+    remains_forms n (mask (source_of (slot_of to + 2) d)) (Inside Skip n i) (AtAddress (var_at x)) (source_of (slot_of to + 2) d) (destination_at to)
 group_forms ns seed n i (Divides how x d side to) = divides_forms ns n how (source_of 0 (Variable x)) (source_of 1 d) to
 group_forms ns seed n i (Single c) = single_forms (may_fault c) ns n i c
 

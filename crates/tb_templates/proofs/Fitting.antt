@@ -6,7 +6,7 @@ use Rattle.std.proofs.lemmas.Bool.{and_parts, leb-true, ltb-true}
 use Rattle.std.proofs.lemmas.List.Sums.{sum_by-cons}
 use Rattle.std.specs.Prelude.{nat_lt, if◌then◌else◌}
 use Rattle.tb_opcodes.specs.declared.Mnemonic.{Mnemonic}
-use Rattle.tb_opcodes.specs.declared.Mnemonic.TheVariants.{Adc, Asl, Beq, Bne, Cmp, Lda, Ora, Rol, Sbc, Sta}
+use Rattle.tb_opcodes.specs.declared.Mnemonic.TheVariants.{Adc, Asl, Beq, Bne, Cmp, Lda, Ldy, Ora, Rol, Sbc, Sta}
 use Rattle.tb_opcodes.specs.declared.Mode.TheVariants.{Absolute, ZeroPage}
 use Rattle.tb_asm.specs.declared.items.Operand.TheVariants.{Byte, Word}
 use Rattle.tb_asm.specs.Layout.{Entry, instr}
@@ -35,7 +35,7 @@ use Rattle.tb_templates.specs.Sources.{Source, FixedWord, AtAddress, source_of, 
 use Rattle.tb_templates.specs.GroupTemplates.{low_of, high_of, brought, joined, handed, multiplied, divided, calculated, computed, changed_or, converted, used}
 use Rattle.tb_templates.specs.GroupTemplates.{unless_none, low_against, high_against, low_matched, high_matched, equal, unequal, tested, gone, group_template, lined}
 use Rattle.tb_templates.specs.GroupTemplates.{may_be_zero, may_have_none, told, remainder}
-use Rattle.tb_templates.specs.GroupTemplates.{left_over as beyond, unless, divided_by, divided_gone, divides, asked_rest, signed_rest, remains}
+use Rattle.tb_templates.specs.GroupTemplates.{left_over as beyond, unless, divided_by, divided_gone, divides, asked_rest, signed_rest, rest_by}
 use Rattle.tb_templates.specs.Masks.{mask}
 use Rattle.tb_templates.specs.Orders.{Side, Below, NotBelow, Order, BySign, ByPositive, ByConstant, ByDifference, ordered_by, positive, wanted_side, lifted, lifted_both, lifted_high}
 use Rattle.tb_templates.specs.Orders.{unless_carry}
@@ -286,8 +286,9 @@ divides_fits ns n how a b (Some to) = by (has_line ns to)
     by true = let h = divided_by_fits n (contrary how) a b (Line to) in omega (arith, h)
     by false = let h = divided_by_fits n how a b (next_line ns n) in let e = most_append (divided_by n how a b (next_line ns n)) (faulted n 1) in omega (arith, h, e)
 
-remains_fits : (n : ℕ) (skip : Target) (a b : Source) (to : ℕ) → most (remains n skip a b to) ≤ 70
-remains_fits n skip a b to =
+remains_fits : (n : ℕ) (o : Option ℕ) (skip : Target) (a b : Source) (to : ℕ) → most (rest_by n o skip a b to) ≤ 70
+remains_fits n (Some bits) skip a b to = let l = low_most Lda a in let h = high_most Ldy a in omega (arith, l, h)
+remains_fits n None skip a b to =
     let called = brought a LEFT ++ (brought b RIGHT ++ (call DIVIDE_AT ∷ [])) in
     let e = most_append (asked_rest n a b) (signed_rest skip a to) in
     let l = lined_most (may_be_zero b) n called in
@@ -344,7 +345,7 @@ group_fits ns seed n i (Divides how x d OnLeft to) =
 group_fits ns seed n i (Divides how x d OnRight to) =
     let h = divides_fits ns n how (source_of 0 (OfVariable x)) (source_of 1 d) to in let m = multiple_room 0 x d (LeaveUnless (compared how) ∷ onward to) in omega (arith, h, m)
 group_fits ns seed n i (Remains x d to) =
-    let h = remains_fits n (Inside Skip n i) (AtAddress (var_at x)) (source_of (slot_of to + 2) d) (destination_at to) in
+    let h = remains_fits n (mask (source_of (slot_of to + 2) d)) (Inside Skip n i) (AtAddress (var_at x)) (source_of (slot_of to + 2) d) (destination_at to) in
     let m = multiple_room (slot_of to + 1) x d (Compute Subtract (slot_of to) ∷ kept to) in
     omega (arith, h, m)
 group_fits ns seed n i (Single c) = let h = single_fits ns seed n i c in omega (arith, h)

@@ -25,7 +25,7 @@ use Rattle.tb_templates.specs.Templates.{branch, here, var_at, template, faulted
 use Rattle.tb_templates.specs.Sources.{Source, FixedWord, AtAddress, source_of, tested_source, home_at, destination_at}
 use Rattle.tb_templates.specs.GroupTemplates.{brought, joined, handed, multiplied, divided, calculated, computed, changed_or, converted, used, equal, unequal}
 use Rattle.tb_templates.specs.GroupTemplates.{tested, gone, may_fault, group_template, lined, may_be_zero, may_have_none, left_over, unless, divided_by}
-use Rattle.tb_templates.specs.GroupTemplates.{divided_gone, divides, asked_rest, signed_rest, remains, low_matched, high_matched}
+use Rattle.tb_templates.specs.GroupTemplates.{divided_gone, divides, asked_rest, signed_rest, rest_by, low_matched, high_matched}
 use Rattle.tb_templates.specs.Scaled.{scaling, times, shifts, shifted}
 use Rattle.tb_templates.specs.InPlace.{Change, Increment, Decrement, Raise, Lower, Halve, Double, change_of, changed}
 use Rattle.tb_templates.specs.Masks.{mask}
@@ -193,8 +193,10 @@ module _ (ns : List ℕ) (seed n i : ℕ) (small : n < 65536) (index : i < 65536
   changes_rise low high skip above below None op a b to = calculated_rises low high n op a b to (omega (arith, above, below))
 
   -- the label of a remainder's sign
-  remains_rise : (a b : Source) (to : ℕ) → Rising (base n i) (remains n (Inside inner.Skip n i) a b to) (base n (i + 1))
-  remains_rise a b to =
+  remains_rise : (o : Option ℕ) (a b : Source) (to : ℕ) → Rising (base n i) (rest_by n o (Inside inner.Skip n i) a b to) (base n (i + 1))
+  remains_rise (Some bits) (FixedWord w) b to = let s = keyed inner.Skip in (omega (arith, s), omega (arith, s))
+  remains_rise (Some bits) (AtAddress p) b to = let s = keyed inner.Skip in (omega (arith, s), omega (arith, s))
+  remains_rise None a b to =
       rising_append (base n i) (base n i) (base n (i + 1)) (asked_rest n a b) (signed_rest (Inside inner.Skip n i) a to)
       (plain_rises (base n i) (base n i) (asked_rest n a b) (omega arith) (asked_rest_plain n a b)) (by a)
     where
@@ -246,7 +248,7 @@ module _ (ns : List ℕ) (seed n i : ℕ) (small : n < 65536) (index : i < 65536
   group_rises (Use how a) = used_rises (base n i) (base n (i + 1)) n (next_line ns n) how (source_of 0 a) up
   group_rises (Test rel a b) = test_rises rel (tested_source a) (source_of 0 b) (next_line ns n)
   group_rises (TestGo rel a b to) = gone_rises rel (tested_source a) (source_of 0 b) (has_line ns to) to
-  group_rises (Remains x d to) = remains_rise (AtAddress (var_at x)) (source_of (slot_of to + 2) d) (destination_at to)
+  group_rises (Remains x d to) = remains_rise (mask (source_of (slot_of to + 2) d)) (AtAddress (var_at x)) (source_of (slot_of to + 2) d) (destination_at to)
   group_rises (Divides how x d side to) = divides_rises (base n i) (base n (i + 1)) ns n how (source_of 0 (Variable x)) (source_of 1 d) to up
   group_rises (Single c) = single_rises (may_fault c) c
 

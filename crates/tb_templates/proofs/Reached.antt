@@ -5,7 +5,7 @@ use Rattle.std.specs.Prelude.{option_map, if◌then◌else◌, ◌||◌, nat_lt,
 use Rattle.std.proofs.lemmas.Bool.Decides.{nat_tests}
 use Rattle.std.proofs.lemmas.Bool.{or_right, eq-eqb}
 use Rattle.tb_opcodes.specs.declared.Mnemonic.{Mnemonic}
-use Rattle.tb_opcodes.specs.declared.Mnemonic.TheVariants.{Adc, Beq, Bne, Cmp, Lda, Ora, Sbc, Sta}
+use Rattle.tb_opcodes.specs.declared.Mnemonic.TheVariants.{Adc, Beq, Bne, Cmp, Lda, Ldy, Ora, Sbc, Sta}
 use Rattle.tb_opcodes.specs.declared.Mode.TheVariants.{Absolute, ZeroPage}
 use Rattle.tb_words.specs.declared.Rel.{Rel}
 use Rattle.tb_syntax.specs.declared.expressions.Operator.{Operator}
@@ -31,7 +31,7 @@ use Rattle.tb_templates.specs.Templates.{branch, here, slot_at, var_at, on, temp
 use Rattle.tb_templates.specs.Sources.{Source, FixedWord, AtAddress, source_of, tested_source, home_at, destination_at}
 use Rattle.tb_templates.specs.GroupTemplates.{low_of, high_of, brought, joined, handed, multiplied, divided, calculated, computed, changed_or, converted}
 use Rattle.tb_templates.specs.GroupTemplates.{searched, used, equal, unequal, tested, gone, may_fault, group_template, lined, may_be_zero, may_have_none}
-use Rattle.tb_templates.specs.GroupTemplates.{left_over, unless, divided_by, divided_gone, divides, asked_rest, signed_rest, remains, low_matched}
+use Rattle.tb_templates.specs.GroupTemplates.{left_over, unless, divided_by, divided_gone, divides, asked_rest, signed_rest, rest_by, low_matched}
 use Rattle.tb_templates.specs.GroupTemplates.{high_matched}
 use Rattle.tb_templates.specs.Scaled.{scaling, times, shifts, shifted}
 use Rattle.tb_templates.specs.InPlace.{Change, Increment, Decrement, Raise, Lower, Halve, Double, change_of, changed}
@@ -300,8 +300,12 @@ module _ (labels : List (Name × ℕ)) (ns : List ℕ) (known : Known labels ns)
       by true e = divided_by_known n (contrary how) a b (target.Line to) (known.lines to e)
       by false e = known_append labels (divided_by n how a b (next_line ns n)) (faulted n 1) (divided_by_known n how a b (next_line ns n) (next_known n)) (refl ▹ refl ▹ refl ▹ refl ▹ tt)
 
-  remains_known : (n at : ℕ) (skip : Target) (a b : Source) (to : ℕ) → LabelsAt labels at (remains n skip a b to) → AllKnown labels (remains n skip a b to)
-  remains_known n at skip a b to h =
+  remains_known : (n at : ℕ) (o : Option ℕ) (skip : Target) (a b : Source) (to : ℕ) → LabelsAt labels at (rest_by n o skip a b to)
+      → AllKnown labels (rest_by n o skip a b to)
+  remains_known n at (Some bits) skip a b to h =
+      (low_known Lda a ▹ refl ▹ refl ▹ high_known Ldy a ▹ to_label skip (ap is_some h.1.1.1.1.1.1.1.1.1.1.1.1.1.1.1.0)
+      ▹ refl ▹ refl ▹ refl ▹ refl ▹ refl ▹ refl ▹ refl ▹ refl ▹ refl ▹ refl ▹ refl ▹ refl ▹ refl ▹ tt)
+  remains_known n at None skip a b to h =
       known_append labels (asked_rest n a b) (signed_rest skip a to) (plain_known labels (asked_rest n a b) (asked_rest_plain n a b))
       (by a (labels_split labels at (asked_rest n a b) (signed_rest skip a to) h).1)
     where
@@ -327,7 +331,8 @@ module _ (labels : List (Name × ℕ)) (ns : List ℕ) (known : Known labels ns)
   group_known seed n i at (Test rel a b) h = tested_known at rel (tested_source a) (source_of 0 b) (target.Inside inner.Skip n i) (next_line ns n) (next_known n) h
   group_known seed n i at (TestGo rel a b to) h =
       gone_known n at rel (tested_source a) (source_of 0 b) (target.Inside inner.Skip n i) (next_line ns n) (has_line ns to) to refl (next_known n) h
-  group_known seed n i at (Remains x d to) h = remains_known n at (target.Inside inner.Skip n i) (AtAddress (var_at x)) (source_of (slot_of to + 2) d) (destination_at to) h
+  group_known seed n i at (Remains x d to) h =
+      remains_known n at (mask (source_of (slot_of to + 2) d)) (target.Inside inner.Skip n i) (AtAddress (var_at x)) (source_of (slot_of to + 2) d) (destination_at to) h
   group_known seed n i at (Divides how x d side to) h = divides_known n how (source_of 0 (Variable x)) (source_of 1 d) to
   group_known seed n i at (Single c) h = single_known n i at (may_fault c) c h
 

@@ -1,6 +1,6 @@
 -- Worked rows: the items of lines.
 use Rattle.std.specs.Prelude.{◌≡◌, ℕ, true, List, [], ◌∷◌, ◌++◌, refl, false, Some, None}
-use Rattle.tb_opcodes.specs.declared.Mnemonic.TheVariants.{Adc, Bcc, Bcs, Bmi, Bne, Bpl, Bvc, Clc, Cmp, Eor, Dec, Inc, Jmp, Lda, Ldx, Ldy, Rts, Sbc, Sec, Sta, And, Asl, Rol, Ror, Tax, Txa, Beq, Ora}
+use Rattle.tb_opcodes.specs.declared.Mnemonic.TheVariants.{Adc, Bcc, Bcs, Bmi, Bne, Bpl, Bvc, Clc, Cmp, Eor, Dec, Inc, Jmp, Lda, Ldx, Ldy, Rts, Sbc, Sec, Sta, Stx, And, Asl, Rol, Ror, Tax, Tay, Txa, Tya, Beq, Ora}
 use Rattle.tb_words.specs.declared.Rel.TheVariants.{Eq, Ge, Gt, Le, Lt, Ne}
 use Rattle.tb_syntax.specs.declared.expressions.Operator.TheVariants.{Add, Subtract, Divide, Multiply}
 use Rattle.tb_syntax.specs.Source.{Number, Variable, Negate, Random, Value, Binary, Statement, Let, Print, If, Goto, Gosub, End}
@@ -206,6 +206,13 @@ remainder : items 10 (Let 0 (Binary Subtract (Variable 1) (Binary Multiply (Bina
     ∷ at Lda 0xC003 ∷ branch Bpl (Inside Skip 10 1) ∷ alone Sec ∷ const Lda 0 ∷ at Sbc 0xC066 ∷ at Sta 0xC066 ∷ const Lda 0 ∷ at Sbc 0xC067 ∷ at Sta 0xC067
     ∷ here (Inside Skip 10 1) ∷ at Lda 0xC066 ∷ at Sta 0xC000 ∷ at Lda 0xC067 ∷ at Sta 0xC001 ∷ [])
 remainder = refl
+
+-- 10 LET A=B-B/4*4: the two lowest bits of B; if B is below 0, 3 is added to them, of which what 4 divides falls away, and 3 is taken
+masked_remainder : items 10 (Let 0 (Binary Subtract (Variable 1) (Binary Multiply (Binary Divide (Variable 1) (Number 4)) (Number 4))))
+    ≡ here (Line 10) ∷ going 10
+    (at Lda 0xC002 ∷ const And 3 ∷ const Ldx 0 ∷ at Ldy 0xC003 ∷ branch Bpl (Inside Skip 10 1) ∷ alone Clc ∷ const Adc 3 ∷ const And 3 ∷ alone Sec ∷ const Sbc 3
+    ∷ alone Tay ∷ const Lda 0 ∷ const Sbc 0 ∷ alone Tax ∷ alone Tya ∷ here (Inside Skip 10 1) ∷ at Sta 0xC000 ∷ at Stx 0xC001 ∷ [])
+masked_remainder = refl
 
 -- 20 IF A=A/2*2 GOTO 10: the multiple may be on the right too
 even : items 20 (If (Variable 0) Eq (Binary Multiply (Binary Divide (Variable 0) (Number 2)) (Number 2)) (Goto (Number 10)))

@@ -22,7 +22,7 @@ pub use Rattle.tb_templates.specs.Sources.{low_of, high_of}
 use Rattle.tb_templates.specs.Scaled.{scaling, times, shifts, shifted}
 use Rattle.tb_templates.specs.Orders.{Below, NotBelow, ordered}
 use Rattle.tb_templates.specs.InPlace.{Change, change_of, changed}
-use Rattle.tb_templates.specs.Masks.{mask, lowest_bits}
+use Rattle.tb_templates.specs.Masks.{mask, lowest_bits, masked_rest}
 
 -- ── words ──
 -- a word to an address
@@ -191,9 +191,14 @@ asked_rest n a b = lined (may_be_zero b) n (brought a LEFT ++ (brought b RIGHT +
 abbrev pub signed_rest : Target → Source → ℕ → List Entry
 signed_rest skip a to = high_of Lda a ∷ branch Bpl skip ∷ (taken (FixedWord 0) (AtAddress RESULT) RESULT ++ (here skip ∷ copied RESULT to))
 
+-- a remainder with the word's sign: by the word's lowest bits if the divisor is a power of two; any other by the routine
+abbrev pub rest_by : ℕ → Option ℕ → Target → Source → Source → ℕ → List Entry
+rest_by n (Some bits) skip a b to = masked_rest bits skip a to
+rest_by n None skip a b to = asked_rest n a b ++ signed_rest skip a to
+
 -- the remainder of a word by a divisor, with the word's sign, in line n
 abbrev pub remains : ℕ → Target → Source → Source → ℕ → List Entry
-remains n skip a b to = asked_rest n a b ++ signed_rest skip a to
+remains n skip a b to = rest_by n (mask b) skip a b to
 
 -- ── templates ──
 -- whether a routine that a single instruction calls in any case may fault: then the line's number is set first

@@ -16,7 +16,9 @@ ghost use Rattle.tb_templates.specs.Masks as masks;
 
 use crate::groups::{may_be_zero, put_brought, put_lined, put_taken};
 use crate::labels::Target;
-use crate::pieces::{put_at, put_branch, put_call, put_const, put_copied, put_faulted, put_here};
+use crate::pieces::{
+    put_alone, put_at, put_branch, put_call, put_const, put_copied, put_faulted, put_here,
+};
 use crate::sources::{Source, Words, against_none, put_high, put_low};
 use crate::templates::{NO_LINE, Spot, has_number};
 use std::alloc::AllocError;
@@ -243,6 +245,77 @@ fn put_signed_rest(
     Ok(())
 }
 
+// The same by the routine.
+fn put_routine_rest(
+    items: &mut Vec<Item>,
+    spot: Spot,
+    words: Words,
+    to: u16,
+) -> Result<(), AllocError>
+    requires { AreWhole words × (to < 65535) }
+    ensures { Puts result items.old items.new (groups.asked_rest spot.line words.left words.right
+        ++ groups.signed_rest (Inside Skip spot.line spot.index) words.left to) }
+{
+    put_asked_rest(items, spot.line, words)?;
+    put_signed_rest(items, spot.skip(), words.left, to)?;
+    Ok(())
+}
+
+// These bits of a word in A and 0 in X; N tells its sign.
+fn put_rest_and_sign(items: &mut Vec<Item>, bits: u8, word: Source) -> Result<(), AllocError>
+    requires { IsWhole word }
+    ensures { Puts result items.old items.new (masks.rest_and_sign bits word) }
+{
+    put_low(items, Mnemonic::Lda, word)?;
+    put_const(items, Mnemonic::And, bits)?;
+    put_const(items, Mnemonic::Ldx, 0)?;
+    put_high(items, Mnemonic::Ldy, word)
+}
+
+// The multiple above a word below 0 is taken away from what these bits of the word are above the one below it.
+fn put_rest_below(items: &mut Vec<Item>, bits: u8) -> Result<(), AllocError>
+    ensures { Puts result items.old items.new (masks.rest_below bits) }
+{
+    put_alone(items, Mnemonic::Clc)?;
+    put_const(items, Mnemonic::Adc, bits)?;
+    put_const(items, Mnemonic::And, bits)?;
+    put_alone(items, Mnemonic::Sec)?;
+    put_const(items, Mnemonic::Sbc, bits)?;
+    put_alone(items, Mnemonic::Tay)?;
+    put_const(items, Mnemonic::Lda, 0)?;
+    put_const(items, Mnemonic::Sbc, 0)?;
+    put_alone(items, Mnemonic::Tax)?;
+    put_alone(items, Mnemonic::Tya)
+}
+
+// A word in A and X to an address.
+fn put_both_stored(items: &mut Vec<Item>, to: u16) -> Result<(), AllocError>
+    requires { to < 65535 }
+    ensures { Puts result items.old items.new (masks.both_stored to) }
+{
+    put_at(items, Mnemonic::Sta, to)?;
+    put_at(items, Mnemonic::Stx, to + 1)
+}
+
+// The remainder of a word by a power of two, with that word's sign.
+fn put_masked_rest(
+    items: &mut Vec<Item>,
+    bits: u8,
+    skip: Target,
+    word: Source,
+    to: u16,
+) -> Result<(), AllocError>
+    requires { IsWhole word × (to < 65535) }
+    ensures { Puts result items.old items.new (masks.masked_rest bits skip word to) }
+{
+    put_rest_and_sign(items, bits, word)?;
+    put_branch(items, Mnemonic::Bpl, skip)?;
+    put_rest_below(items, bits)?;
+    put_here(items, skip)?;
+    put_both_stored(items, to)?;
+    Ok(())
+}
+
 /// The remainder of a word by a divisor, with that word's sign.
 pub fn put_remains(
     items: &mut Vec<Item>,
@@ -253,7 +326,8 @@ pub fn put_remains(
     requires { AreWhole words × (to < 65535) }
     ensures { Puts result items.old items.new (groups.remains spot.line (Inside Skip spot.line spot.index) words.left words.right to) }
 {
-    put_asked_rest(items, spot.line, words)?;
-    put_signed_rest(items, spot.skip(), words.left, to)?;
-    Ok(())
+    match mask(words.right) {
+        Some(bits) => put_masked_rest(items, bits, spot.skip(), words.left, to),
+        None => put_routine_rest(items, spot, words, to),
+    }
 }

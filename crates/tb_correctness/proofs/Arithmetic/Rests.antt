@@ -1,8 +1,8 @@
 -- The law of a variable's remainder: its slot instructions and its code give the remainder's size with its sign.
-use Rattle.std.proofs.Common.{◌≡◌, ◌≢◌, ℕ, ◌+◌, ◌-◌, ◌*◌, ◌/◌, ◌%◌, ◌<◌, Bool, true, false, List, [], ◌∷◌, ◌++◌}
-use Rattle.std.proofs.Common.{length, refl, sym, ap, ◌∙◌, subst, arith, ⊎_elim, Some, length-set}
-use Rattle.std.specs.Prelude.{slice_index, nat_lt}
-use Rattle.std.proofs.lemmas.Bool.{cases_eq, eq-eqb, leb-true, ltb-false, ltb-true, ne_eqb}
+use Rattle.std.proofs.Common.{◌≡◌, ◌≢◌, ℕ, ◌+◌, ◌-◌, ◌*◌, ◌/◌, ◌%◌, ◌^◌, ◌<◌, Bool, true, false, List, [], ◌∷◌, ◌++◌}
+use Rattle.std.proofs.Common.{length, refl, sym, ap, ◌∙◌, subst, arith, bit_and, ⊎_elim, Option, Some, None, length-set}
+use Rattle.std.specs.Prelude.{if◌then◌else◌, slice_index, nat_lt}
+use Rattle.std.proofs.lemmas.Bool.{cases_eq, eq-eqb, leb-true, lt-leb, ltb-false, ltb-true, ne_eqb}
 use Rattle.tb_cpu.specs.Effects.{has_bit}
 use Rattle.tb_words.specs.Words.{is_negative, magnitude, quotient, word}
 use Rattle.tb_syntax.specs.declared.expressions.Operator.TheVariants as op
@@ -25,15 +25,20 @@ use Rattle.tb_simulation.proofs.Returning.{back_here, moved}
 use Rattle.tb_selection.specs.Groups.{Operand, Constant, Variable, InSlot, Destination, IntoSlot, IntoHome, Remains, expand, fetch, kept, multiple, slot_of}
 use Rattle.tb_selection.specs.GroupSteps.{steps}
 use Rattle.tb_selection.specs.Liveness.{live}
-use Rattle.tb_selection.specs.Select.{omits_only_dead}
 use Rattle.tb_templates.specs.declared.sources.Source.{Source}
 use Rattle.tb_templates.specs.declared.sources.Source.TheVariants.{FixedWord, AtAddress}
 use Rattle.tb_templates.specs.GroupTemplates.{may_be_zero}
+use Rattle.tb_templates.specs.Masks.{mask}
+use Rattle.tb_templates.proofs.Divided.{IsMasking, by_bits, by_division, masking_is}
+use Rattle.tb_selection.specs.Select.{omits_only_dead, select}
 use Rattle.tb_templates.specs.Sources.{destination_at, source_of}
 use Rattle.tb_templates.specs.Templates.{var_at}
 use Rattle.tb_correctness.proofs.Arithmetic.Calculations.{subtracted_word}
-use Rattle.tb_correctness.proofs.CodeBytes.GroupCode.{Negative, brought, over_at, remains_code, rest_asked, rest_at, rest_turned, sign_looked_at, signed_rest, way_size}
-use Rattle.tb_correctness.proofs.Arithmetic.Constants.{never_zero}
+use Rattle.tb_correctness.proofs.Arithmetic.MaskedRests.{Both, Looked, above_rest, below_high, below_low, below_rest, looks_both, stores_both, turns_below}
+use Rattle.tb_correctness.proofs.CodeBytes.GroupCode.{GroupsLie, Negative, RestReachesBy, both_stored, brought, over_at, rest_and_sign, rest_asked, rest_at}
+use Rattle.tb_correctness.proofs.CodeBytes.GroupCode.{rest_below, rest_code, rest_turned, sign_looked_at, signed_rest, way_size}
+use Rattle.tb_correctness.proofs.Arithmetic.Constants.{constant_is, never_zero}
+use Rattle.tb_correctness.proofs.Pieces.Halves.{power_size}
 use Rattle.tb_correctness.proofs.Alone.Handed.{asks_by, comes_back, result_gives}
 use Rattle.tb_correctness.proofs.Arithmetic.InPlace.{Forked, forked}
 use Rattle.tb_correctness.proofs.Relation.Landing.{DestFits}
@@ -44,8 +49,8 @@ use Rattle.tb_correctness.proofs.Relation.Operands.{OperandFits, SourceHolds, de
 use Rattle.tb_correctness.proofs.Testing.LeftOver.{pieces_append}
 use Rattle.tb_correctness.proofs.Testing.Orders.{WithN, loads_sign}
 use Rattle.tb_correctness.proofs.Pieces.Sources.{At}
-use Rattle.tb_correctness.proofs.Relation.Ready.{Ready}
-use Rattle.tb_correctness.proofs.Arithmetic.Remainders.{rest_is, turned_size}
+use Rattle.tb_correctness.proofs.Relation.Ready.{Ready, here}
+use Rattle.tb_correctness.proofs.Arithmetic.Remainders.{rest_is, some_power, turned_size}
 use Rattle.tb_correctness.proofs.Slots.SlotSide.{IsDead, Lasting, StandsIn, ends, fetch_held, fetch_reads, fetched, fetched_behind, fetches, landed, line, other_slot, same_slot, slots_landed}
 use Rattle.tb_correctness.proofs.Pieces.Sums.{Grounded, copies, differs}
 use Rattle.tb_correctness.proofs.Testing.TestLaws.{lies_parts}
@@ -258,128 +263,218 @@ module _ (around : Surroundings) (fits : Fits around.f 16) (code : SlotCode) (li
   abbrev middle : ℕ
   middle = rest_at n w.regs.pc a b
 
-  abbrev signing : List Piece
-  signing = signed_rest h.first middle a dest
-
-  parts : Lies f.code w.regs.pc (rest_asked n a b) × Lies f.code middle signing
-  parts = lies_parts f.code w.regs.pc (rest_asked n a b) signing h.lies
-
-  asking_lies : Lies f.code at asking
-  asking_lies = lies_by h risky asking parts.0
-
-  a_apart : Grounded a LEFT
-  a_apart = operand_apart 0 (Variable v) LEFT (omega arith) (omega arith) fit.variable
-
-  b_apart : Grounded b RIGHT
-  b_apart = operand_apart (k + 2) d RIGHT (omega arith) (let room = fit.room in omega (arith, room)) fit.divisor
-
-  middle_is : at + size (brought a LEFT) + size (brought b RIGHT) + 3 ≡ middle
-  middle_is = let e = end_by h risky asking in omega (arith, e)
-
-  -- the remainder's size is in RESULT
-  record Told (u : View) : Type 0 where
-    here : Here middle own u.mem w.text w.answers u
-    result : WordAt u.mem RESULT rest_size
-    kept : Kept around (live js) s r u.mem
-
-  asks_rest : y ≢ 0 → Comes f w Told [] (13 + limit)
-  asks_rest some =
-      looser f w _ _ [] (4 + (9 + limit)) (13 + limit) (omega arith) (λ u z. z)
-      (lines_by fits h risky asking parts.0 _ [] (9 + limit)
-      (asks_by fits h DIVIDE_AT at a b [] m c asking_lies x y a_apart b_apart (a_holds m c) b_holds _ [] limit
-      (λ m' g u e.
-      looser f u _ _ [] limit limit (omega arith)
-      (λ z q. record {
-        here = back_here _ _ w.text w.answers _ z q (comes_back fits h DIVIDE_AT at a b [] m c asking_lies x y a_apart b_apart (a_holds m c) b_holds ∙ middle_is);
-        result = q.memory.rest;
-        kept = kept_scratch around (live js) s r m' z.mem h.some_read (λ p o. q.memory.others p (not_argument p o)) g.kept;
-      })
-      (rs.divide _ _ m' w.text w.answers x y g.left g.right some u e))))
-
-  -- ---- its sign
-  abbrev Fork : Type 0
-  Fork = Forked f 16 fits own w.text w.answers refl h.first middle (sign_looked_at a) Negative false rest_turned (copied RESULT dest)
-
-  fork : Fork
-  fork = forked f 16 fits own w.text w.answers refl h.first middle (sign_looked_at a) Negative false rest_turned (copied RESULT dest) parts.1 h.reach
-
-  -- where it is copied from RESULT, and where that ends
-  abbrev copy_at : ℕ
-  copy_at = over_at h.first middle (sign_looked_at a) rest_turned
-
-  abbrev end : ℕ
-  end = w.regs.pc + pieces_size (remains_code h.first n w.regs.pc a b dest)
-
-  end_is : copy_at + size (copied RESULT dest) ≡ end
-  end_is = let e = fork.end_is in let q = pieces_append (rest_asked n a b) signing in omega (arith, e, q)
-
+  -- the slots after it, and where the law ends
   abbrev last : Slots
   last = both code n v d to is s r h.read.all_words fit.room
 
   abbrev Ends : View → Type 0
   Ends = Matches around (line code n is (landed to value s) (slots_landed to value (with_word last k value)))
 
-  copies_out : (m : ℕ → ℕ) → WordAt m RESULT value → Kept around (live js) s r m → Moves f (Here copy_at own m w.text w.answers) Ends [] 4
-  copies_out m q c =
-      moves_looser f _ _ _ [] 4 4 (omega arith)
-      (λ u e. word_lands around code n h.small (live js) to is s r last value _ _ end m w.text w.answers q.low q.high q.small fit.dest
-      (remains_lasting v d to is code n s r h.read.all_words fit.room h.free) h.rest c h.text h.answers h.short u (moved _ end own _ w.text w.answers u e end_is))
-      (copies f 16 fits copy_at own m w.text w.answers refl RESULT dest fork.ends result_gives.0 (dest_in_data to fit.dest) (result_gives.1 to fit.dest) fork.behind_stands)
+  value_small : value < 65536
+  value_small = omega arith
 
-  -- where it is negated
-  abbrev turned_at : ℕ
-  turned_at = middle + size (sign_looked_at a) + way_size h.first
+  a_apart : Grounded a LEFT
+  a_apart = operand_apart 0 (Variable v) LEFT (omega arith) (omega arith) fit.variable
 
-  -- by the sign of the variable
-  signs : y ≢ 0 → Moves f Told Ends [] 14
-  signs some u told =
-      chained f u _ _ [] [] 1 13 (loads_sign f 16 fits middle own u.mem w.text w.answers refl (At (var_at v + 1)) a_apart.0.1 (let r = parts.1.0 in
-      omega (arith, r)) parts.1.1.0 u told.here) (λ z g. by (is_negative x) refl z g)
-    where
-      x_held : SourceHolds u.mem a x
-      x_held = a_holds u.mem told.kept
+  -- the remainder by the routine, with its sign
+  abbrev signing : List Piece
+  signing = signed_rest h.first middle a dest
 
-      y_held : SourceHolds u.mem b y
-      y_held = b_holds u.mem told.kept
+  module _ (lies : Lies f.code w.regs.pc (rest_code None h.first n w.regs.pc a b dest)) (reach : RestReachesBy None h.first n w.regs.pc a b)
+      (rest : GroupsLie ly f.code n (w.regs.pc + pieces_size (rest_code None h.first n w.regs.pc a b dest)) (select is)) where
+    parts : Lies f.code w.regs.pc (rest_asked n a b) × Lies f.code middle signing
+    parts = lies_parts f.code w.regs.pc (rest_asked n a b) signing lies
 
-      value_is : (t : Bool) → is_negative x ≡ t → value ≡ turned_size t rest_size
-      value_is t e = rest_is x y x_held.small y_held.small some ∙ ap (λ t. turned_size t rest_size) e
+    asking_lies : Lies f.code at asking
+    asking_lies = lies_by h risky asking parts.0
 
-      sign_is : has_bit (u.mem (var_at v + 1)) 128 ≡ is_negative x
-      sign_is = ap (λ b. has_bit b 128) x_held.high_byte ∙ sign_bit x x_held.small
+    b_apart : Grounded b RIGHT
+    b_apart = operand_apart (k + 2) d RIGHT (omega arith) (let room = fit.room in omega (arith, room)) fit.divisor
 
-      by : (t : Bool) → is_negative x ≡ t → (z : View) → WithN (middle + 3) (has_bit (u.mem (var_at v + 1)) 128) own u.mem w.text w.answers z → Comes f z Ends [] 13
-      by false e z g =
-          looser f z _ _ [] (2 + 4) 13 (omega arith) (λ q k. k)
-          (chained f z _ _ [] [] 2 4 (fork.leads u.mem false z (moved _ _ own _ w.text w.answers z g.here (omega arith)) (g.negative ∙ sign_is ∙ e)) (λ q l.
-          copies_out u.mem (subst (WordAt u.mem RESULT) (sym (value_is false e)) told.result) told.kept q l.here))
-      by true e z g =
-          let difference = subtracted_word 0 0 _ _ 0 rest_size refl refl told.result.low told.result.high (omega arith) told.result.small in
-          let same = sym (value_is true e) in
-          chained f z _ _ [] [] 2 11 (fork.leads u.mem true z (moved _ _ own _ w.text w.answers z g.here (omega arith)) (g.negative ∙ sign_is ∙ e)) (λ q l.
-          chained f q _ _ [] [] 7 4 (differs f 16 fits turned_at own u.mem w.text w.answers refl (FixedWord 0) (AtAddress RESULT) RESULT
-          (let r = fork.ends in omega (arith, r)) tt ((refl, refl), λ e. omega (arith, e)) (refl, refl) fork.stands q l.here) (λ q l.
-          copies_out _ (word_put u.mem RESULT _ _ value (difference.0 ∙ ap (λ v. v % 256) same) (difference.1 ∙ ap (λ v. v / 256) same) (omega arith))
-          (kept_put around (live js) s r u.mem RESULT _ _ h.some_read refl refl told.kept) q l))
+    middle_is : at + size (brought a LEFT) + size (brought b RIGHT) + 3 ≡ middle
+    middle_is = let e = end_by h risky asking in omega (arith, e)
 
-  -- ---- by 0
-  faults : y ≡ 0 → Comes f w (IsHome f) (fault_text 2 n) (13 + limit)
-  faults zero =
-      looser f w _ _ (fault_text 2 n) (4 + (9 + limit)) (13 + limit) (omega arith) (λ u z. z)
-      (lines_by fits h risky asking parts.0 _ (fault_text 2 n) (9 + limit)
-      (asks_by fits h DIVIDE_AT at a b [] m c asking_lies x y a_apart b_apart (a_holds m c) b_holds _ (fault_text 2 n) limit
-      (λ m' g. rs.divide_by_zero _ _ m' w.text w.answers x n g.left (subst (WordAt m' RIGHT) zero g.right)
-      (g.line (number_set h risky (λ e. never_zero w.mem y b (b_holds w.mem first) e zero))) g.kept.homed)))
+    -- the remainder's size is in RESULT
+    record Told (u : View) : Type 0 where
+      here : Here middle own u.mem w.text w.answers u
+      result : WordAt u.mem RESULT rest_size
+      kept : Kept around (live js) s r u.mem
+
+    asks_rest : y ≢ 0 → Comes f w Told [] (13 + limit)
+    asks_rest some =
+        looser f w _ _ [] (4 + (9 + limit)) (13 + limit) (omega arith) (λ u z. z)
+        (lines_by fits h risky asking parts.0 _ [] (9 + limit)
+        (asks_by fits h DIVIDE_AT at a b [] m c asking_lies x y a_apart b_apart (a_holds m c) b_holds _ [] limit
+        (λ m' g u e.
+        looser f u _ _ [] limit limit (omega arith)
+        (λ z q. record {
+          here = back_here _ _ w.text w.answers _ z q (comes_back fits h DIVIDE_AT at a b [] m c asking_lies x y a_apart b_apart (a_holds m c) b_holds ∙ middle_is);
+          result = q.memory.rest;
+          kept = kept_scratch around (live js) s r m' z.mem h.some_read (λ p o. q.memory.others p (not_argument p o)) g.kept;
+        })
+        (rs.divide _ _ m' w.text w.answers x y g.left g.right some u e))))
+
+    -- ---- its sign
+    abbrev Fork : Type 0
+    Fork = Forked f 16 fits own w.text w.answers refl h.first middle (sign_looked_at a) Negative false rest_turned (copied RESULT dest)
+
+    fork : Fork
+    fork = forked f 16 fits own w.text w.answers refl h.first middle (sign_looked_at a) Negative false rest_turned (copied RESULT dest) parts.1 reach
+
+    -- where it is copied from RESULT, and where that ends
+    abbrev copy_at : ℕ
+    copy_at = over_at h.first middle (sign_looked_at a) rest_turned
+
+    abbrev end : ℕ
+    end = w.regs.pc + pieces_size (rest_code None h.first n w.regs.pc a b dest)
+
+    end_is : copy_at + size (copied RESULT dest) ≡ end
+    end_is = let e = fork.end_is in let q = pieces_append (rest_asked n a b) signing in omega (arith, e, q)
+
+    copies_out : (m : ℕ → ℕ) → WordAt m RESULT value → Kept around (live js) s r m → Moves f (Here copy_at own m w.text w.answers) Ends [] 4
+    copies_out m q c =
+        moves_looser f _ _ _ [] 4 4 (omega arith)
+        (λ u e. word_lands around code n h.small (live js) to is s r last value _ _ end m w.text w.answers q.low q.high q.small fit.dest
+        (remains_lasting v d to is code n s r h.read.all_words fit.room h.free) rest c h.text h.answers h.short u (moved _ end own _ w.text w.answers u e end_is))
+        (copies f 16 fits copy_at own m w.text w.answers refl RESULT dest fork.ends result_gives.0 (dest_in_data to fit.dest) (result_gives.1 to fit.dest) fork.behind_stands)
+
+    -- where it is negated
+    abbrev turned_at : ℕ
+    turned_at = middle + size (sign_looked_at a) + way_size h.first
+
+    -- by the sign of the variable
+    signs : y ≢ 0 → Moves f Told Ends [] 14
+    signs some u told =
+        chained f u _ _ [] [] 1 13 (loads_sign f 16 fits middle own u.mem w.text w.answers refl (At (var_at v + 1)) a_apart.0.1 (let r = parts.1.0 in
+        omega (arith, r)) parts.1.1.0 u told.here) (λ z g. by (is_negative x) refl z g)
+      where
+        x_held : SourceHolds u.mem a x
+        x_held = a_holds u.mem told.kept
+
+        y_held : SourceHolds u.mem b y
+        y_held = b_holds u.mem told.kept
+
+        value_is : (t : Bool) → is_negative x ≡ t → value ≡ turned_size t rest_size
+        value_is t e = rest_is x y x_held.small y_held.small some ∙ ap (λ t. turned_size t rest_size) e
+
+        sign_is : has_bit (u.mem (var_at v + 1)) 128 ≡ is_negative x
+        sign_is = ap (λ b. has_bit b 128) x_held.high_byte ∙ sign_bit x x_held.small
+
+        by : (t : Bool) → is_negative x ≡ t → (z : View) → WithN (middle + 3) (has_bit (u.mem (var_at v + 1)) 128) own u.mem w.text w.answers z → Comes f z Ends [] 13
+        by false e z g =
+            looser f z _ _ [] (2 + 4) 13 (omega arith) (λ q k. k)
+            (chained f z _ _ [] [] 2 4 (fork.leads u.mem false z (moved _ _ own _ w.text w.answers z g.here (omega arith)) (g.negative ∙ sign_is ∙ e)) (λ q l.
+            copies_out u.mem (subst (WordAt u.mem RESULT) (sym (value_is false e)) told.result) told.kept q l.here))
+        by true e z g =
+            let difference = subtracted_word 0 0 _ _ 0 rest_size refl refl told.result.low told.result.high (omega arith) told.result.small in
+            let same = sym (value_is true e) in
+            chained f z _ _ [] [] 2 11 (fork.leads u.mem true z (moved _ _ own _ w.text w.answers z g.here (omega arith)) (g.negative ∙ sign_is ∙ e)) (λ q l.
+            chained f q _ _ [] [] 7 4 (differs f 16 fits turned_at own u.mem w.text w.answers refl (FixedWord 0) (AtAddress RESULT) RESULT
+            (let r = fork.ends in omega (arith, r)) tt ((refl, refl), λ e. omega (arith, e)) (refl, refl) fork.stands q l.here) (λ q l.
+            copies_out _ (word_put u.mem RESULT _ _ value (difference.0 ∙ ap (λ v. v % 256) same) (difference.1 ∙ ap (λ v. v / 256) same) (omega arith))
+            (kept_put around (live js) s r u.mem RESULT _ _ h.some_read refl refl told.kept) q l))
+
+    -- ---- by 0
+    faults : y ≡ 0 → Comes f w (IsHome f) (fault_text 2 n) (13 + limit)
+    faults zero =
+        looser f w _ _ (fault_text 2 n) (4 + (9 + limit)) (13 + limit) (omega arith) (λ u z. z)
+        (lines_by fits h risky asking parts.0 _ (fault_text 2 n) (9 + limit)
+        (asks_by fits h DIVIDE_AT at a b [] m c asking_lies x y a_apart b_apart (a_holds m c) b_holds _ (fault_text 2 n) limit
+        (λ m' g. rs.divide_by_zero _ _ m' w.text w.answers x n g.left (subst (WordAt m' RIGHT) zero g.right)
+        (g.line (number_set h risky (λ e. never_zero w.mem y b (b_holds w.mem first) e zero))) g.kept.homed)))
+
+  -- ---- by the lowest bits
+  module _ (j : ℕ) (few : j < 8) (power : y ≡ 2 ^ (j + 1)) (lies : Lies f.code w.regs.pc (rest_code (Some (2 ^ (j + 1) - 1)) h.first n w.regs.pc a b dest))
+      (reach : RestReachesBy (Some (2 ^ (j + 1) - 1)) h.first n w.regs.pc a b)
+      (rest : GroupsLie ly f.code n (w.regs.pc + pieces_size (rest_code (Some (2 ^ (j + 1) - 1)) h.first n w.regs.pc a b dest)) (select is)) where
+    abbrev bits : ℕ
+    bits = 2 ^ (j + 1) - 1
+
+    abbrev split : Type 0
+    split = Forked f 16 fits own w.text w.answers refl h.first w.regs.pc (rest_and_sign bits a) Negative false (rest_below bits) (both_stored dest)
+
+    way : split
+    way = forked f 16 fits own w.text w.answers refl h.first w.regs.pc (rest_and_sign bits a) Negative false (rest_below bits) (both_stored dest) lies reach
+
+    -- where the bits are taken away, and where the word is stored
+    abbrev below_at : ℕ
+    below_at = w.regs.pc + 10 + way_size h.first
+
+    abbrev store_at : ℕ
+    store_at = over_at h.first w.regs.pc (rest_and_sign bits a) (rest_below bits)
+
+    x_of : SourceHolds w.mem a x
+    x_of = a_holds w.mem first
+
+    some_divisor : y ≢ 0
+    some_divisor zero = some_power j few (sym power ∙ zero)
+
+    -- the word, by the sign of the variable
+    value_by : (t : Bool) → is_negative x ≡ t → value ≡ turned_size t ((if t then 65536 - x else x) % 2 ^ (j + 1))
+    value_by t e =
+        let size = power_size j few in
+        let plain : is_negative (2 ^ (j + 1)) ≡ false = lt-leb 32768 (2 ^ (j + 1)) (omega (arith, size.1)) in
+        let m : magnitude y ≡ 2 ^ (j + 1) = ap magnitude power ∙ ap (λ t. if t then 65536 - 2 ^ (j + 1) else 2 ^ (j + 1)) plain in
+        rest_is x y x_of.small (b_holds w.mem first).small some_divisor ∙ (λ i. turned_size (e i) ((if e i then 65536 - x else x) % m i))
+
+    stores_word : (l u : ℕ) → l ≡ value % 256 → u ≡ value / 256 → Moves f (Both store_at l u own w.mem w.text w.answers) Ends [] 2
+    stores_word l u el eu =
+        moves_looser f _ _ _ [] 2 2 (omega arith)
+        (λ z e. word_lands around code n h.small (live js) to is s r last value l u (store_at + 6) w.mem w.text w.answers el eu value_small fit.dest
+        (remains_lasting v d to is code n s r h.read.all_words fit.room h.free) (subst (λ p. GroupsLie ly f.code n p (select is)) (sym way.end_is) rest)
+        first h.text h.answers h.short z e)
+        (stores_both f 16 fits store_at own w.mem w.text w.answers refl dest l u (dest_in_data to fit.dest) way.ends way.behind_stands)
+
+    by_sign : (t : Bool) → is_negative x ≡ t → (z : View) → Looked (w.regs.pc + 10) (bit_and (w.mem (var_at v)) bits) 0 t own w.mem w.text w.answers z
+        → Comes f z Ends [] 14
+    by_sign false e z g =
+        let same = value_by false e in
+        let word_is = above_rest j few x in
+        chained f z _ _ [] [] 2 12 (way.leads w.mem false z g.here g.negative) (λ q l.
+        looser f q _ _ [] 2 12 (omega arith) (λ u k. k)
+        (stores_word (bit_and (w.mem (var_at v)) bits) 0 (ap (λ b. bit_and b bits) x_of.low_byte ∙ word_is.0 ∙ ap (λ v. v % 256) (sym same))
+        (word_is.1 ∙ ap (λ v. v / 256) (sym same)) q (record { here = l.here; number = l.number ∙ g.number; index = l.index ∙ g.index })))
+    by_sign true e z g =
+        let same = value_by true e in
+        let word_is = below_rest j few x x_of.small (leb-true 32768 x e) in
+        let byte = ap (λ b. bit_and b bits) x_of.low_byte in
+        chained f z _ _ [] [] 2 12 (way.leads w.mem true z g.here g.negative) (λ q l.
+        chained f q _ _ [] [] 10 2 (turns_below f 16 fits below_at own w.mem w.text w.answers refl bits (bit_and (w.mem (var_at v)) bits)
+        (let r = way.ends in omega (arith, r)) way.stands q (record { here = l.here; number = l.number ∙ g.number }))
+        (stores_word (below_low bits (bit_and (w.mem (var_at v)) bits)) (below_high bits (bit_and (w.mem (var_at v)) bits))
+        (ap (below_low bits) byte ∙ word_is.0 ∙ ap (λ v. v % 256) (sym same)) (ap (below_high bits) byte ∙ word_is.1 ∙ ap (λ v. v / 256) (sym same))))
+
+    masked_goes : Comes f w Ends [] 18
+    masked_goes =
+        chained f w _ _ [] [] 4 14
+        (looks_both f 16 fits w.regs.pc own w.mem w.text w.answers refl bits (var_at v) a_apart.0 (let r = lies.0 in omega (arith, r)) lies.1 w (here h))
+        (λ z g. by_sign (is_negative x) refl z (record {
+          here = g.here;
+          number = g.number;
+          index = g.index;
+          negative = g.negative ∙ ap (λ b. has_bit b 128) x_of.high_byte ∙ sign_bit x x_of.small;
+        }))
 
   abbrev pub RemainsLeads : Step SlotState → Type 0
   RemainsLeads z = Comes f w (Target around z) (sent_in z) (34 + (limit + limit))
 
-  -- the law of a remainder
-  pub remains_law : RemainsLeads (steps code (expand (Remains v d to)) (line code n js s r))
-  remains_law = ⊎_elim
+  -- the law of a remainder, by how it is computed
+  law_by : (o : Option ℕ) → IsMasking b o → Lies f.code w.regs.pc (rest_code o h.first n w.regs.pc a b dest) → RestReachesBy o h.first n w.regs.pc a b
+      → GroupsLie ly f.code n (w.regs.pc + pieces_size (rest_code o h.first n w.regs.pc a b dest)) (select is)
+      → RemainsLeads (steps code (expand (Remains v d to)) (line code n js s r))
+  law_by _ (by_bits c j e few p) lies reach rest =
+      let same = constant_is w.mem c y b e (b_holds w.mem first) in
+      let power : y ≡ 2 ^ (j + 1) = sym same.0 ∙ p in
+      subst RemainsLeads (sym (remains_goes code n v d to is s r h.read.all_words fit.room (λ zero. some_power j few (sym power ∙ zero))))
+      (looser f w _ _ [] 18 (34 + (limit + limit)) (omega arith) (λ u z. z) (masked_goes j few power lies reach rest))
+  law_by _ by_division lies reach rest = ⊎_elim
       (λ zero. subst RemainsLeads (sym (remains_fails code n v d to is s r h.read.all_words fit.room zero))
-      (looser f w _ _ (fault_text 2 n) (13 + limit) (34 + (limit + limit)) (omega arith) (λ u z. z) (faults zero)))
+      (looser f w _ _ (fault_text 2 n) (13 + limit) (34 + (limit + limit)) (omega arith) (λ u z. z) (faults lies reach rest zero)))
       (λ some. subst RemainsLeads (sym (remains_goes code n v d to is s r h.read.all_words fit.room some))
       (looser f w _ _ [] (13 + limit + 14) (34 + (limit + limit)) (omega arith) (λ u z. z)
-      (chained f w _ _ [] [] (13 + limit) 14 (asks_rest some) (signs some))))
+      (chained f w _ _ [] [] (13 + limit) 14 (asks_rest lies reach rest some) (signs lies reach rest some))))
       (cases_eq y 0)
+
+  -- the law of a remainder
+  pub remains_law : RemainsLeads (steps code (expand (Remains v d to)) (line code n js s r))
+  remains_law = law_by (mask b) (masking_is b) h.lies h.reach h.rest

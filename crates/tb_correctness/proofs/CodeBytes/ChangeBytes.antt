@@ -1,9 +1,9 @@
 -- The bytes of calculations, also of those that change a word in place, whatever the way of the branch.
 use Rattle.std.proofs.Common.{◌≡◌, ℕ, ◌+◌, ◌/◌, ◌%◌, ◌<◌, Bool, true, false, List, [], ◌∷◌, ◌++◌, map, refl, sym, ap, ◌∙◌, subst, arith, Option}
-use Rattle.std.specs.Prelude.{◌&&◌}
+use Rattle.std.specs.Prelude.{◌&&◌, ◌-◌, ◌^◌, Some, None}
 use Rattle.std.specs.List.{list_all}
 use Rattle.tb_opcodes.specs.Opcodes as opcodes
-use Rattle.tb_opcodes.specs.declared.Mnemonic.TheVariants.{Adc, Asl, Clc, Dec, Inc, Lda, Ror, Sbc, Sec, Sta}
+use Rattle.tb_opcodes.specs.declared.Mnemonic.TheVariants.{Adc, Asl, Clc, Dec, Inc, Lda, Ldy, Ror, Sbc, Sec, Sta}
 use Rattle.tb_opcodes.specs.declared.Mode.TheVariants.{Relative}
 use Rattle.tb_asm.specs.declared.names.Name.{Name}
 use Rattle.tb_asm.specs.declared.items.Operand.TheVariants.{Label}
@@ -21,7 +21,9 @@ use Rattle.tb_templates.specs.Templates as product
 use Rattle.tb_templates.specs.Scaled as scaled
 use Rattle.tb_templates.specs.InPlace as in_place
 use Rattle.tb_templates.specs.InPlace.{change_of}
-use Rattle.tb_templates.proofs.Divided.{asked_rest_plain}
+use Rattle.tb_templates.specs.Masks as masks
+use Rattle.tb_templates.specs.Masks.{mask}
+use Rattle.tb_templates.proofs.Divided.{IsMasking, asked_rest_plain, by_bits, by_division, masking_is}
 use Rattle.tb_templates.proofs.Plain.{plain_straight}
 use Rattle.tb_runtime16.specs.Addresses.{RESULT}
 use Rattle.tb_templates.specs.declared.in_place.Change.{Change}
@@ -33,7 +35,8 @@ use Rattle.tb_correctness.proofs.CodeBytes.GroupCode as coded
 use Rattle.tb_correctness.proofs.CodeBytes.GroupCode.{Carry, Flag, Negative, Way, Short, Zero, way_size}
 use Rattle.tb_correctness.proofs.CodeBytes.Emits.{Emits, block, branch_by, branches, emits_append, emitted_size, formed, labelled}
 use Rattle.tb_correctness.proofs.CodeBytes.ItemBytes.{AllEncode, IsWord, Rest, all_made, asked_emits, behind_branch, behind_straight, calculated_emits}
-use Rattle.tb_correctness.proofs.CodeBytes.ItemBytes.{calculated_straight, copied_made, copied_straight, cut, cut_branch, gets_there, high_made, high_straight}
+use Rattle.tb_correctness.proofs.CodeBytes.ItemBytes.{both_stored_bytes, calculated_straight, copied_made, copied_straight, cut, cut_branch, gets_there}
+use Rattle.tb_correctness.proofs.CodeBytes.ItemBytes.{high_made, high_straight, low_straight, rest_and_sign_bytes, rest_below_bytes}
 use Rattle.tb_correctness.proofs.CodeBytes.ItemBytes.{label_here, rest_before, rest_behind, taken_bytes, value_of}
 
 module _ (labels : List (Name × ℕ)) where
@@ -197,15 +200,21 @@ module _ (labels : List (Name × ℕ)) where
       }
 
   -- ---- remainders
-  pub record RestEmitted (n at : ℕ) (a b : Source) (to : ℕ) (fs : List Form) : Type 0 where
+  pub record RestEmitted (o : Option ℕ) (n at : ℕ) (a b : Source) (to : ℕ) (fs : List Form) : Type 0 where
     pub first : Way
-    pub emits : Emits labels at fs (coded.remains_code first n at a b to)
-    pub reach : coded.RestReaches first n at a b
+    pub emits : Emits labels at fs (coded.rest_code o first n at a b to)
+    pub reach : coded.RestReachesBy o first n at a b
 
   -- the forms of a remainder emit its code
-  pub remains_emitted : (n at : ℕ) (skip : Target) (a b : Source) (to : ℕ) → n < 65536 → IsWord a → IsWord b → (fs : List Form)
-      → AreFormsOf (items.remains n skip a b to) fs → Rest labels at fs → RestEmitted n at a b to fs
-  remains_emitted n at skip a b to small u v fs h r =
+  rest_emitted : (n at : ℕ) (o : Option ℕ) (skip : Target) (a b : Source) (to : ℕ) → IsMasking b o → n < 65536 → IsWord a → IsWord b → (fs : List Form)
+      → AreFormsOf (items.rest_by n o skip a b to) fs → Rest labels at fs → RestEmitted o n at a b to fs
+  rest_emitted n at _ skip a b to (by_bits w k e few p) small u v fs h r =
+      let bits = 2 ^ (k + 1) - 1 in
+      let e = over_emitted (masks.rest_and_sign bits a) (masks.rest_below bits) (masks.both_stored to) (coded.rest_and_sign bits a) (coded.rest_below bits)
+      (coded.both_stored to) Negative false (label_of skip) (λ i. low_straight Lda a i && (high_straight Ldy a i && true)) refl refl
+      (rest_and_sign_bytes labels k a few u) (rest_below_bytes labels k few) (both_stored_bytes labels to) at fs h r in
+      record { first = e.first; emits = e.emits; reach = e.reach }
+  rest_emitted n at _ skip a b to by_division small u v fs h r =
       let s = split (items.asked_rest n a b) (items.signed_rest skip a to) fs h in
       let parts = subst (Rest labels at) s.are r in
       let front : s.front ≡ map kept (items.asked_rest n a b) = straight_forms (items.asked_rest n a b) s.front (plain_straight (items.asked_rest n a b) (asked_rest_plain n a b)) s.of_front in
@@ -218,6 +227,10 @@ module _ (labels : List (Name × ℕ)) where
       (copied_made labels RESULT to) next s.back s.of_back back in
       record {
         first = e.first;
-        emits = subst (λ fs. Emits labels at fs (coded.remains_code e.first n at a b to)) (sym s.are) (emits_append labels asks e.emits);
+        emits = subst (λ fs. Emits labels at fs (coded.rest_code None e.first n at a b to)) (sym s.are) (emits_append labels asks e.emits);
         reach = e.reach;
       }
+
+  pub remains_emitted : (n at : ℕ) (skip : Target) (a b : Source) (to : ℕ) → n < 65536 → IsWord a → IsWord b → (fs : List Form)
+      → AreFormsOf (items.remains n skip a b to) fs → Rest labels at fs → RestEmitted (mask b) n at a b to fs
+  remains_emitted n at skip a b to small u v fs h r = rest_emitted n at (mask b) skip a b to (masking_is b) small u v fs h r

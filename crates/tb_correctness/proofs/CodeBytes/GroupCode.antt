@@ -37,7 +37,7 @@ use Rattle.tb_selection.specs.Groups.{Conversion, Negated, Drawn, Usage, AsNumbe
 use Rattle.tb_selection.specs.Groups.{Indivisible, Group, Calculate, Stepped, Convert, Move, Use, Test, TestGo, Divides, Remains, Single, contrary, denied}
 use Rattle.tb_selection.specs.Groups.{slot_of, expand_all}
 use Rattle.tb_selection.specs.Select.{select}
-use Rattle.tb_correctness.proofs.Pieces.Sources.{Byte, Fixed, At, lda, adc, sbc, cmp, ora}
+use Rattle.tb_correctness.proofs.Pieces.Sources.{Byte, Fixed, At, lda, adc, sbc, cmp, ldy, ora}
 
 -- its bytes
 abbrev pub low : Source → Byte
@@ -477,11 +477,31 @@ signed_rest first at a to = over_code first at (sign_looked_at a) Negative false
 abbrev pub rest_at : (n at : ℕ) → Source → Source → ℕ
 rest_at n at a b = at + pieces_size (rest_asked n a b)
 
+-- the lowest bits of a word go to A, 0 to X, the word's sign to N; what is done if it is below 0; and both are stored
+abbrev pub rest_and_sign : ℕ → Source → List Instr
+rest_and_sign bits a = lda (low a) ∷ ins 0x29 bits ∷ ins 0xA2 0 ∷ ldy (high a) ∷ []
+
+abbrev pub rest_below : ℕ → List Instr
+rest_below bits =
+    ins 0x18 0 ∷ ins 0x69 bits ∷ ins 0x29 bits ∷ ins 0x38 0 ∷ ins 0xE9 bits ∷ ins 0xA8 0 ∷ ins 0xA9 0 ∷ ins 0xE9 0 ∷ ins 0xAA 0 ∷ ins 0x98 0 ∷ []
+
+abbrev pub both_stored : ℕ → List Instr
+both_stored to = ins 0x8D to ∷ ins 0x8E (to + 1) ∷ []
+
+-- a remainder with the word's sign: by the word's lowest bits if the divisor is a power of two; and that its branch reaches
+abbrev pub rest_code : Option ℕ → Way → (n at : ℕ) → Source → Source → ℕ → List Piece
+rest_code (Some bits) first n at a b to = over_code first at (rest_and_sign bits a) Negative false (rest_below bits) (both_stored to)
+rest_code None first n at a b to = rest_asked n a b ++ signed_rest first (rest_at n at a b) a to
+
+abbrev pub RestReachesBy : Option ℕ → Way → (n at : ℕ) → Source → Source → Type 0
+RestReachesBy (Some bits) first n at a b = OverReaches first at (rest_and_sign bits a) (rest_below bits)
+RestReachesBy None first n at a b = OverReaches first (rest_at n at a b) (sign_looked_at a) rest_turned
+
 abbrev pub remains_code : Way → (n at : ℕ) → Source → Source → ℕ → List Piece
-remains_code first n at a b to = rest_asked n a b ++ signed_rest first (rest_at n at a b) a to
+remains_code first n at a b to = rest_code (mask b) first n at a b to
 
 abbrev pub RestReaches : Way → (n at : ℕ) → Source → Source → Type 0
-RestReaches first n at a b = OverReaches first (rest_at n at a b) (sign_looked_at a) rest_turned
+RestReaches first n at a b = RestReachesBy (mask b) first n at a b
 
 -- ---- a result that goes on by a constant
 -- the address of that second calculation

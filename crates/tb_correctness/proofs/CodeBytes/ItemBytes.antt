@@ -7,7 +7,7 @@ use Rattle.std.specs.List.{list_all}
 use Rattle.std.proofs.lemmas.Bool.{and_parts}
 use Rattle.tb_opcodes.specs.Opcodes as opcodes
 use Rattle.tb_opcodes.specs.declared.Mnemonic.{Mnemonic}
-use Rattle.tb_opcodes.specs.declared.Mnemonic.TheVariants.{Adc, Asl, Clc, Cmp, Lda, Ora, Rol, Sbc, Sec, Sta}
+use Rattle.tb_opcodes.specs.declared.Mnemonic.TheVariants.{Adc, Asl, Clc, Cmp, Lda, Ldy, Ora, Rol, Sbc, Sec, Sta}
 use Rattle.tb_opcodes.specs.declared.Mode.TheVariants.{Absolute, Relative, ZeroPage}
 use Rattle.tb_asm.specs.declared.names.Name.{Name}
 use Rattle.tb_asm.specs.declared.items.Operand.TheVariants.{Byte, Label, Word}
@@ -35,11 +35,12 @@ use Rattle.tb_templates.specs.Scaled as scaled
 use Rattle.tb_templates.specs.Scaled.{scaling, shifts}
 use Rattle.tb_templates.proofs.Factors.{IsScaling, by_right, by_left, by_routine, scaling_is, IsShifting, by_shifts, by_call, shifting_is}
 use Rattle.tb_templates.specs.Masks.{lowest_bits}
+use Rattle.tb_templates.specs.Masks as masks
 use Rattle.tb_templates.proofs.Divided.{IsMasking, by_bits, by_division}
 use Rattle.tb_templates.proofs.Plain.{plain_straight, low_matched_plain, high_matched_plain, times_plain, shifted_plain}
 use Rattle.tb_simulation.proofs.Resolved as resolved
 use Rattle.tb_simulation.proofs.Resolved.{Piece, Code, highest_code}
-use Rattle.tb_correctness.proofs.Pieces.Sources.{Fixed, lda, adc, sbc, cmp, ora}
+use Rattle.tb_correctness.proofs.Pieces.Sources.{Fixed, lda, adc, sbc, cmp, ldy, ora}
 use Rattle.tb_correctness.proofs.CodeBytes.GroupCode as coded
 use Rattle.tb_correctness.proofs.CodeBytes.GroupCode.{low, high, matched, difference, Way, way_size, BranchReaches}
 use Rattle.tb_correctness.proofs.Pieces.Halves.{power_size}
@@ -268,6 +269,11 @@ module _ (labels : List (Name × ℕ)) where
   unfolding opcodes.encoded
   ora_low (FixedWord w) = record { same = λ a. ap (λ b. 0x09 ∷ b ∷ []) (low_byte w) }
   ora_low (AtAddress p) = record { same = λ a. refl }
+
+  ldy_high : (s : Source) → IsWord s → Encodes (items.high_of Ldy s) (ldy (high s))
+  unfolding opcodes.encoded
+  ldy_high (FixedWord w) h = record { same = λ a. ap (λ b. 0xa0 ∷ b ∷ []) (high_byte w h) }
+  ldy_high (AtAddress p) h = record { same = λ a. refl }
 
   none : AllEncode [] []
   none = record { same = λ a. refl }
@@ -507,6 +513,23 @@ module _ (labels : List (Name × ℕ)) where
   bits_bytes_of : (k : ℕ) (s : Source) → k < 8 → AllEncode (lowest_bits (2 ^ (k + 1) - 1) s) (coded.lowest_bits (2 ^ (k + 1) - 1) s)
   unfolding opcodes.encoded
   bits_bytes_of k s few = lda_low s ▹ record { same = λ a. ap (λ b. 0x29 ∷ b ∷ []) (mask_small k few) } ▹ none
+
+  -- the bytes of a remainder by the lowest bits: up to its branch, behind it, and at its end
+  pub rest_and_sign_bytes : (k : ℕ) (s : Source) → k < 8 → IsWord s → AllEncode (masks.rest_and_sign (2 ^ (k + 1) - 1) s) (coded.rest_and_sign (2 ^ (k + 1) - 1) s)
+  unfolding opcodes.encoded
+  rest_and_sign_bytes k s few h =
+      lda_low s ▹ record { same = λ a. ap (λ b. 0x29 ∷ b ∷ []) (mask_small k few) } ▹ record { same = λ a. refl } ▹ ldy_high s h ▹ none
+
+  pub rest_below_bytes : (k : ℕ) → k < 8 → AllEncode (masks.rest_below (2 ^ (k + 1) - 1)) (coded.rest_below (2 ^ (k + 1) - 1))
+  unfolding opcodes.encoded
+  rest_below_bytes k few =
+      clear ▹ record { same = λ a. ap (λ b. 0x69 ∷ b ∷ []) (mask_small k few) } ▹ record { same = λ a. ap (λ b. 0x29 ∷ b ∷ []) (mask_small k few) }
+      ▹ set ▹ record { same = λ a. ap (λ b. 0xe9 ∷ b ∷ []) (mask_small k few) } ▹ record { same = λ a. refl } ▹ record { same = λ a. refl }
+      ▹ record { same = λ a. refl } ▹ record { same = λ a. refl } ▹ record { same = λ a. refl } ▹ none
+
+  pub both_stored_bytes : (to : ℕ) → AllEncode (masks.both_stored to) (coded.both_stored to)
+  unfolding opcodes.encoded
+  both_stored_bytes to = store to ▹ record { same = λ a. refl } ▹ none
 
   -- a remainder for a test emits its code
   pub left_over_emits : (n at : ℕ) (o : Option ℕ) (s t : Source) → IsMasking t o → n < 65536 → IsWord s → IsWord t

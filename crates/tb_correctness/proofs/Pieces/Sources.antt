@@ -48,6 +48,9 @@ cmp b = on 0xC9 0xCD b
 abbrev pub ora : Byte → Instr
 ora b = on 0x09 0x0D b
 
+abbrev pub ldy : Byte → Instr
+ldy b = on 0xA0 0xAC b
+
 abbrev pub len : Instr → ℕ
 len i = length (instr_bytes i)
 

@@ -28,7 +28,7 @@
 ;   $C068  WANTED     word: the number of the line that Search looks for
 ;   $C06A  COUNT      word: how many entries the line table has
 ;   $C06C  LENGTH     byte: a text's length
-;   $C06D  BYTE       byte: the byte that is sent or was read
+;   $C06D  BYTE       byte: a byte that is sent
 ;   $C06E  SCRATCH    18 bytes, up to $C07F
 ;   $C100  RETURN_LOW   500 bytes, the returns' low bytes
 ;   $C300  RETURN_HIGH  500 bytes, their high bytes
@@ -87,67 +87,35 @@ SEND1:
         INC $C034               ; COLUMN
         JMP $FFD2               ; CHROUT
 
-; ---- Multiply: RESULT = LEFT * RIGHT, modulo 65,536, with or without signs
-;
-; In:      LEFT, RIGHT.
-; Out:     RESULT.
-; Stack:   0.  Time: 245.
-;
-; A round for each bit of RIGHT from the lowest on, up to the last that is 1: the bit is shifted out, and where it
-; is 1, LEFT is added to the sum, whose low byte is in A and whose high byte is RESULT's. LEFT doubles in each round.
-MULTIPLY:
-        LDX #$00
-        STX $C067               ; RESULT's high byte = 0; its low byte stays in A
-        TXA
-MULTIPLY1:
-        LSR $FE                 ; RIGHT = RIGHT / 2, its lowest bit in C
-        ROR $FD
-        BCC MULTIPLY2
-        CLC
-        ADC $FB                 ; RESULT = RESULT + LEFT
-        TAY
-        LDA $C067
-        ADC $FC
-        STA $C067
-        TYA
-MULTIPLY2:
-        ASL $FB                 ; LEFT = LEFT * 2
-        ROL $FC
-        LDX $FD                 ; on while RIGHT has a bit left
-        BNE MULTIPLY1
-        LDX $FE
-        BNE MULTIPLY1
-        STA $C066
-        RTS
-
 ; ---- Divide: LEFT = LEFT / RIGHT, signed, truncated toward zero; RESULT = the remainder without its sign
 ;
 ; In:      LEFT, RIGHT.
-; Out:     LEFT, RESULT. -32768 / -1 gives -32768: as a word it is its own negative, and all three negations keep it.
+; Out:     LEFT, RESULT. -32768 / -1 gives -32768: as a word it is its own negative, and the negation of LEFT keeps it.
 ; Fault:   2 where RIGHT is 0.
-; Stack:   4.  Time: 210, and 5 up to the fault.
+; Stack:   4.  Time: 203, and 10 up to the fault.
 ;
 ; The frequent case comes first: where RIGHT is 1 to 127 and LEFT's high byte, without a sign, is below it, neither is
 ; negative and the quotient fits a byte. A is LEFT's high byte then, and X is 0.
 DIVIDE:
+        BIT $FD                 ; RIGHT
+        BMI DIVIDEANY
+        LDA $FC                 ; LEFT
+        CMP $FD
+        BCS DIVIDEANY
+        LDX $FE
+        BEQ BYTEFEW
+
+; The sizes are divided, and the quotient is negated after if the signs differ: that is what follows.
+DIVIDEANY:
         LDA $FD                 ; RIGHT
         ORA $FE
         BEQ DIVIDEZERO
-        BMI DIVIDESIGNED
-        LDX $FE
-        BNE DIVIDESIGNED
-        LDA $FC                 ; LEFT
-        CMP $FD
-        BCC BYTEFEW
+        LDA $FC                 ; both signs
+        EOR $FE
+        BPL DIVIDESIZES
+        JSR DIVIDESIZES
 
-; A negative LEFT is negated before, and the quotient after: that is what follows.
-DIVIDESIGNED:
-        LDA $FC                 ; LEFT's sign
-        BPL DIVIDEBY
-        JSR NEGATELEFT
-        JSR DIVIDEBY
-
-; LEFT = -LEFT. Time: 9. Stack: 0.
+; LEFT = -LEFT. Y stands. Time: 9. Stack: 0.
 NEGATELEFT:
         LDX #$00
 
@@ -165,22 +133,23 @@ DIVIDEZERO:
         LDA #$02
         JMP FAULT
 
-; LEFT = LEFT / RIGHT, where LEFT is 0 to 32768 and RIGHT is signed. A negative RIGHT is negated before, and the
-; quotient after.
+; LEFT = the size of LEFT / the size of RIGHT.
+DIVIDESIZES:
+        LDA $FC                 ; LEFT's sign
+        BPL DIVIDEBY
+        JSR NEGATELEFT
 DIVIDEBY:
         LDA $FE                 ; RIGHT's sign
         BPL UNSIGNED
         LDX #$02
         JSR NEGATE
-        JSR UNSIGNED
-        JMP NEGATELEFT
 
 ; LEFT = LEFT / RIGHT, RESULT = the remainder, without signs, for RIGHT from 1 to 32768. RIGHT stands.
-; Divide and Random divide by it. Stack: 0. Time: 156.
+; Divide and Random divide by it. Stack: 2. Time: 156.
 ;
-; Where RIGHT is below 128, LEFT's bytes are divided one after the other, the high one first, by eight rounds each,
-; with the rest in A: X is 1 for the high byte, 0 for the low one. Where the high byte is below RIGHT, it is the rest
-; of its own division already, and its quotient is 0.
+; Where RIGHT is below 128, LEFT's bytes are divided one after the other, the high one first, by eight rounds each.
+; The high byte is divided at the low one's place, which X keeps meanwhile; its quotient is 1 or more. Where the high
+; byte is below RIGHT, it is the rest of its own division already, and its quotient is 0.
 UNSIGNED:
         LDX #$00
         CPX $FE                 ; C clear where RIGHT's high byte is not 0
@@ -190,36 +159,51 @@ UNSIGNED:
         LDY $FD                 ; leaves C
         BMI WIDEHALF
         BCC BYTEFEW
-        TXA
-        INX
-        BNE BYTE                ; always
+        LDX $FB
+        STA $FB
+        LDA #$00
+        JSR ROUNDS
+        LDY $FB
+        STX $FB
+        STY $FC
+        BNE ROUNDS              ; always
 BYTEFEW:
         STX $FC
 
-; The byte at LEFT + X, with the rest above it in A, which is below RIGHT: so it fits a byte when it is doubled and
-; takes a bit more. A round moves the byte's highest bit into A, and leaves in C whether RIGHT went into A, which the
-; next shift moves into the byte: so what was in C before the first round comes out at the last shift. A turn of two
-; rounds, counted in Y.
-BYTE:
-        LDY #$04
-BYTENEXT:
-        ROL $FB,X               ; LEFT + X
+; The byte at LEFT, with the rest above it in A, which is below RIGHT: so it fits a byte when it is doubled and takes
+; a bit more. A round moves the byte's highest bit into A, and leaves in C whether RIGHT went into A, which the next
+; shift moves into the byte: so what was in C before the first round comes out at the last shift. Y counts two turns
+; of four rounds. The rest is in A and RESULT after them. X stands.
+ROUNDS:
+        LDY #$02
+ROUND:
+        ROL $FB                 ; LEFT
         ROL A
         CMP $FD                 ; RIGHT
-        BCC BYTELESS
+        BCC ROUND2
         SBC $FD
-BYTELESS:
-        ROL $FB,X
+ROUND2:
+        ROL $FB
         ROL A
         CMP $FD
-        BCC BYTELESS2
+        BCC ROUND3
         SBC $FD
-BYTELESS2:
+ROUND3:
+        ROL $FB
+        ROL A
+        CMP $FD
+        BCC ROUND4
+        SBC $FD
+ROUND4:
+        ROL $FB
+        ROL A
+        CMP $FD
+        BCC ROUNDEND
+        SBC $FD
+ROUNDEND:
         DEY
-        BNE BYTENEXT
-        ROL $FB,X
-        DEX
-        BPL BYTE
+        BNE ROUND
+        ROL $FB
         STA $C066               ; RESULT
         STY $C067
         RTS
@@ -329,6 +313,39 @@ RANDOMTURN:
         STA $FC
         JMP UNSIGNED
 
+; ---- Multiply: RESULT = LEFT * RIGHT, modulo 65,536, with or without signs
+;
+; In:      LEFT, RIGHT.
+; Out:     RESULT.
+; Stack:   0.  Time: 245.
+;
+; A round for each bit of RIGHT from the lowest on, up to the last that is 1: the bit is shifted out, and where it
+; is 1, LEFT is added to the sum, which is in A and Y. LEFT doubles in each round.
+MULTIPLY:
+        LDA #$00                ; the sum's low byte
+        TAY                     ; its high byte
+MULTIPLY1:
+        LSR $FE                 ; RIGHT = RIGHT / 2, its lowest bit in C
+        ROR $FD
+        BCC MULTIPLY2
+        CLC
+        ADC $FB                 ; LEFT is added
+        TAX
+        TYA
+        ADC $FC
+        TAY
+        TXA
+MULTIPLY2:
+        ASL $FB                 ; LEFT = LEFT * 2
+        ROL $FC
+        LDX $FD                 ; on while RIGHT has a bit left
+        BNE MULTIPLY1
+        LDX $FE
+        BNE MULTIPLY1
+        STA $C066               ; RESULT
+        STY $C067
+        RTS
+
 ; ---- Number: sends a signed word in decimal, as short as can be
 ;
 ; In:      LEFT.
@@ -338,12 +355,13 @@ RANDOMTURN:
 ; A negative word sends its sign and is negated. Then 10,000, 1,000, 100 and 10 are taken from LEFT, each as often as
 ; it goes in, and what is left is the last digit. X counts the powers, and begins at 100 where LEFT is below 256. Y
 ; counts how often one went in, from RIGHT on, which is 0 as long as no digit was sent, and then the text of the digit
-; 0: so where Y is 0 a digit is left out. X waits in RIGHT + 1 while a digit is sent.
+; 0: so where Y is 0 a digit is left out. X waits in RIGHT + 1 while a digit is sent. No byte of it is a 13, so it goes
+; past Send's test.
 NUMBER:
         LDA $FC                 ; LEFT's sign
         BPL NUMBERPLAIN
         LDA #$2D                ; -
-        JSR SEND
+        JSR SEND1
         JSR NEGATELEFT
 NUMBERPLAIN:
         LDA #$00
@@ -373,14 +391,14 @@ NUMBERDIGIT:
         LDY #$30
         STY $FD                 ; RIGHT: a digit was sent
         STX $FE
-        JSR SEND
+        JSR SEND1
         LDX $FE
 NUMBERSKIP:
         DEX
         BPL NUMBERNEXT
         LDA $FB                 ; LEFT: the last digit
         ORA #$30
-        JMP SEND
+        JMP SEND1
 POWERSLOW:
         .byte $0A,$64,$E8,$10   ; 10, 100, 1000, 10000
 POWERSHIGH:
@@ -412,10 +430,10 @@ TEXT3:
 ; ---- Zone: sends spaces up to the next column that 8 divides, at least one
 ;
 ; Changes: COLUMN.
-; Stack:   2.  Time: 97.
+; Stack:   2.  Time: 65.
 ZONE:
         LDA #$20
-        JSR SEND
+        JSR SEND1               ; no 13
         LDA $C034               ; COLUMN modulo 8
         AND #$07
         BNE ZONE
@@ -424,15 +442,15 @@ ZONE:
 ; ---- Input: one variable's turn of INPUT
 ;
 ; Out:     RESULT: the number's value modulo 65,536.
-; Changes: OPEN, COLUMN; BYTE; LEFT; SCRATCH: what was seen of the number, 0 nothing, 1 a sign, 2 digits;
-;          SCRATCH + 1: the sign's byte, or 0.
+; Changes: OPEN, COLUMN; LEFT: the number so far; RIGHT: what was seen of it, 0 nothing, 1 a sign, 2 digits;
+;          RIGHT + 1: the sign's byte, or 0.
 ; Fault:   6 at a byte that is not the number's next.
 ; Waits:   in CHRIN where the keyboard's text ends.
 ; Stack:   2.  Time: 45 for each byte of the keyboard's text, and 587 (with the fault).
 ;
 ; Where no line is open, "? " is sent and a line is open. Spaces are passed over, before, inside and behind the
 ; number. It ends at a comma, which leaves the line open for the next turn, or at a 13, which is sent and closes
-; the line; at least one digit must have come. Each digit makes RESULT 10 times itself and the digit. A bad byte
+; the line; at least one digit must have come. Each digit makes LEFT 10 times itself and the digit. A bad byte
 ; sends nothing of its own.
 INPUT:
         LDA $C035               ; OPEN
@@ -444,13 +462,12 @@ INPUT:
         INC $C035               ; OPEN
 INPUT1:
         LDA #$00
-        STA $C066               ; RESULT = 0
-        STA $C067
-        STA $C06E               ; SCRATCH: nothing seen
-        STA $C06F               ; SCRATCH + 1: no sign
+        STA $FB                 ; LEFT = 0
+        STA $FC
+        STA $FD                 ; RIGHT: nothing seen
+        STA $FE                 ; RIGHT + 1: no sign
 READ:
         JSR $FFCF               ; CHRIN
-        STA $C06D               ; BYTE
         CMP #$20
         BEQ READ
         CMP #$2B                ; +
@@ -463,62 +480,60 @@ READ:
         BEQ DONE
         SEC
         SBC #$30
-        STA $C06D               ; BYTE: the digit's value, where it is one
         CMP #$0A
         BCS BAD
-        LDA $C067               ; LEFT + 1 and A: RESULT * 4
-        STA $FC
-        LDA $C066
-        ASL A
-        ROL $FC
-        ASL A
-        ROL $FC
-        CLC
-        ADC $C066               ; RESULT added, 5 times: the low byte in X
-        TAX
-        LDA $FC
-        ADC $C067
-        STA $FC
-        TXA
-        ASL A                   ; 10 times
-        ROL $FC
-        CLC
-        ADC $C06D               ; RESULT = that + BYTE
+        TAX                     ; the digit
+        LDA $FC                 ; RESULT, the high byte, and A: LEFT * 4
         STA $C066
-        LDA $FC
-        ADC #$00
-        STA $C067
+        LDA $FB
+        ASL A
+        ROL $C066
+        ASL A
+        ROL $C066
+        CLC
+        ADC $FB                 ; LEFT = that + LEFT: 5 times
+        STA $FB
+        LDA $C066
+        ADC $FC
+        STA $FC
+        ASL $FB                 ; 10 times
+        ROL $FC
+        TXA
+        CLC
+        ADC $FB                 ; LEFT = that + the digit
+        STA $FB
+        BCC DIGIT
+        INC $FC
+DIGIT:
         LDA #$02
-        STA $C06E               ; SCRATCH: digits seen
+        STA $FD                 ; RIGHT: digits seen
         BNE READ                ; always
 SIGN:
-        LDA $C06E               ; SCRATCH: a sign stands only before all else
+        LDY $FD                 ; RIGHT: a sign stands only before all else
         BNE BAD
-        LDA $C06D               ; SCRATCH + 1 = BYTE
-        STA $C06F
-        INC $C06E               ; SCRATCH: a sign seen
+        STA $FE                 ; RIGHT + 1 = the sign
+        INC $FD                 ; RIGHT: a sign seen
         BNE READ                ; always
 BAD:
         LDA #$06
         JMP FAULT
 DONE:
-        LSR $C06E               ; SCRATCH: digits must have come
+        TAY                     ; the byte, which stands in Y
+        LSR $FD                 ; RIGHT: digits must have come
         BEQ BAD
-        LDA $C06F               ; SCRATCH + 1
+        LDA $FE                 ; RIGHT + 1
         CMP #$2D
         BNE DONE1
-        SEC                     ; RESULT = -RESULT
-        LDA #$00
-        SBC $C066
-        STA $C066
-        LDA #$00
-        SBC $C067
-        STA $C067
+        JSR NEGATELEFT
 DONE1:
-        LSR $C06D               ; BYTE: odd where it is a 13
-        BCC DONE2
+        LDA $FB                 ; RESULT = LEFT
+        STA $C066
+        LDA $FC
+        STA $C067
+        CPY #$0D
+        BNE DONE2
         DEC $C035               ; OPEN
-        LDA #$0D
+        TYA
         JMP SEND
 DONE2:
         RTS

@@ -11,9 +11,9 @@ fn parts() -> [(&'static str, u16); 15] {
     [
         ("PROLOGUE", BLOCK_AT),
         ("SEND", SEND_AT),
-        ("MULTIPLY", entry(Routine::Multiply)),
         ("DIVIDE", entry(Routine::Divide)),
         ("RANDOM", entry(Routine::Random)),
+        ("MULTIPLY", entry(Routine::Multiply)),
         ("NUMBER", entry(Routine::Number)),
         ("TEXT", entry(Routine::Text)),
         ("ZONE", entry(Routine::Zone)),

@@ -57,3 +57,6 @@ returns-clause-prints_if_positive c = lemma.prints_if_positive
 
 pub returns-clause-prints_if_below_256 : goal.returns-clause-prints_if_below_256
 returns-clause-prints_if_below_256 c = lemma.prints_if_below_256
+
+pub returns-clause-prints_rest : goal.returns-clause-prints_rest
+returns-clause-prints_rest c = lemma.prints_rest

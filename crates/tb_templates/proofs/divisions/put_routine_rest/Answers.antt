@@ -1,9 +1,9 @@
--- The goals of `put_remains` in src/divisions.rt.
+-- The goals of `put_routine_rest` in src/divisions.rt.
 use Rattle.std.proofs.Common.{◌++◌, map, ap, ◌∙◌}
 use Rattle.tb_asm.specs.Layout.{entry_of}
 use Rattle.tb_templates.specs.GroupTemplates.{asked_rest, signed_rest}
 use Rattle.tb_templates.proofs.Appends.{two}
-use Rattle.tb_templates.proofs.divisions.put_remains.Goals as goal
+use Rattle.tb_templates.proofs.divisions.put_routine_rest.Goals as goal
 
 pub returns : goal.returns
 returns c =
