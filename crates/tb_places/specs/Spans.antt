@@ -1,6 +1,6 @@
 -- Spans of a line.
 use Rattle.std.specs.Prelude.{ℕ, ◌+◌, ◌-◌, min, max, Bool, ◌&&◌, ◌||◌, ◌==◌, nat_le, List, [], ◌∷◌, drop, length, take, if◌then◌else◌}
-use Rattle.tb_places.specs.Columns.{units_of}
+use Rattle.tb_places.specs.Columns.{goes_on, units_of}
 use Rattle.tb_places.specs.declared.spans.Span.{Span}
 
 -- a letter, capital or small
@@ -10,10 +10,6 @@ is_letter b = (nat_le 65 b && nat_le b 90) || (nat_le 97 b && nat_le b 122)
 -- a digit
 abbrev pub is_digit : ℕ → Bool
 is_digit b = nat_le 48 b && nat_le b 57
-
--- a byte that begins no character
-abbrev pub goes_on : ℕ → Bool
-goes_on b = nat_le 128 b && nat_le b 191
 
 -- how many letters a text begins with
 abbrev pub letters : List ℕ → ℕ
@@ -61,6 +57,14 @@ standing (b ∷ bytes) =
 abbrev pub between : ℕ → List ℕ → ℕ → ℕ → Span
 between line text start end = record { line = line - 1; start = units_of (take start text); end = units_of (take end text) }
 
+-- so many bytes of a line from one on
+abbrev pub piece : ℕ → List ℕ → ℕ → ℕ → Span
+piece line text start count = between line text start (start + count)
+
+-- the rest of a line from one byte on, without the spaces at its end
+abbrev pub tail : ℕ → List ℕ → ℕ → Span
+tail line text start = between line text start (end_from 0 0 text)
+
 -- from a byte of a line to after what stands there
 abbrev pub span_from : ℕ → List ℕ → ℕ → Span
 span_from line text start = between line text start (start + standing (drop start text))
@@ -68,6 +72,19 @@ span_from line text start = between line text start (start + standing (drop star
 -- what stands at a column of a line, both counted from 1
 abbrev pub place_span : ℕ → List ℕ → ℕ → Span
 place_span line text column = span_from line text (min (column - 1) (length text))
+
+-- where the letters at the end of a text begin, by how many bytes were looked at and where those of them begin
+abbrev pub last_word : ℕ → ℕ → List ℕ → ℕ
+last_word at start [] = start
+last_word at start (b ∷ bytes) = last_word (at + 1) (if is_letter b then start else at + 1) bytes
+
+-- the letters round a byte of a line
+abbrev pub word_round : ℕ → List ℕ → ℕ → Span
+word_round line text at = between line text (last_word 0 0 (take at text)) (at + letters (drop at text))
+
+-- the letters round a column of a line, both counted from 1
+abbrev pub word_span : ℕ → List ℕ → ℕ → Span
+word_span line text column = word_round line text (min (column - 1) (length text))
 
 -- a line, counted from 1, without the spaces at its ends
 abbrev pub line_span : ℕ → List ℕ → Span

@@ -1,6 +1,6 @@
 //! Columns in units of UTF-16.
-ghost use Rattle.std.specs.Prelude.{◌≡◌, ◌≤◌};
-ghost use Rattle.tb_places.specs.Columns.{units, units_of};
+ghost use Rattle.std.specs.Prelude.{◌≡◌, ◌≤◌, length};
+ghost use Rattle.tb_places.specs.Columns.{LeadsBack, left_after, place_at, units, units_of};
 
 // How many units a byte of UTF-8 begins.
 fn units(byte: u8) -> usize
@@ -24,4 +24,44 @@ pub fn column(bytes: &[u8]) -> usize
         sum += units(*byte);
     }
     sum
+}
+
+// What is left of a column after a byte; `None` where it goes beyond the column.
+fn left_after(column: usize, byte: u8) -> Option<usize>
+    ensures { result ≡ left_after column byte }
+{
+    if matches!(byte, 128..=191) {
+        return Some(column);
+    }
+    let width = units(byte);
+    if column < width {
+        None
+    } else {
+        Some(column - width)
+    }
+}
+
+// How many bytes of a line are before a column.
+fn bytes_before(bytes: &[u8], column: usize) -> usize
+    ensures value { result ≡ place_at column bytes.now }
+    ensures within { result ≤ length bytes.now }
+{
+    let mut left = column;
+    for (i, byte) in bytes.iter().enumerate() {
+        match left_after(left, *byte) {
+            Some(rest) => left = rest,
+            None => return i,
+        }
+    }
+    bytes.len()
+}
+
+/// How many bytes of a line are before a column: within a character its beginning, behind the line's end that.
+pub fn place_at(bytes: &[u8], column: usize) -> usize
+    ensures value { result ≡ place_at column bytes.now }
+    ensures within { result ≤ length bytes.now }
+    // It leads back from the column of a place where a character begins.
+    ensures back { LeadsBack column bytes.now result }
+{
+    bytes_before(bytes, column)
 }

@@ -4,5 +4,5 @@
 mod columns;
 mod spans;
 
-pub use columns::column;
-pub use spans::{Span, line_span, place_span, whole_span};
+pub use columns::{column, place_at};
+pub use spans::{Span, between, line_span, piece, place_span, tail, whole_span, word_span};

@@ -1,6 +1,6 @@
 //! Spans of a line: what stands at a place, and the line itself.
 ghost use Rattle.std.specs.Prelude.{◌≡◌, ◌≤◌, drop, length, take};
-ghost use Rattle.tb_places.specs.Spans.{continued, digits, end_from, is_letter, letters, line_span, place_span, spaces, standing, whole_span, with_dollar};
+ghost use Rattle.tb_places.specs.Spans.{between, continued, digits, end_from, is_letter, last_word, letters, line_span, piece, place_span, spaces, standing, tail, whole_span, with_dollar, word_span};
 
 use crate::columns::column;
 
@@ -116,17 +116,65 @@ fn standing(text: &[u8]) -> usize
     }
 }
 
+/// From one byte of a line, which is counted from 1, to another.
+pub fn between(line: usize, text: &[u8], start: usize, end: usize) -> Span
+    ensures { result ≡ between line text.now start end }
+{
+    let end = end.min(text.len());
+    let start = start.min(text.len());
+    Span {
+        line: line.saturating_sub(1),
+        start: column(&text[..start]),
+        end: column(&text[..end]),
+    }
+}
+
+/// So many bytes of a line, which is counted from 1, from one on.
+pub fn piece(line: usize, text: &[u8], start: usize, count: usize) -> Span
+    ensures { result ≡ piece line text.now start count }
+{
+    let start = start.min(text.len());
+    between(line, text, start, start + count.min(text.len() - start))
+}
+
+/// The rest of a line, which is counted from 1, from one byte on without the spaces at its end.
+pub fn tail(line: usize, text: &[u8], start: usize) -> Span
+    ensures { result ≡ tail line text.now start }
+{
+    between(line, text, start, end_of(text))
+}
+
 /// What stands at a column of a line, both counted from 1.
 pub fn place_span(line: usize, text: &[u8], column_of_byte: usize) -> Span
     ensures { result ≡ place_span line text.now column_of_byte }
 {
     let start = column_of_byte.saturating_sub(1).min(text.len());
     let end = start + standing(&text[start..]);
-    Span {
-        line: line.saturating_sub(1),
-        start: column(&text[..start]),
-        end: column(&text[..end]),
+    between(line, text, start, end)
+}
+
+// Where the letters at the end of a text begin.
+fn last_word(text: &[u8]) -> usize
+    ensures value { result ≡ last_word 0 0 text.now }
+    ensures within { result ≤ length text.now }
+{
+    let mut start = 0;
+    for (i, byte) in text.iter().enumerate() {
+        if !is_letter(*byte) {
+            start = i + 1;
+        }
     }
+    start
+}
+
+/// The letters round a column of a line, both counted from 1.
+pub fn word_span(line: usize, text: &[u8], column_of_byte: usize) -> Span
+    ensures { result ≡ word_span line text.now column_of_byte }
+{
+    let at = column_of_byte.saturating_sub(1).min(text.len());
+    let start = last_word(&text[..at]);
+    let end = at + letters(&text[at..]);
+    between(line, text, start, end)
 }
 
 /// A line, counted from 1, without the spaces at its ends.
@@ -135,11 +183,7 @@ pub fn line_span(line: usize, text: &[u8]) -> Span
 {
     let start = spaces(text);
     let end = end_of(text).max(start);
-    Span {
-        line: line.saturating_sub(1),
-        start: column(&text[..start]),
-        end: column(&text[..end]),
-    }
+    between(line, text, start, end)
 }
 
 /// The place of what is said of a whole source: its beginning.

@@ -1,0 +1,4 @@
+-- the ends of lines
+mod FirstEnds
+-- where lines are left, text is left
+mod Kept

@@ -1,0 +1,85 @@
+-- What is answered when a source is renumbered.
+use Rattle.std.specs.Prelude.{◌≡◌, ℕ, List, [], true, false, Option, Some, None, Result, Ok, Err, IfSome}
+use Rattle.std.specs.declared.vec.Vec.{Vec}
+use Rattle.std.specs.declared.alloc.Global.{Global}
+use Rattle.tb_syntax.specs.Source.{Program, numbers}
+use Rattle.tb_parser.specs.declared.errors.SourceError.{SourceError}
+use Rattle.tb_parser.specs.declared.errors.SourceErrorKind.{SourceErrorKind}
+use Rattle.tb_parser.specs.declared.errors.SourceErrorKind.TheVariants as kind
+use Rattle.tb_parser.specs.Answers.{refusal_of}
+use Rattle.tb_parser.specs.Files.{LinesAre, refused_at}
+use Rattle.tb_parser.specs.Lines.{lines_of_file}
+use Rattle.tb_renumbering.specs.Jumps.{first_fault}
+use Rattle.tb_renumbering.specs.Renumbered.{are_low, new_number, renumbered}
+use Rattle.tb_renumbering.specs.Runs.{RunAlike}
+use Rattle.tb_source_names.specs.Sources.{AreLinesOf}
+use Rattle.tb_source_names.specs.declared.lines.Line.{Line as SourceLine}
+use Rattle.tb_renumber.specs.Texts.{first_long, new_text}
+use Rattle.tb_renumber.specs.declared.refusals.Refusal.{Refusal}
+use Rattle.tb_renumber.specs.declared.refusals.Refusal.TheVariants.{Source, Jump, AboveHighest, LineTooLong, Other, NoMemory}
+
+-- why a source is refused as the parser says it
+abbrev pub by_kind : SourceErrorKind → SourceError → Refusal
+by_kind kind.NoMemory e = NoMemory
+by_kind _ e = Source e
+
+abbrev pub of_source : SourceError → Refusal
+of_source e = by_kind e.kind e
+
+-- what the lines of a text make is this program
+abbrev pub IsProgramOf : List ℕ → Program → Type 0
+IsProgramOf text program = LinesAre 1 [] (lines_of_file text) (Ok program)
+
+-- each jump goes to a line by a constant, and no line gets a number above the highest
+abbrev pub IsMovable : (first step : ℕ) → Program → Type 0
+IsMovable first step program = (first_fault (numbers program) program ≡ None) × (are_low first step (numbers program) ≡ true)
+
+-- why a program can't be renumbered: its lowest line with another jump, else the numbers
+abbrev pub Refuses : (first step : ℕ) → Program → Refusal → Type 0
+Refuses first step program (Jump n fault) = first_fault (numbers program) program ≡ Some (n, fault)
+Refuses first step program AboveHighest = (first_fault (numbers program) program ≡ None) × (are_low first step (numbers program) ≡ false)
+Refuses first step program _ = ⊥
+
+-- a refusal by a line that is too long, the first one in the file's order; or want of memory
+abbrev pub IsLong : Option ℕ → Refusal → Type 0
+IsLong found (LineTooLong n) = found ≡ Some n
+IsLong found NoMemory = Unit {0}
+IsLong found _ = ⊥
+
+-- a refusal by reading the new text again: it would be another program, or want of memory
+abbrev pub IsOther : Refusal → Type 0
+IsOther Other = Unit {0}
+IsOther NoMemory = Unit {0}
+IsOther _ = ⊥
+
+-- why a new text is refused that doesn't read: want of memory is no fault of the text
+abbrev pub of_text : SourceErrorKind → Refusal
+of_text kind.NoMemory = NoMemory
+of_text _ = Other
+
+-- The answer for a program whose source has these lines: its new text, no line of which is too long, and which reads as
+-- the program renumbered, which has the program's runs; or why there is none, where the new text is looked at last.
+abbrev pub RenumbersLines : (first step : ℕ) → List ℕ → List SourceLine → Program → Result (Vec ℕ Global) Refusal → Type 0
+RenumbersLines first step source lines program (Ok text) =
+    IsMovable first step program × (text.items ≡ new_text (new_number first step (numbers program)) lines source)
+    × (first_long (new_number first step (numbers program)) lines ≡ None)
+    × IsProgramOf text.items (renumbered first step program) × RunAlike (new_number first step (numbers program)) program (renumbered first step program)
+RenumbersLines first step source lines program (Err (Source e)) = ⊥
+RenumbersLines first step source lines program (Err (Jump n fault)) = Refuses first step program (Jump n fault)
+RenumbersLines first step source lines program (Err AboveHighest) = Refuses first step program AboveHighest
+RenumbersLines first step source lines program (Err (LineTooLong n)) =
+    IsMovable first step program × (first_long (new_number first step (numbers program)) lines ≡ Some n)
+RenumbersLines first step source lines program (Err Other) =
+    IsMovable first step program × (first_long (new_number first step (numbers program)) lines ≡ None)
+RenumbersLines first step source lines program (Err NoMemory) = Unit {0}
+
+-- the same, by lines that the source has
+abbrev pub RenumbersProgram : (first step : ℕ) → List ℕ → Program → Result (Vec ℕ Global) Refusal → Type 0
+RenumbersProgram first step source program result =
+    (lines : List SourceLine) × AreLinesOf source lines × RenumbersLines first step source lines program result
+
+-- the answer for a source: the parser's refusal, or that for its program
+abbrev pub Renumbers : (first step : ℕ) → List ℕ → Result (Vec ℕ Global) Refusal → Type 0
+Renumbers first step source (Err (Source e)) = IfSome (refusal_of e.kind e.column) (λ r. LinesAre 1 [] (lines_of_file source) (Err (refused_at e.line r)))
+Renumbers first step source (Err NoMemory) = Unit {0}
+Renumbers first step source result = (program : Program) × IsProgramOf source program × RenumbersProgram first step source program result

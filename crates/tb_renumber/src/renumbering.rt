@@ -1,0 +1,86 @@
+//! Renumbering a source.
+ghost use Rattle.std.specs.Prelude.{◌≡◌, MatchResult};
+ghost use Rattle.tb_syntax.specs.PlainData.{lines_of};
+ghost use Rattle.tb_syntax.specs.Source.{numbers, Rises};
+ghost use Rattle.tb_renumbering.specs.Renumbered.{renumbered};
+ghost use Rattle.tb_source_names.specs.Sources.{AreLinesOf};
+ghost use Rattle.tb_renumber.specs.Answers.{IsMovable, IsOther, IsProgramOf, Refuses, Renumbers, RenumbersLines, of_text};
+
+use crate::refusals::Refusal;
+use crate::texts::renumbered_text;
+use std::alloc::Global;
+use tb_parser::{Program, SourceError, SourceErrorKind, parse};
+use tb_renumbering::{Numbering, is_renumbered, jump_fault};
+use tb_source_names::{Source, read_source};
+
+// Whether a program can be renumbered.
+fn check(program: &Program, numbering: Numbering) -> Result<(), Refusal>
+    ensures { MatchResult result (λ _. IsMovable numbering.first numbering.step (lines_of program.now))
+        (λ e. Refuses numbering.first numbering.step (lines_of program.now) e) }
+{
+    if let Some((line, fault)) = jump_fault(program) {
+        return Err(Refusal::Jump(line, fault));
+    }
+    if !numbering.fits(program) {
+        return Err(Refusal::AboveHighest);
+    }
+    Ok(())
+}
+
+// Why the new text is refused that doesn't read. Want of memory is no fault of the text.
+fn of_text(e: SourceError) -> Refusal
+    ensures { result ≡ of_text e.kind }
+{
+    match e.kind {
+        SourceErrorKind::NoMemory => Refusal::NoMemory,
+        _ => Refusal::Other,
+    }
+}
+
+// Reads the new text again: it is to be the program renumbered.
+fn read_again(
+    alloc: Global,
+    program: &Program,
+    numbering: Numbering,
+    text: &[u8],
+) -> Result<(), Refusal>
+    ensures { MatchResult result (λ _. IsProgramOf text.now (renumbered numbering.first numbering.step (lines_of program.now))
+        × Rises 1 32768 (numbers (renumbered numbering.first numbering.step (lines_of program.now)))) IsOther }
+{
+    let new = match parse(alloc, text) {
+        Ok(new) => new,
+        Err(e) => return Err(of_text(e)),
+    };
+    if !is_renumbered(&numbering, program, &new) {
+        return Err(Refusal::Other);
+    }
+    Ok(())
+}
+
+// A source with these lines, of this program, renumbered.
+fn renumber_lines(
+    alloc: Global,
+    text: &[u8],
+    source: &Source<'_>,
+    program: &Program,
+    numbering: Numbering,
+) -> Result<Vec<u8>, Refusal>
+    requires rising { Rises 1 32768 (numbers (lines_of program.now)) }
+    requires lines { AreLinesOf text.now source.now.lines.items }
+    ensures { RenumbersLines numbering.first numbering.step text.now source.now.lines.items (lines_of program.now) result }
+{
+    check(program, numbering)?;
+    let new = renumbered_text(alloc, text, source, program, numbering)?;
+    read_again(alloc, program, numbering, new.as_slice())?;
+    Ok(new)
+}
+
+/// The text of a source with its lines renumbered, and its jumps with them. Refused, in this order: a text that is no
+/// program, a jump that can't be renumbered, a number above 32,767, a line of more than 255 bytes; or memory runs out.
+pub fn renumber(alloc: Global, source: &[u8], numbering: Numbering) -> Result<Vec<u8>, Refusal>
+    ensures { Renumbers numbering.first numbering.step source.now result }
+{
+    let program = parse(alloc, source)?;
+    let read = read_source(alloc, source)?;
+    renumber_lines(alloc, source, &read, &program, numbering)
+}

@@ -1,0 +1,2 @@
+pub mod Renumbers
+pub mod Outcomes

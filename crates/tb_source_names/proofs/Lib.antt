@@ -1,0 +1,8 @@
+-- what reading a line answers
+mod Reading
+-- which line stands, while lines are read
+mod Standing
+-- the line that stands gives the program its line
+mod Given
+-- a line whose number a later one has does nothing
+mod Superseded
