@@ -1,5 +1,5 @@
 -- What becomes of files that are not written, and what is built of a source that was read.
-use Rattle.std.proofs.Common.{◌≡◌, ℕ, List, [], ◌∷◌, Option, Some, None, Ok, Err, refl, subst, sym}
+use Rattle.std.proofs.Common.{◌≡◌, ℕ, List, [], ◌∷◌, length, Option, Some, None, Ok, Err, refl, subst, sym, ap, ◌∙◌}
 use Rattle.std.specs.Io.KnownBytes.{Keeps}
 use Rattle.tb_streams.specs.Uses.{Use}
 use Rattle.tb_streams.specs.declared.tracked.Tracked.{Tracked}
@@ -13,6 +13,7 @@ use Rattle.tb_driver.specs.Reading.{ReadsSource}
 use Rattle.tb_driver.specs.declared.reading.CompiledSource.{CompiledSource}
 use Rattle.tb_listing.specs.Builds.{IsMade}
 use Rattle.tb_listing.specs.declared.build.Made.{Made}
+use Rattle.tb_monitor.specs.Files.{watch_text}
 use Rattle.tb_build_engine.specs.Builds.{AreTexts, Builds, Writes}
 use Rattle.tb_build_engine.specs.Files.{AreLeft, IsLeft, texts_of}
 
@@ -49,10 +50,17 @@ report_not_built contents settings outcome ended warnings reader files is ends n
     subst (λ w. Builds contents settings ended w reader.old files files) (sym none)
     (subst (λ o. Builds contents settings o [] reader.old files files) (sym ends) (not_built contents settings outcome reader files is))
 
-module _ {W : Type 0} (contents : W → Option (List ℕ)) (settings : CompileSettings) (s : CompiledSource) (reader : Use) (made : Made) (prg : List ℕ)
+-- nothing is built if memory is wanting
+pub memory_wanting : {W : Type 0} (contents : W → Option (List ℕ)) (settings : CompileSettings) (ended : Outcome) (warnings : List Warning)
+    (had : Option (List ℕ)) (files : List (Option (Tracked W))) → ended ≡ NoMemory → warnings ≡ [] → Builds contents settings ended warnings had files files
+memory_wanting contents settings ended warnings had files ends none =
+    subst (λ w. Builds contents settings ended w had files files) (sym none)
+    (subst (λ o. Builds contents settings o [] had files files) (sym ends) (refl, all_left contents files))
+
+module _ {W : Type 0} (contents : W → Option (List ℕ)) (settings : CompileSettings) (s : CompiledSource) (reader : Use) (made : Made) (prg watch : List ℕ)
     (warnings : List Warning) (is : ReadsSource settings (Ok s) reader) (tells : IsMade s.text.items s.program made)
-    (file : prg ≡ prg_of s.program) (warned : warnings ≡ warnings_of s.program) where
-  texts : AreTexts settings reader.old warnings (texts_of prg made)
+    (file : prg ≡ prg_of s.program) (watched : watch ≡ watch_text (length prg)) (warned : warnings ≡ warnings_of s.program) where
+  texts : AreTexts settings reader.old warnings (texts_of prg made watch)
   texts = record {
     source = s.text.items;
     program = s.program;
@@ -60,17 +68,17 @@ module _ {W : Type 0} (contents : W → Option (List ℕ)) (settings : CompileSe
     reads = is.0;
     built = record { compiled = is.1.answer; keeps = is.1.keeps; tells = tells };
     warned = warned;
-    are = λ i. texts_of (file i) made;
+    are = ap (texts_of prg made) watched ∙ (λ i. texts_of (file i) made (watch_text (length (file i))));
   }
 
   -- what is written of a source that was read is what was built
-  pub built : (outcome : Outcome) (olds news : List (Option (Tracked W))) → Writes contents (texts_of prg made) outcome olds news
+  pub built : (outcome : Outcome) (olds news : List (Option (Tracked W))) → Writes contents (texts_of prg made watch) outcome olds news
       → Builds contents settings outcome warnings reader.old olds news
-  built (Ended Done) olds news w = (texts_of prg made, texts, w)
+  built (Ended Done) olds news w = (texts_of prg made watch, texts, w)
   built (Ended StepLimit) olds news none = absurd none
   built (Ended WaitsForKey) olds news none = absurd none
   built (Ended (WentWrong wrong pc)) olds news none = absurd none
-  built WriteFault olds news w = (texts_of prg made, texts, w)
+  built WriteFault olds news w = (texts_of prg made watch, texts, w)
   built (Refused why) olds news none = absurd none
   built ReadFault olds news none = absurd none
   built NoMemory olds news none = absurd none

@@ -1,5 +1,5 @@
 -- What comes of building a source with the files that tell of its program.
-use Rattle.std.specs.Prelude.{ℕ, ◌≡◌, List, [], Option, Ok, Err}
+use Rattle.std.specs.Prelude.{ℕ, ◌≡◌, List, [], length, Option, Ok, Err}
 use Rattle.tb_streams.specs.Streams.{Reads}
 use Rattle.tb_streams.specs.Uses.{MayFault, NeverFails, Use}
 use Rattle.tb_streams.specs.declared.tracked.Tracked.{Tracked}
@@ -16,6 +16,7 @@ use Rattle.tb_driver.specs.Sources.{Compiles}
 use Rattle.tb_driver.specs.Output.{KeepsSource}
 use Rattle.tb_listing.specs.Builds.{IsMade}
 use Rattle.tb_listing.specs.declared.build.Made.{Made}
+use Rattle.tb_monitor.specs.Files.{watch_text}
 use Rattle.tb_build_engine.specs.Files.{AllWhole, AreLeft, BreaksOff, texts_of}
 
 -- what is made of a source before anything is written: its program, whose file keeps it, and the texts that tell of it
@@ -24,7 +25,7 @@ pub record IsBuilt (settings : CompileSettings) (source : List ℕ) (program : C
   pub keeps : KeepsSource settings.seed source (prg_of program)
   pub tells : IsMade source program made
 
--- these texts are those of all that a reader had, with the program's warnings
+-- these texts are those of all that a reader had, the watch file last, with the program's warnings
 pub record AreTexts (settings : CompileSettings) (had : Option (List ℕ)) (warnings : List Warning) (texts : List (List ℕ)) : Type 0 where
   pub source : List ℕ
   pub program : Compiled
@@ -32,7 +33,7 @@ pub record AreTexts (settings : CompileSettings) (had : Option (List ℕ)) (warn
   pub reads : Reads had source
   pub built : IsBuilt settings source program made
   pub warned : warnings ≡ warnings_of program
-  pub are : texts ≡ texts_of (prg_of program) made
+  pub are : texts ≡ texts_of (prg_of program) made (watch_text (length (prg_of program)))
 
 -- the compiler refuses all that a reader had
 pub record IsNotCompiled (settings : CompileSettings) (had : Option (List ℕ)) (error : CompileError) : Type 0 where

@@ -9,11 +9,11 @@ use Rattle.tb_build_engine.specs.declared.files.BuildFiles.{BuildFiles}
 
 -- the files in the order in which they are written; the first one is always wanted
 abbrev pub each_of : {W : Type 0} → BuildFiles W → List (Option (Tracked W))
-each_of f = Some f.out ∷ f.labels ∷ f.listing ∷ f.map ∷ []
+each_of f = Some f.out ∷ f.labels ∷ f.listing ∷ f.map ∷ f.watch ∷ []
 
 -- their texts, in the same order
-abbrev pub texts_of : List ℕ → Made → List (List ℕ)
-texts_of prg made = prg ∷ made.labels.items ∷ made.listing.items ∷ made.map.items ∷ []
+abbrev pub texts_of : List ℕ → Made → List ℕ → List (List ℕ)
+texts_of prg made watch = prg ∷ made.labels.items ∷ made.listing.items ∷ made.map.items ∷ watch ∷ []
 
 -- a file that is wanted was written whole, and its writer did not fail
 abbrev pub EndsWhole : {W : Type 0} → (W → Option (List ℕ)) → List ℕ → Option (Tracked W) → Option (Tracked W) → Type 0

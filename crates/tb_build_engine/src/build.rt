@@ -9,13 +9,14 @@ use std::io::{Read, Write};
 use tb_driver::{CompileSettings, read_source};
 use tb_engines::{End, Outcome, Report};
 use tb_listing::{Made, make};
+use tb_monitor::watch_file;
 use tb_streams::Tracked;
 
 // How writing all files ends.
-fn written<W: Write>(files: &mut BuildFiles<W>, prg: &[u8], made: &Made) -> Outcome
-    ensures { Writes W.contents (texts_of prg.now made.now) result (each_of files.old) (each_of files.new) }
+fn written<W: Write>(files: &mut BuildFiles<W>, prg: &[u8], made: &Made, watch: &[u8]) -> Outcome
+    ensures { Writes W.contents (texts_of prg.now made.now watch.now) result (each_of files.old) (each_of files.new) }
 {
-    match write_all(files, prg, made) {
+    match write_all(files, prg, made, watch) {
         Ok(()) => Outcome::Ended(End::Done),
         Err(_) => Outcome::WriteFault,
     }
@@ -42,8 +43,12 @@ pub fn build_files<R: Read, W: Write>(
     let Ok(made) = make(alloc, source.text.as_slice(), &source.program) else {
         return Report::new(alloc, Outcome::NoMemory);
     };
+    let prg = source.program.prg();
+    let Ok(watch) = watch_file(alloc, prg) else {
+        return Report::new(alloc, Outcome::NoMemory);
+    };
     Report {
-        outcome: written(files, source.program.prg(), &made),
+        outcome: written(files, prg, &made, watch.as_slice()),
         warnings: source.program.into_warnings(),
     }
 }

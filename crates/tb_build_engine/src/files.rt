@@ -6,14 +6,15 @@ use std::io::Write;
 use tb_listing::Made;
 use tb_streams::{StreamFailure, Tracked, write_output};
 
-/// Where the files of a build are written, in this order: the PRG file, and the label file, the listing and the map, if
-/// they are wanted.
+/// Where the files of a build are written, in this order: the PRG file, and the label file, the listing, the map and the
+/// watch file, if they are wanted.
 #[derive(Drop)]
 pub struct BuildFiles<W> {
     pub out: Tracked<W>,
     pub labels: Option<Tracked<W>>,
     pub listing: Option<Tracked<W>>,
     pub map: Option<Tracked<W>>,
+    pub watch: Option<Tracked<W>>,
 }
 
 // Writes a file, if it is wanted.
@@ -32,12 +33,14 @@ pub fn write_all<W: Write>(
     files: &mut BuildFiles<W>,
     prg: &[u8],
     made: &Made,
+    watch: &[u8],
 ) -> Result<(), StreamFailure>
-    ensures whole { OnOk result (AllWhole W.contents (texts_of prg.now made.now) (each_of files.old) (each_of files.new)) }
-    ensures fault { OnErr result (BreaksOff W.contents (texts_of prg.now made.now) (each_of files.old) (each_of files.new)) }
+    ensures whole { OnOk result (AllWhole W.contents (texts_of prg.now made.now watch.now) (each_of files.old) (each_of files.new)) }
+    ensures fault { OnErr result (BreaksOff W.contents (texts_of prg.now made.now watch.now) (each_of files.old) (each_of files.new)) }
 {
     write_output(&mut files.out, prg)?;
     write_wanted(&mut files.labels, &made.labels)?;
     write_wanted(&mut files.listing, &made.listing)?;
-    write_wanted(&mut files.map, &made.map)
+    write_wanted(&mut files.map, &made.map)?;
+    write_wanted(&mut files.watch, watch)
 }

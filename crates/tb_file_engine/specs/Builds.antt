@@ -20,7 +20,7 @@ abbrev pub wanted : Option (List ℕ) → List (List ℕ)
 wanted None = []
 wanted (Some path) = path ∷ []
 
--- where a build writes its label file, its listing and its map, if they are wanted
+-- where a build writes its label file, its listing, its map and its watch file, if they are wanted
 abbrev pub labels_of : BuildNames → Option (List ℕ)
 labels_of names = option_map (λ p. p.now) names.labels
 
@@ -30,9 +30,13 @@ listing_of names = option_map (λ p. p.now) names.listing
 abbrev pub map_of : BuildNames → Option (List ℕ)
 map_of names = option_map (λ p. p.now) names.map
 
+abbrev pub watch_of : BuildNames → Option (List ℕ)
+watch_of names = option_map (λ p. p.now) names.watch
+
 -- the files of a build, in the order in which they are written
 abbrev pub outputs_of : BuildNames → List (List ℕ)
-outputs_of names = names.out.now ∷ wanted (labels_of names) ++ wanted (listing_of names) ++ wanted (map_of names)
+outputs_of names =
+    names.out.now ∷ wanted (labels_of names) ++ wanted (listing_of names) ++ wanted (map_of names) ++ wanted (watch_of names)
 
 abbrev pub is_cost : SizeLimit → Bool
 is_cost Cost = true

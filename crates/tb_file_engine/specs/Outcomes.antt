@@ -12,6 +12,8 @@ use Rattle.tb_disk_engine.specs.declared.outcome.DiskOutcome.TheVariants as disk
 use Rattle.tb_disk_engine.specs.declared.outcome.DiskRefusal.{DiskRefusal}
 use Rattle.tb_format_engine.specs.declared.outcome.FormatOutcome.{FormatOutcome}
 use Rattle.tb_format_engine.specs.declared.outcome.FormatOutcome.TheVariants as format
+use Rattle.tb_renumber_engine.specs.declared.outcome.RenumberOutcome.{RenumberOutcome}
+use Rattle.tb_renumber_engine.specs.declared.outcome.RenumberOutcome.TheVariants as renumber
 use Rattle.tb_file_engine.specs.declared.saving.Stop.{Stop}
 use Rattle.tb_file_engine.specs.declared.saving.Stop.TheVariants.{Refused, ReadFault, WriteFault, NoMemory}
 
@@ -35,6 +37,11 @@ disk_outcome_of (Err NoMemory) = disk.NoMemory
 abbrev pub format_outcome_of : Result Unit FormatOutcome → FormatOutcome
 format_outcome_of (Ok u) = format.Done
 format_outcome_of (Err e) = e
+
+-- the same of a source that is renumbered in its place
+abbrev pub renumber_outcome_of : Result Unit RenumberOutcome → RenumberOutcome
+renumber_outcome_of (Ok u) = renumber.Engine (outcome.Ended Done)
+renumber_outcome_of (Err e) = e
 
 -- why an engine that writes to memory made nothing
 abbrev pub stop_of : Outcome → Result Unit (Stop Refusal)
@@ -76,3 +83,8 @@ EndsDisk does f inputs outputs outcome g =
 abbrev pub EndsFormat : {F : Type 0} → (F → Deed → F → Type 0) → F → List ℕ → FormatOutcome → F → Type 0
 EndsFormat does f path outcome g =
     (done : Result Unit FormatOutcome) × (outcome ≡ format_outcome_of done) × Transfers does f (path ∷ []) (path ∷ []) done g
+
+-- the same of renumbering in place
+abbrev pub EndsRenumber : {F : Type 0} → (F → Deed → F → Type 0) → F → List ℕ → RenumberOutcome → F → Type 0
+EndsRenumber does f path outcome g =
+    (done : Result Unit RenumberOutcome) × (outcome ≡ renumber_outcome_of done) × Transfers does f (path ∷ []) (path ∷ []) done g

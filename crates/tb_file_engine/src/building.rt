@@ -6,18 +6,22 @@ use crate::saving::{Stop, made_in_memory, outcome_of, unread, unwritten};
 use std::alloc::{AllocError, Global};
 use std::io::Read;
 use tb_build_engine::{BuildFiles, build_files, map_source};
+use tb_dialect_engine::{Dialect, spell_listing};
 use tb_driver::{CompileError, CompileSettings, Refusal, SizeLimit, build_within};
-use tb_engines::{Outcome, Report};
+use tb_engines::{NoText, Outcome, Report};
 use tb_files::{FileSystem, Trouble, Work, transfer};
 use tb_streams::Tracked;
 
-/// What a build writes: the PRG file, and the label file, the listing and the map, if they are wanted.
+/// What a build writes: the PRG file, and the label file, the listing, the map and the watch file, if they are wanted.
 #[derive(Clone, Copy)]
 pub struct BuildNames<'a> {
     pub out: &'a str,
     pub labels: Option<&'a str>,
     pub listing: Option<&'a str>,
+    /// The assembler that the listing is for, if it isn't `tbc asm`.
+    pub dialect: Option<Dialect>,
     pub map: Option<&'a str>,
+    pub watch: Option<&'a str>,
 }
 
 // A source that is compiled, and what was made of it.
@@ -38,11 +42,28 @@ fn in_memory(alloc: Global, name: Option<&str>) -> Option<Tracked<Vec<u8>>> {
     }
 }
 
+// The listing of a PRG file's program, if it is wanted, as the assembler takes it that it is for.
+fn spelled(
+    alloc: Global,
+    dialect: Option<Dialect>,
+    prg: &[u8],
+    listing: Option<Tracked<Vec<u8>>>,
+) -> Result<Option<Tracked<Vec<u8>>>, Stop<Refusal>> {
+    let (Some(dialect), Some(file)) = (dialect, &listing) else {
+        return Ok(listing);
+    };
+    match spell_listing(alloc, dialect, prg, file.stream.as_slice()) {
+        Ok(text) => Ok(Some(Tracked::new(text))),
+        Err(NoText::Refused(refusal)) => Err(Stop::Refused(refusal)),
+        Err(NoText::NoMemory) => Err(Stop::NoMemory),
+    }
+}
+
 // The texts that were wanted, in the order in which they are written.
 fn texts_of(alloc: Global, files: BuildFiles<Vec<u8>>) -> Result<Vec<Vec<u8>>, AllocError> {
     let mut texts = Vec::new(alloc);
     texts.push(files.out.stream)?;
-    for file in [files.labels, files.listing, files.map] {
+    for file in [files.labels, files.listing, files.map, files.watch] {
         if let Some(file) = file {
             texts.push(file.stream)?;
         }
@@ -70,15 +91,21 @@ fn paths_of<'a>(alloc: Global, names: BuildNames<'a>) -> Result<Vec<&'a str>, Al
     let mut paths = Vec::new(alloc);
     paths.push(names.out)?;
     with_wanted(
-        with_wanted(with_wanted(paths, names.labels)?, names.listing)?,
-        names.map,
+        with_wanted(
+            with_wanted(with_wanted(paths, names.labels)?, names.listing)?,
+            names.map,
+        )?,
+        names.watch,
     )
 }
 
 impl Build<'_> {
     // Whether the PRG file is all that is wanted: then no text that tells of the program is made.
     fn is_alone(&self) -> bool {
-        self.names.labels.is_none() && self.names.listing.is_none() && self.names.map.is_none()
+        self.names.labels.is_none()
+            && self.names.listing.is_none()
+            && self.names.map.is_none()
+            && self.names.watch.is_none()
     }
 }
 
@@ -95,6 +122,7 @@ impl Work for Build<'_> {
             labels: in_memory(self.alloc, self.names.labels),
             listing: in_memory(self.alloc, self.names.listing),
             map: in_memory(self.alloc, self.names.map),
+            watch: in_memory(self.alloc, self.names.watch),
         };
         let report = if self.is_alone() {
             build_within(self.alloc, input, &mut files.out, self.settings)
@@ -103,6 +131,13 @@ impl Work for Build<'_> {
         };
         made_in_memory(report.outcome)?;
         self.told = Some(report);
+        let plain = files.listing.take();
+        files.listing = spelled(
+            self.alloc,
+            self.names.dialect,
+            files.out.stream.as_slice(),
+            plain,
+        )?;
         match texts_of(self.alloc, files) {
             Ok(texts) => {
                 self.made = texts;

@@ -28,7 +28,7 @@ name_of Poll = codes "poll"
 
 -- the routines by rising address
 abbrev pub all_routines : List Routine
-all_routines = Multiply ∷ Divide ∷ Random ∷ Number ∷ Text ∷ Zone ∷ Input ∷ Search ∷ Push ∷ Pop ∷ FaultLine ∷ Fault ∷ Poll ∷ []
+all_routines = Divide ∷ Random ∷ Multiply ∷ Number ∷ Text ∷ Zone ∷ Input ∷ Search ∷ Push ∷ Pop ∷ FaultLine ∷ Fault ∷ Poll ∷ []
 
 -- the label of a routine's entry
 abbrev pub routine_label : Routine → List ℕ × ℕ

@@ -16,9 +16,9 @@ use tb_words::LETTERS;
 
 /// The routines by rising address.
 pub const ROUTINES: [Routine; 13] = [
-    Routine::Multiply,
     Routine::Divide,
     Routine::Random,
+    Routine::Multiply,
     Routine::Number,
     Routine::Text,
     Routine::Zone,
