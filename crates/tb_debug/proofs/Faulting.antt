@@ -4,7 +4,7 @@ use Rattle.std.specs.Prelude.{if◌then◌else◌, nat_lt}
 use Rattle.std.proofs.lemmas.Bool.{and_parts}
 use Rattle.std.proofs.lemmas.Bool.Decides.{nat_tests}
 use Rattle.tb_debug.specs.Debuggers.{IsAtTime, KeepsRun, OnRun, begun_by}
-use Rattle.tb_debug.specs.Leading.{Continues, GoesToStop, RunsUntil, StopsBack}
+use Rattle.tb_debug.specs.Leading.{GoesAlong, GoesOn, RunsUntil, StopsBack}
 use Rattle.tb_debug.specs.Runs.{IsOfRun, Point, is_marked}
 use Rattle.tb_debug.specs.Stopping.{has_faulted, stops_by_fault, stops_here}
 use Rattle.tb_debug.specs.Breakpoints.{stops_at_faults}
@@ -12,7 +12,7 @@ use Rattle.tb_debug.specs.declared.debugger.Debugger.{Debugger}
 use Rattle.tb_debug.specs.declared.moment.Moment.{Moment}
 use Rattle.tb_debug.specs.declared.moment.Reached.{Reached}
 use Rattle.tb_debug.specs.declared.moment.Reached.TheVariants.{Line}
-use Rattle.tb_debug.specs.declared.searching.Destination.TheVariants.{Stop}
+use Rattle.tb_debug.specs.declared.searching.Destination.{Destination}
 
 -- a line was begun if one was begun later than here
 some_later : (begins : Bool) (begun n : ℕ) → nat_lt begun (if begins then n - 1 else n) ≡ true → n - 1 < n
@@ -25,10 +25,10 @@ some_begun stops faulted begins begun n holds =
     some_later begins begun n later
 
 -- a way on from a debugger d, now e
-module _ (limit : ℕ) (d e : Debugger) (way : Reached) (keep : KeepsRun d e) (runs : RunsUntil Stop limit d way e.present) where
-  -- the way leads to the next stop, on the same run
-  to_stop : GoesToStop limit d way e.present
-  to_stop = record { runs = runs; of_run = λ start on. subst (λ marks. IsOfRun marks start e.present) keep.1 (keep.2 start on).of_run }
+module _ (to : Destination) (limit : ℕ) (d e : Debugger) (way : Reached) (keep : KeepsRun d e) (runs : RunsUntil to limit d way e.present) where
+  -- it is a way on the same run
+  along : GoesAlong to limit d way e.present
+  along = record { runs = runs; of_run = λ start on. subst (λ marks. IsOfRun marks start e.present) keep.1 (keep.2 start on).of_run }
 
   -- whether it stops by a fault, as the code tells it
   pub as_told : (stops begins : Bool) → e.stops ≡ d.stops → begins ≡ is_marked d.starts d.present.machine.regs.pc
@@ -38,20 +38,20 @@ module _ (limit : ℕ) (d e : Debugger) (way : Reached) (keep : KeepsRun d e) (r
       ∙ ap (λ b. stops_by_fault d.stops d.present.begun b way e.present) marked
 
   -- it ends there if it doesn't stop by a fault
-  pub ends_there : stops_here d way e.present ≡ false → Continues limit d way e.present
-  ends_there never = (way, e.present, to_stop, subst (λ b. StopsBack b d way e.present way e.present) (sym never) (refl, refl))
+  pub ends_there : stops_here d way e.present ≡ false → GoesOn to limit d way e.present
+  ends_there never = (way, e.present, along, subst (λ b. StopsBack b d way e.present way e.present) (sym never) (refl, refl))
 
   -- if it does, it goes back to the line that was begun last
   pub goes_back : (reached : Reached) (m : Moment) (time : ℕ) → time ≡ e.present.begun - 1 → stops_here d way e.present ≡ true
       → IsAtTime time e.starts reached m
-      → ((start : Point) → start.begun ≡ 0 → OnRun start e → time < begun_by e → reached ≡ Line) → Continues limit d reached m
+      → ((start : Point) → start.begun ≡ 0 → OnRun start e → time < begun_by e → reached ≡ Line) → GoesOn to limit d reached m
   goes_back reached m time last holds at back =
       let here = subst (λ marks. IsAtTime time marks reached m) keep.1 at in
       let past = some_begun (stops_at_faults d.stops) (has_faulted way e.present) (is_marked d.starts d.present.machine.regs.pc)
       d.present.begun e.present.begun holds in (
         way,
         e.present,
-        to_stop,
+        along,
         subst (λ b. StopsBack b d way e.present reached m) (sym holds) (
           subst (λ t. IsAtTime t d.starts reached m) last here,
           λ start none on. back start none (keep.2 start on) (subst (λ t. t < begun_by e) (sym last) past),

@@ -6,7 +6,6 @@ use Rattle.std.proofs.lemmas.Bool.Decides.{nat_tests}
 use Rattle.tb_kernal.specs.declared.status.Status.{Status}
 use Rattle.tb_kernal.specs.declared.status.Status.TheVariants.{Returned, Running, Waits, Wrong}
 use Rattle.tb_kernal.specs.Machine.{state_of, status}
-use Rattle.tb_codegen.specs.Compiled.{starts_of}
 use Rattle.tb_debug.specs.Begins.{Advances, BeginsThere, IsLimited, StandsBy, standing_by, standing_of}
 use Rattle.tb_debug.specs.Debuggers.{IsAtTime, OnRun, begun_by}
 use Rattle.tb_debug.specs.Runs.{Point, IsOfRun, is_marked, newest, newest_events, point_at, spacing}
@@ -141,7 +140,7 @@ from_under d start k on some inside =
     let p = point_at d.starts start k in
     let later = begun_later d.starts start k d.present.events inside in
     let count = ap (λ x. x.begun) on.of_run.stands in
-    leads_under (breaks_at (starts_of d.program.now) d.stops p) (changes d.stops p) p.begun (begun_by d) (omega (arith, later, count)) some
+    leads_under (breaks_at d.debuggee d.stops p) (changes d.stops p) p.begun (begun_by d) (omega (arith, later, count)) some
 
 -- so the newest of these times has passed
 pub newest_past : (d : Debugger) (start : Point) (time : ℕ) → OnRun start d → 0 < begun_by d → IsNewest d start time → time < begun_by d

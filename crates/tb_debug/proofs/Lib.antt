@@ -37,6 +37,8 @@ mod Turning
 pub mod Leading
 -- where going on and going back stop
 pub mod Stopping
+-- why a way stops
+pub mod Causing
 -- where going on stops by a fault
 mod Faulting
 -- a command that moves the run tells its stop

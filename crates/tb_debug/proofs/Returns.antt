@@ -1,8 +1,13 @@
 -- The lines to return to, one by one.
-use Rattle.std.proofs.Common.{◌≡◌, append_assoc, ℕ, suc, ◌+◌, ◌-◌, ◌<◌, List, [], ◌∷◌, ◌++◌, Option, sym, ap, ◌∙◌, arith}
+use Rattle.std.proofs.Common.{◌≡◌, append_assoc, ℕ, zero, suc, ◌+◌, ◌-◌, ◌<◌, List, [], ◌∷◌, ◌++◌, Option, length, refl, sym, ap, ◌∙◌, arith}
 use Rattle.tb_debug.specs.Lines.{line_at}
 use Rattle.tb_inspection.specs.Readings.{return_in}
 use Rattle.tb_debug.specs.Readings.{lines_of_returns}
+
+-- as many lines are told as are asked for
+pub many_told : (lines : List (ℕ × ℕ)) (m : ℕ → ℕ) (n : ℕ) → length (lines_of_returns lines m n) ≡ n
+many_told lines m zero = refl
+many_told lines m (suc n) = ap suc (many_told lines m n)
 
 module _ (lines : List (ℕ × ℕ)) (m : ℕ → ℕ) (told : List (Option ℕ)) (count n : ℕ) where
   -- one more of the returns is told: the loop of `returns`

@@ -14,6 +14,10 @@ use Rattle.tb_syntax.specs.Source.{Program, numbers}
 use Rattle.tb_templates.specs.declared.labels.Target.TheVariants.{Line}
 use Rattle.tb_templates.specs.Labels.{label_of}
 use Rattle.tb_codegen.specs.Compiled.{stands_at, start_in, start_of, starts_in, starts_of}
+use Rattle.tb_codegen.specs.declared.compiled.Compiled.{Compiled}
+use Rattle.tb_debug.specs.declared.debuggee.Debuggee.{Debuggee}
+use Rattle.tb_debug.specs.declared.debuggee.Debuggee.TheVariants.{Source, Prg}
+use Rattle.tb_debug.specs.Debuggees.{begins_in, line_from, program_of, returns_from}
 use Rattle.tb_debug.specs.declared.rom.Rom.{Rom}
 use Rattle.tb_debug.specs.declared.debugger.Debugger.{Debugger}
 use Rattle.tb_debug.specs.Runs.{begins_at, first_point, is_marked}
@@ -69,13 +73,27 @@ module _ (labels : List (Name × ℕ)) where
           )
       go false q later found = let rest = later found in (or_right (nat_eq m n) (has_line ns n) rest.0, rest.1)
 
+-- what is said of a debuggee is said of its program
+
+begins_as : (g : Debuggee) (c : Compiled) (a : ℕ) → program_of g ≡ Some c → begins_in g a ≡ begins_at (starts_of c) a
+begins_as (Source p) c a of = let same : p.now ≡ c = cc in ap (λ x. begins_at (starts_of x) a) same
+begins_as Prg c a of = absurd (cc)
+
+line_as : (g : Debuggee) (c : Compiled) (a : ℕ) → program_of g ≡ Some c → line_from g a ≡ line_at (starts_of c) a
+line_as (Source p) c a of = let same : p.now ≡ c = cc in ap (λ x. line_at (starts_of x) a) same
+line_as Prg c a of = absurd (cc)
+
+returns_as : (g : Debuggee) (c : Compiled) (m : ℕ → ℕ) → program_of g ≡ Some c → returns_from g m ≡ returns_of (starts_of c) m
+returns_as (Source p) c m of = let same : p.now ≡ c = cc in ap (λ x. returns_of (starts_of x) m) same
+returns_as Prg c m of = absurd (cc)
+
 -- what is shown of memory if a line begins
-shows_all : (source : Program) (seed : ℕ) (start : State) (d : Debugger) (n : ℕ) (made : IsMadeOf source seed d.program.now)
-    → ((k : ℕ) → has_line (numbers source) k ≡ true → start_of d.program.now k ≡ at_label (labels_from PROLOGUE_AT made.compiled.items) k)
-    → ((a : ℕ) → is_start (start_of d.program.now) (numbers source) a ≡ begins_at (starts_of d.program.now) a)
-    → BeginsLine source seed (start_of d.program.now) start d.present.begun n (state_of d.present.machine) → ShowsLine source seed start d n
-shows_all source seed start d n made firsts same begins =
-    let c = d.program.now in
+shows_all : (source : Program) (seed : ℕ) (start : State) (c : Compiled) (d : Debugger) (n : ℕ) (made : IsMadeOf source seed c)
+    → program_of d.debuggee ≡ Some c
+    → ((k : ℕ) → has_line (numbers source) k ≡ true → start_of c k ≡ at_label (labels_from PROLOGUE_AT made.compiled.items) k)
+    → ((a : ℕ) → is_start (start_of c) (numbers source) a ≡ begins_at (starts_of c) a)
+    → BeginsLine source seed (start_of c) start d.present.begun n (state_of d.present.machine) → ShowsLine source seed start c d n
+shows_all source seed start c d n made of firsts same begins =
     let ns = numbers source in
     let m = (state_of d.present.machine).mem in
     let labels = labels_from PROLOGUE_AT made.compiled.items in
@@ -86,36 +104,36 @@ shows_all source seed start d n made firsts same begins =
     record {
       begins = begins;
       variables = λ x few. ap (cast_signed w16) (begins.vars x few);
-      returns = ap (λ ss. returns_of ss m) told ∙ ap (lines_of_returns (starts_in labels ns) m) count
+      returns = returns_as d.debuggee c m of ∙ ap (λ ss. returns_of ss m) told ∙ ap (lines_of_returns (starts_in labels ns) m) count
           ∙ returns_told labels (start_of c) ns LINES_AT rise firsts here m begins.state.returns begins.returns;
     }
 
 -- if a debugger is at a line's beginning, the source goes on at that line
-pub shows_line : (source : Program) (seed : ℕ) (start : State) (rom : Rom) (d : Debugger) (n : ℕ) → Debugs source seed start rom d
-    → line_at (starts_of d.program.now) d.present.machine.regs.pc ≡ Some n → ShowsLine source seed start d n
-shows_line source seed start rom d n h here =
-    let c = d.program.now in
+pub shows_line : (source : Program) (seed : ℕ) (start : State) (rom : Rom) (c : Compiled) (d : Debugger) (n : ℕ) → Debugs source seed start rom c d
+    → line_from d.debuggee d.present.machine.regs.pc ≡ Some n → ShowsLine source seed start c d n
+shows_line source seed start rom c d n h here =
+    let begins_so : (a : ℕ) → is_marked d.starts a ≡ begins_at (starts_of c) a = λ a. h.on.marked a ∙ begins_as d.debuggee c a h.of in
     let told = h.made.compiled.starts in
     let ns = numbers source in
     let labels = labels_from PROLOGUE_AT h.made.compiled.items in
     let firsts : (k : ℕ) → has_line ns k ≡ true → start_of c k ≡ at_label labels k =
     λ k has. ap (λ ss. unwrap_or (start_in ss k) 0) told ∙ found labels ns k has in
     let same : (a : ℕ) → is_start (start_of c) ns a ≡ is_marked d.starts a =
-    λ a. starts_same labels (start_of c) ns a firsts ∙ sym (ap (λ ss. begins_at ss a) told) ∙ sym (h.on.marked a) in
+    λ a. starts_same labels (start_of c) ns a firsts ∙ sym (ap (λ ss. begins_at ss a) told) ∙ sym (begins_so a) in
     let first = first_point start rom in
     let es = events_to d.starts first d.present.events in
     let ran : run es start ≡ state_of d.present.machine = run_to d.starts first d.present.events ∙ sym (ap (λ p. p.state) h.on.of_run.stands) in
     let count : begun (start_of c) ns es start ≡ d.present.begun =
     begun_to d.starts first (start_of c) ns same refl d.present.events ∙ sym (ap (λ p. p.begun) h.on.of_run.stands) in
-    let there = line_there labels ns d.present.machine.regs.pc n (sym (ap (λ ss. line_at ss d.present.machine.regs.pc) told) ∙ here) in
+    let there = line_there labels ns d.present.machine.regs.pc n (sym (ap (λ ss. line_at ss d.present.machine.regs.pc) told) ∙ sym (line_as d.debuggee c d.present.machine.regs.pc h.of) ∙ here) in
     let at : (run es start).regs.pc ≡ start_of c n = ap (λ s. s.regs.pc) ran ∙ sym there.1 ∙ sym (firsts n there.0) in
     let begins = h.made.marks.begins start h.starts es (lawful_to d.starts first d.present.events) n there.0 at in
-    shows_all source seed start d n h.made firsts (λ a. same a ∙ h.on.marked a)
+    shows_all source seed start c d n h.made h.of firsts (λ a. same a ∙ begins_so a)
     (subst (λ m. BeginsLine source seed (start_of c) start m n (state_of d.present.machine)) count
     (subst (λ t. BeginsLine source seed (start_of c) start (begun (start_of c) ns es start) n t) ran begins))
 
 -- the same of the line that `line_here` answers
-pub shows_some : (source : Program) (seed : ℕ) (start : State) (rom : Rom) (d : Debugger) (o : Option ℕ) → Debugs source seed start rom d
-    → o ≡ line_at (starts_of d.program.now) d.present.machine.regs.pc → IfSome o (λ line. ShowsLine source seed start d line)
-shows_some source seed start rom d None h is = tt
-shows_some source seed start rom d (Some n) h is = shows_line source seed start rom d n h (sym is)
+pub shows_some : (source : Program) (seed : ℕ) (start : State) (rom : Rom) (c : Compiled) (d : Debugger) (o : Option ℕ) → Debugs source seed start rom c d
+    → o ≡ line_from d.debuggee d.present.machine.regs.pc → IfSome o (λ line. ShowsLine source seed start c d line)
+shows_some source seed start rom c d None h is = tt
+shows_some source seed start rom c d (Some n) h is = shows_line source seed start rom c d n h (sym is)

@@ -15,7 +15,7 @@ use Rattle.tb_debug.specs.declared.history.History.{History}
 use Rattle.tb_debug.specs.declared.moment.Moment.{Moment}
 use Rattle.tb_debug.specs.declared.moment.Reached.{Reached}
 use Rattle.tb_debug.specs.declared.moment.Reached.TheVariants.{Line, Within, Ended, Limit}
-use Rattle.tb_codegen.specs.declared.compiled.Compiled.{Compiled}
+use Rattle.tb_debug.specs.declared.debuggee.Debuggee.{Debuggee}
 use Rattle.tb_debug.proofs.Keeping.{kept_later}
 
 -- how many events come before one of these checkpoints
@@ -124,12 +124,12 @@ near_on marks start newest limit m n reached other ends near k inside comes =
     none Limit other ends = ends.0
 
 -- a way on after which a checkpoint was kept, if one was due
-pub kept_on : (program : Compiled) (start : Point) (marks : List Bool) (old new : History) (m n : Moment) → StaysOnRun marks m n → new.first ≡ old.first
+pub kept_on : (debuggee : Debuggee) (start : Point) (marks : List Bool) (old new : History) (m n : Moment) → StaysOnRun marks m n → new.first ≡ old.first
     → ((marks : List Bool) (start : Point) → IsOfRun marks start n → AreCheckpoints marks start n.events old.later.items
     → AreCheckpoints marks start n.events new.later.items) → (length old.later.items < most_checkpoints → length new.later.items < most_checkpoints)
     → (AreSpaced (old.first ∷ old.later.items) → AreSpaced (new.first ∷ new.later.items)) → n.events < newest_events new.first new.later.items + spacing
-    → StandsOn program start marks old m → StandsOn program start marks new n
-kept_on program start marks old new m n on same later few spaced near h =
+    → StandsOn debuggee start marks old m → StandsOn debuggee start marks new n
+kept_on debuggee start marks old new m n on same later few spaced near h =
     let now = on.on start h.of_run in
     record {
       marked = h.marked;

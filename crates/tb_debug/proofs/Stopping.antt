@@ -4,7 +4,6 @@ use Rattle.std.specs.Prelude.{if◌then◌else◌, min, nat_lt}
 use Rattle.std.proofs.lemmas.Bool.{cases_lt}
 use Rattle.tb_kernal.specs.declared.status.Status.TheVariants.{Running}
 use Rattle.tb_kernal.specs.Machine.{status}
-use Rattle.tb_codegen.specs.Compiled.{starts_of}
 use Rattle.tb_debug.specs.Begins.{EndsAt, GoesTo, IsLimited, IsNowhere, NoneBegins}
 use Rattle.tb_debug.specs.Debuggers.{KeepsRun, OnRun}
 use Rattle.tb_debug.specs.Runs.{Point, IsOfRun, IsFirst, IsCheckpoint, point_at, shown}
@@ -80,12 +79,12 @@ bounded false false n = omega arith
 leads_few : (d : Debugger) (start : Point) (k : ℕ) → leads_from d start k ≤ (point_at d.starts start k).begun
 leads_few d start k =
     let p = point_at d.starts start k in
-    bounded (nat_lt p.begun d.present.begun && breaks_at (starts_of d.program.now) d.stops p) (changes d.stops p) p.begun
+    bounded (nat_lt p.begun d.present.begun && breaks_at d.debuggee d.stops p) (changes d.stops p) p.begun
 
 -- a moment of the run leads back to what its point does
 pub leads_there : (d : Debugger) (start : Point) (m : Moment) → IsOfRun d.starts start m
-    → leads_back (starts_of d.program.now) d.stops d.present.begun (shown m) ≡ leads_from d start m.events
-leads_there d start m h = ap (leads_back (starts_of d.program.now) d.stops d.present.begun) h.stands
+    → leads_back d.debuggee d.stops d.present.begun (shown m) ≡ leads_from d start m.events
+leads_there d start m h = ap (leads_back d.debuggee d.stops d.present.begun) h.stands
 
 -- a later time, or an earlier one
 pub leads_either : (d : Debugger) (start : Point) (a b c : ℕ) → LeadsTo d start a → LeadsTo d start b → (c ≡ a) ⊎ (c ≡ b) → LeadsTo d start c
@@ -100,7 +99,7 @@ pub record Walked (d : Debugger) (start : Point) (from : ℕ) (m : Moment) (time
 -- one line more
 pub one_between : (d : Debugger) (start : Point) (from : ℕ) (p q : Moment) (limit a led time : ℕ) → OnRun start d → IsOfRun d.starts start q
     → EndsAt d.starts start limit p Line q → q.events ≤ d.present.events
-    → led ≡ leads_back (starts_of d.program.now) d.stops d.present.begun (shown q) → a ≤ time → led ≤ time → (time ≡ a) ⊎ (time ≡ led)
+    → led ≡ leads_back d.debuggee d.stops d.present.begun (shown q) → a ≤ time → led ≤ time → (time ≡ a) ⊎ (time ≡ led)
     → NewestBetween d start from p.events a → NewestBetween d start from q.events time
 one_between d start from p q limit a led time on of_run ends inside is one other which h =
     let there : led ≡ leads_from d start q.events = is ∙ leads_there d start q of_run in

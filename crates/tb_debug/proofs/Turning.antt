@@ -46,13 +46,26 @@ among_append : (xs ys : List ℕ) (n : ℕ) → is_among (xs ++ ys) n ≡ (is_am
 among_append [] ys n = refl
 among_append (x ∷ xs) ys n = ap (λ b. nat_eq n x || b) (among_append xs ys n) ∙ grouped (nat_eq n x) (is_among xs n) (is_among ys n)
 
--- a breakpoint that is inserted is set, and no other changes
-pub line_set : (xs : List ℕ) (line i : ℕ) → is_among xs line ≡ false → Turned line xs (insert xs i line)
-line_set xs line i none n =
-    let there : (nat_eq n line ≡ true) → is_among xs n ≡ false = λ e. ap (is_among xs) (eqb-true n line e) ∙ none in
+-- a line that is inserted is among the others then
+pub among_insert : (xs : List ℕ) (line i n : ℕ) → is_among (insert xs i line) n ≡ (nat_eq n line || is_among xs n)
+among_insert xs line i n =
     among_append (take i xs) (line ∷ drop i xs) n ∙ moved (is_among (take i xs) n) (nat_eq n line) (is_among (drop i xs) n)
     ∙ ap (λ b. nat_eq n line || b) (sym (among_append (take i xs) (drop i xs) n) ∙ ap (λ ys. is_among ys n) (take-append-drop i xs))
-    ∙ set_where (nat_eq n line) (is_among xs n) there
+
+-- a breakpoint that is put among the others is set, and no other changes
+pub line_set : (xs ys : List ℕ) (line : ℕ) → is_among xs line ≡ false → ((n : ℕ) → is_among ys n ≡ (nat_eq n line || is_among xs n))
+    → Turned line xs ys
+line_set xs ys line none placed n =
+    let there : (nat_eq n line ≡ true) → is_among xs n ≡ false = λ e. ap (is_among xs) (eqb-true n line e) ∙ none in
+    placed n ∙ set_where (nat_eq n line) (is_among xs n) there
+
+present : (t b : Bool) → ((t ≡ true) → b ≡ true) → b ≡ (t || b)
+present true b h = h refl
+present false b h = refl
+
+-- a line that is there already is among the others as they are
+pub among_there : (xs : List ℕ) (line n : ℕ) → is_among xs line ≡ true → is_among xs n ≡ (nat_eq n line || is_among xs n)
+among_there xs line n there = present (nat_eq n line) (is_among xs n) (λ e. ap (is_among xs) (eqb-true n line e) ∙ there)
 
 no_more : (b : Bool) → false ≡ (b && false)
 no_more true = refl

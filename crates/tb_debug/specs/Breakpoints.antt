@@ -56,3 +56,21 @@ value_in values letter = slice_index_or values (letter_index letter) (pos 0)
 abbrev pub differ : List Letter → List ℤ → List ℤ → Bool
 differ [] before after = false
 differ (w ∷ ws) before after = not (int_eq (value_in before w) (value_in after w)) || differ ws before after
+
+-- ---- which of them
+
+-- a line, if it has a breakpoint
+abbrev pub broken : List ℕ → Option ℕ → Option ℕ
+broken lines None = None
+broken lines (Some line) = if is_among lines line then Some line else None
+
+-- the first of these variables that has another value
+abbrev pub first_changed : List Letter → List ℤ → List ℤ → Option Letter
+first_changed [] before after = None
+first_changed (w ∷ ws) before after = if int_eq (value_in before w) (value_in after w) then first_changed ws before after else Some w
+
+-- ---- as a whole
+
+-- the same lines have a breakpoint as are among others
+abbrev pub AreSet : List ℕ → List ℕ → Type 0
+AreSet lines set = (n : ℕ) → is_among set n ≡ is_among lines n

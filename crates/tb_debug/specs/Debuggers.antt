@@ -1,10 +1,10 @@
--- A debugger on the run of its program.
+-- A debugger on the run of what it debugs.
 use Rattle.std.specs.Prelude.{◌≡◌, ◌⊎◌, ℕ, ◌+◌, ◌-◌, ◌<◌, ◌≤◌, Bool, true, false, List, [], ◌∷◌, length}
 use Rattle.tb_play.specs.Lines.{keys_of_text}
-use Rattle.tb_codegen.specs.Compiled.{starts_of}
-use Rattle.tb_codegen.specs.declared.compiled.Compiled.{Compiled}
 use Rattle.tb_debug_commands.specs.declared.command.Command.{Command}
 use Rattle.tb_debug_commands.specs.declared.command.Command.TheVariants as command
+use Rattle.tb_debug.specs.Debuggees.{begins_in}
+use Rattle.tb_debug.specs.declared.debuggee.Debuggee.{Debuggee}
 use Rattle.tb_debug.specs.declared.debugger.Debugger.{Debugger}
 use Rattle.tb_debug.specs.declared.history.History.{History}
 use Rattle.tb_debug.specs.declared.moment.Moment.{Moment}
@@ -15,11 +15,11 @@ use Rattle.tb_debug.specs.Begins.{EndsAt, IsLimited, IsNear, standing_of}
 use Rattle.tb_debug.specs.Runs.{Point, IsOfRun, IsFirst, AreCheckpoints, AreSpaced}
 use Rattle.tb_debug.specs.Runs.{begins_at, is_marked, most_checkpoints, newest, newest_events, spacing, typed}
 
--- the marks are where the lines of a program begin, and the present moment and the checkpoints, of which there are no more
+-- the marks are where the lines of what is debugged begin, and the present moment and the checkpoints, of which there are no more
 -- than may be, are of the run from a start; the checkpoints keep their distance, and the newest of them is never far: what
 -- lies between is less than the spacing, and the line that was begun last
-pub record StandsOn (program : Compiled) (start : Point) (marks : List Bool) (history : History) (present : Moment) : Type 0 where
-  pub marked : (a : ℕ) → is_marked marks a ≡ begins_at (starts_of program) a
+pub record StandsOn (debuggee : Debuggee) (start : Point) (marks : List Bool) (history : History) (present : Moment) : Type 0 where
+  pub marked : (a : ℕ) → is_marked marks a ≡ begins_in debuggee a
   pub of_run : IsOfRun marks start present
   pub of_first : IsFirst marks start history.first
   pub of_past : AreCheckpoints marks start present.events history.later.items
@@ -27,17 +27,17 @@ pub record StandsOn (program : Compiled) (start : Point) (marks : List Bool) (hi
   pub spaced : AreSpaced (history.first ∷ history.later.items)
   pub near : IsNear marks start (newest_events history.first history.later.items) present.events
 
--- a debugger is on its program's run from a start
+-- a debugger is on the run from a start
 abbrev pub OnRun : Point → Debugger → Type 0
-OnRun start d = StandsOn d.program.now start d.starts d.history d.present
+OnRun start d = StandsOn d.debuggee start d.starts d.history d.present
 
--- a debugger of the same program that is on each run on which another one is
+-- a debugger of the same debuggee that is on each run on which another one is
 abbrev pub KeepsRun : Debugger → Debugger → Type 0
-KeepsRun d e = (e.program ≡ d.program) × (e.starts ≡ d.starts) × ((start : Point) → OnRun start d → OnRun start e)
+KeepsRun d e = (e.debuggee ≡ d.debuggee) × (e.starts ≡ d.starts) × ((start : Point) → OnRun start d → OnRun start e)
 
 -- the same with more at the end of the keyboard's text, there and at the start
 abbrev pub KeepsRunTyped : List ℕ → Debugger → Debugger → Type 0
-KeepsRunTyped more d e = (e.program ≡ d.program) × (e.starts ≡ d.starts) × ((start : Point) → OnRun start d → OnRun (typed more start) e)
+KeepsRunTyped more d e = (e.debuggee ≡ d.debuggee) × (e.starts ≡ d.starts) × ((start : Point) → OnRun start d → OnRun (typed more start) e)
 
 -- how many lines a debugger has begun; at the beginning of a line that is the time
 abbrev pub begun_by : Debugger → ℕ
@@ -59,16 +59,25 @@ StandsAt address _ m = Unit {0}
 abbrev pub most_opening : ℕ
 most_opening = 1000000
 
+-- a debugger with nothing shown, set or watched
+pub record IsBare (d : Debugger) : Type 0 where
+  pub shown : d.shown ≡ 0
+  pub unset : breakpoints_of d.stops ≡ []
+  pub unwatched : watches_of d.stops ≡ []
+  pub through : stops_at_faults d.stops ≡ false
+
+-- a debugger of a run that starts: it has taken no event, and nothing is shown, set or watched
+pub record IsAtStart (d : Debugger) : Type 0 where
+  pub none : d.present.events ≡ 0
+  pub bare : IsBare d
+
 -- a debugger of a run that starts: it went on to the first line, and nothing is shown, set or watched
 pub record IsOpening (start : Point) (d : Debugger) : Type 0 where
   pub first : Moment
   pub none : first.events ≡ 0
   pub reached : Reached
   pub opens : EndsAt d.starts start most_opening first reached d.present
-  pub shown : d.shown ≡ 0
-  pub unset : breakpoints_of d.stops ≡ []
-  pub unwatched : watches_of d.stops ≡ []
-  pub through : stops_at_faults d.stops ≡ false
+  pub bare : IsBare d
 
 -- a debugger that stays where it is, and says how it stands
 abbrev pub Stays : Debugger → Reached → Moment → Type 0

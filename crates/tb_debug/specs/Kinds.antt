@@ -1,12 +1,28 @@
 -- Which commands move a run, and which only tell of it.
-use Rattle.std.specs.Prelude.{◌≡◌, ℕ, Option, Some, None}
-use Rattle.tb_codegen.specs.Compiled.{start_in, starts_of}
+use Rattle.std.specs.Prelude.{◌≡◌, ℕ, Bool, true, false, ◌&&◌, Option, Some, None}
 use Rattle.tb_debug_commands.specs.declared.command.Command.{Command}
 use Rattle.tb_debug_commands.specs.declared.command.Command.TheVariants as command
 use Rattle.tb_debug.specs.Begins.{StandsBy}
+use Rattle.tb_debug.specs.Debuggees.{has_no_source, start_from}
 use Rattle.tb_debug.specs.Leading.{Leads}
 use Rattle.tb_debug.specs.declared.debugger.Debugger.{Debugger}
 use Rattle.tb_debug.specs.declared.moment.Reached.{Reached}
+
+-- a command that only a source answers
+abbrev pub needs_source : Command → Bool
+needs_source (command.Watch letter) = true
+needs_source command.Faults = true
+needs_source command.ListHere = true
+needs_source (command.List line) = true
+needs_source command.Variables = true
+needs_source (command.Variable letter) = true
+needs_source (command.Value text) = true
+needs_source command.Returns = true
+needs_source _ = false
+
+-- a command that only a source answers, and there is none
+abbrev pub lacks_source : Command → Debugger → Bool
+lacks_source c d = needs_source c && has_no_source d.debuggee
 
 -- a command that types nothing and isn't the end
 abbrev pub IsAct : Command → Type 0
@@ -16,17 +32,19 @@ IsAct _ = Unit {0}
 
 -- no line of the program has this number
 abbrev pub IsMissing : ℕ → Debugger → Type 0
-IsMissing line d = start_in (starts_of d.program.now) line ≡ None
+IsMissing line d = start_from d.debuggee line ≡ None
 
 -- one has, and its code begins somewhere
 abbrev pub IsFound : ℕ → Debugger → Type 0
-IsFound line d = (address : ℕ) × (start_in (starts_of d.program.now) line ≡ Some address)
+IsFound line d = (address : ℕ) × (start_from d.debuggee line ≡ Some address)
 
 -- a command that moves the run
 abbrev pub IsWalk : Command → Debugger → Type 0
 IsWalk (command.Next lines) d = Unit {0}
 IsWalk (command.Previous lines) d = Unit {0}
 IsWalk command.Continue d = Unit {0}
+IsWalk command.Over d = Unit {0}
+IsWalk command.Finish d = Unit {0}
 IsWalk command.ReverseContinue d = Unit {0}
 IsWalk (command.ToTime time) d = Unit {0}
 IsWalk (command.Step events) d = Unit {0}
@@ -38,6 +56,8 @@ abbrev pub IsTold : Command → Debugger → Type 0
 IsTold (command.Next lines) d = ⊥
 IsTold (command.Previous lines) d = ⊥
 IsTold command.Continue d = ⊥
+IsTold command.Over d = ⊥
+IsTold command.Finish d = ⊥
 IsTold command.ReverseContinue d = ⊥
 IsTold (command.ToTime time) d = ⊥
 IsTold (command.Step events) d = ⊥

@@ -12,12 +12,14 @@ pub mod Lines
 -- ── what a machine shows ──
 -- the return list, bytes and code in memory
 pub mod Readings
+-- a source's program, or one without a source
+pub mod Debuggees
 -- what is shown at a line's beginning is the source's
 pub mod Sources
 -- ── a debugger and its ways ──
 -- breakpoints and watches
 pub mod Breakpoints
--- a debugger on the run of its program
+-- a debugger on the run of what it debugs
 pub mod Debuggers
 -- what is known while a stop is looked for
 pub mod Searching

@@ -7,9 +7,9 @@ use Rattle.tb_kernal.specs.Machine.{State, state_of}
 use Rattle.tb_simulation.specs.Theorem.{Starts}
 use Rattle.tb_simulation.specs.LineStarts.{BeginsLine, MarksLines}
 use Rattle.tb_syntax.specs.Source.{Program}
-use Rattle.tb_codegen.specs.Compiled.{IsCompiled, loaded_of, start_of, starts_of}
+use Rattle.tb_codegen.specs.Compiled.{IsCompiled, loaded_of, start_of}
 use Rattle.tb_inspection.specs.Readings.{value_in}
-use Rattle.tb_debug.specs.Readings.{returns_of}
+use Rattle.tb_debug.specs.Debuggees.{program_of, returns_from}
 use Rattle.tb_codegen.specs.declared.compiled.Compiled.{Compiled}
 use Rattle.tb_debug.specs.declared.rom.Rom.{Rom}
 use Rattle.tb_debug.specs.declared.debugger.Debugger.{Debugger}
@@ -22,9 +22,10 @@ pub record IsMadeOf (source : Program) (seed : ℕ) (c : Compiled) : Type 0 wher
   pub marks : MarksLines BASIC_START (loaded_of c) source seed (start_of c)
 
 -- a debugger on the run of a source program's code from a start, with a ROM
-pub record Debugs (source : Program) (seed : ℕ) (start : State) (rom : Rom) (d : Debugger) : Type 0 where
-  pub made : IsMadeOf source seed d.program.now
-  pub starts : Starts BASIC_START (loaded_of d.program.now) start
+pub record Debugs (source : Program) (seed : ℕ) (start : State) (rom : Rom) (c : Compiled) (d : Debugger) : Type 0 where
+  pub of : program_of d.debuggee ≡ Some c
+  pub made : IsMadeOf source seed c
+  pub starts : Starts BASIC_START (loaded_of c) start
   pub on : OnRun (first_point start rom) d
 
 -- the line of a place of the source; none past the last one
@@ -34,13 +35,13 @@ line_of Past = None
 
 -- The source goes on at this line after as many lines as the debugger has begun, just its output was sent, and what the
 -- debugger shows is the source's: the variables, and the lines to return to.
-pub record ShowsLine (source : Program) (seed : ℕ) (start : State) (d : Debugger) (line : ℕ) : Type 0 where
-  pub begins : BeginsLine source seed (start_of d.program.now) start d.present.begun line (state_of d.present.machine)
+pub record ShowsLine (source : Program) (seed : ℕ) (start : State) (c : Compiled) (d : Debugger) (line : ℕ) : Type 0 where
+  pub begins : BeginsLine source seed (start_of c) start d.present.begun line (state_of d.present.machine)
   pub variables : (x : ℕ) → x < 26 → value_in (state_of d.present.machine).mem x ≡ cast_signed w16 (slice_index begins.state.vars x)
-  pub returns : returns_of (starts_of d.program.now) (state_of d.present.machine).mem ≡ map line_of begins.state.returns
+  pub returns : returns_from d.debuggee (state_of d.present.machine).mem ≡ map line_of begins.state.returns
 
 -- if `compile` made the program, and the run is one from its start, the line that begins here shows its source
 abbrev pub ShowsSource : Debugger → Option ℕ → Type 0
 ShowsSource d here =
-    (source : Program) (seed : ℕ) (start : State) (rom : Rom) → Debugs source seed start rom d
-    → IfSome here (λ line. ShowsLine source seed start d line)
+    (source : Program) (seed : ℕ) (start : State) (rom : Rom) (c : Compiled) → Debugs source seed start rom c d
+    → IfSome here (λ line. ShowsLine source seed start c d line)

@@ -1,26 +1,29 @@
 -- Where going on and going back stop.
-use Rattle.std.specs.Prelude.{◌≡◌, ◌⊎◌, ℕ, ◌-◌, ◌≤◌, ◌&&◌, ◌||◌, ◌==◌, Bool, true, false, if◌then◌else◌, nat_lt, List}
+use Rattle.std.specs.Prelude.{◌≡◌, ◌⊎◌, ℕ, ◌-◌, ◌≤◌, ◌&&◌, ◌||◌, ◌==◌, Bool, true, false, if◌then◌else◌, nat_lt, List, Option, Some, None}
 use Rattle.std.specs.Option.{is_some}
 use Rattle.tb_memmap.specs.Bytes.{at}
 use Rattle.tb_kernal.specs.declared.status.Status.TheVariants.{Returned}
-use Rattle.tb_codegen.specs.Compiled.{starts_of}
 use Rattle.tb_faults.specs.Faults.{fault_in}
-use Rattle.tb_debug.specs.Breakpoints.{breakpoints_of, watches_of, breaks, differ, stops_at_faults}
+use Rattle.tb_words.specs.declared.Letter.{Letter}
+use Rattle.tb_debug.specs.Breakpoints.{breakpoints_of, watches_of, breaks, broken, differ, first_changed, stops_at_faults}
 use Rattle.tb_debug.specs.declared.breakpoints.StopPoints.{StopPoints}
 use Rattle.tb_debug.specs.Begins.{comes_to}
-use Rattle.tb_debug.specs.Lines.{line_at}
+use Rattle.tb_debug.specs.Debuggees.{depth_from, line_from}
 use Rattle.tb_inspection.specs.Readings.{values_in}
 use Rattle.tb_debug.specs.Runs.{Point, is_marked, point_at, shown}
+use Rattle.tb_debug.specs.declared.causes.Cause.{Cause}
+use Rattle.tb_debug.specs.declared.causes.Cause.TheVariants as cause
+use Rattle.tb_debug.specs.declared.debuggee.Debuggee.{Debuggee}
 use Rattle.tb_debug.specs.declared.debugger.Debugger.{Debugger}
 use Rattle.tb_debug.specs.declared.moment.Moment.{Moment}
 use Rattle.tb_debug.specs.declared.moment.Reached.{Reached}
 use Rattle.tb_debug.specs.declared.moment.Reached.TheVariants.{Line, Ended}
 use Rattle.tb_debug.specs.declared.searching.Destination.{Destination}
-use Rattle.tb_debug.specs.declared.searching.Destination.TheVariants.{Stop, Address}
+use Rattle.tb_debug.specs.declared.searching.Destination.TheVariants.{Stop, Above, Address}
 
 -- the line that begins at a point has a breakpoint
-abbrev pub breaks_at : List (ℕ × ℕ) → StopPoints → Point → Bool
-breaks_at lines stops p = breaks (breakpoints_of stops) (line_at lines p.state.regs.pc)
+abbrev pub breaks_at : Debuggee → StopPoints → Point → Bool
+breaks_at debuggee stops p = breaks (breakpoints_of stops) (line_from debuggee p.state.regs.pc)
 
 -- the line that was begun last gave a watched variable another value
 abbrev pub changes : StopPoints → Point → Bool
@@ -30,11 +33,16 @@ changes stops p = differ (watches_of stops) p.opened (values_in p.state.mem)
 
 -- `c` stops at a point where a line begins that has a breakpoint, or after one that changed a watched variable
 abbrev pub is_stop : Debugger → Point → Bool
-is_stop d p = breaks_at (starts_of d.program.now) d.stops p || changes d.stops p
+is_stop d p = breaks_at d.debuggee d.stops p || changes d.stops p
+
+-- fewer lines to return to are noted at a point than these
+abbrev pub is_above : Debuggee → ℕ → Point → Bool
+is_above debuggee depth p = nat_lt (depth_from debuggee p.state.mem) depth
 
 -- a point is one that is looked for
 abbrev pub is_sought : Destination → Debugger → Point → Bool
 is_sought Stop d p = is_stop d p
+is_sought (Above depth) d p = is_above d.debuggee depth p || is_stop d p
 is_sought (Address address) d p = p.state.regs.pc == address
 
 -- a line begins after k events, at a point that is looked for
@@ -45,6 +53,17 @@ comes_where is_there marks start k = comes_to marks start k && is_there (point_a
 abbrev pub IsThere : Destination → Reached → Debugger → Type 0
 IsThere to Line d = is_sought to d (shown d.present) ≡ true
 IsThere to _ d = Unit {0}
+
+-- the breakpoint of a line, or else the watched variable that was changed
+abbrev pub cause_by : Option ℕ → Option Letter → Option Cause
+cause_by (Some line) changed = Some (cause.Breakpoint line)
+cause_by None (Some letter) = Some (cause.Watch letter)
+cause_by None None = None
+
+-- why a way stops at a point: a breakpoint, or else the first watched variable that the line before changed
+abbrev pub cause_at : Debuggee → StopPoints → Point → Option Cause
+cause_at debuggee stops p =
+    cause_by (broken (breakpoints_of stops) (line_from debuggee p.state.regs.pc)) (first_changed (watches_of stops) p.opened (values_in p.state.mem))
 
 -- ---- faults
 
@@ -69,15 +88,15 @@ stops_here d way m = stops_by_fault d.stops d.present.begun (is_marked d.starts 
 
 -- the time to which a point leads back: its own if a line with a breakpoint begins there, before as many lines were begun
 -- as now; else that of the line before it, if that line changed a watched variable; else the start
-abbrev pub leads_back : List (ℕ × ℕ) → StopPoints → ℕ → Point → ℕ
-leads_back lines stops now p =
-    if nat_lt p.begun now && breaks_at lines stops p then p.begun
+abbrev pub leads_back : Debuggee → StopPoints → ℕ → Point → ℕ
+leads_back debuggee stops now p =
+    if nat_lt p.begun now && breaks_at debuggee stops p then p.begun
     else if changes stops p then p.begun - 1
     else 0
 
 -- the same of the point after k events
 abbrev pub leads_from : Debugger → Point → ℕ → ℕ
-leads_from d start k = leads_back (starts_of d.program.now) d.stops d.present.begun (point_at d.starts start k)
+leads_from d start k = leads_back d.debuggee d.stops d.present.begun (point_at d.starts start k)
 
 -- a time to which a line's beginning up to the present point leads back, or the present point; or the start
 abbrev pub LeadsTo : Debugger → Point → ℕ → Type 0

@@ -1,5 +1,5 @@
 -- What answers say of the run and of the machine.
-use Rattle.std.specs.Prelude.{◌≡◌, ℕ, Bool, true, false, ℤ, pos, not, List, drop, length, map, Option, Some, None, Result}
+use Rattle.std.specs.Prelude.{◌≡◌, ℕ, Bool, true, false, ℤ, pos, not, List, [], drop, length, map, Option, Some, None, Result}
 use Rattle.std.specs.Prelude.{if◌then◌else◌, slice_index_or}
 use Rattle.tb_words.specs.Words.{word_of}
 use Rattle.tb_words.specs.declared.Letter.{Letter}
@@ -9,8 +9,7 @@ use Rattle.tb_kernal.specs.declared.status.Status.{Status}
 use Rattle.tb_kernal.specs.declared.status.Status.TheVariants.{Running}
 use Rattle.tb_kernal.specs.Machine.{state_of, status}
 use Rattle.tb_asm.specs.Layout.{Entry}
-use Rattle.tb_disasm.specs.Lines.{shown}
-use Rattle.tb_codegen.specs.Compiled.{line_in, start_in, starts_of, table_of}
+use Rattle.tb_disasm.specs.Lines.{shown as line_shown}
 use Rattle.tb_inspection.specs.Values.{IsValueOfText}
 use Rattle.tb_debug.specs.Breakpoints.{breakpoints_of, watches_of, is_among, is_watched, stops_at_faults}
 use Rattle.tb_debug_commands.specs.declared.command.Command.{Command}
@@ -20,14 +19,17 @@ use Rattle.tb_debug.specs.declared.answer.Answer.TheVariants as answer
 use Rattle.tb_debug.specs.declared.answer.Location.{Location}
 use Rattle.tb_debug.specs.declared.answer.Location.TheVariants as stands
 use Rattle.tb_debug.specs.declared.answer.Stand.{Stand}
+use Rattle.tb_debug.specs.declared.debuggee.Debuggee.{Debuggee}
+use Rattle.tb_debug.specs.declared.debuggee.Debuggee.TheVariants.{Source, Prg}
 use Rattle.tb_debug.specs.declared.debugger.Debugger.{Debugger}
 use Rattle.tb_debug.specs.declared.moment.Reached.{Reached}
 use Rattle.tb_debug.specs.declared.moment.Reached.TheVariants.{Limit}
 use Rattle.tb_debug.specs.Begins.{StandsBy}
 use Rattle.tb_debug.specs.Leading.{Leads}
-use Rattle.tb_debug.specs.Lines.{line_at}
+use Rattle.tb_debug.specs.Debuggees.{code_line_of, line_from, returns_from, start_from}
+use Rattle.tb_debug.specs.Kinds.{lacks_source}
 use Rattle.tb_inspection.specs.Readings.{values_in}
-use Rattle.tb_debug.specs.Readings.{bytes_of, code_of, most_code, returns_of}
+use Rattle.tb_debug.specs.Readings.{bytes_of, code_of, most_code}
 
 -- ---- what the machine holds
 
@@ -37,7 +39,7 @@ variables_here d = values_in (state_of d.present.machine).mem
 
 -- the lines to return to, the newest first
 abbrev pub returns_here : Debugger → List (Option ℕ)
-returns_here d = returns_of (starts_of d.program.now) (state_of d.present.machine).mem
+returns_here d = returns_from d.debuggee (state_of d.present.machine).mem
 
 -- the first of two lines that is one
 abbrev pub or_line : Option ℕ → Option ℕ → Option ℕ
@@ -47,21 +49,31 @@ or_line None other = other
 -- the line that begins here, or else the one that was begun last
 abbrev pub line_here : Debugger → Option ℕ
 line_here d =
-    or_line (line_at (starts_of d.program.now) d.present.machine.regs.pc) (line_at (starts_of d.program.now) d.present.last)
+    or_line (line_from d.debuggee d.present.machine.regs.pc) (line_from d.debuggee d.present.last)
 
--- the location of a machine that runs: at a line, or before the first one
-abbrev pub location_of : Option ℕ → Location
-location_of (Some line) = stands.Line line
-location_of None = stands.Opening
+-- the location of a machine that runs: at a line, or before the first one; without a source at an instruction
+abbrev pub location_of : Debuggee → Option ℕ → Location
+location_of (Source program) (Some line) = stands.Line line
+location_of (Source program) None = stands.Opening
+location_of Prg line = stands.Instruction
 
 -- the location of a machine of this status, with its program counter
-abbrev pub location_by : Status → Option ℕ → ℕ → Location
-location_by Running line pc = location_of line
-location_by why line pc = stands.Ended why pc
+abbrev pub location_by : Debuggee → Status → Option ℕ → ℕ → Location
+location_by debuggee Running line pc = location_of debuggee line
+location_by debuggee why line pc = stands.Ended why pc
 
 -- where the run stands
 abbrev pub location_here : Debugger → Location
-location_here d = location_by (status (state_of d.present.machine)) (line_here d) d.present.machine.regs.pc
+location_here d = location_by d.debuggee (status (state_of d.present.machine)) (line_here d) d.present.machine.regs.pc
+
+-- the instruction at an address, if there is no source; none at a closed address
+abbrev pub instruction_of : Debuggee → (ℕ → ℕ) → ℕ → List (ℕ × Entry)
+instruction_of (Source program) m a = []
+instruction_of Prg m a = code_of 1 m a
+
+-- the instruction at which the run stands
+abbrev pub instruction_here : Debugger → List (ℕ × Entry)
+instruction_here d = instruction_of d.debuggee (state_of d.present.machine).mem d.present.machine.regs.pc
 
 -- ---- stops
 
@@ -71,12 +83,13 @@ is_limit Limit = true
 is_limit _ = false
 
 -- a stop that tells what was sent after the first `shown` bytes, all of which is shown then; whether a limit ended the way
--- there; and where the run stands
+-- there; where the run stands; and without a source the instruction there
 pub record IsStop (shown : ℕ) (limited : Bool) (d : Debugger) (stand : Stand) : Type 0 where
   pub sent : stand.sent.items ≡ drop shown d.present.machine.sent
   pub all : d.shown ≡ length d.present.machine.sent
   pub limit : stand.is_limit ≡ limited
   pub location : stand.location ≡ location_here d
+  pub instruction : map line_shown stand.instruction.items ≡ instruction_here d
 
 -- an answer is such a stop
 abbrev pub TellsStop : ℕ → Bool → Debugger → Answer → Type 0
@@ -97,10 +110,11 @@ TellsLine limit None c d e told = told ≡ Some answer.NoSuchLine
 
 -- ---- breakpoints, watches and lists
 
--- the breakpoints that an answer tells
-abbrev pub breakpoints_told : Option Answer → Option (List ℕ)
-breakpoints_told (Some (answer.Breakpoints lines)) = Some lines.items
-breakpoints_told _ = None
+-- an answer tells the breakpoints: their lines, or without a source their addresses
+abbrev pub TellsBreakpoints : Debuggee → List ℕ → Option Answer → Type 0
+TellsBreakpoints (Source program) set (Some (answer.Breakpoints lines)) = lines.items ≡ set
+TellsBreakpoints Prg set (Some (answer.Addresses addresses)) = addresses.items ≡ set
+TellsBreakpoints _ set _ = ⊥
 
 -- the answer that says whether something is set then
 abbrev pub set_or_cleared : Bool → Answer
@@ -148,7 +162,7 @@ TellsText text d told =
 -- the registers, the line in whose code the program counter lies, and how the machine stands
 abbrev pub registers_here : Debugger → Answer
 registers_here d =
-    answer.Registers d.present.machine.regs (line_in (starts_of d.program.now) (table_of d.program.now) d.present.machine.regs.pc)
+    answer.Registers d.present.machine.regs (code_line_of d.debuggee d.present.machine.regs.pc)
     (status (state_of d.present.machine))
 
 -- the address and the bytes that an answer tells; none for a closed address
@@ -158,36 +172,46 @@ memory_told _ = None
 
 -- the lines of code that an answer tells
 abbrev pub code_told : Option Answer → Option (List (ℕ × Entry))
-code_told (Some (answer.Code lines)) = Some (map shown lines.items)
+code_told (Some (answer.Code lines)) = Some (map line_shown lines.items)
 code_told _ = None
 
 -- ---- commands
 
--- what a command tells, if going on takes at most `limit` events; with the debugger before and after it
+-- what a command tells that is answered, if going on takes at most `limit` events; with the debugger before and after it
+abbrev pub TellsAnswered : ℕ → Command → Debugger → Debugger → Option Answer → Type 0
+TellsAnswered limit (command.Next lines) d e told = TellsWay limit (command.Next lines) d e told
+TellsAnswered limit (command.Previous lines) d e told = TellsWay limit (command.Previous lines) d e told
+TellsAnswered limit command.Continue d e told = TellsWay limit command.Continue d e told
+TellsAnswered limit command.Over d e told = TellsWay limit command.Over d e told
+TellsAnswered limit command.Finish d e told = TellsWay limit command.Finish d e told
+TellsAnswered limit command.ReverseContinue d e told = TellsWay limit command.ReverseContinue d e told
+TellsAnswered limit (command.ToTime time) d e told = TellsWay limit (command.ToTime time) d e told
+TellsAnswered limit (command.Step events) d e told = TellsWay limit (command.Step events) d e told
+TellsAnswered limit (command.ToLine line) d e told = TellsLine limit (start_from d.debuggee line) (command.ToLine line) d e told
+TellsAnswered limit command.Breakpoints d e told = TellsBreakpoints e.debuggee (breakpoints_of e.stops) told
+TellsAnswered limit (command.Breakpoint line) d e told =
+    told ≡ Some (breakpoint_answer (start_from d.debuggee line) (not (is_among (breakpoints_of d.stops) line)))
+TellsAnswered limit (command.Watch letter) d e told = told ≡ Some (set_or_cleared (not (is_watched (watches_of d.stops) (letter_index letter))))
+TellsAnswered limit command.Faults d e told = told ≡ Some (answer.Faults (not (stops_at_faults d.stops)))
+TellsAnswered limit command.ListHere d e told = told ≡ Some (answer.List (line_here e) (line_here e))
+TellsAnswered limit (command.List line) d e told = told ≡ Some (list_answer (start_from d.debuggee line) line (line_here e))
+TellsAnswered limit command.Variables d e told = told ≡ Some (answer.Variables (variables_here e))
+TellsAnswered limit (command.Variable letter) d e told = TellsValue letter e told
+TellsAnswered limit (command.Value text) d e told = TellsText text.now e told
+TellsAnswered limit command.Returns d e told = returns_told told ≡ Some (returns_here e)
+TellsAnswered limit command.Output d e told = output_told told ≡ Some e.present.machine.sent
+TellsAnswered limit (command.Type text) d e told = told ≡ Some answer.Typed
+TellsAnswered limit command.Registers d e told = told ≡ Some (registers_here e)
+TellsAnswered limit (command.Memory at count) d e told = memory_told told ≡ Some (at, bytes_of (state_of e.present.machine).mem at count)
+TellsAnswered limit command.Code d e told = code_told told ≡ Some (code_of most_code (state_of e.present.machine).mem e.present.machine.regs.pc)
+TellsAnswered limit command.Help d e told = told ≡ Some answer.Help
+TellsAnswered limit command.Quit d e told = told ≡ None
+TellsAnswered limit command.Unknown d e told = told ≡ Some answer.What
+
+-- what each command tells: without a source there is no answer to what only a source answers
+abbrev pub TellsBy : Bool → ℕ → Command → Debugger → Debugger → Option Answer → Type 0
+TellsBy true limit c d e told = told ≡ Some answer.NoSource
+TellsBy false limit c d e told = TellsAnswered limit c d e told
+
 abbrev pub Tells : ℕ → Command → Debugger → Debugger → Option Answer → Type 0
-Tells limit (command.Next lines) d e told = TellsWay limit (command.Next lines) d e told
-Tells limit (command.Previous lines) d e told = TellsWay limit (command.Previous lines) d e told
-Tells limit command.Continue d e told = TellsWay limit command.Continue d e told
-Tells limit command.ReverseContinue d e told = TellsWay limit command.ReverseContinue d e told
-Tells limit (command.ToTime time) d e told = TellsWay limit (command.ToTime time) d e told
-Tells limit (command.Step events) d e told = TellsWay limit (command.Step events) d e told
-Tells limit (command.ToLine line) d e told = TellsLine limit (start_in (starts_of d.program.now) line) (command.ToLine line) d e told
-Tells limit command.Breakpoints d e told = breakpoints_told told ≡ Some (breakpoints_of e.stops)
-Tells limit (command.Breakpoint line) d e told =
-    told ≡ Some (breakpoint_answer (start_in (starts_of d.program.now) line) (not (is_among (breakpoints_of d.stops) line)))
-Tells limit (command.Watch letter) d e told = told ≡ Some (set_or_cleared (not (is_watched (watches_of d.stops) (letter_index letter))))
-Tells limit command.Faults d e told = told ≡ Some (answer.Faults (not (stops_at_faults d.stops)))
-Tells limit command.ListHere d e told = told ≡ Some (answer.List (line_here e) (line_here e))
-Tells limit (command.List line) d e told = told ≡ Some (list_answer (start_in (starts_of d.program.now) line) line (line_here e))
-Tells limit command.Variables d e told = told ≡ Some (answer.Variables (variables_here e))
-Tells limit (command.Variable letter) d e told = TellsValue letter e told
-Tells limit (command.Value text) d e told = TellsText text.now e told
-Tells limit command.Returns d e told = returns_told told ≡ Some (returns_here e)
-Tells limit command.Output d e told = output_told told ≡ Some e.present.machine.sent
-Tells limit (command.Type text) d e told = told ≡ Some answer.Typed
-Tells limit command.Registers d e told = told ≡ Some (registers_here e)
-Tells limit (command.Memory at count) d e told = memory_told told ≡ Some (at, bytes_of (state_of e.present.machine).mem at count)
-Tells limit command.Code d e told = code_told told ≡ Some (code_of most_code (state_of e.present.machine).mem e.present.machine.regs.pc)
-Tells limit command.Help d e told = told ≡ Some answer.Help
-Tells limit command.Quit d e told = told ≡ None
-Tells limit command.Unknown d e told = told ≡ Some answer.What
+Tells limit c d e told = TellsBy (lacks_source c d) limit c d e told

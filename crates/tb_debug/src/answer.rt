@@ -11,6 +11,8 @@ pub enum Location {
     Line(u16),
     /// Before the first line.
     Opening,
+    /// At an instruction of a program without a source.
+    Instruction,
     /// The machine doesn't run; this is how it stands, with its PC.
     Ended { status: Status, pc: u16 },
 }
@@ -24,6 +26,8 @@ pub struct Stand {
     pub is_limit: bool,
     /// Where the run is now.
     pub location: Location,
+    /// The instruction there, if there is no source; none at a closed address.
+    pub instruction: Vec<Line>,
 }
 
 /// What a command is answered by.
@@ -39,6 +43,8 @@ pub enum Answer {
     Faults(bool),
     /// The lines with a breakpoint, in rising order.
     Breakpoints(Vec<u16>),
+    /// The addresses with a breakpoint of a program without a source, in rising order.
+    Addresses(Vec<u16>),
     /// The source around a line, with the line at which the run stands.
     List {
         around: Option<u16>,
@@ -76,6 +82,8 @@ pub enum Answer {
     Help,
     /// The program has no such line.
     NoSuchLine,
+    /// Only a source answers that, and there is none.
+    NoSource,
     /// The line is no command, or its text no expression.
     What,
 }

@@ -1,8 +1,8 @@
 //! Breakpoints and watches.
-ghost use Rattle.std.specs.Prelude.{◌≡◌, ◌<◌, ◌≤◌, ℕ, [], true, false, not, length, slice_index_or, IfOk, OnOk, OnErr};
+ghost use Rattle.std.specs.Prelude.{◌≡◌, ◌<◌, ◌≤◌, ◌==◌, ◌||◌, ℕ, [], true, false, not, length, slice_index_or, IfOk, OnOk, OnErr};
 ghost use Rattle.tb_words.specs.Letters.{letter_index};
-ghost use Rattle.tb_debug.specs.Breakpoints.{AreRising, Turned, WatchTurned, breakpoints_of, stops_at_faults, watches_of};
-ghost use Rattle.tb_debug.specs.Breakpoints.{is_among, is_watched, breaks, differ};
+ghost use Rattle.tb_debug.specs.Breakpoints.{AreRising, AreSet, Turned, WatchTurned, breakpoints_of, stops_at_faults, watches_of};
+ghost use Rattle.tb_debug.specs.Breakpoints.{is_among, is_watched, breaks, broken, differ, first_changed};
 
 use std::alloc::{AllocError, Global};
 use tb_inspection::Variables;
@@ -48,6 +48,16 @@ impl StopPoints {
         }
     }
 
+    /// A line, if it has a breakpoint.
+    pub fn broken(&self, line: Option<u16>) -> Option<u16>
+        ensures { result ≡ broken (breakpoints_of self.now) line }
+    {
+        match line {
+            Some(line) if is_among(self.breakpoints.as_slice(), line) => Some(line),
+            _ => None,
+        }
+    }
+
     /// Whether no line has a breakpoint.
     pub fn breaks_nowhere(&self) -> bool
         ensures none { result ≡ true → breakpoints_of self.now ≡ [] }
@@ -71,6 +81,13 @@ impl StopPoints {
         differ(self.watches.as_slice(), before, after)
     }
 
+    /// The first watched variable that has another value.
+    pub fn first_changed(&self, before: &Variables, after: &Variables) -> Option<Letter>
+        ensures { result ≡ first_changed (watches_of self.now) before.now after.now }
+    {
+        first_changed(self.watches.as_slice(), before, after)
+    }
+
     /// Whether faults stop the run.
     pub fn stops_at_faults(&self) -> bool
         ensures { result ≡ stops_at_faults self.now }
@@ -89,6 +106,29 @@ impl StopPoints {
         self.at_faults
     }
 
+    /// Sets the breakpoints of these lines, and clears all others.
+    pub fn set_breakpoints(&mut self, alloc: Global, lines: &[u16]) -> Result<(), AllocError>
+        ensures set { OnOk result (AreSet lines.now (breakpoints_of self.new)) }
+        ensures rising { OnOk result (AreRising (breakpoints_of self.new)) }
+        ensures refused { OnErr result (self.new ≡ self.old) }
+        ensures watches { watches_of self.new ≡ watches_of self.old }
+        ensures faults { stops_at_faults self.new ≡ stops_at_faults self.old }
+    {
+        self.breakpoints = in_order(alloc, lines)?;
+        Ok(())
+    }
+
+    /// Watches these variables, and no others.
+    pub fn set_watches(&mut self, alloc: Global, letters: &[Letter]) -> Result<(), AllocError>
+        ensures set { OnOk result (watches_of self.new ≡ letters.now) }
+        ensures refused { OnErr result (self.new ≡ self.old) }
+        ensures breakpoints { breakpoints_of self.new ≡ breakpoints_of self.old }
+        ensures faults { stops_at_faults self.new ≡ stops_at_faults self.old }
+    {
+        self.watches = Vec::from_slice(alloc, letters)?;
+        Ok(())
+    }
+
     /// Sets a breakpoint, or clears it if it is set: whether it is set then.
     pub fn turn_breakpoint(&mut self, line: u16) -> Result<bool, AllocError>
         ensures set { IfOk result (λ set. set ≡ not (is_among (breakpoints_of self.old) line)) }
@@ -102,8 +142,7 @@ impl StopPoints {
             self.breakpoints.retain(|set| *set != line);
             return Ok(false);
         }
-        let index = position_of(self.breakpoints.as_slice(), line);
-        self.breakpoints.insert(index, line)?;
+        place(&mut self.breakpoints, line)?;
         Ok(true)
     }
 
@@ -153,6 +192,20 @@ fn differ(letters: &[Letter], before: &Variables, after: &Variables) -> bool
     }
 }
 
+// The first of these variables that has another value.
+fn first_changed(letters: &[Letter], before: &Variables, after: &Variables) -> Option<Letter>
+    ensures { result ≡ first_changed letters.now before.now after.now }
+{
+    match letters {
+        [] => None,
+        [first, rest @ ..] => if before[first.index()] == after[first.index()] {
+            first_changed(rest, before, after)
+        } else {
+            Some(*first)
+        },
+    }
+}
+
 // Whether the variable at an index in the alphabet is one of these.
 fn is_watched(letters: &[Letter], index: usize) -> bool
     ensures { result ≡ is_watched letters.now index }
@@ -165,6 +218,31 @@ fn is_watched(letters: &[Letter], index: usize) -> bool
             is_watched(rest, index)
         },
     }
+}
+
+// These lines in rising order, each of them once.
+fn in_order(alloc: Global, lines: &[u16]) -> Result<Vec<u16>, AllocError>
+    ensures { IfOk result (λ set. AreSet lines.now set.items × AreRising set.items) }
+{
+    let mut set = Vec::new(alloc);
+    for line in lines {
+        place(&mut set, *line)?;
+    }
+    Ok(set)
+}
+
+// Puts a line among lines in rising order, if it isn't there.
+fn place(lines: &mut Vec<u16>, line: u16) -> Result<(), AllocError>
+    ensures among { OnOk result ((n : ℕ) → is_among lines.new.items n ≡ (n == line || is_among lines.old.items n)) }
+    ensures rising { AreRising lines.old.items → AreRising lines.new.items }
+    ensures refused { OnErr result (lines.new.items ≡ lines.old.items) }
+{
+    if is_among(lines.as_slice(), line) {
+        return Ok(());
+    }
+    let index = position_of(lines.as_slice(), line);
+    lines.insert(index, line)?;
+    Ok(())
 }
 
 // The index before which a line belongs among lines in rising order.

@@ -1,35 +1,39 @@
 //! A run that can be walked both ways.
-ghost use Rattle.std.specs.Prelude.{◌≡◌, ◌+◌, ◌-◌, ◌<◌, ◌≤◌, ℕ, if◌then◌else◌, vec_len, IfOk, OnOk};
+ghost use Rattle.std.specs.Prelude.{◌≡◌, Some, true, ◌+◌, ◌-◌, ◌<◌, ◌≤◌, ℕ, if◌then◌else◌, vec_len, IfOk, OnOk};
 ghost use Rattle.tb_kernal.specs.Machine.{state_of};
-ghost use Rattle.tb_codegen.specs.Compiled.{starts_of};
 ghost use Rattle.tb_debug.specs.Begins.{Advances, BeginsThere, EndsAt, GoesBy, IsLimited, StandsBy, StepsBy, standing_of};
 ghost use Rattle.tb_inspection.specs.Readings.{values_in};
-ghost use Rattle.tb_debug.specs.Lines.{line_at};
+ghost use Rattle.tb_debug.specs.Debuggees.{has_no_source, line_from, program_of};
 ghost use Rattle.tb_debug.specs.Runs.{Point, IsOfRun, first_point, is_marked, newest_events};
 ghost use Rattle.tb_debug.specs.Searching.{IsUntil};
 ghost use Rattle.tb_debug.specs.Sources.{ShowsSource};
 ghost use Rattle.tb_debug.specs.declared.moment.Reached.TheVariants.{Line};
-ghost use Rattle.tb_debug.specs.Debuggers.{GoesToTime, IsAtTime, IsOpening, IsShort, KeepsRun, KeepsRunTyped, OnRun};
+ghost use Rattle.tb_debug.specs.Debuggers.{GoesToTime, IsAtStart, IsAtTime, IsOpening, IsShort, KeepsRun, KeepsRunTyped, OnRun};
 ghost use Rattle.tb_debug.specs.Debuggers.{RewindsBy, begun_by};
 
 use crate::breakpoints::StopPoints;
+use crate::debuggee::Debuggee;
 use crate::history::{Checkpoint, History};
 use crate::moment::{Moment, Reached};
-use crate::readings::{line_from, variables_in};
+use crate::readings::variables_in;
 use crate::rom::Rom;
 use crate::starts::Starts;
 use std::alloc::{AllocError, Global};
 use tb_codegen::Compiled;
 use tb_inspection::Variables;
 use tb_kernal::Machine;
+use tb_watch::{Unwatched, Watch};
 
 /// The most events that come before the first line.
 pub const MOST_OPENING: u64 = 1_000_000;
 
-/// A run of a compiled program, at one of its moments.
+/// After how many lines a watch hears again how far a way is.
+const TOLD_LINES: u64 = 1 << 15;
+
+/// A run of a program, at one of its moments.
 #[derive(Drop)]
 pub struct Debugger<'a> {
-    pub(crate) program: &'a Compiled,
+    pub(crate) debuggee: Debuggee<'a>,
     pub(crate) starts: Starts,
     pub(crate) history: History,
     pub(crate) present: Moment,
@@ -46,24 +50,51 @@ impl<'a> Debugger<'a> {
         machine: Machine,
         rom: Rom,
     ) -> Result<Debugger<'a>, AllocError>
-        ensures run { IfOk result (λ d. (d.program.now ≡ program.now) × OnRun (first_point (state_of machine) rom) d) }
+        ensures run { IfOk result (λ d. (program_of d.debuggee ≡ Some program.now) × OnRun (first_point (state_of machine) rom) d) }
         // It is at its first line, if it comes to one within `MOST_OPENING` events, with nothing shown, set or watched.
         ensures opens { IfOk result (λ d. IsOpening (first_point (state_of machine) rom) d) }
     {
-        let starts = Starts::new(alloc, program)?;
-        let mut present = Moment::first(machine, rom);
+        let mut debugger = Debugger::at_start(alloc, Debuggee::Source(program), machine, rom)?;
+        debugger.next_line(alloc, MOST_OPENING)?;
+        Ok(debugger)
+    }
+
+    /// The run of a program without a source from a machine that has not moved, at its first instruction.
+    pub fn of_prg(alloc: Global, machine: Machine, rom: Rom) -> Result<Debugger<'a>, AllocError>
+        ensures run { IfOk result (λ d. (has_no_source d.debuggee ≡ true) × OnRun (first_point (state_of machine) rom) d) }
+        ensures start { IfOk result (λ d. IsAtStart d) }
+    {
+        Debugger::at_start(alloc, Debuggee::Prg, machine, rom)
+    }
+
+    // The run of what is debugged from a machine that has not moved, before its first event.
+    fn at_start(
+        alloc: Global,
+        debuggee: Debuggee<'a>,
+        machine: Machine,
+        rom: Rom,
+    ) -> Result<Debugger<'a>, AllocError>
+        ensures run { IfOk result (λ d. (d.debuggee ≡ debuggee.entry) × OnRun (first_point (state_of machine) rom) d) }
+        ensures start { IfOk result (λ d. IsAtStart d) }
+    {
+        let starts = Starts::new(alloc, debuggee)?;
+        let present = Moment::first(machine, rom);
         let first = Checkpoint::of(alloc, &present)?;
-        let mut history = History::new(alloc, first);
-        present.to_next_start(&starts, MOST_OPENING)?;
-        history.keep(alloc, &present)?;
         Ok(Debugger {
-            program,
+            debuggee,
             starts,
-            history,
+            history: History::new(alloc, first),
             present,
             stops: StopPoints::new(alloc),
             shown: 0,
         })
+    }
+
+    /// Whether there is no source.
+    pub fn has_no_source(&self) -> bool
+        ensures { result ≡ has_no_source self.now.debuggee }
+    {
+        self.debuggee.has_no_source()
     }
 
     /// The present machine.
@@ -75,12 +106,12 @@ impl<'a> Debugger<'a> {
 
     /// The line that begins here.
     pub fn line_here(&self) -> Option<u16>
-        ensures line { result ≡ line_at (starts_of self.now.program.now) self.now.present.machine.regs.pc }
+        ensures line { result ≡ line_from self.now.debuggee self.now.present.machine.regs.pc }
         // If `compile` made the program, and the run is one from its start, the source goes on at that line after as many
         // lines as were begun, with what the machine holds.
         ensures source { ShowsSource self.now result }
     {
-        line_from(self.program, self.present.machine.regs().pc)
+        self.debuggee.line_from(self.present.machine.regs().pc)
     }
 
     /// How many lines were begun; at the beginning of a line that is the time.
@@ -133,8 +164,21 @@ impl<'a> Debugger<'a> {
         last.saturating_sub(self.present.events)
     }
 
+    // Tells a watch now and then how many of `limit` events were taken, if those up to the count `last` are left.
+    pub(crate) fn tell_watch<W: Watch>(&self, watch: &mut W, done: u64, limit: u64, last: u64) {
+        if done % TOLD_LINES == 0 {
+            watch.took(limit.saturating_sub(self.left(last)));
+        }
+    }
+
     /// Runs on by `lines` lines, and takes at most `limit` events.
-    pub fn next(&mut self, alloc: Global, lines: u64, limit: u64) -> Result<Reached, AllocError>
+    pub fn next<W: Watch>(
+        &mut self,
+        alloc: Global,
+        lines: u64,
+        limit: u64,
+        watch: &mut W,
+    ) -> Result<Reached, AllocError>
         ensures run { OnOk result (KeepsRun self.old self.new) }
         ensures shown { OnOk result (self.new.shown ≡ self.old.shown) }
         ensures stops { OnOk result (self.new.stops ≡ self.old.stops) }
@@ -144,6 +188,7 @@ impl<'a> Debugger<'a> {
     {
         let last = self.present.events.saturating_add(limit);
         for done in 0..lines {
+            self.tell_watch(watch, done, limit, last);
             match self.next_line(alloc, self.left(last))? {
                 Reached::Line => {}
                 reached => return Ok(reached),
@@ -153,7 +198,13 @@ impl<'a> Debugger<'a> {
     }
 
     /// Goes to a time, on by at most `limit` events, or back.
-    pub fn to_time(&mut self, alloc: Global, time: u64, limit: u64) -> Result<Reached, AllocError>
+    pub fn to_time<W: Watch>(
+        &mut self,
+        alloc: Global,
+        time: u64,
+        limit: u64,
+        watch: &mut W,
+    ) -> Result<Reached, AllocError>
         ensures run { OnOk result (KeepsRun self.old self.new) }
         ensures time { IfOk result (λ reached. GoesToTime time limit self.old reached self.new.present) }
         ensures stands { IfOk result (λ reached. StandsBy self.old.starts reached self.new.present) }
@@ -163,12 +214,18 @@ impl<'a> Debugger<'a> {
         if time < self.present.begun {
             self.rewind_to(alloc, time)
         } else {
-            self.run_to_time(alloc, time, limit)
+            self.run_to_time(alloc, time, limit, watch)
         }
     }
 
     // Runs on to a time that has not passed, by at most `limit` events.
-    fn run_to_time(&mut self, alloc: Global, time: u64, limit: u64) -> Result<Reached, AllocError>
+    fn run_to_time<W: Watch>(
+        &mut self,
+        alloc: Global,
+        time: u64,
+        limit: u64,
+        watch: &mut W,
+    ) -> Result<Reached, AllocError>
         ensures run { OnOk result (KeepsRun self.old self.new) }
         ensures time { IfOk result (λ reached. IsAtTime time self.old.starts reached self.new.present) }
         ensures few { OnOk result (begun_by self.old ≤ time → begun_by self.new ≤ time) }
@@ -184,6 +241,7 @@ impl<'a> Debugger<'a> {
             if self.present.is_at(&self.starts, time) {
                 return Ok(Reached::Line);
             }
+            self.tell_watch(watch, done, limit, last);
             match self.next_line(alloc, self.left(last))? {
                 Reached::Line => {}
                 reached => return Ok(reached),
@@ -208,7 +266,7 @@ impl<'a> Debugger<'a> {
         let most = self.present.events();
         let newest = self.history.newest_until(time);
         self.rewind_to_checkpoint(alloc, newest)?;
-        let reached = self.run_to_time(alloc, time, most)?;
+        let reached = self.run_to_time(alloc, time, most, &mut Unwatched)?;
         Ok(reached)
     }
 

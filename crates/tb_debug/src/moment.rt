@@ -6,7 +6,7 @@ ghost use Rattle.tb_debug.specs.Begins.{Advances, EndsAt, GoesBetween, IsLimited
 ghost use Rattle.tb_inspection.specs.Readings.{values_in};
 ghost use Rattle.tb_debug.specs.Runs.{Point, IsOfRun, IsTyped, StaysOnRun, first_point, is_marked};
 
-use crate::events::take_event;
+use crate::events::take_quickly;
 use crate::readings::variables_in;
 use crate::rom::Rom;
 use crate::starts::Starts;
@@ -142,7 +142,7 @@ impl Moment {
         let pc = self.machine.regs().pc;
         let marked = starts.begins(pc);
         let here = self.opened_by(marked);
-        let is_own = take_event(&mut self.machine, &mut self.rom)?;
+        let is_own = take_quickly(&mut self.machine, &mut self.rom)?;
         let begins = both(is_own, marked);
         self.events += 1;
         self.begun = counted(self.begun, begins);

@@ -46,8 +46,8 @@ pub fn returns(
     Ok(lines)
 }
 
-// How many returns are told: as many as the return list holds, and no more than it may hold.
-fn depth_in(memory: &Memory) -> u16
+/// How many returns are told: as many as the return list holds, and no more than it may hold.
+pub fn depth_in(memory: &Memory) -> u16
     ensures depth { result ≡ depth_in (at memory.now) }
     ensures few { result ≤ deepest }
 {

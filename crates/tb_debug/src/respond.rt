@@ -1,40 +1,47 @@
 //! What commands do, and their answers.
-ghost use Rattle.std.specs.Prelude.{◌≡◌, ℕ, Some, drop, length, not, IfOk, OnOk};
+ghost use Rattle.std.specs.Prelude.{◌≡◌, ℕ, Some, drop, length, map, not, IfOk, OnOk};
 ghost use Rattle.tb_words.specs.Letters.{letter_index};
 ghost use Rattle.tb_kernal.specs.Machine.{state_of};
-ghost use Rattle.tb_codegen.specs.Compiled.{start_in, starts_of};
+ghost use Rattle.tb_disasm.specs.Lines.{shown};
+ghost use Rattle.tb_debug.specs.Debuggees.{start_from};
 ghost use Rattle.tb_play.specs.Lines.{keys_of_text};
 ghost use Rattle.tb_debug.specs.Breakpoints.{breakpoints_of, is_among, is_watched, stops_at_faults, watches_of};
 ghost use Rattle.tb_debug.specs.Debuggers.{KeepsRun, KeepsRunTyped, Responds};
-ghost use Rattle.tb_debug.specs.Leaving.{Leaves, LeavesPoint, TurnsBreakpoint, TurnsFaults, TurnsWatch};
-ghost use Rattle.tb_debug.specs.Kinds.{IsAct, IsShown, IsTold, IsWalk, Walks};
+ghost use Rattle.tb_debug.specs.Leaving.{Leaves, LeavesAnswered, LeavesPoint, TurnsBreakpoint, TurnsFaults, TurnsWatch};
+ghost use Rattle.tb_debug.specs.Kinds.{IsAct, IsShown, IsTold, IsWalk, Walks, lacks_source};
 ghost use Rattle.tb_debug.specs.Readings.{bytes_of, code_of, most_code};
-ghost use Rattle.tb_debug.specs.Telling.{Tells, TellsStop, TellsText, TellsValue, breakpoint_answer, breakpoints_told};
+ghost use Rattle.tb_debug.specs.Telling.{Tells, TellsAnswered, TellsBreakpoints, TellsStop, TellsText, TellsValue};
+ghost use Rattle.tb_debug.specs.Telling.{breakpoint_answer, instruction_here, location_of};
 ghost use Rattle.tb_debug.specs.Telling.{code_told, is_limit, line_here, list_answer, memory_told, output_told};
 ghost use Rattle.tb_debug.specs.Telling.{location_here, returns_here, returns_told, set_or_cleared};
 ghost use Rattle.tb_debug.specs.declared.answer.Answer.TheVariants as answer;
 
 use crate::answer::{Answer, Location, Stand};
+use crate::debuggee::Debuggee;
 use crate::debugger::Debugger;
 use crate::moment::Reached;
-use crate::readings::{bytes_from, code_from, line_from, returns};
+use crate::readings::{bytes_from, code_from};
 use std::alloc::{AllocError, Global};
 use tb_debug_commands::Command;
+use tb_disasm::Line;
 use tb_inspection::value_of_text;
 use tb_kernal::Status;
 use tb_play::keys_of_text;
+use tb_watch::Watch;
 use tb_words::Letter;
 
 /// How many lines of code are shown.
 const CODE_LINES: usize = 8;
 
 impl<'a> Debugger<'a> {
-    /// Does what a command asks for, and answers it; there is no answer to `Quit`. Going on takes at most `limit` events.
-    pub fn respond(
+    /// Does what a command asks for, and answers it; there is no answer to `Quit`. Going on takes at most `limit` events;
+    /// a watch hears now and then how many it took.
+    pub fn respond<W: Watch>(
         &mut self,
         alloc: Global,
         command: Command<'_>,
         limit: u64,
+        watch: &mut W,
     ) -> Result<Option<Answer>, AllocError>
         ensures run { OnOk result (Responds command.entry self.old self.new) }
         ensures tells { IfOk result (Tells limit command.entry self.old self.new) }
@@ -49,21 +56,27 @@ impl<'a> Debugger<'a> {
                 Ok(Some(Answer::Typed))
             }
             _ => {
-                let answer = self.act(alloc, command, limit)?;
+                let answer = self.act(alloc, command, limit, watch)?;
                 Ok(Some(answer))
             }
         }
     }
 
     // Does the same for a command that types nothing and isn't the end.
-    fn act(&mut self, alloc: Global, command: Command<'_>, limit: u64) -> Result<Answer, AllocError>
+    fn act<W: Watch>(
+        &mut self,
+        alloc: Global,
+        command: Command<'_>,
+        limit: u64,
+        watch: &mut W,
+    ) -> Result<Answer, AllocError>
         requires { IsAct command }
         ensures run { OnOk result (KeepsRun self.old self.new) }
         ensures tells { IfOk result (λ told. Tells limit command.entry self.old self.new (Some told)) }
         ensures shown { OnOk result (¬ (IsWalk command.entry self.old) → self.new.shown ≡ self.old.shown) }
         ensures leaves { OnOk result (Leaves command.entry self.old self.new) }
     {
-        match self.walk(alloc, command, limit)? {
+        match self.walk_watched(alloc, command, limit, watch)? {
             Some(reached) => {
                 let answer = self.stop(alloc, reached)?;
                 Ok(answer)
@@ -75,25 +88,45 @@ impl<'a> Debugger<'a> {
         }
     }
 
-    // Where a command leads that moves the run; none for any other.
-    fn walk(
+    // The same as `walk`, of which a watch hears the beginning and the end.
+    fn walk_watched<W: Watch>(
         &mut self,
         alloc: Global,
         command: Command<'_>,
         limit: u64,
+        watch: &mut W,
+    ) -> Result<Option<Reached>, AllocError>
+        ensures run { OnOk result (KeepsRun self.old self.new) }
+        ensures walks { IfOk result (λ reached. Walks limit command.entry self.old reached self.new) }
+    {
+        watch.began();
+        let walked = self.walk(alloc, command, limit, watch);
+        watch.ended();
+        walked
+    }
+
+    // Where a command leads that moves the run; none for any other.
+    fn walk<W: Watch>(
+        &mut self,
+        alloc: Global,
+        command: Command<'_>,
+        limit: u64,
+        watch: &mut W,
     ) -> Result<Option<Reached>, AllocError>
         ensures run { OnOk result (KeepsRun self.old self.new) }
         ensures walks { IfOk result (λ reached. Walks limit command.entry self.old reached self.new) }
     {
         match command {
-            Command::Next(lines) => Ok(Some(self.next(alloc, lines, limit)?)),
+            Command::Next(lines) => Ok(Some(self.next(alloc, lines, limit, watch)?)),
             Command::Previous(lines) => Ok(Some(self.previous(alloc, lines)?)),
-            Command::Continue => Ok(Some(self.continue_(alloc, limit)?)),
+            Command::Continue => Ok(Some(self.continue_(alloc, limit, watch)?)),
+            Command::Over => Ok(Some(self.over(alloc, limit, watch)?)),
+            Command::Finish => Ok(Some(self.finish(alloc, limit, watch)?)),
             Command::ReverseContinue => Ok(Some(self.reverse_continue(alloc)?)),
-            Command::ToTime(time) => Ok(Some(self.to_time(alloc, time, limit)?)),
+            Command::ToTime(time) => Ok(Some(self.to_time(alloc, time, limit, watch)?)),
             Command::Step(events) => Ok(Some(self.step(alloc, events)?)),
-            Command::ToLine(line) => match self.program.start_of(line) {
-                Some(address) => Ok(Some(self.run_to_line(alloc, address, limit)?)),
+            Command::ToLine(line) => match self.debuggee.start_of(line) {
+                Some(address) => Ok(Some(self.run_to_line(alloc, address, limit, watch)?)),
                 None => Ok(None),
             },
             _ => Ok(None),
@@ -111,12 +144,26 @@ impl<'a> Debugger<'a> {
         let Ok(fresh) = Vec::from_slice(alloc, since(sent, self.shown)) else {
             return Err(AllocError);
         };
-        self.shown = sent.len();
+        let Ok(instruction) = self.instruction(alloc) else {
+            return Err(AllocError);
+        };
+        self.shown = self.present.machine.sent().len();
         Ok(Answer::Stop(Stand {
             sent: fresh,
             is_limit: is_limit(reached),
             location: self.location(),
+            instruction,
         }))
+    }
+
+    // The instruction here, if there is no source; none at a closed address.
+    fn instruction(&self, alloc: Global) -> Result<Vec<Line>, AllocError>
+        ensures { IfOk result (λ lines. map shown lines.items ≡ instruction_here self.now) }
+    {
+        match self.debuggee {
+            Debuggee::Source(_) => Ok(Vec::new(alloc)),
+            Debuggee::Prg => self.code_here(alloc, 1),
+        }
     }
 
     // Where the run is.
@@ -124,10 +171,7 @@ impl<'a> Debugger<'a> {
         ensures { result ≡ location_here self.now }
     {
         match self.present.machine.status() {
-            Status::Running => match self.line() {
-                Some(line) => Location::Line(line),
-                None => Location::Opening,
-            },
+            Status::Running => self.place(),
             status => Location::Ended {
                 status,
                 pc: self.present.machine.regs().pc,
@@ -135,13 +179,41 @@ impl<'a> Debugger<'a> {
         }
     }
 
-    // The line that begins here, else the one that was begun last.
-    fn line(&self) -> Option<u16>
+    // Where the run of a machine is that runs.
+    fn place(&self) -> Location
+        ensures { result ≡ location_of self.now.debuggee (line_here self.now) }
+    {
+        match (self.debuggee, self.line()) {
+            (Debuggee::Source(_), Some(line)) => Location::Line(line),
+            (Debuggee::Source(_), None) => Location::Opening,
+            (Debuggee::Prg, _) => Location::Instruction,
+        }
+    }
+
+    /// The line that begins here, else the one that was begun last.
+    pub fn line(&self) -> Option<u16>
         ensures { result ≡ line_here self.now }
     {
         match self.line_here() {
             Some(line) => Some(line),
-            None => line_from(self.program, self.present.last),
+            None => self.debuggee.line_from(self.present.last),
+        }
+    }
+
+    // Whether only a source answers a command, and there is none.
+    fn lacks_source(&self, command: Command<'_>) -> bool
+        ensures { result ≡ lacks_source command.entry self.now }
+    {
+        match command {
+            Command::Watch(_)
+            | Command::Faults
+            | Command::ListHere
+            | Command::List(_)
+            | Command::Variables
+            | Command::Variable(_)
+            | Command::Value(_)
+            | Command::Returns => self.debuggee.has_no_source(),
+            _ => false,
         }
     }
 
@@ -152,6 +224,21 @@ impl<'a> Debugger<'a> {
         ensures tells { IfOk result (λ told. (limit : ℕ) → Tells limit command.entry self.old self.new (Some told)) }
         ensures shown { OnOk result (self.new.shown ≡ self.old.shown) }
         ensures leaves { OnOk result (Leaves command.entry self.old self.new) }
+    {
+        if self.lacks_source(command) {
+            Ok(Answer::NoSource)
+        } else {
+            self.answer(alloc, command)
+        }
+    }
+
+    // The same to one that is answered.
+    fn answer(&mut self, alloc: Global, command: Command<'_>) -> Result<Answer, AllocError>
+        requires { IsTold command self.old }
+        ensures run { OnOk result (KeepsRun self.old self.new) }
+        ensures tells { IfOk result (λ told. (limit : ℕ) → TellsAnswered limit command.entry self.old self.new (Some told)) }
+        ensures shown { OnOk result (self.new.shown ≡ self.old.shown) }
+        ensures leaves { OnOk result (LeavesAnswered command.entry self.old self.new) }
     {
         match command {
             Command::Breakpoint(line) => self.turn_breakpoint(line),
@@ -170,7 +257,7 @@ impl<'a> Debugger<'a> {
     // The answer to a command that only looks, and needs no memory.
     fn show(&self, command: Command<'_>) -> Answer
         requires { IsShown command self.now }
-        ensures { (limit : ℕ) → Tells limit command.entry self.now self.now (Some result) }
+        ensures { (limit : ℕ) → TellsAnswered limit command.entry self.now self.now (Some result) }
     {
         match command {
             Command::Variables => Answer::Variables(self.variables()),
@@ -182,7 +269,7 @@ impl<'a> Debugger<'a> {
             Command::List(line) => self.list(line),
             Command::Registers => Answer::Registers {
                 regs: self.present.machine.regs(),
-                line: self.program.line_at(self.present.machine.regs().pc),
+                line: self.debuggee.code_line_at(self.present.machine.regs().pc),
                 status: self.present.machine.status(),
             },
             Command::Help => Answer::Help,
@@ -193,9 +280,9 @@ impl<'a> Debugger<'a> {
 
     // The source around a line.
     fn list(&self, line: u16) -> Answer
-        ensures { result ≡ list_answer (start_in (starts_of self.now.program.now) line) line (line_here self.now) }
+        ensures { result ≡ list_answer (start_from self.now.debuggee line) line (line_here self.now) }
     {
-        match self.program.start_of(line) {
+        match self.debuggee.start_of(line) {
             Some(_) => Answer::List {
                 around: Some(line),
                 here: self.line(),
@@ -207,12 +294,12 @@ impl<'a> Debugger<'a> {
     fn turn_breakpoint(&mut self, line: u16) -> Result<Answer, AllocError>
         ensures run { OnOk result (KeepsRun self.old self.new) }
         ensures shown { OnOk result (self.new.shown ≡ self.old.shown) }
-        ensures turns { OnOk result (TurnsBreakpoint (start_in (starts_of self.old.program.now) line) line self.old self.new) }
+        ensures turns { OnOk result (TurnsBreakpoint (start_from self.old.debuggee line) line self.old self.new) }
         ensures answer { IfOk result (λ told. told
-            ≡ breakpoint_answer (start_in (starts_of self.old.program.now) line) (not
+            ≡ breakpoint_answer (start_from self.old.debuggee line) (not
             (is_among (breakpoints_of self.old.stops) line))) }
     {
-        if self.program.start_of(line).is_none() {
+        if self.debuggee.start_of(line).is_none() {
             return Ok(Answer::NoSuchLine);
         }
         let is_set = self.stops.turn_breakpoint(line)?;
@@ -239,10 +326,13 @@ impl<'a> Debugger<'a> {
     }
 
     fn breakpoints(&self, alloc: Global) -> Result<Answer, AllocError>
-        ensures { IfOk result (λ told. breakpoints_told (Some told) ≡ Some (breakpoints_of self.now.stops)) }
+        ensures { IfOk result (λ told. TellsBreakpoints self.now.debuggee (breakpoints_of self.now.stops) (Some told)) }
     {
-        let lines = Vec::from_slice(alloc, self.stops.breakpoints())?;
-        Ok(Answer::Breakpoints(lines))
+        let set = Vec::from_slice(alloc, self.stops.breakpoints())?;
+        match self.debuggee {
+            Debuggee::Source(_) => Ok(Answer::Breakpoints(set)),
+            Debuggee::Prg => Ok(Answer::Addresses(set)),
+        }
     }
 
     fn variable(&self, letter: Letter) -> Answer
@@ -264,10 +354,17 @@ impl<'a> Debugger<'a> {
         }
     }
 
+    /// The lines to return to, the newest first; none for a return past the last line.
+    pub fn returns(&self, alloc: Global) -> Result<Vec<Option<u16>>, AllocError>
+        ensures { IfOk result (λ lines. lines.items ≡ returns_here self.now) }
+    {
+        self.debuggee.returns(alloc, self.present.machine.memory())
+    }
+
     fn return_list(&self, alloc: Global) -> Result<Answer, AllocError>
         ensures { IfOk result (λ told. returns_told (Some told) ≡ Some (returns_here self.now)) }
     {
-        let lines = returns(alloc, self.present.machine.memory(), self.program)?;
+        let lines = self.returns(alloc)?;
         Ok(Answer::Returns(lines))
     }
 
@@ -290,9 +387,17 @@ impl<'a> Debugger<'a> {
         ensures { IfOk result (λ told. code_told (Some told)
             ≡ Some (code_of most_code (state_of self.now.present.machine).mem self.now.present.machine.regs.pc)) }
     {
-        let machine = &self.present.machine;
-        let lines = code_from(alloc, machine.memory(), machine.regs().pc, CODE_LINES)?;
+        let lines = self.code_here(alloc, CODE_LINES)?;
         Ok(Answer::Code(lines))
+    }
+
+    // At most `count` lines of code from PC on, up to a closed address.
+    fn code_here(&self, alloc: Global, count: usize) -> Result<Vec<Line>, AllocError>
+        ensures { IfOk result (λ lines. map shown lines.items
+            ≡ code_of count (state_of self.now.present.machine).mem self.now.present.machine.regs.pc) }
+    {
+        let machine = &self.present.machine;
+        code_from(alloc, machine.memory(), machine.regs().pc, count)
     }
 
     // Types a line: its letters as capitals, and a return.
@@ -306,8 +411,8 @@ impl<'a> Debugger<'a> {
     }
 }
 
-// What was sent after the first `shown` bytes.
-fn since(sent: &[u8], shown: usize) -> &[u8]
+/// What was sent after the first `shown` bytes.
+pub fn since(sent: &[u8], shown: usize) -> &[u8]
     ensures { result.now ≡ drop shown sent.now }
 {
     if shown < sent.len() {

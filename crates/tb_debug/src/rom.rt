@@ -29,4 +29,8 @@ impl Outside for Rom {
             }
         }
     }
+
+    fn is_quiet(&self) -> bool {
+        matches!(self, Rom::Quiet)
+    }
 }

@@ -1,27 +1,31 @@
 //! Going on and back to a breakpoint or a watch.
 ghost use Rattle.std.specs.Prelude.{◌≡◌, ◌⊎◌, ◌≤◌, IfOk, OnOk};
-ghost use Rattle.tb_codegen.specs.Compiled.{starts_of};
+ghost use Rattle.tb_meaning.specs.Control.{deepest};
 ghost use Rattle.tb_debug.specs.Debuggers.{KeepsRun, OnRun, StandsAt};
 ghost use Rattle.tb_debug.specs.Begins.{StandsBy};
-ghost use Rattle.tb_debug.specs.Leading.{Continues, ReverseContinues, RunsUntil};
+ghost use Rattle.tb_debug.specs.Leading.{Continues, GoesOn, GoesOut, GoesOver, ReverseContinues, RunsUntil, depth_here};
 ghost use Rattle.tb_debug.specs.declared.searching.Destination.TheVariants as destination;
 ghost use Rattle.tb_debug.specs.Runs.{Point, IsCheckpoint, IsOfRun, shown};
 ghost use Rattle.tb_debug.specs.Searching.{KnowsAfter, NewestBetween};
-ghost use Rattle.tb_debug.specs.Stopping.{IsNewest, IsThere, breaks_at, changes, has_faulted, is_sought, leads_back, stops_by_fault};
+ghost use Rattle.tb_debug.specs.Stopping.{IsNewest, IsThere, breaks_at, changes, has_faulted, is_above, is_sought, is_stop};
+ghost use Rattle.tb_debug.specs.Stopping.{leads_back, stops_by_fault};
 
 use crate::debugger::Debugger;
 use crate::history::Checkpoint;
 use crate::moment::{Moment, Reached};
-use crate::readings::{line_from, variables_in};
+use crate::readings::variables_in;
 use std::alloc::{AllocError, Global};
 use tb_faults::fault_in;
 use tb_kernal::Status;
+use tb_watch::Watch;
 
 /// What a run goes on to.
 #[derive(Clone, Copy, Debug, Drop)]
 pub enum Destination {
     /// A breakpoint or a watch.
     Stop,
+    /// A line with fewer lines to return to than these, or a breakpoint or a watch.
+    Above(u16),
     /// The line at an address.
     Address(u16),
 }
@@ -30,16 +34,83 @@ impl<'a> Debugger<'a> {
     /// Runs on to the next line with a breakpoint, or to the end of the next line that gives a watched variable another
     /// value, by at most `limit` events. If faults stop the run, and the program ends by one, it stops at the beginning of
     /// the line that faults, unless the run was there already.
-    pub fn continue_(&mut self, alloc: Global, limit: u64) -> Result<Reached, AllocError>
+    pub fn continue_<W: Watch>(
+        &mut self,
+        alloc: Global,
+        limit: u64,
+        watch: &mut W,
+    ) -> Result<Reached, AllocError>
         ensures run { OnOk result (KeepsRun self.old self.new) }
         ensures stop { IfOk result (λ reached. Continues limit self.old reached self.new.present) }
         ensures stands { IfOk result (λ reached. StandsBy self.old.starts reached self.new.present) }
         ensures shown { OnOk result (self.new.shown ≡ self.old.shown) }
         ensures stops { OnOk result (self.new.stops ≡ self.old.stops) }
     {
+        self.go_on(alloc, Destination::Stop, limit, watch)
+    }
+
+    /// Runs on over a GOSUB: to the next line at which there are no more lines to return to than here, or to where
+    /// `continue_` stops before.
+    pub fn over<W: Watch>(
+        &mut self,
+        alloc: Global,
+        limit: u64,
+        watch: &mut W,
+    ) -> Result<Reached, AllocError>
+        ensures run { OnOk result (KeepsRun self.old self.new) }
+        ensures stop { IfOk result (λ reached. GoesOver limit self.old reached self.new.present) }
+        ensures stands { IfOk result (λ reached. StandsBy self.old.starts reached self.new.present) }
+        ensures shown { OnOk result (self.new.shown ≡ self.old.shown) }
+        ensures stops { OnOk result (self.new.stops ≡ self.old.stops) }
+    {
+        let depth = self.depth();
+        self.go_on(alloc, Destination::Above(depth + 1), limit, watch)
+    }
+
+    /// Runs on out of a subroutine: to the next line at which there are fewer lines to return to than here, or to where
+    /// `continue_` stops before.
+    pub fn finish<W: Watch>(
+        &mut self,
+        alloc: Global,
+        limit: u64,
+        watch: &mut W,
+    ) -> Result<Reached, AllocError>
+        ensures run { OnOk result (KeepsRun self.old self.new) }
+        ensures stop { IfOk result (λ reached. GoesOut limit self.old reached self.new.present) }
+        ensures stands { IfOk result (λ reached. StandsBy self.old.starts reached self.new.present) }
+        ensures shown { OnOk result (self.new.shown ≡ self.old.shown) }
+        ensures stops { OnOk result (self.new.stops ≡ self.old.stops) }
+    {
+        let depth = self.depth();
+        self.go_on(alloc, Destination::Above(depth), limit, watch)
+    }
+
+    /// How many lines there are to return to.
+    pub fn depth(&self) -> u16
+        ensures depth { result ≡ depth_here self.now }
+        ensures few { result ≤ deepest }
+    {
+        self.debuggee.depth(self.present.machine.memory())
+    }
+
+    // Runs on to the next line that is looked for, by at most `limit` events. If faults stop the run, and the program ends
+    // by one, it stops at the beginning of the line that faults, unless the run was there already.
+    fn go_on<W: Watch>(
+        &mut self,
+        alloc: Global,
+        to: Destination,
+        limit: u64,
+        watch: &mut W,
+    ) -> Result<Reached, AllocError>
+        ensures run { OnOk result (KeepsRun self.old self.new) }
+        ensures stop { IfOk result (λ reached. GoesOn to limit self.old reached self.new.present) }
+        ensures stands { IfOk result (λ reached. StandsBy self.old.starts reached self.new.present) }
+        ensures shown { OnOk result (self.new.shown ≡ self.old.shown) }
+        ensures stops { OnOk result (self.new.stops ≡ self.old.stops) }
+    {
         let begun = self.present.begun;
         let begins = self.present.begins(&self.starts);
-        let way = self.run_until(alloc, Destination::Stop, limit)?;
+        let way = self.run_until(alloc, to, limit, watch)?;
         let stops = self.stops_by_fault(alloc, begun, begins, way)?;
         if !stops {
             return Ok(way);
@@ -74,11 +145,12 @@ impl<'a> Debugger<'a> {
     }
 
     /// Runs on to the beginning of the line at an address, by at most `limit` events.
-    pub fn run_to_line(
+    pub fn run_to_line<W: Watch>(
         &mut self,
         alloc: Global,
         address: u16,
         limit: u64,
+        watch: &mut W,
     ) -> Result<Reached, AllocError>
         ensures run { OnOk result (KeepsRun self.old self.new) }
         ensures there { IfOk result (λ reached. StandsAt address reached self.new.present) }
@@ -87,15 +159,16 @@ impl<'a> Debugger<'a> {
         ensures shown { OnOk result (self.new.shown ≡ self.old.shown) }
         ensures stops { OnOk result (self.new.stops ≡ self.old.stops) }
     {
-        self.run_until(alloc, Destination::Address(address), limit)
+        self.run_until(alloc, Destination::Address(address), limit, watch)
     }
 
     // Runs on to the next line that is looked for, by at most `limit` events.
-    fn run_until(
+    fn run_until<W: Watch>(
         &mut self,
         alloc: Global,
         to: Destination,
         limit: u64,
+        watch: &mut W,
     ) -> Result<Reached, AllocError>
         ensures run { OnOk result (KeepsRun self.old self.new) }
         ensures there { IfOk result (λ reached. IsThere to reached self.new) }
@@ -106,6 +179,7 @@ impl<'a> Debugger<'a> {
     {
         let last = self.present.events.saturating_add(limit);
         for done in 0..u64::MAX {
+            self.tell_watch(watch, done, limit, last);
             match self.next_line(alloc, self.left(last))? {
                 Reached::Line => {}
                 reached => return Ok(reached),
@@ -122,11 +196,24 @@ impl<'a> Debugger<'a> {
         ensures { result ≡ is_sought to self.now (shown self.now.present) }
     {
         match to {
-            Destination::Stop => {
-                self.has_breakpoint(&self.present) || self.has_changed(&self.present)
-            }
+            Destination::Stop => self.is_stop(),
+            Destination::Above(depth) => self.is_above(depth) || self.is_stop(),
             Destination::Address(address) => self.present.machine.regs().pc == address,
         }
+    }
+
+    // Whether a breakpoint or a watch stops a way here.
+    fn is_stop(&self) -> bool
+        ensures { result ≡ is_stop self.now (shown self.now.present) }
+    {
+        self.has_breakpoint(&self.present) || self.has_changed(&self.present)
+    }
+
+    // Whether there are fewer lines to return to than these.
+    fn is_above(&self, depth: u16) -> bool
+        ensures { result ≡ is_above self.now.debuggee depth (shown self.now.present) }
+    {
+        self.debuggee.depth(self.present.machine.memory()) < depth
     }
 
     /// Goes back to the newest line before with a breakpoint, or that gave a watched variable another value; to the first
@@ -210,7 +297,7 @@ impl<'a> Debugger<'a> {
     // The time to which a moment leads back: its own if a line with a breakpoint begins there, else that of the line before
     // it if that line changed a watched variable; 0 for none.
     fn leads_back(&self, moment: &Moment) -> u64
-        ensures { result ≡ leads_back (starts_of self.now.program.now) self.now.stops self.now.present.begun (shown moment.now) }
+        ensures { result ≡ leads_back self.now.debuggee self.now.stops self.now.present.begun (shown moment.now) }
     {
         if moment.begun < self.present.begun && self.has_breakpoint(moment) {
             moment.begun
@@ -223,13 +310,13 @@ impl<'a> Debugger<'a> {
 
     // Whether a moment begins a line with a breakpoint.
     fn has_breakpoint(&self, moment: &Moment) -> bool
-        ensures { result ≡ breaks_at (starts_of self.now.program.now) self.now.stops (shown moment.now) }
+        ensures { result ≡ breaks_at self.now.debuggee self.now.stops (shown moment.now) }
     {
         if self.stops.breaks_nowhere() {
             return false;
         }
         self.stops
-            .breaks(line_from(self.program, moment.machine.regs().pc))
+            .breaks(self.debuggee.line_from(moment.machine.regs().pc))
     }
 
     // Whether the line that was begun last at a moment has given a watched variable another value.

@@ -1,16 +1,18 @@
 //! Where lines begin.
-ghost use Rattle.std.specs.Prelude.{◌≡◌, ◌<◌, ℕ, false, length, map, replicate, vec_len, IfOk};
-ghost use Rattle.tb_codegen.specs.Compiled.{pair_of, starts_of};
+ghost use Rattle.std.specs.Prelude.{◌≡◌, ◌<◌, ℕ, false, true, length, map, replicate, vec_len, IfOk};
+ghost use Rattle.tb_codegen.specs.Compiled.{pair_of};
+ghost use Rattle.tb_debug.specs.Debuggees.{begins_in};
 ghost use Rattle.tb_debug.specs.Runs.{begins_at, is_marked};
 
+use crate::debuggee::Debuggee;
 use std::alloc::{AllocError, Global};
 use std::marker::Model;
-use tb_codegen::{Compiled, LineStart};
+use tb_codegen::LineStart;
 
 /// How many addresses there are.
 const ADDRESSES: usize = 65_536;
 
-/// The addresses where the lines of a program begin.
+/// The addresses where the lines of what is debugged begin.
 #[derive(Drop)]
 pub struct Starts {
     begins: Vec<bool>,
@@ -27,13 +29,18 @@ impl Model for Starts {
 }
 
 impl Starts {
-    /// Those of a compiled program.
-    pub fn new(alloc: Global, program: &Compiled) -> Result<Starts, AllocError>
-        ensures { IfOk result (λ s. (a : ℕ) → is_marked s a ≡ begins_at (starts_of program.now) a) }
+    /// Those of what is debugged.
+    pub fn new(alloc: Global, debuggee: Debuggee<'_>) -> Result<Starts, AllocError>
+        ensures { IfOk result (λ s. (a : ℕ) → is_marked s a ≡ begins_in debuggee.entry a) }
     {
-        Ok(Starts {
-            begins: marks(alloc, program.starts())?,
-        })
+        match debuggee {
+            Debuggee::Source(program) => Ok(Starts {
+                begins: marks(alloc, program.starts())?,
+            }),
+            Debuggee::Prg => Ok(Starts {
+                begins: all_marks(alloc)?,
+            }),
+        }
     }
 
     /// For each address, whether a line begins there.
@@ -56,6 +63,14 @@ fn no_marks(alloc: Global) -> Result<Vec<bool>, AllocError>
     ensures { IfOk result (λ v. v.items ≡ replicate 65536 false) }
 {
     let begins = vec![in alloc; false; ADDRESSES]?;
+    Ok(begins)
+}
+
+// A mark at each address.
+fn all_marks(alloc: Global) -> Result<Vec<bool>, AllocError>
+    ensures { IfOk result (λ v. v.items ≡ replicate 65536 true) }
+{
+    let begins = vec![in alloc; true; ADDRESSES]?;
     Ok(begins)
 }
 

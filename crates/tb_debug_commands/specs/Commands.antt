@@ -15,6 +15,8 @@ pub data Asked : Type 0 where
   Breakpoint : (line : ℕ) → Asked
   Continue : Asked
   ReverseContinue : Asked
+  Over : Asked
+  Finish : Asked
   Watch : (index : ℕ) → Asked
   Faults : Asked
   ToLine : (line : ℕ) → Asked
@@ -43,6 +45,8 @@ asked_of command.Breakpoints = Breakpoints
 asked_of (command.Breakpoint line) = Breakpoint line
 asked_of command.Continue = Continue
 asked_of command.ReverseContinue = ReverseContinue
+asked_of command.Over = Over
+asked_of command.Finish = Finish
 asked_of (command.Watch letter) = Watch (letter_index letter)
 asked_of command.Faults = Faults
 asked_of (command.ToLine line) = ToLine line
@@ -91,6 +95,8 @@ alone c =
     else if c == 112 then Previous 1
     else if c == 98 then Breakpoints
     else if c == 99 then Continue
+    else if c == 106 then Over
+    else if c == 117 then Finish
     else if c == 102 then Faults
     else if c == 108 then ListHere
     else if c == 118 then Variables
@@ -170,7 +176,9 @@ letter_for line =
     (option_or (option_map (λ rest. (112, rest)) (behind (codes "back") line))
     (option_or (option_map (λ rest. (104, rest)) (behind (codes "help") line))
     (option_or (option_map (λ rest. (113, rest)) (behind (codes "quit") line))
-    (option_map (λ rest. (99, rest)) (behind (codes "continue") line)))))
+    (option_or (option_map (λ rest. (106, rest)) (behind (codes "over") line))
+    (option_or (option_map (λ rest. (117, rest)) (behind (codes "finish") line))
+    (option_map (λ rest. (99, rest)) (behind (codes "continue") line)))))))
 
 -- a line that begins with no such word
 abbrev pub asked_by_letter : List ℕ → Asked
@@ -188,12 +196,14 @@ asked_in line = asked_as (letter_for line) line
 
 -- ---- the last move
 
--- what moves the run, if a line asks for it: n, p, c, rc, g, t or s
+-- what moves the run, if a line asks for it: n, p, c, rc, j, u, g, t or s
 abbrev pub as_move : Asked → Option Asked
 as_move (Next lines) = Some (Next lines)
 as_move (Previous lines) = Some (Previous lines)
 as_move Continue = Some Continue
 as_move ReverseContinue = Some ReverseContinue
+as_move Over = Some Over
+as_move Finish = Some Finish
 as_move (ToLine line) = Some (ToLine line)
 as_move (ToTime time) = Some (ToTime time)
 as_move (Step events) = Some (Step events)
@@ -207,3 +217,19 @@ last_move last asked = option_or (as_move asked) last
 abbrev pub asked_after : Option Asked → List ℕ → Asked
 asked_after last [] = unwrap_or last Unknown
 asked_after last (c ∷ line) = asked_in (c ∷ line)
+
+-- ---- without a source
+
+-- a breakpoint at an address, or a way to it
+abbrev pub place_at : ℕ → ℕ → Option Asked
+place_at c address = if c == 98 then Some (Breakpoint address) else if c == 103 then Some (ToLine address) else None
+
+-- the command that a line is at an address: `b $ADDR`, `g $ADDR`
+abbrev pub at_address : List ℕ → Option Asked
+at_address (c ∷ space ∷ dollar ∷ p ∷ q ∷ r ∷ s ∷ []) =
+    if space == 32 && dollar == 36 then option_and_then (place_at c) (address_of p q r s) else None
+at_address line = None
+
+-- the same as after a move, but that a place may be an address
+abbrev pub asked_without_source : Option Asked → List ℕ → Asked
+asked_without_source last line = unwrap_or (at_address line) (asked_after last line)

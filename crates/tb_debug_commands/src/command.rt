@@ -5,7 +5,7 @@ ghost use Rattle.tb_grammar.specs.Grammar.{word_of};
 ghost use Rattle.tb_debug_commands.specs.Commands.{asked_of, asked_in, alone, words, with_text, with_number, counting};
 ghost use Rattle.tb_debug_commands.specs.Commands.{spelled, letter_for, behind};
 ghost use Rattle.tb_debug_commands.specs.Commands.{memory_in, memory_at, address_of, digit_of, most_digits};
-ghost use Rattle.tb_debug_commands.specs.Commands.{asked_after, last_move};
+ghost use Rattle.tb_debug_commands.specs.Commands.{asked_after, asked_without_source, at_address, last_move, place_at};
 
 use crate::parts::{number, variable};
 use tb_words::Letter;
@@ -34,6 +34,10 @@ pub enum Command<'a> {
     Continue,
     /// `rc`: back to a stop.
     ReverseContinue,
+    /// `j`: on over a GOSUB.
+    Over,
+    /// `u`: on out of a subroutine.
+    Finish,
     /// `w X`: sets or clears a watch.
     Watch(Letter),
     /// `f`: faults stop `c`, or no longer.
@@ -95,6 +99,16 @@ pub fn read_after<'a>(last: Option<Command<'a>>, line: &'a [u8]) -> Command<'a>
     }
 }
 
+/// The same without a source, where each address is a line: a place may be an address, `b $ADDR` or `g $ADDR`.
+pub fn read_without_source<'a>(last: Option<Command<'a>>, line: &'a [u8]) -> Command<'a>
+    ensures { asked_of result ≡ asked_without_source (option_map asked_of last.entry) line.now }
+{
+    match at_address(line) {
+        Some(command) => command,
+        None => read_after(last, line),
+    }
+}
+
 /// The move that an empty line repeats after a command: the command, if it is one, or else the one before it.
 pub fn last_move<'a>(last: Option<Command<'a>>, command: Command<'_>) -> Option<Command<'a>>
     ensures { option_map asked_of result ≡ last_move (option_map asked_of last.entry) (asked_of command.entry) }
@@ -104,10 +118,36 @@ pub fn last_move<'a>(last: Option<Command<'a>>, command: Command<'_>) -> Option<
         Command::Previous(lines) => Some(Command::Previous(lines)),
         Command::Continue => Some(Command::Continue),
         Command::ReverseContinue => Some(Command::ReverseContinue),
+        Command::Over => Some(Command::Over),
+        Command::Finish => Some(Command::Finish),
         Command::ToLine(line) => Some(Command::ToLine(line)),
         Command::ToTime(time) => Some(Command::ToTime(time)),
         Command::Step(events) => Some(Command::Step(events)),
         _ => last,
+    }
+}
+
+// The command that a line is at an address.
+fn at_address<'a>(line: &[u8]) -> Option<Command<'a>>
+    ensures { option_map asked_of result ≡ at_address line.now }
+{
+    match line {
+        [letter, b' ', b'$', a, b, c, d] => match address(*a, *b, *c, *d) {
+            Some(address) => place_at(*letter, address),
+            None => None,
+        },
+        _ => None,
+    }
+}
+
+// A breakpoint at an address, or a way to it.
+fn place_at<'a>(letter: u8, address: u16) -> Option<Command<'a>>
+    ensures { option_map asked_of result ≡ place_at letter address }
+{
+    match letter {
+        b'b' => Some(Command::Breakpoint(address)),
+        b'g' => Some(Command::ToLine(address)),
+        _ => None,
     }
 }
 
@@ -126,6 +166,12 @@ fn letter_for(line: &[u8]) -> Option<(u8, &[u8])>
     }
     if let Some(rest) = behind(b"quit", line) {
         return Some((b'q', rest));
+    }
+    if let Some(rest) = behind(b"over", line) {
+        return Some((b'j', rest));
+    }
+    if let Some(rest) = behind(b"finish", line) {
+        return Some((b'u', rest));
     }
     match behind(b"continue", line) {
         Some(rest) => Some((b'c', rest)),
@@ -182,6 +228,8 @@ fn alone<'a>(letter: u8) -> Command<'a>
         b'p' => Command::Previous(1),
         b'b' => Command::Breakpoints,
         b'c' => Command::Continue,
+        b'j' => Command::Over,
+        b'u' => Command::Finish,
         b'f' => Command::Faults,
         b'l' => Command::ListHere,
         b'v' => Command::Variables,

@@ -4,5 +4,5 @@
 mod command;
 mod parts;
 
-pub use command::{Command, last_move, read_after, read_command};
+pub use command::{Command, last_move, read_after, read_command, read_without_source};
 pub use parts::{number, variable};

@@ -5,8 +5,9 @@ use Rattle.std.proofs.KnownBytes.{Appends-kept, Appends-trans}
 use Rattle.std.proofs.Math.Seq.{take-append-add}
 use Rattle.std.specs.Io.KnownBytes.{Appends}
 use Rattle.tb_streams.specs.Lines.{TakesLine, TakesPart, without_return}
-use Rattle.tb_debug_commands.specs.Commands.{asked_after, asked_of, last_move}
+use Rattle.tb_debug_commands.specs.Commands.{asked_of, last_move}
 use Rattle.tb_debug_commands.specs.declared.command.Command.{Command}
+use Rattle.tb_debug.specs.Debuggees.{has_no_source}
 use Rattle.tb_debug.specs.Debuggers.{Responds}
 use Rattle.tb_debug.specs.Kinds.{IsWalk}
 use Rattle.tb_debug.specs.Leaving.{Leaves}
@@ -15,7 +16,7 @@ use Rattle.tb_streams.specs.Streams.{AppendsPrefix}
 use Rattle.tb_engines.specs.declared.outcome.Outcome.{Outcome}
 use Rattle.tb_engines.specs.declared.outcome.Outcome.TheVariants.{Ended, Refused, ReadFault, WriteFault, NoMemory}
 use Rattle.tb_debug.specs.declared.answer.Answer.{Answer}
-use Rattle.tb_debug_engine.specs.Dialogue.{Answers, Exchanges, Says, prompt, repeated}
+use Rattle.tb_debug_engine.specs.Dialogue.{Answers, Exchanges, Says, prompt, repeated, spelled_by}
 use Rattle.tb_debug_engine.specs.Streams.{Streams, Stream, Takes, Writes}
 use Rattle.tb_inspection.specs.Texts.{value_text}
 use Rattle.tb_debug_engine.specs.Sources.{shown_of}
@@ -36,7 +37,7 @@ taken_in_part had left taken (is_line, inr (some, whole, end)) = (is_line, inl w
 
 -- a line that spells a command is answered as the debugger responds to it
 pub answered : (limit : ℕ) (d e : Dialogue) (command : Command) (taken : List ℕ) (told : Option Answer)
-    → asked_of command ≡ asked_after (repeated d) (without_return taken) → Responds command d.debugger e.debugger
+    → asked_of command ≡ spelled_by (has_no_source d.debugger.debuggee) (repeated d) (without_return taken) → Responds command d.debugger e.debugger
     → Tells limit command d.debugger e.debugger told → (¬ (IsWalk command d.debugger) → e.debugger.shown ≡ d.debugger.shown)
     → Leaves command d.debugger e.debugger → repeated e ≡ last_move (repeated d) (asked_of command) → Answers limit d taken told e
 answered limit d e command taken told spelled run tells shown leaves moved =

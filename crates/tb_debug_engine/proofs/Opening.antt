@@ -1,6 +1,6 @@
 -- The beginning of a dialogue.
 use Rattle.std.proofs.Common.{◌≡◌, ◌+◌, ◌≤◌, Bool, true, false, List, [], length, ℕ, refl, sym, ap, subst, ◌∙◌}
-use Rattle.std.specs.Prelude.{Result, Ok, Err}
+use Rattle.std.specs.Prelude.{Result, Ok, Err, Some}
 use Rattle.tb_memmap.specs.Regions.{BASIC_START}
 use Rattle.tb_kernal.specs.Machine.{Content, state_of, status}
 use Rattle.tb_kernal.specs.declared.machine.Keyboard.{Keyboard}
@@ -22,7 +22,8 @@ use Rattle.tb_engines.specs.declared.outcome.Outcome.TheVariants.{Ended, Refused
 use Rattle.tb_codegen.specs.Compiled.{loaded_of, prg_of}
 use Rattle.tb_codegen.specs.declared.compiled.Compiled.{Compiled}
 use Rattle.tb_debug.specs.Begins.{standing_by, standing_of}
-use Rattle.tb_debug.specs.Debuggers.{IsOpening, KeepsRun, OnRun}
+use Rattle.tb_debug.specs.Debuggees.{has_no_source, program_of}
+use Rattle.tb_debug.specs.Debuggers.{IsAtStart, IsOpening, KeepsRun, OnRun}
 use Rattle.tb_debug.specs.Sources as sources
 use Rattle.tb_debug.specs.Sources.{IsMadeOf}
 use Rattle.tb_debug.specs.Runs.{first_point, is_marked}
@@ -31,7 +32,7 @@ use Rattle.tb_debug.specs.declared.moment.Reached.{Reached}
 use Rattle.tb_debug.specs.declared.answer.Answer.{Answer}
 use Rattle.tb_debug.specs.declared.rom.Rom.{Rom}
 use Rattle.tb_debug.specs.declared.debugger.Debugger.{Debugger}
-use Rattle.tb_debug_engine.specs.Dialogue.{Begins, IsBegun, IsFirst, Opens, Says}
+use Rattle.tb_debug_engine.specs.Dialogue.{Begins, BeginsPrg, IsBegun, IsBegunPrg, IsFirst, IsUnloadable, Opens, Says}
 use Rattle.tb_debug_engine.specs.Sources.{shown_of}
 use Rattle.tb_debug_engine.specs.declared.dialogue.Setting.{Setting}
 use Rattle.tb_debug_engine.specs.Streams.{Stream}
@@ -44,24 +45,24 @@ loads source seed c made = compiled_loads seed c source made.compiled
 
 -- the machine that `run` starts for it is one from which its line starts are known
 shows_so : (c : Compiled) (text answers : List ℕ) (rom : Rom) (at : ℕ) (bytes : List ℕ) (d : Debugger) → content_of (prg_of c) ≡ Ok (at, bytes)
-    → d.program.now ≡ c → OnRun (first_point (state_of (start at bytes text answers)) rom) d → AreBytes (prg_of c) → AreBytes text → AreBytes answers
-    → (source : Program) (seed : ℕ) → IsMadeOf source seed c → sources.Debugs source seed (state_of (start at bytes text answers)) rom d
+    → program_of d.debuggee ≡ Some c → OnRun (first_point (state_of (start at bytes text answers)) rom) d → AreBytes (prg_of c) → AreBytes text → AreBytes answers
+    → (source : Program) (seed : ℕ) → IsMadeOf source seed c → sources.Debugs source seed (state_of (start at bytes text answers)) rom c d
 shows_so c text answers rom at bytes d content of on file keys polls source seed made =
     let whole = loads source seed c made in
     let same : start at bytes text answers ≡ start BASIC_START (loaded_of c) text answers =
     machine_at_start text answers c at bytes (start at bytes text answers) (whole.0, in_ram (length (loaded_of c)) whole.1) content refl in
     let begun = starts (loaded_of c) text answers whole.1 (bytes_behind (prg_of c) file) keys polls in
     record {
-      made = subst (IsMadeOf source seed) (sym of) made;
-      starts = subst (λ p. Starts BASIC_START (loaded_of p) (state_of (start at bytes text answers))) (sym of)
-          (subst (λ m. Starts BASIC_START (loaded_of c) (state_of m)) (sym same) begun);
+      of = of;
+      made = made;
+      starts = subst (λ m. Starts BASIC_START (loaded_of c) (state_of m)) (sym same) begun;
       on = on;
     }
 
 module _ (program : Compiled) (keyboard : Keyboard) (rom : Rom) where
   -- a debugger on the run of a program's file
   pub begun : (content : Result (ℕ × List ℕ) PrgError) (m : Content) (d : Debugger) → content_of (prg_of program) ≡ content
-      → StartsContent keyboard.text.items keyboard.answers.items content (Ok m) → d.program.now ≡ program → OnRun (first_point (state_of m) rom) d
+      → StartsContent keyboard.text.items keyboard.answers.items content (Ok m) → program_of d.debuggee ≡ Some program → OnRun (first_point (state_of m) rom) d
       → IsOpening (first_point (state_of m) rom) d → AreBytes (prg_of program) → AreBytes keyboard.text.items
       → AreBytes keyboard.answers.items → IsBegun program keyboard rom d
   begun (Err e) m d content none of on opens small keys polls = absurd none
@@ -90,6 +91,23 @@ module _ (program : Compiled) (keyboard : Keyboard) (rom : Rom) where
             starts_loadable keyboard.text.items keyboard.answers.items program (Err (CantLoad why)) unloadable (whole.0, in_ram (length (loaded_of program)) whole.1);
       }
       by NoMachine unloadable = tt
+
+-- a debugger on the run of a PRG file
+pub begun_prg : (file : List ℕ) (keyboard : Keyboard) (rom : Rom) (content : Result (ℕ × List ℕ) PrgError) (m : Content) (d : Debugger) → content_of file ≡ content
+    → StartsContent keyboard.text.items keyboard.answers.items content (Ok m) → has_no_source d.debuggee ≡ true → OnRun (first_point (state_of m) rom) d
+    → IsAtStart d → IsBegunPrg file keyboard rom d
+begun_prg file keyboard rom (Err e) m d content none of on start = absurd none
+begun_prg file keyboard rom (Ok (at, bytes)) m d content (in_ram, machine) of on start =
+    record { of = of; at = at; bytes = bytes; content = content; on = subst (λ x. OnRun (first_point (state_of x) rom) d) machine on; start = start }
+
+-- a PRG file that can't be loaded
+pub not_begun_prg : (file : List ℕ) (keyboard : Keyboard) (rom : Rom) (stop : NoText) (outcome : Outcome) → outcome ≡ outcome_without stop
+    → StartsPrg keyboard.text.items keyboard.answers.items file (Err stop) → BeginsPrg file keyboard rom (Err outcome)
+not_begun_prg file keyboard rom stop outcome is unloadable = subst (λ o. BeginsPrg file keyboard rom (Err o)) (sym is) (by stop unloadable)
+  where
+    by : (stop : NoText) → StartsPrg keyboard.text.items keyboard.answers.items file (Err stop) → BeginsPrg file keyboard rom (Err (outcome_without stop))
+    by (CantLoad why) unloadable = unloadable
+    by NoMachine unloadable = tt
 
 -- a debugger that only looks how it stands stops at no limit
 unlimited : (why : Status) (begins : Bool) → is_limit (standing_by why begins) ≡ false

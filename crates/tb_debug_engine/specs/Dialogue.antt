@@ -15,9 +15,10 @@ use Rattle.tb_engines.specs.declared.outcome.Outcome.TheVariants.{Ended, Refused
 use Rattle.tb_play.specs.Lines.{TakesLines}
 use Rattle.tb_codegen.specs.Compiled.{prg_of}
 use Rattle.tb_codegen.specs.declared.compiled.Compiled.{Compiled}
-use Rattle.tb_debug_commands.specs.Commands.{Asked, asked_after, asked_of, last_move}
+use Rattle.tb_debug_commands.specs.Commands.{Asked, asked_after, asked_of, asked_without_source, last_move}
 use Rattle.tb_debug_commands.specs.declared.command.Command.{Command}
-use Rattle.tb_debug.specs.Debuggers.{IsOpening, KeepsRun, OnRun, Responds}
+use Rattle.tb_debug.specs.Debuggees.{has_no_source, program_of}
+use Rattle.tb_debug.specs.Debuggers.{IsAtStart, IsOpening, KeepsRun, OnRun, Responds}
 use Rattle.tb_debug.specs.Sources as sources
 use Rattle.tb_debug.specs.Sources.{IsMadeOf}
 use Rattle.tb_syntax.specs.Source.{Program}
@@ -30,7 +31,7 @@ use Rattle.tb_debug.specs.Kinds.{IsWalk}
 use Rattle.tb_debug.specs.Leaving.{Leaves}
 use Rattle.tb_debug_engine.specs.declared.dialogue.Dialogue.{Dialogue}
 use Rattle.tb_debug_engine.specs.declared.dialogue.Setting.{Setting}
-use Rattle.tb_debug_engine.specs.Sources.{AreWritten, shown_of}
+use Rattle.tb_debug_engine.specs.Sources.{AreWritten, IsUnwritten, shown_of}
 use Rattle.tb_debug_engine.specs.Streams.{Stream, Streams, Takes, TakesNone, TakesSome, FailsToTake, Writes, WritesNone, FailsToWrite}
 use Rattle.tb_driver.specs.declared.reading.CompiledSource.{CompiledSource}
 use Rattle.tb_debug_engine.specs.declared.sources.Written.{Written}
@@ -41,12 +42,17 @@ use Rattle.tb_debug_engine.specs.declared.sources.Written.{Written}
 abbrev pub repeated : Dialogue → Option Asked
 repeated d = option_map asked_of d.last
 
+-- what a line asks for after a move; without a source a place may be an address
+abbrev pub spelled_by : Bool → Option Asked → List ℕ → Asked
+spelled_by true last line = asked_without_source last line
+spelled_by false last line = asked_after last line
+
 -- a line is answered: what it asks for after the last move is done, by at most `limit` events if it goes on, and this is told,
 -- or nothing if it ends the dialogue; what is sent since a stop is told with the next one, and what it doesn't ask for stays;
 -- if it moves the run, it is the last move then
 pub record Answers (limit : ℕ) (d : Dialogue) (line : List ℕ) (told : Option Answer) (e : Dialogue) : Type 0 where
   pub command : Command
-  pub spelled : asked_of command ≡ asked_after (repeated d) (without_return line)
+  pub spelled : asked_of command ≡ spelled_by (has_no_source d.debugger.debuggee) (repeated d) (without_return line)
   pub run : Responds command d.debugger e.debugger
   pub tells : Tells limit command d.debugger e.debugger told
   pub shown : ¬ (IsWalk command d.debugger) → e.debugger.shown ≡ d.debugger.shown
@@ -146,13 +152,13 @@ started at bytes keyboard = state_of (start at bytes keyboard.text.items keyboar
 -- a debugger of a program at the first line of its run from the machine that `run` starts, with this keyboard, with a ROM.
 -- At each line's beginning to which its commands lead, a program that `compile` made shows its source: `line_here` says what.
 pub record IsBegun (program : Compiled) (keyboard : Keyboard) (rom : Rom) (d : Debugger) : Type 0 where
-  pub of : d.program.now ≡ program
+  pub of : program_of d.debuggee ≡ Some program
   pub at : ℕ
   pub bytes : List ℕ
   pub content : content_of (prg_of program) ≡ Ok (at, bytes)
   pub on : OnRun (first_point (started at bytes keyboard) rom) d
   pub opens : IsOpening (first_point (started at bytes keyboard) rom) d
-  pub shows : (source : Program) (seed : ℕ) → IsMadeOf source seed program → sources.Debugs source seed (started at bytes keyboard) rom d
+  pub shows : (source : Program) (seed : ℕ) → IsMadeOf source seed program → sources.Debugs source seed (started at bytes keyboard) rom program d
 
 -- why a program is not debugged: its machine can't be started, as that of any program that `compile` made can
 pub record IsBarred (program : Compiled) (keyboard : Keyboard) (why : Refusal) : Type 0 where
@@ -211,12 +217,51 @@ OpensAndTalks w setting d outcome old new =
     (e : Debugger) × (told : Answer) × (mid : Stream) × IsFirst d told e × Writes (shown_of setting.prompts w told) old.answers mid
     × Talks w setting (unbegun e) outcome (record old { answers = mid }) new
 
+-- a debugger is there: its first stop is told or not, and then lines are answered
+abbrev pub Converses : Written → Setting → Debugger → Outcome → Streams → Streams → Type 0
+Converses w setting d outcome old new = FailsToOpen w setting d outcome old new ⊎ OpensAndTalks w setting d outcome old new
+
 -- what debugging a source comes to
 abbrev pub Debugs : CompiledSource → Keyboard → Setting → Outcome → Streams → Streams → Type 0
 Debugs s keyboard setting outcome old new =
     DoesNothing s.program keyboard outcome old new
-    ⊎ ((w : Written) × (d : Debugger) × AreReady s keyboard setting.rom w d
-    × (FailsToOpen w setting d outcome old new ⊎ OpensAndTalks w setting d outcome old new))
+    ⊎ ((w : Written) × (d : Debugger) × AreReady s keyboard setting.rom w d × Converses w setting d outcome old new)
+
+-- ---- without a source
+
+-- a debugger of a PRG file at the first instruction of its run from the machine that `run` starts, with this keyboard, with a
+-- ROM
+pub record IsBegunPrg (file : List ℕ) (keyboard : Keyboard) (rom : Rom) (d : Debugger) : Type 0 where
+  pub of : has_no_source d.debuggee ≡ true
+  pub at : ℕ
+  pub bytes : List ℕ
+  pub content : content_of file ≡ Ok (at, bytes)
+  pub on : OnRun (first_point (started at bytes keyboard) rom) d
+  pub start : IsAtStart d
+
+-- a PRG file whose machine can't be started
+abbrev pub IsUnloadable : List ℕ → Keyboard → Refusal → Type 0
+IsUnloadable file keyboard why = StartsPrg keyboard.text.items keyboard.answers.items file (Err (CantLoad why))
+
+-- the debugger of a PRG file at its beginning, or why there is none
+abbrev pub BeginsPrg : List ℕ → Keyboard → Rom → Result Debugger Outcome → Type 0
+BeginsPrg file keyboard rom (Ok d) = IsBegunPrg file keyboard rom d
+BeginsPrg file keyboard rom (Err (Refused why)) = IsUnloadable file keyboard why
+BeginsPrg file keyboard rom (Err NoMemory) = Unit {0}
+BeginsPrg file keyboard rom (Err ReadFault) = ⊥
+BeginsPrg file keyboard rom (Err WriteFault) = ⊥
+BeginsPrg file keyboard rom (Err (Ended end)) = ⊥
+
+-- nothing is done if there is no debugger
+abbrev pub LeavesPrg : List ℕ → Keyboard → Outcome → Streams → Streams → Type 0
+LeavesPrg file keyboard outcome old new =
+    ((outcome ≡ NoMemory) ⊎ ((why : Refusal) × (outcome ≡ Refused why) × IsUnloadable file keyboard why)) × (new ≡ old)
+
+-- what debugging a PRG file comes to: its answers tell of no source
+abbrev pub DebugsPrg : List ℕ → Keyboard → Setting → Outcome → Streams → Streams → Type 0
+DebugsPrg file keyboard setting outcome old new =
+    LeavesPrg file keyboard outcome old new
+    ⊎ ((w : Written) × (d : Debugger) × IsUnwritten w × IsBegunPrg file keyboard setting.rom d × Converses w setting d outcome old new)
 
 -- what writing a text answers
 abbrev pub Says : List ℕ → Result (Unit {0}) Outcome → Stream → Stream → Type 0

@@ -1,5 +1,5 @@
 -- A source that is debugged.
-use Rattle.std.specs.Prelude.{◌≡◌, ℕ, Bool, List, map}
+use Rattle.std.specs.Prelude.{◌≡◌, ℕ, Bool, List, [], map}
 use Rattle.tb_codegen.specs.Compiled.{starts_of}
 use Rattle.tb_source_text.specs.Lines.{numbered, pair_of}
 use Rattle.tb_debug.specs.declared.answer.Answer.{Answer}
@@ -15,3 +15,8 @@ shown_of hints w answer = text_of hints (map pair_of w.lines.items) w.numbers.it
 pub record AreWritten (s : CompiledSource) (w : Written) : Type 0 where
   pub lines : map pair_of w.lines.items ≡ numbered s.text.items
   pub numbers : w.numbers.items ≡ map (λ p. p.0) (starts_of s.program)
+
+-- the lines of no source
+pub record IsUnwritten (w : Written) : Type 0 where
+  pub lines : w.lines.items ≡ []
+  pub numbers : w.numbers.items ≡ []

@@ -46,16 +46,22 @@ abbrev pub standing_text : Status → ℕ → List ℕ
 standing_text (Wrong w) pc = end_text (end_of (Wrong w) pc)
 standing_text t pc = status_text t
 
--- the line at which a run is, `start` before the first one, or how its machine stands
-abbrev pub location_text : List (ℕ × List ℕ) → Location → List ℕ
-location_text lines (location.Line number) = written lines number
-location_text lines location.Opening = line (codes "start")
-location_text lines (location.Ended status pc) = line (standing_text status pc)
+-- lines of code as a listing; `--` if there is none
+abbrev pub code_text : List CodeLine → List ℕ
+code_text [] = line (codes "--")
+code_text (l ∷ ls) = listing_text (map shown (l ∷ ls))
+
+-- the line at which a run is, `start` before the first one, the instruction without a source, or how its machine stands
+abbrev pub location_text : List (ℕ × List ℕ) → Location → List CodeLine → List ℕ
+location_text lines (location.Line number) instruction = written lines number
+location_text lines location.Opening instruction = line (codes "start")
+location_text lines location.Instruction instruction = code_text instruction
+location_text lines (location.Ended status pc) instruction = line (standing_text status pc)
 
 -- what was sent since the last stop, `limit` if the limit of events ended the way here, and where the run is
 abbrev pub stand_text : List (ℕ × List ℕ) → Stand → List ℕ
 stand_text lines stand =
-    sent_text stand.sent.items ++ ((if stand.is_limit then line limit else []) ++ location_text lines stand.location)
+    sent_text stand.sent.items ++ ((if stand.is_limit then line limit else []) ++ location_text lines stand.location stand.instruction.items)
 
 -- ---- variables and lines
 
@@ -77,7 +83,11 @@ abbrev pub return_text : List (ℕ × List ℕ) → Option ℕ → List ℕ
 return_text lines (Some number) = written lines number
 return_text lines None = line (codes "past")
 
--- ---- memory and code
+-- ---- memory
+
+-- an address after `$`, in a line of its own
+abbrev pub address_line : ℕ → List ℕ
+address_line address = 36 ∷ line (address_text address)
 
 -- a byte in two hexadecimal digits after a space; `--` for a closed address
 abbrev pub byte_text : Option ℕ → List ℕ
@@ -94,11 +104,6 @@ bytes_text n address [] = []
 bytes_text n address (byte ∷ bytes) =
     row_text n address ++ (byte_text byte ++ bytes_text (suc n) ((address + 1) % 65536) bytes)
 
--- lines of code as a listing; `--` if there is none
-abbrev pub code_text : List CodeLine → List ℕ
-code_text [] = line (codes "--")
-code_text (l ∷ ls) = listing_text (map shown (l ∷ ls))
-
 -- ---- answers
 
 -- the table of commands
@@ -108,6 +113,8 @@ help_text =
     ++ (line (codes "p [K]      back by K lines")
     ++ (line (codes "c          on to a breakpoint or behind a line that changes what is watched")
     ++ (line (codes "rc         back to a breakpoint or to a line that changed what is watched")
+    ++ (line (codes "j          on to the next line, over a GOSUB with all it does, or as c")
+    ++ (line (codes "u          on out of the subroutine, or as c")
     ++ (line (codes "b [N]      breakpoint at line N on or off; all breakpoints")
     ++ (line (codes "w X        watch on variable X on or off")
     ++ (line (codes "f          stop of c at the line that faults on or off")
@@ -124,7 +131,7 @@ help_text =
     ++ (line (codes "m ADDR [K] K bytes of memory, ADDR four hexadecimal digits")
     ++ (line (codes "i          machine code here")
     ++ (line (codes "h          this help")
-    ++ line (codes "q          end"))))))))))))))))))))
+    ++ line (codes "q          end"))))))))))))))))))))))
 
 -- the answer to a line that is no command, and to a text that is no expression: with what helps, or without
 abbrev pub what_text : (hints : Bool) → List ℕ
@@ -143,6 +150,7 @@ text_of hints lines numbers answer.Set = line (codes "set")
 text_of hints lines numbers answer.Cleared = line (codes "cleared")
 text_of hints lines numbers (answer.Faults is_set) = line (faults_text is_set)
 text_of hints lines numbers (answer.Breakpoints set) = or_none (flat_map (written lines) set.items)
+text_of hints lines numbers (answer.Addresses set) = or_none (flat_map address_line set.items)
 text_of hints lines numbers (answer.List around here) = list_text lines numbers around here
 text_of hints lines numbers (answer.Variables values) = or_none (variables_from 0 values)
 text_of hints lines numbers (answer.Variable index value) = variable_text index value
@@ -155,4 +163,5 @@ text_of hints lines numbers (answer.Memory at bytes) = line (bytes_text 0 at byt
 text_of hints lines numbers (answer.Code code) = code_text code.items
 text_of hints lines numbers answer.Help = help_text
 text_of hints lines numbers answer.NoSuchLine = line no_such_line
+text_of hints lines numbers answer.NoSource = line (codes "no source")
 text_of hints lines numbers answer.What = line (what_text hints)

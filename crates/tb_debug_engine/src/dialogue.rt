@@ -1,9 +1,11 @@
 //! The dialogue.
-ghost use Rattle.std.specs.Prelude.{◌≡◌, OnErr, OnOk, is_err};
+ghost use Rattle.std.specs.Prelude.{◌≡◌, OnErr, OnOk, is_err, option_map};
 ghost use Rattle.std.specs.Io.KnownBytes.{Appends};
 ghost use Rattle.tb_streams.specs.Failures.{failures_of};
 ghost use Rattle.tb_streams.specs.Streams.{AppendsPrefix, counted};
-ghost use Rattle.tb_debug_engine.specs.Dialogue.{Asks, Begins, Debugs, Exchanges, Opens, Says, Talks, prompt};
+ghost use Rattle.tb_debug_engine.specs.Dialogue.{Asks, Begins, BeginsPrg, Converses, Debugs, DebugsPrg, Exchanges, Opens};
+ghost use Rattle.tb_debug_engine.specs.Dialogue.{Says, Talks, prompt, spelled_by};
+ghost use Rattle.tb_debug_commands.specs.Commands.{asked_of};
 ghost use Rattle.tb_debug_engine.specs.Sources.{shown_of};
 ghost use Rattle.tb_debug_engine.specs.Streams.{stream_of, streams_of};
 
@@ -11,11 +13,12 @@ use crate::sources::Written;
 use crate::texts::push_answer;
 use std::alloc::Global;
 use std::io::{Read, Write};
-use tb_debug::{Answer, Command, Debugger, Rom, last_move, read_after};
+use tb_debug::{Answer, Command, Debugger, Rom, last_move, read_after, read_without_source};
 use tb_driver::{CompiledSource, are_bytes, start_program};
-use tb_engines::{End, Outcome, without_input, without_text};
+use tb_engines::{End, Outcome, start_file, without_input, without_text};
 use tb_kernal::Keyboard;
 use tb_streams::{MOST_INPUT, StreamFailure, Tracked, read_line, without_return, write_output};
+use tb_watch::Watch;
 
 /// What is shown before a command that is typed at a terminal.
 const PROMPT: &[u8] = b"> ";
@@ -90,14 +93,26 @@ fn ask<R: Read, W: Write>(
     }
 }
 
+// The command that a line is after a move, with or without a source.
+fn read_spelled<'a>(has_no_source: bool, last: Option<Command<'a>>, line: &'a [u8]) -> Command<'a>
+    ensures { asked_of result ≡ spelled_by has_no_source (option_map asked_of last.entry) line.now }
+{
+    if has_no_source {
+        read_without_source(last, line)
+    } else {
+        read_after(last, line)
+    }
+}
+
 // Answers the next line: whether there was one that isn't the end.
-fn answer_line<R: Read, W: Write>(
+fn answer_line<R: Read, W: Write, V: Watch>(
     alloc: Global,
     dialogue: &mut Dialogue<'_>,
     source: &Written<'_>,
     setting: Setting,
     commands: &mut Tracked<R>,
     writer: &mut Tracked<W>,
+    watch: &mut V,
 ) -> Result<bool, Outcome>
     ensures { Exchanges source.now setting dialogue.old result dialogue.new
         (streams_of R.remaining commands.old W.contents writer.old) (streams_of R.remaining commands.new W.contents writer.new) }
@@ -107,9 +122,16 @@ fn answer_line<R: Read, W: Write>(
         Ok(None) => return Ok(false),
         Err(outcome) => return Err(outcome),
     };
-    let command = read_after(dialogue.last, without_return(line.as_slice()));
+    let command = read_spelled(
+        dialogue.debugger.has_no_source(),
+        dialogue.last,
+        without_return(line.as_slice()),
+    );
     dialogue.last = last_move(dialogue.last, command);
-    match dialogue.debugger.respond(alloc, command, setting.limit) {
+    match dialogue
+        .debugger
+        .respond(alloc, command, setting.limit, watch)
+    {
         Ok(Some(answer)) => match say(alloc, writer, source, setting.prompts, answer) {
             Ok(()) => Ok(true),
             Err(outcome) => Err(outcome),
@@ -120,19 +142,20 @@ fn answer_line<R: Read, W: Write>(
 }
 
 // Answers each line after the first stop, until one ends the dialogue or none is left.
-fn answer_lines<R: Read, W: Write>(
+fn answer_lines<R: Read, W: Write, V: Watch>(
     alloc: Global,
     dialogue: &mut Dialogue<'_>,
     source: &Written<'_>,
     setting: Setting,
     commands: &mut Tracked<R>,
     writer: &mut Tracked<W>,
+    watch: &mut V,
 ) -> Outcome
     ensures { Talks source.now setting dialogue.old result
         (streams_of R.remaining commands.old W.contents writer.old) (streams_of R.remaining commands.new W.contents writer.new) }
 {
     for asked in 0..u64::MAX {
-        match answer_line(alloc, dialogue, source, setting, commands, writer) {
+        match answer_line(alloc, dialogue, source, setting, commands, writer, watch) {
             Ok(true) => {}
             Ok(false) => return Outcome::Ended(End::Done),
             Err(outcome) => return outcome,
@@ -180,14 +203,15 @@ fn open<W: Write>(
 }
 
 /// Debugs a program by commands, one on a line, up to `q` or the end. Each command is answered, and the answer flushed,
-/// before the next one is read.
-pub fn debug<R: Read, W: Write>(
+/// before the next one is read. A watch hears now and then how far a way is.
+pub fn debug<R: Read, W: Write, V: Watch>(
     alloc: Global,
     source: &CompiledSource,
     keyboard: Keyboard,
     setting: Setting,
     commands: &mut Tracked<R>,
     writer: &mut Tracked<W>,
+    watch: &mut V,
 ) -> Outcome
     ensures { Debugs source.now keyboard setting result
         (streams_of R.remaining commands.old W.contents writer.old) (streams_of R.remaining commands.new W.contents writer.new) }
@@ -195,15 +219,88 @@ pub fn debug<R: Read, W: Write>(
     let Ok(written) = Written::new(alloc, source) else {
         return Outcome::NoMemory;
     };
-    let mut dialogue = match debugger_of(alloc, source, keyboard, setting.rom) {
-        Ok(debugger) => Dialogue {
-            debugger,
-            last: None,
-        },
-        Err(outcome) => return outcome,
+    match debugger_of(alloc, source, keyboard, setting.rom) {
+        Ok(debugger) => converse(alloc, debugger, &written, setting, commands, writer, watch),
+        Err(outcome) => outcome,
+    }
+}
+
+// The first stop is told, and then lines are answered.
+fn converse<R: Read, W: Write, V: Watch>(
+    alloc: Global,
+    debugger: Debugger<'_>,
+    source: &Written<'_>,
+    setting: Setting,
+    commands: &mut Tracked<R>,
+    writer: &mut Tracked<W>,
+    watch: &mut V,
+) -> Outcome
+    ensures { Converses source.now setting debugger.entry result
+        (streams_of R.remaining commands.old W.contents writer.old) (streams_of R.remaining commands.new W.contents writer.new) }
+{
+    let mut dialogue = Dialogue {
+        debugger,
+        last: None,
     };
-    match open(alloc, &mut dialogue.debugger, &written, setting, writer) {
-        Ok(()) => answer_lines(alloc, &mut dialogue, &written, setting, commands, writer),
+    match open(alloc, &mut dialogue.debugger, source, setting, writer) {
+        Ok(()) => answer_lines(
+            alloc,
+            &mut dialogue,
+            source,
+            setting,
+            commands,
+            writer,
+            watch,
+        ),
+        Err(outcome) => outcome,
+    }
+}
+
+// The debugger of a PRG file at its first instruction.
+fn debugger_of_prg<'a>(
+    alloc: Global,
+    prg: &[u8],
+    keyboard: Keyboard,
+    rom: Rom,
+) -> Result<Debugger<'a>, Outcome>
+    ensures { BeginsPrg prg.now keyboard rom result }
+{
+    let machine = match start_file(alloc, prg, keyboard) {
+        Ok(machine) => machine,
+        Err(stop) => return Err(without_text(stop)),
+    };
+    match Debugger::of_prg(alloc, machine, rom) {
+        Ok(debugger) => Ok(debugger),
+        Err(_) => Err(Outcome::NoMemory),
+    }
+}
+
+/// Debugs a PRG file, of which there is no source, by the same commands: each address is a line, whose number is the
+/// address. What only a source answers is `no source`.
+pub fn debug_prg<R: Read, W: Write, V: Watch>(
+    alloc: Global,
+    prg: &[u8],
+    keyboard: Keyboard,
+    setting: Setting,
+    commands: &mut Tracked<R>,
+    writer: &mut Tracked<W>,
+    watch: &mut V,
+) -> Outcome
+    ensures { DebugsPrg prg.now keyboard setting result
+        (streams_of R.remaining commands.old W.contents writer.old) (streams_of R.remaining commands.new W.contents writer.new) }
+{
+    match debugger_of_prg(alloc, prg, keyboard, setting.rom) {
+        Ok(debugger) => {
+            converse(
+                alloc,
+                debugger,
+                &Written::none(alloc),
+                setting,
+                commands,
+                writer,
+                watch,
+            )
+        }
         Err(outcome) => outcome,
     }
 }

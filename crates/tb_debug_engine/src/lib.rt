@@ -6,5 +6,5 @@ mod lists;
 mod sources;
 mod texts;
 
-pub use dialogue::{Setting, debug};
+pub use dialogue::{Setting, debug, debug_prg};
 pub use tb_debug::Rom;

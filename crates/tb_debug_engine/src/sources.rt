@@ -1,7 +1,7 @@
 //! A source's lines as they are written.
 ghost use Rattle.std.specs.Prelude.{◌≡◌, IfOk, map};
 ghost use Rattle.tb_codegen.specs.Compiled.{pair_of};
-ghost use Rattle.tb_debug_engine.specs.Sources.{AreWritten};
+ghost use Rattle.tb_debug_engine.specs.Sources.{AreWritten, IsUnwritten};
 
 use std::alloc::{AllocError, Global};
 use tb_codegen::LineStart;
@@ -26,6 +26,16 @@ impl<'a> Written<'a> {
             lines: numbered_lines(alloc, source.text.as_slice())?,
             numbers: numbers_of(alloc, source.program.starts())?,
         })
+    }
+
+    /// Those of no source.
+    pub fn none(alloc: Global) -> Written<'a>
+        ensures { IsUnwritten result }
+    {
+        Written {
+            lines: Vec::new(alloc),
+            numbers: Vec::new(alloc),
+        }
     }
 }
 

@@ -6,7 +6,7 @@ ghost use Rattle.tb_inspection.specs.Texts.{registers_text, value_text};
 ghost use Rattle.tb_debug_engine.specs.Lists.{written};
 ghost use Rattle.tb_debug_engine.specs.Sources.{shown_of};
 ghost use Rattle.tb_debug_engine.specs.Texts as texts;
-ghost use Rattle.tb_debug_engine.specs.Texts.{barred_from, byte_text, bytes_text, code_text, faults_text, or_none, location_text};
+ghost use Rattle.tb_debug_engine.specs.Texts.{address_line, barred_from, byte_text, bytes_text, code_text, faults_text, or_none, location_text};
 ghost use Rattle.tb_debug_engine.specs.Texts.{return_text, row_text, sent_text, stand_text, standing_text, unless_zero};
 ghost use Rattle.tb_debug_engine.specs.Texts.{variable_text, variables_from, what_text};
 
@@ -39,6 +39,8 @@ const HELP: &[u8] = b"n [K]      on by K lines
 p [K]      back by K lines
 c          on to a breakpoint or behind a line that changes what is watched
 rc         back to a breakpoint or to a line that changed what is watched
+j          on to the next line, over a GOSUB with all it does, or as c
+u          on out of the subroutine, or as c
 b [N]      breakpoint at line N on or off; all breakpoints
 w X        watch on variable X on or off
 f          stop of c at the line that faults on or off
@@ -142,16 +144,19 @@ fn push_status(alloc: Global, text: &mut Vec<u8>, status: Status, pc: u16) -> Re
     }
 }
 
-// Appends the line at which the run is, `start` before the first one, or how the machine stands.
+// Appends the line at which the run is, `start` before the first one, the instruction without a source, or how the machine
+// stands.
 fn push_location(
     alloc: Global,
     text: &mut Vec<u8>,
     lines: &[Numbered<'_>],
     location: Location,
+    instruction: Vec<Line>,
 ) -> Result<(), AllocError>
-    ensures { AppendsBytes result text.old text.new (location_text (map pair_of lines.now) location) }
+    ensures { AppendsBytes result text.old text.new (location_text (map pair_of lines.now) location instruction.items) }
 {
     match location {
+        Location::Instruction => push_code(alloc, text, instruction),
         Location::Line(number) => push_written(text, lines, number),
         Location::Opening => text.extend_from_slice(b"start\n"),
         Location::Ended { status, pc } => push_status(alloc, text, status, pc),
@@ -163,15 +168,15 @@ fn push_stand(
     alloc: Global,
     text: &mut Vec<u8>,
     lines: &[Numbered<'_>],
-    stand: &Stand,
+    stand: Stand,
 ) -> Result<(), AllocError>
-    ensures { AppendsBytes result text.old text.new (stand_text (map pair_of lines.now) stand.now) }
+    ensures { AppendsBytes result text.old text.new (stand_text (map pair_of lines.now) stand) }
 {
     push_sent(alloc, text, stand.sent.as_slice())?;
     if stand.is_limit {
         push_line(text, LIMIT)?;
     }
-    push_location(alloc, text, lines, stand.location)
+    push_location(alloc, text, lines, stand.location, stand.instruction)
 }
 
 // The lines with a breakpoint, as they are written.
@@ -187,6 +192,27 @@ fn breakpoints_text(
         push_written(&mut text, lines, *number)?;
     }
     Ok(text)
+}
+
+// The addresses with a breakpoint, in lines of their own.
+fn addresses_text(alloc: Global, addresses: &[u16]) -> Result<Vec<u8>, AllocError>
+    ensures { IfOk result (λ text. text.items ≡ flat_map address_line addresses.now) }
+{
+    let mut text = Vec::new(alloc);
+    for address in addresses {
+        push_address_line(alloc, &mut text, *address)?;
+    }
+    Ok(text)
+}
+
+// Appends an address after `$`, in a line of its own.
+fn push_address_line(alloc: Global, text: &mut Vec<u8>, address: u16) -> Result<(), AllocError>
+    ensures { AppendsBytes result text.old text.new (address_line address) }
+{
+    text.push(b'$')?;
+    push_address(alloc, text, address)?;
+    text.push(b'\n')?;
+    Ok(())
 }
 
 // The name of the variable at an index in the alphabet.
@@ -385,10 +411,11 @@ pub fn push_answer(
 {
     let lines = source.lines.as_slice();
     match answer {
-        Answer::Stop(stand) => push_stand(alloc, text, lines, &stand),
+        Answer::Stop(stand) => push_stand(alloc, text, lines, stand),
         Answer::Breakpoints(numbers) => {
             push_or_none(text, &breakpoints_text(alloc, lines, &numbers)?)
         }
+        Answer::Addresses(addresses) => push_or_none(text, &addresses_text(alloc, &addresses)?),
         Answer::List { around, here } => push_list(text, lines, &source.numbers, around, here),
         Answer::Variables(values) => push_or_none(text, &variables_text(alloc, &values)?),
         Answer::Variable { index, value } => push_variable(text, index, value),
@@ -406,6 +433,7 @@ pub fn push_answer(
         }
         Answer::Value(value) => push_value_line(text, value),
         Answer::NoSuchLine => push_line(text, NO_SUCH_LINE),
+        Answer::NoSource => push_line(text, b"no source"),
         Answer::What => push_what(text, hints),
     }
 }

@@ -6,6 +6,7 @@
 //! them is the promise alone.
 #![tactic(auto)]
 
+mod causes;
 mod commands;
 mod copies;
 mod engine;

@@ -1,23 +1,24 @@
 //! Going on and back along a run.
 ghost use Rattle.std.specs.Prelude.{◌≡◌, IfOk, OnOk};
-ghost use Rattle.tb_codegen.specs.Compiled.{starts_of};
 ghost use Rattle.tb_debug.specs.Debuggers.{KeepsRun, KeepsRunTyped, RewindsBy, GoesToTime, Responds};
 ghost use Rattle.tb_debug.specs.Begins.{StandsBy};
 ghost use Rattle.tb_debug.specs.Kinds.{IsWalk};
-ghost use Rattle.tb_debug.specs.Leading.{Continues, ReverseContinues};
+ghost use Rattle.tb_debug.specs.Leading.{Continues, GoesOut, GoesOver, ReverseContinues};
 ghost use Rattle.tb_debug.specs.Leaving.{Leaves};
-ghost use Rattle.tb_debug.specs.Lines.{line_at};
+ghost use Rattle.tb_debug.specs.Debuggees.{line_from};
 ghost use Rattle.tb_debug.specs.Sources.{ShowsSource};
 ghost use Rattle.tb_debug.specs.Telling.{Tells};
 
 use std::alloc::{AllocError, Global};
 use tb_debug::{Answer, Command, Debugger, Reached};
+use tb_watch::Watch;
 
 /// Calls `Debugger::continue_`.
-pub fn gone_on(
+pub fn gone_on<W: Watch>(
     debugger: &mut Debugger<'_>,
     alloc: Global,
     limit: u64,
+    watch: &mut W,
 ) -> Result<Reached, AllocError>
     ensures run { OnOk result (KeepsRun debugger.old debugger.new) }
     ensures stop { IfOk result (λ reached. Continues limit debugger.old reached debugger.new.present) }
@@ -25,7 +26,39 @@ pub fn gone_on(
     ensures shown { OnOk result (debugger.new.shown ≡ debugger.old.shown) }
     ensures stops { OnOk result (debugger.new.stops ≡ debugger.old.stops) }
 {
-    debugger.continue_(alloc, limit)
+    debugger.continue_(alloc, limit, watch)
+}
+
+/// Calls `Debugger::over`.
+pub fn gone_over<W: Watch>(
+    debugger: &mut Debugger<'_>,
+    alloc: Global,
+    limit: u64,
+    watch: &mut W,
+) -> Result<Reached, AllocError>
+    ensures run { OnOk result (KeepsRun debugger.old debugger.new) }
+    ensures stop { IfOk result (λ reached. GoesOver limit debugger.old reached debugger.new.present) }
+    ensures stands { IfOk result (λ reached. StandsBy debugger.old.starts reached debugger.new.present) }
+    ensures shown { OnOk result (debugger.new.shown ≡ debugger.old.shown) }
+    ensures stops { OnOk result (debugger.new.stops ≡ debugger.old.stops) }
+{
+    debugger.over(alloc, limit, watch)
+}
+
+/// Calls `Debugger::finish`.
+pub fn gone_out<W: Watch>(
+    debugger: &mut Debugger<'_>,
+    alloc: Global,
+    limit: u64,
+    watch: &mut W,
+) -> Result<Reached, AllocError>
+    ensures run { OnOk result (KeepsRun debugger.old debugger.new) }
+    ensures stop { IfOk result (λ reached. GoesOut limit debugger.old reached debugger.new.present) }
+    ensures stands { IfOk result (λ reached. StandsBy debugger.old.starts reached debugger.new.present) }
+    ensures shown { OnOk result (debugger.new.shown ≡ debugger.old.shown) }
+    ensures stops { OnOk result (debugger.new.stops ≡ debugger.old.stops) }
+{
+    debugger.finish(alloc, limit, watch)
 }
 
 /// Calls `Debugger::reverse_continue`.
@@ -40,11 +73,12 @@ pub fn gone_back(debugger: &mut Debugger<'_>, alloc: Global) -> Result<Reached, 
 }
 
 /// Calls `Debugger::to_time`.
-pub fn gone_to(
+pub fn gone_to<W: Watch>(
     debugger: &mut Debugger<'_>,
     alloc: Global,
     time: u64,
     limit: u64,
+    watch: &mut W,
 ) -> Result<Reached, AllocError>
     ensures run { OnOk result (KeepsRun debugger.old debugger.new) }
     ensures time { IfOk result (λ reached. GoesToTime time limit debugger.old reached debugger.new.present) }
@@ -52,7 +86,7 @@ pub fn gone_to(
     ensures shown { OnOk result (debugger.new.shown ≡ debugger.old.shown) }
     ensures stops { OnOk result (debugger.new.stops ≡ debugger.old.stops) }
 {
-    debugger.to_time(alloc, time, limit)
+    debugger.to_time(alloc, time, limit, watch)
 }
 
 /// Calls `Debugger::previous`.
@@ -72,7 +106,7 @@ pub fn stepped_back(
 
 /// Calls `Debugger::line_here`.
 pub fn line_begun(debugger: &Debugger<'_>) -> Option<u16>
-    ensures line { result ≡ line_at (starts_of debugger.now.program.now) debugger.now.present.machine.regs.pc }
+    ensures line { result ≡ line_from debugger.now.debuggee debugger.now.present.machine.regs.pc }
     ensures source { ShowsSource debugger.now result }
 {
     debugger.line_here()
@@ -89,16 +123,17 @@ pub fn typed(debugger: &mut Debugger<'_>, bytes: &[u8]) -> Result<(), AllocError
 }
 
 /// Calls `Debugger::respond`.
-pub fn answered(
+pub fn answered<W: Watch>(
     debugger: &mut Debugger<'_>,
     alloc: Global,
     command: Command<'_>,
     limit: u64,
+    watch: &mut W,
 ) -> Result<Option<Answer>, AllocError>
     ensures run { OnOk result (Responds command.entry debugger.old debugger.new) }
     ensures tells { IfOk result (Tells limit command.entry debugger.old debugger.new) }
     ensures shown { OnOk result (¬ (IsWalk command.entry debugger.old) → debugger.new.shown ≡ debugger.old.shown) }
     ensures leaves { OnOk result (Leaves command.entry debugger.old debugger.new) }
 {
-    debugger.respond(alloc, command, limit)
+    debugger.respond(alloc, command, limit, watch)
 }

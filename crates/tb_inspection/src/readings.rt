@@ -21,10 +21,7 @@ fn byte(memory: &Memory, address: u16) -> u8
     requires { (0xc000 ≤ address) × (address < 0xd000) }
     ensures { result ≡ at memory.now address }
 {
-    match memory.read(address) {
-        Ok(byte) => byte,
-        Err(_) => unreachable!(),
-    }
+    memory.open_byte(address)
 }
 
 // A word from its bytes.

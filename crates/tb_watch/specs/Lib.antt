@@ -1,1 +1,2 @@
+pub mod Quietly
 pub mod Stretches

@@ -11,6 +11,9 @@ const STRETCH: u64 = 1 << 23;
 
 /// Whoever waits for the end of a run.
 pub trait Watch {
+    /// Hears that a run begins.
+    fn began(&mut self);
+
     /// Hears how many events a run has taken so far.
     fn took(&mut self, events: u64);
 
@@ -23,6 +26,8 @@ pub trait Watch {
 pub struct Unwatched;
 
 impl Watch for Unwatched {
+    fn began(&mut self) {}
+
     fn took(&mut self, _events: u64) {}
 
     fn ended(&mut self) {}
@@ -45,6 +50,7 @@ pub fn run_watched<O: Outside, W: Watch>(
 ) -> Result<Status, AllocError>
     ensures { RanOver O.gives outside.old machine.old limit result outside.new machine.new }
 {
+    watch.began();
     let mut left = limit;
     'stretches: loop {
         let stretch = left.min(STRETCH);

@@ -2,8 +2,8 @@
 use Rattle.std.proofs.Common.{inr, ap, ◌∙◌}
 use Rattle.std.proofs.KnownBytes.{Appends-trans}
 use Rattle.tb_streams.specs.Lines.{without_return}
-use Rattle.tb_debug_commands.specs.Commands.{asked_after}
-use Rattle.tb_debug_engine.specs.Dialogue.{repeated}
+use Rattle.tb_debug.specs.Debuggees.{has_no_source}
+use Rattle.tb_debug_engine.specs.Dialogue.{repeated, spelled_by}
 use Rattle.tb_debug_engine.specs.Streams.{stream_of, streams_of}
 use Rattle.tb_debug_engine.specs.declared.dialogue.Dialogue.{Dialogue}
 use Rattle.tb_debug_engine.proofs.Exchanging.{answered, said_wrong}
@@ -15,8 +15,9 @@ returns-in-Ok g c =
     let (all, same) = c.in-Ok.ensures in
     let d = c.args.dialogue.now in
     let e : Dialogue = record { debugger = c.respond.new.self; last = c.last_move-dialogue.result } in
-    let command = c.read_after-command.result in
-    let spelled = c.read_after-command.ensures ∙ ap (asked_after (repeated d)) (c.without_return.ensures ∙ ap without_return c.as_slice.ensures.value) in
+    let command = c.read_spelled-command.result in
+    let spelled = c.read_spelled-command.ensures ∙ ap (λ b. spelled_by b (repeated d) c.without_return.result.now) c.has_no_source.ensures
+    ∙ ap (spelled_by (has_no_source d.debugger.debuggee) (repeated d)) (c.without_return.ensures ∙ ap without_return c.as_slice.ensures.value) in
     let done = c.in-Ok-Some-respond.ensures in (
       c.in-Ok-Some-respond.answer,
       (
@@ -33,8 +34,9 @@ returns-in-Ok-Some-respond g c =
     let (took, prompted) = rw c.in-Ok-Some.field-0-is at c.in-Ok-Some.ensures in
     let d = c.args.dialogue.now in
     let e : Dialogue = record { debugger = c.respond.new.self; last = c.last_move-dialogue.result } in
-    let command = c.read_after-command.result in
-    let spelled = c.read_after-command.ensures ∙ ap (asked_after (repeated d)) (c.without_return.ensures ∙ ap without_return c.as_slice.ensures.value) in
+    let command = c.read_spelled-command.result in
+    let spelled = c.read_spelled-command.ensures ∙ ap (λ b. spelled_by b (repeated d) c.without_return.result.now) c.has_no_source.ensures
+    ∙ ap (spelled_by (has_no_source d.debugger.debuggee) (repeated d)) (c.without_return.ensures ∙ ap without_return c.as_slice.ensures.value) in
     let done = c.in-Ok-Some-respond.ensures in
     let old = streams_of g.R.Read.remaining c.args.commands.now g.W.Write.contents c.args.writer.now in
     let new = streams_of g.R.Read.remaining c.ask.new.commands g.W.Write.contents c.say.new.writer in
@@ -49,8 +51,9 @@ returns-in-Ok-None-respond g c =
     let (took, prompted) = rw c.in-Ok-Some.field-0-is at c.in-Ok-Some.ensures in
     let d = c.args.dialogue.now in
     let e : Dialogue = record { debugger = c.respond.new.self; last = c.last_move-dialogue.result } in
-    let command = c.read_after-command.result in
-    let spelled = c.read_after-command.ensures ∙ ap (asked_after (repeated d)) (c.without_return.ensures ∙ ap without_return c.as_slice.ensures.value) in
+    let command = c.read_spelled-command.result in
+    let spelled = c.read_spelled-command.ensures ∙ ap (λ b. spelled_by b (repeated d) c.without_return.result.now) c.has_no_source.ensures
+    ∙ ap (spelled_by (has_no_source d.debugger.debuggee) (repeated d)) (c.without_return.ensures ∙ ap without_return c.as_slice.ensures.value) in
     let done = c.in-Ok-None-respond.ensures in (
       inr (
         c.in-Ok-Some.line.items,

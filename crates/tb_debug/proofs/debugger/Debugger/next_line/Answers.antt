@@ -9,6 +9,6 @@ returns-in_ok-keep-clause-run c = (
   refl,
   λ start h.
       let kept = c.in_ok-keep.ensures in
-      kept_on c.args.self.now.program.now start c.args.self.now.starts c.args.self.now.history c.keep.new.self c.args.self.now.present
+      kept_on c.args.self.now.debuggee start c.args.self.now.starts c.args.self.now.history c.keep.new.self c.args.self.now.present
       c.to_next_start.new.self c.in_ok-reached.ensures.run kept.first kept.later kept.few kept.spaced kept.near h,
 )

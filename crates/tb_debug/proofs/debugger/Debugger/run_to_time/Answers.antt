@@ -7,7 +7,7 @@ use Rattle.tb_debug.proofs.Stopping.{last_is, limited_on, then_keeps}
 use Rattle.tb_debug.proofs.debugger.Debugger.run_to_time.Goals as goal
 
 pub returns-in_default : goal.returns-in_default
-returns-in_default c =
+returns-in_default g c =
     let d = c.args.self.now in
     let e = c.loop-done.self in
     let f = c.next_line.new.self in

@@ -7,7 +7,7 @@ use Rattle.tb_debug.specs.declared.moment.Reached.TheVariants.{Line}
 use Rattle.tb_debug.proofs.debugger.Debugger.run_to_time.Given as goal
 
 abbrev pub invariant-loop-done : goal.invariant-loop-done
-invariant-loop-done l = record {
+invariant-loop-done g l = record {
   run : KeepsRun l.fn.self l.self;
   shown : l.self.shown ≡ l.fn.self.shown;
   stops : l.self.stops ≡ l.fn.self.stops;

@@ -6,7 +6,7 @@ use Rattle.tb_debug.proofs.Stopping.{last_is, limited_on, off, passed_here, then
 use Rattle.tb_debug.proofs.debugger.Debugger.run_until.Goals as goal
 
 pub loop-done-init : goal.loop-done-init
-loop-done-init c =
+loop-done-init g c =
     record {
       run = (refl, refl, λ start h. h);
       shown = refl;
@@ -17,7 +17,7 @@ loop-done-init c =
     }
 
 pub returns-in_default : goal.returns-in_default
-returns-in_default c =
+returns-in_default g c =
     let d = c.args.self.now in
     let e = c.loop-done.self in
     let f = c.next_line.new.self in

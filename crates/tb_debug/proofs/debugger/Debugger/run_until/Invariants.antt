@@ -6,7 +6,7 @@ use Rattle.tb_debug.proofs.Stopping.{Passed}
 use Rattle.tb_debug.proofs.debugger.Debugger.run_until.Given as goal
 
 abbrev pub invariant-loop-done : goal.invariant-loop-done
-invariant-loop-done l = record {
+invariant-loop-done g l = record {
   run : KeepsRun l.fn.self l.self;
   shown : l.self.shown ≡ l.fn.self.shown;
   stops : l.self.stops ≡ l.fn.self.stops;
