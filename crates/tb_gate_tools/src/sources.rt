@@ -26,6 +26,7 @@ use tb_kernal::{Keyboard, Machine, Outside};
 use tb_meaning::Warning;
 use tb_profile_engine::{Named, Profiled, profile_prg, profile_text};
 use tb_streams::Tracked;
+use tb_watch::Watch;
 
 /// Calls `Compiled::into_warnings`.
 pub fn warnings_of_program(program: Compiled) -> Vec<Warning>
@@ -165,7 +166,7 @@ pub fn source_played<R: Read, W: Write>(
 }
 
 /// Calls `profile_text`.
-pub fn source_profiled<R: Read, W: Write, O: Outside>(
+pub fn source_profiled<R: Read, W: Write, O: Outside, V: Watch>(
     alloc: Global,
     named: &Named<'_>,
     reader: &mut Tracked<R>,
@@ -174,6 +175,7 @@ pub fn source_profiled<R: Read, W: Write, O: Outside>(
     keyboard: Keyboard,
     limit: u32,
     outside: &mut O,
+    watch: &mut V,
 ) -> Profiled
     ensures answers { AnswersInput
         (ProfilesSource named.now (settings_of O.gives outside.old keyboard limit) settings result.report.warnings.items result.page.items)
@@ -183,23 +185,24 @@ pub fn source_profiled<R: Read, W: Write, O: Outside>(
     ensures taken { TakesInput (use_of R.remaining reader.old reader.new) }
 {
     profile_text(
-        alloc, named, reader, writer, settings, keyboard, limit, outside,
+        alloc, named, reader, writer, settings, keyboard, limit, outside, watch,
     )
 }
 
 /// Calls `profile_prg`.
-pub fn prg_profiled<R: Read, W: Write, O: Outside>(
+pub fn prg_profiled<R: Read, W: Write, O: Outside, V: Watch>(
     alloc: Global,
     reader: &mut Tracked<R>,
     writer: &mut Tracked<W>,
     keyboard: Keyboard,
     limit: u32,
     outside: &mut O,
+    watch: &mut V,
 ) -> Outcome
     ensures answers { AnswersInput (ProfilesPrg (settings_of O.gives outside.old keyboard limit)) result
         (use_of R.remaining reader.old reader.new) (use_of W.contents writer.old writer.new) }
     ensures faults { Faults result (use_of R.remaining reader.old reader.new) (use_of W.contents writer.old writer.new) }
     ensures taken { TakesInput (use_of R.remaining reader.old reader.new) }
 {
-    profile_prg(alloc, reader, writer, keyboard, limit, outside)
+    profile_prg(alloc, reader, writer, keyboard, limit, outside, watch)
 }

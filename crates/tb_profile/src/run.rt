@@ -4,6 +4,7 @@ ghost use Rattle.tb_memmap.specs.Bytes.{at};
 ghost use Rattle.tb_cpu.specs.Operands.{reading};
 ghost use Rattle.tb_kernal.specs.Machine.{state_of, status, is_running, is_no_service};
 ghost use Rattle.tb_kernal.specs.Rom.{service_at};
+ghost use Rattle.tb_kernal.specs.Runs.{GivesQuiet};
 ghost use Rattle.tb_kernal.specs.declared.status.Status.TheVariants.{Running};
 ghost use Rattle.tb_profile.specs.Steps.{cycles_of_go};
 ghost use Rattle.tb_profile.specs.Tallies.{CountsEvent, Took, TookShortly, most_cycles};
@@ -13,9 +14,13 @@ use crate::tally::Tally;
 use std::alloc::{AllocError, Global};
 use tb_cycles::cycles;
 use tb_kernal::{CHRIN, CHROUT, Event, GETIN, Machine, Outside, Status};
+use tb_watch::{Watch, go_once};
 
 /// The cycles of a service: those of its RTS, since its other time isn't the program's.
 const SERVICE_CYCLES: u8 = 6;
+
+/// How many events a run takes before a watch hears of them again: a tenth of a second, or less.
+const STRETCH: u32 = 1 << 20;
 
 /// The status of a machine after a run, and what was counted.
 #[derive(Drop)]
@@ -70,6 +75,9 @@ fn take_event<O: Outside>(
     requires few { tally.old.taken < 2 ^ 32 }
     ensures { OnOk result (Took O.gives outside.old machine.old tally.old outside.new machine.new tally.new) }
 {
+    if outside.is_quiet() {
+        return take_quietly(machine, outside, tally);
+    }
     if machine.reserve(1).is_err() {
         return Err(AllocError);
     }
@@ -79,6 +87,24 @@ fn take_event<O: Outside>(
         Ok(_) => Ok(()),
         Err(_) => unreachable!(),
     }
+}
+
+// The same of an outside that gives quiet events.
+fn take_quietly<O: Outside>(
+    machine: &mut Machine,
+    outside: &O,
+    tally: &mut Tally,
+) -> Result<(), AllocError>
+    requires running { status (state_of machine.old) ≡ Running }
+    requires quiet { GivesQuiet O.gives outside.now }
+    requires few { tally.old.taken < 2 ^ 32 }
+    ensures { OnOk result (Took O.gives outside.now machine.old tally.old outside.now machine.new tally.new) }
+{
+    let pc = machine.regs().pc;
+    let cycles = cycles_of_go(machine);
+    go_once(machine)?;
+    tally.count(pc, cycles);
+    Ok(())
 }
 
 // Lets an outside's next event happen and counts it, if it is a quiet one of a machine that runs, and has a short way. Else
@@ -100,18 +126,45 @@ fn take_shortly<O: Outside>(machine: &mut Machine, outside: &O, tally: &mut Tall
 }
 
 /// Lets the events of an outside happen as `run` does, and counts the program's own by the lines that begin at these
-/// addresses. AllocError comes only if memory runs out; the counts are then lost.
-pub fn run_counted<O: Outside>(
+/// addresses. AllocError comes only if memory runs out; the counts are then lost. A watch hears now and then how many
+/// events were taken; what it hears changes nothing.
+pub fn run_counted<O: Outside, W: Watch>(
     alloc: Global,
     machine: &mut Machine,
     outside: &mut O,
     starts: &[u16],
     limit: u32,
+    watch: &mut W,
+) -> Result<Profile, AllocError>
+    ensures { Profiled O.gives outside.old machine.old starts.now limit result outside.new machine.new }
+{
+    watch.began();
+    let profile = count_events(alloc, machine, outside, starts, limit, watch);
+    watch.ended();
+    profile
+}
+
+// Tells a watch now and then how many events were taken.
+fn tell_watch<W: Watch>(watch: &mut W, taken: u32) {
+    if taken % STRETCH == 0 {
+        watch.took(u64::from(taken));
+    }
+}
+
+// The same, but that the watch doesn't hear of the end.
+fn count_events<O: Outside, W: Watch>(
+    alloc: Global,
+    machine: &mut Machine,
+    outside: &mut O,
+    starts: &[u16],
+    limit: u32,
+    watch: &mut W,
 ) -> Result<Profile, AllocError>
     ensures { Profiled O.gives outside.old machine.old starts.now limit result outside.new machine.new }
 {
     let mut tally = Tally::new(alloc, starts)?;
-    for _ in 0..limit {
+    for taken in 0..limit {
+        tell_watch(watch, taken);
         if take_shortly(machine, outside, &mut tally) {
             continue;
         }

@@ -16,6 +16,7 @@ use tb_engines::{End, NoText, Report, Text, deliver};
 use tb_kernal::{Keyboard, Outside};
 use tb_profile_table::{About, Texts, texts_of};
 use tb_streams::Tracked;
+use tb_watch::Watch;
 
 /// How profiling ended, and the page, which is empty if there is no table.
 #[derive(Drop)]
@@ -105,7 +106,7 @@ fn texts_of_run(
 }
 
 // Runs the program of a source, and makes its texts.
-fn make_texts<O: Outside>(
+fn make_texts<O: Outside, W: Watch>(
     alloc: Global,
     source: &CompiledSource,
     named: &Named<'_>,
@@ -113,6 +114,7 @@ fn make_texts<O: Outside>(
     keyboard: Keyboard,
     limit: u32,
     outside: &mut O,
+    watch: &mut W,
 ) -> Result<Made, NoText>
     requires { IsProgramOf source.now.text.items source.now.program }
     ensures { MakesTexts (Profiles (facts_on named.now settings (settings_of O.gives outside.old keyboard limit))
@@ -121,7 +123,7 @@ fn make_texts<O: Outside>(
     let Ok(typed) = copy_of(alloc, &keyboard) else {
         return Err(NoText::NoMemory);
     };
-    let ran = profile_program(alloc, &source.program, keyboard, limit, outside)?;
+    let ran = profile_program(alloc, &source.program, keyboard, limit, outside, watch)?;
     match texts_of_run(
         alloc,
         source.text.as_slice(),
@@ -159,8 +161,8 @@ fn prepare(alloc: Global, made: Result<Made, NoText>) -> Prepared
 }
 
 /// Compiles a source, runs it as `run_text` does, and writes a table of what its lines took.
-/// The page is made with it, and says what the run was given.
-pub fn profile_text<R: Read, W: Write, O: Outside>(
+/// The page is made with it, and says what the run was given. A watch hears now and then how many events were taken.
+pub fn profile_text<R: Read, W: Write, O: Outside, V: Watch>(
     alloc: Global,
     named: &Named<'_>,
     reader: &mut Tracked<R>,
@@ -169,6 +171,7 @@ pub fn profile_text<R: Read, W: Write, O: Outside>(
     keyboard: Keyboard,
     limit: u32,
     outside: &mut O,
+    watch: &mut V,
 ) -> Profiled
     ensures answers { AnswersInput
         (ProfilesSource named.now (settings_of O.gives outside.old keyboard limit) settings result.report.warnings.items result.page.items)
@@ -188,7 +191,9 @@ pub fn profile_text<R: Read, W: Write, O: Outside>(
     };
     let Prepared { text, page } = prepare(
         alloc,
-        make_texts(alloc, &source, named, settings, keyboard, limit, outside),
+        make_texts(
+            alloc, &source, named, settings, keyboard, limit, outside, watch,
+        ),
     );
     Profiled {
         report: Report {

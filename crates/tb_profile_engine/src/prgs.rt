@@ -11,17 +11,19 @@ use tb_engines::{NoText, Outcome, Text, deliver, end_of, start_file, without_inp
 use tb_kernal::{Keyboard, Machine, Outside};
 use tb_profile_table::{addresses_text, profile_addresses};
 use tb_streams::{Tracked, read_input};
+use tb_watch::Watch;
 
 // Runs a machine, and shows what each address took.
-fn profile_machine<O: Outside>(
+fn profile_machine<O: Outside, W: Watch>(
     alloc: Global,
     machine: &mut Machine,
     limit: u32,
     outside: &mut O,
+    watch: &mut W,
 ) -> Result<Text, NoText>
     ensures { Makes (ProfilesOn O.gives outside.old machine.old limit) result }
 {
-    let Ok(table) = profile_addresses(alloc, machine, outside, limit) else {
+    let Ok(table) = profile_addresses(alloc, machine, outside, limit, watch) else {
         return Err(NoText::NoMemory);
     };
     let end = end_of(table.status, machine.regs().pc);
@@ -32,28 +34,30 @@ fn profile_machine<O: Outside>(
 }
 
 // Runs a PRG file, and shows what each address took.
-fn profile_file<O: Outside>(
+fn profile_file<O: Outside, W: Watch>(
     alloc: Global,
     file: &[u8],
     keyboard: Keyboard,
     limit: u32,
     outside: &mut O,
+    watch: &mut W,
 ) -> Result<Text, NoText>
     ensures { Makes (ProfilesPrg (settings_of O.gives outside.old keyboard limit) file.now) result }
 {
     let mut machine = start_file(alloc, file, keyboard)?;
-    profile_machine(alloc, &mut machine, limit, outside)
+    profile_machine(alloc, &mut machine, limit, outside, watch)
 }
 
 /// Runs a PRG file as `run_prg` does, and writes a table of what its instructions took, by the addresses where they
-/// begin.
-pub fn profile_prg<R: Read, W: Write, O: Outside>(
+/// begin. A watch hears now and then how many events were taken.
+pub fn profile_prg<R: Read, W: Write, O: Outside, V: Watch>(
     alloc: Global,
     reader: &mut Tracked<R>,
     writer: &mut Tracked<W>,
     keyboard: Keyboard,
     limit: u32,
     outside: &mut O,
+    watch: &mut V,
 ) -> Outcome
     ensures answers { AnswersInput (ProfilesPrg (settings_of O.gives outside.old keyboard limit)) result
         (use_of R.remaining reader.old reader.new) (use_of W.contents writer.old writer.new) }
@@ -63,7 +67,7 @@ pub fn profile_prg<R: Read, W: Write, O: Outside>(
     match read_input(alloc, reader) {
         Ok(file) => deliver(
             writer,
-            profile_file(alloc, file.as_slice(), keyboard, limit, outside),
+            profile_file(alloc, file.as_slice(), keyboard, limit, outside, watch),
         ),
         Err(error) => without_input(error),
     }

@@ -12,6 +12,7 @@ use tb_driver::start_program;
 use tb_engines::{End, NoText, end_of};
 use tb_kernal::{Keyboard, Machine, Outside};
 use tb_profile_table::{Start, Table, profile};
+use tb_watch::Watch;
 
 /// What a run took, and how it ended.
 #[derive(Drop)]
@@ -36,19 +37,20 @@ fn starts_of(alloc: Global, program: &Compiled) -> Result<Vec<Start>, AllocError
 }
 
 // Runs a program's machine.
-fn profile_machine<O: Outside>(
+fn profile_machine<O: Outside, W: Watch>(
     alloc: Global,
     machine: &mut Machine,
     program: &Compiled,
     limit: u32,
     outside: &mut O,
+    watch: &mut W,
 ) -> Result<Ran, NoText>
     ensures { ComesTo (RunsFrom O.gives outside.old limit program.now machine.old) result }
 {
     let Ok(starts) = starts_of(alloc, program) else {
         return Err(NoText::NoMemory);
     };
-    match profile(alloc, machine, outside, &starts, limit) {
+    match profile(alloc, machine, outside, &starts, limit, watch) {
         Ok(table) => Ok(Ran {
             end: end_of(table.status, machine.regs().pc),
             table,
@@ -57,17 +59,19 @@ fn profile_machine<O: Outside>(
     }
 }
 
-/// Runs a compiled program for at most `limit` events, and counts what its lines take.
-pub fn profile_program<O: Outside>(
+/// Runs a compiled program for at most `limit` events, and counts what its lines take. A watch hears now and then how many
+/// events were taken.
+pub fn profile_program<O: Outside, W: Watch>(
     alloc: Global,
     program: &Compiled,
     keyboard: Keyboard,
     limit: u32,
     outside: &mut O,
+    watch: &mut W,
 ) -> Result<Ran, NoText>
     requires { IsLoadable program.now }
     ensures { ComesTo (IsProfile (settings_of O.gives outside.old keyboard limit) program.now) result }
 {
     let mut machine = start_program(alloc, program, keyboard)?;
-    profile_machine(alloc, &mut machine, program, limit, outside)
+    profile_machine(alloc, &mut machine, program, limit, outside, watch)
 }

@@ -13,6 +13,7 @@ use std::alloc::{AllocError, Global};
 use tb_disasm::{first_line, write_item};
 use tb_kernal::{CHRIN, CHROUT, GETIN, Machine, Outside};
 use tb_memmap::Memory;
+use tb_watch::Watch;
 use tb_words::hex_digits;
 
 const HEAD: &[u8] = b" addr      times        cycles   share  instruction\n";
@@ -43,17 +44,18 @@ fn each_address(alloc: Global) -> Result<Vec<Start>, AllocError>
 
 /// Lets at most `limit` events of an outside happen, as `run` does, and counts what the instructions at each address
 /// took. There is a row for each address but 0, in order, whose `line` is the address; what was done at address 0 is
-/// the table's `start`. Fails only if memory runs out.
-pub fn profile_addresses<O: Outside>(
+/// the table's `start`. Fails only if memory runs out. A watch hears now and then how many events were taken.
+pub fn profile_addresses<O: Outside, W: Watch>(
     alloc: Global,
     machine: &mut Machine,
     outside: &mut O,
     limit: u32,
+    watch: &mut W,
 ) -> Result<Table, AllocError>
     ensures { ProfilesAddresses O.gives outside.old machine.old limit result outside.new machine.new }
 {
     let starts = each_address(alloc)?;
-    profile(alloc, machine, outside, &starts, limit)
+    profile(alloc, machine, outside, &starts, limit, watch)
 }
 
 // Appends the instruction of these bytes at an address.

@@ -5,6 +5,7 @@ ghost use Rattle.tb_profile_table.specs.Rows.{IsTableOf, Profiles, row_in, start
 use std::alloc::{AllocError, Global};
 use tb_kernal::{Machine, Outside, Status};
 use tb_profile::{Tally, run_counted};
+use tb_watch::Watch;
 
 /// The address where the code of a line begins.
 #[derive(Clone, Copy, Drop)]
@@ -116,18 +117,20 @@ fn table_of(
 }
 
 /// Lets at most `limit` events of an outside happen, as `run` does, and counts what each line took, by the address
-/// where it begins. There is a row for each start, in order. Fails only if memory runs out.
-pub fn profile<O: Outside>(
+/// where it begins. There is a row for each start, in order. Fails only if memory runs out. A watch hears now and then how
+/// many events were taken.
+pub fn profile<O: Outside, W: Watch>(
     alloc: Global,
     machine: &mut Machine,
     outside: &mut O,
     starts: &[Start],
     limit: u32,
+    watch: &mut W,
 ) -> Result<Table, AllocError>
     ensures { Profiles O.gives outside.old machine.old (map start_pair starts.now) limit result outside.new machine.new }
 {
     let addresses = addresses_of(alloc, starts)?;
     are_addresses(&addresses);
-    let profile = run_counted(alloc, machine, outside, &addresses, limit)?;
+    let profile = run_counted(alloc, machine, outside, &addresses, limit, watch)?;
     table_of(alloc, &profile.tally, starts, profile.status)
 }

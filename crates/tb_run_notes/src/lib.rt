@@ -1,5 +1,5 @@
 //! Runs of sources, with what the machine tells at their end: at which line a run stopped or waits, or by which fault the
-//! program ended.
+//! program ended. While a program runs, a watch hears how far it is.
 #![tactic(auto)]
 
 mod faults;
@@ -9,5 +9,5 @@ mod runs;
 
 pub use faults::Fault;
 pub use notes::{EndNote, end_note};
-pub use runs::{NotedRun, run_noted};
+pub use runs::{NotedRun, run_noted, run_prg_watched};
 pub use tb_faults::FaultKind;

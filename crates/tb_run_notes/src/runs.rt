@@ -1,4 +1,4 @@
-//! Running a source, with what the machine tells at the end.
+//! Running a source, with what the machine tells at the end, or a PRG file.
 ghost use Rattle.std.specs.Prelude.{◌≡◌, ℕ, List, OnOk, IfSome, MatchResult, Ok, Some};
 ghost use Rattle.tb_kernal.specs.Machine.{state_of, status};
 ghost use Rattle.tb_kernal.specs.Runs.{RanOver};
@@ -18,9 +18,9 @@ use std::alloc::Global;
 use std::io::{Read, Write};
 use tb_codegen::{CompileSettings, Compiled};
 use tb_driver::{are_bytes, read_source, start_program};
-use tb_engines::{NoText, Report, Text, deliver, end_of};
+use tb_engines::{NoText, Outcome, Report, Text, deliver, end_of, start_file, without_input};
 use tb_kernal::{Keyboard, Machine, Outside};
-use tb_streams::{Tracked, host_form};
+use tb_streams::{Tracked, host_form, read_input};
 use tb_watch::{Watch, run_watched};
 
 /// A run of a source: how it ended, and what the machine told then.
@@ -153,5 +153,44 @@ pub fn run_noted<R: Read, W: Write, O: Outside, V: Watch>(
             warnings: source.program.into_warnings(),
         },
         note: ran.note,
+    }
+}
+
+// Runs a PRG file, and shows what it sent.
+fn run_file<O: Outside, W: Watch>(
+    alloc: Global,
+    file: &[u8],
+    keyboard: Keyboard,
+    limit: u64,
+    outside: &mut O,
+    watch: &mut W,
+) -> Result<Text, NoText>
+    ensures { Makes (RunsPrg (settings_of O.gives outside.old keyboard limit) file.now) result }
+{
+    let mut machine = start_file(alloc, file, keyboard)?;
+    run_machine(alloc, &mut machine, limit, outside, watch)
+}
+
+/// Runs a PRG file as `run_prg` does. A watch hears meanwhile how many events were taken, which changes nothing.
+pub fn run_prg_watched<R: Read, W: Write, O: Outside, V: Watch>(
+    alloc: Global,
+    reader: &mut Tracked<R>,
+    writer: &mut Tracked<W>,
+    keyboard: Keyboard,
+    limit: u64,
+    outside: &mut O,
+    watch: &mut V,
+) -> Outcome
+    ensures answers { AnswersInput (RunsPrg (settings_of O.gives outside.old keyboard limit)) result
+        (use_of R.remaining reader.old reader.new) (use_of W.contents writer.old writer.new) }
+    ensures faults { Faults result (use_of R.remaining reader.old reader.new) (use_of W.contents writer.old writer.new) }
+    ensures taken { TakesInput (use_of R.remaining reader.old reader.new) }
+{
+    match read_input(alloc, reader) {
+        Ok(file) => deliver(
+            writer,
+            run_file(alloc, file.as_slice(), keyboard, limit, outside, watch),
+        ),
+        Err(error) => without_input(error),
     }
 }

@@ -1,17 +1,17 @@
--- The goals of `run_counted` in src/run.rt.
+-- The goals of `count_events` in src/run.rt.
 use Rattle.std.proofs.Common.{rules, ◌≡◌, true, false, length, ◌∷◌, [], ◌++◌, sym, ◌∙◌, arith, length-append}
 use Rattle.tb_kernal.specs.Machine.{state_of, status, is_running}
 use Rattle.tb_kernal.specs.declared.status.Status.TheVariants.{Running}
 use Rattle.tb_kernal.proofs.Giving.{gave_more, gave_run, gave_lawful, running, not_running}
 use Rattle.tb_profile.proofs.Counting.{few_steps, event_more, took_none, took_shortly}
-use Rattle.tb_profile.proofs.run.run_counted.Goals as goal
+use Rattle.tb_profile.proofs.run.count_events.Goals as goal
 
 pub returns-then-not-is_running : goal.returns-then-not-is_running
 returns-then-not-is_running g c =
     let gives = g.O.Outside.gives in
-    let i = c.loop.invariant in
-    let (gave, tally) = took_none gives c.args.outside.now c.loop.outside c.args.machine.now c.loop.machine c.take_shortly.new.machine
-    c.args.starts.now i.0 c.loop.tally c.take_shortly.new.tally c.take_shortly.result c.if-take_shortly.false c.take_shortly.ensures i.2 i.3 in
+    let i = c.loop-taken.invariant in
+    let (gave, tally) = took_none gives c.args.outside.now c.loop-taken.outside c.args.machine.now c.loop-taken.machine c.take_shortly.new.machine
+    c.args.starts.now i.0 c.loop-taken.tally c.take_shortly.new.tally c.take_shortly.result c.if-take_shortly.false c.take_shortly.ensures i.2 i.3 in
     let stands : is_running c.status-status.result ≡ false = search rules in (
       record {
         events = i.0;
@@ -26,24 +26,24 @@ returns-then-not-is_running g c =
 
 pub take_shortly-requires : goal.take_shortly-requires
 take_shortly-requires g c =
-    let i = c.loop.invariant in
+    let i = c.loop-taken.invariant in
     let few = few_steps c.args.starts.now 0 i.0 (state_of c.args.machine.now) in
     omega (arith, i.3.taken, few, i.1)
 
 pub take_event-requires-clause-few : goal.take_event-requires-clause-few
 take_event-requires-clause-few g c =
-    let i = c.loop.invariant in
-    let (gave, tally) = took_none g.O.Outside.gives c.args.outside.now c.loop.outside c.args.machine.now c.loop.machine c.take_shortly.new.machine
-    c.args.starts.now i.0 c.loop.tally c.take_shortly.new.tally c.take_shortly.result c.if-take_shortly.false c.take_shortly.ensures i.2 i.3 in
+    let i = c.loop-taken.invariant in
+    let (gave, tally) = took_none g.O.Outside.gives c.args.outside.now c.loop-taken.outside c.args.machine.now c.loop-taken.machine c.take_shortly.new.machine
+    c.args.starts.now i.0 c.loop-taken.tally c.take_shortly.new.tally c.take_shortly.result c.if-take_shortly.false c.take_shortly.ensures i.2 i.3 in
     let few = few_steps c.args.starts.now 0 i.0 (state_of c.args.machine.now) in
     omega (arith, tally.taken, few, i.1)
 
-pub loop-preserved-then-take_shortly : goal.loop-preserved-then-take_shortly
-loop-preserved-then-take_shortly g c =
+pub loop-taken-preserved-then-take_shortly : goal.loop-taken-preserved-then-take_shortly
+loop-taken-preserved-then-take_shortly g c =
     let gives = g.O.Outside.gives in
-    let i = c.loop.invariant in
+    let i = c.loop-taken.invariant in
     let yes : c.take_shortly.result ≡ true = search rules in
-    let (now, took) = took_shortly gives c.loop.outside c.loop.machine c.take_shortly.new.machine c.loop.tally c.take_shortly.new.tally
+    let (now, took) = took_shortly gives c.loop-taken.outside c.loop-taken.machine c.take_shortly.new.machine c.loop-taken.tally c.take_shortly.new.tally
     c.take_shortly.result yes c.take_shortly.ensures in
     let same : state_of took.ready ≡ _ = took.same ∙ gave_run gives i.0 _ _ _ _ i.2 in (
       i.0 ++ took.event ∷ [],
@@ -52,12 +52,12 @@ loop-preserved-then-take_shortly g c =
       event_more c.args.starts.now i.0 _ _ took.event _ _ same i.3 took.counted,
     )
 
-pub loop-preserved : goal.loop-preserved
-loop-preserved g c =
+pub loop-taken-preserved : goal.loop-taken-preserved
+loop-taken-preserved g c =
     let gives = g.O.Outside.gives in
-    let i = c.loop.invariant in
-    let (gave, tally) = took_none gives c.args.outside.now c.loop.outside c.args.machine.now c.loop.machine c.take_shortly.new.machine
-    c.args.starts.now i.0 c.loop.tally c.take_shortly.new.tally c.take_shortly.result c.if-take_shortly.false c.take_shortly.ensures i.2 i.3 in
+    let i = c.loop-taken.invariant in
+    let (gave, tally) = took_none gives c.args.outside.now c.loop-taken.outside c.args.machine.now c.loop-taken.machine c.take_shortly.new.machine
+    c.args.starts.now i.0 c.loop-taken.tally c.take_shortly.new.tally c.take_shortly.result c.if-take_shortly.false c.take_shortly.ensures i.2 i.3 in
     let stands : is_running c.status-status.result ≡ true = search rules in
     let now : status (state_of c.take_shortly.new.machine) ≡ Running = sym c.status-status.ensures ∙ running c.status-status.result stands in
     let took = c.in_ok-take_event.ensures in
@@ -70,7 +70,7 @@ loop-preserved g c =
 
 pub returns : goal.returns
 returns g c =
-    let i = c.loop.invariant in
+    let i = c.loop-taken.invariant in
     let few : length i.0 ≡ c.args.limit = omega (arith, i.1) in (
       record {
         events = i.0;
