@@ -102,8 +102,8 @@ impl fmt::Display for NoteText {
     }
 }
 
-// How often a bound goes into the largest one that is advised.
-fn times_of(bound: u16) -> u32
+/// How often a bound goes into the largest one that is advised.
+pub fn times_of(bound: u16) -> u32
     ensures value { result ≡ times_of bound }
     ensures few { result ≤ 32767 }
 {

@@ -2,6 +2,7 @@
 use Rattle.std.specs.Prelude.{ℕ, List, codes}
 use Rattle.serde_json.specs.Data.{Data, array, item, member, no_items, no_members, number, object, string, unsigned}
 use Rattle.tb_places.specs.declared.spans.Span.{Span}
+use Rattle.tb_place_values.specs.Ranges.{location_of, range_of}
 use Rattle.tb_diagnostics.specs.declared.values.Severity.{Severity}
 use Rattle.tb_diagnostics.specs.declared.values.Severity.TheVariants.{Error, Warning}
 
@@ -9,18 +10,6 @@ use Rattle.tb_diagnostics.specs.declared.values.Severity.TheVariants.{Error, War
 abbrev pub severity_number : Severity → ℕ
 severity_number Error = 1
 severity_number Warning = 2
-
--- a place
-abbrev pub place_of : ℕ → ℕ → Data
-place_of line character = object (member (codes "character") (number (unsigned character)) (member (codes "line") (number (unsigned line)) no_members))
-
--- the range of a span
-abbrev pub range_of : Span → Data
-range_of span = object (member (codes "end") (place_of span.line span.end) (member (codes "start") (place_of span.line span.start) no_members))
-
--- a span of a text
-abbrev pub location_of : List ℕ → Span → Data
-location_of uri span = object (member (codes "range") (range_of span) (member (codes "uri") (string uri) no_members))
 
 -- a diagnostic
 abbrev pub plain : List ℕ → List ℕ → Span → ℕ → Data

@@ -21,8 +21,8 @@ pub struct Lines<'a> {
 }
 
 impl Lines<'_> {
-    // A line, counted from 1.
-    fn line(&self, number: usize) -> &[u8]
+    /// A line, counted from 1.
+    pub fn line(&self, number: usize) -> &[u8]
         ensures { result.now ≡ spec.line_at (spec.texts_of self.now) number }
     {
         match self.lines.get(number.saturating_sub(1)) {
@@ -53,7 +53,8 @@ fn message(alloc: Global, bad: &BadLine) -> Result<String, AllocError>
     }
 }
 
-fn on_bad_line(alloc: Global, text: &Lines<'_>, bad: &BadLine) -> Result<Value, AllocError>
+/// The diagnostic of a bad line.
+pub fn on_bad_line(alloc: Global, text: &Lines<'_>, bad: &BadLine) -> Result<Value, AllocError>
     ensures { IfOk result (λ v. view v ≡ spec.on_bad_line (spec.texts_of text.now) bad.now) }
 {
     let message = message(alloc, bad)?;
@@ -121,7 +122,12 @@ fn superseding(warning: Warning) -> Option<usize>
     }
 }
 
-fn on_warning(alloc: Global, text: &Lines<'_>, warning: &LineWarning) -> Result<Value, AllocError>
+/// The diagnostic of a warning.
+pub fn on_warning(
+    alloc: Global,
+    text: &Lines<'_>,
+    warning: &LineWarning,
+) -> Result<Value, AllocError>
     ensures { IfOk result (λ v. view v ≡ spec.on_warning text.now.uri.now (spec.texts_of text.now) warning.now) }
 {
     let warned = WarningText(warning.warning);

@@ -7,6 +7,6 @@ mod published;
 mod values;
 
 pub use codes::{error_code, warning_code};
-pub use findings::{Lines, diagnostics, too_long};
+pub use findings::{Lines, diagnostics, on_bad_line, on_warning, too_long};
 pub use published::{diagnose, publish, publish_none};
-pub use values::{Said, Severity, location_value, plain, range_value, superseded};
+pub use values::{Said, Severity, plain, superseded};

@@ -1,10 +1,11 @@
 //! Diagnostics as JSON values.
 ghost use Rattle.std.specs.Prelude.{◌≡◌, IfOk};
 ghost use Rattle.serde_json.specs.View.{view};
-ghost use Rattle.tb_diagnostics.specs.Values.{location_of, place_of, plain, range_of, related, severity_number, superseded, tags};
+ghost use Rattle.tb_diagnostics.specs.Values.{plain, related, severity_number, superseded, tags};
 
 use serde_json::{Value, json};
 use std::alloc::{AllocError, Global};
+use tb_place_values::{location_value, range_value};
 use tb_places::Span;
 
 /// How bad it is.
@@ -33,29 +34,6 @@ pub struct Said<'a> {
     pub severity: Severity,
     pub code: &'a str,
     pub message: &'a str,
-}
-
-fn place_value(alloc: Global, line: usize, character: usize) -> Result<Value, AllocError>
-    ensures { IfOk result (λ v. view v ≡ place_of line character) }
-{
-    json!(in alloc; {"character": character, "line": line})
-}
-
-/// A span as a range.
-pub fn range_value(alloc: Global, span: Span) -> Result<Value, AllocError>
-    ensures { IfOk result (λ v. view v ≡ range_of span) }
-{
-    let end = place_value(alloc, span.line, span.end)?;
-    let start = place_value(alloc, span.line, span.start)?;
-    json!(in alloc; {"end": end, "start": start})
-}
-
-/// A span of a text as a location.
-pub fn location_value(alloc: Global, uri: &str, span: Span) -> Result<Value, AllocError>
-    ensures { IfOk result (λ v. view v ≡ location_of uri.now span) }
-{
-    let range = range_value(alloc, span)?;
-    json!(in alloc; {"range": range, "uri": uri})
 }
 
 /// A diagnostic.

@@ -123,7 +123,7 @@ at_least : (xs part : List ℕ) → 0 < length part → 0 < length (xs ++ part)
 at_least [] part some = some
 at_least (x ∷ xs) part some = omega arith
 
--- the input ended behind a field
+-- the input ended after a field
 pub ends_early : (a b c : Option (List ℕ)) (count : ℕ) (found : Option ℕ) → count ≢ 0 → Stands a b count found
     → Consumes b c [] → IsAtEnd c → TakesNoHeader a c
 ends_early a b c count found some (fields, taken, are, many, says) none at_end = (

@@ -8,6 +8,8 @@ use Rattle.tb_streams.specs.Lines.{TakesNothing, without_return}
 use Rattle.tb_streams.specs.Streams.{AppendsPrefix}
 use Rattle.tb_frames.specs.Lines.{TakesNoLine}
 use Rattle.tb_frames.specs.Headers.{BeginsNoHeader, IsHeader, IsPartOfHeader, IsShort, field_of, said}
+use Rattle.tb_frames.specs.declared.writing.WriteError.{WriteError}
+use Rattle.tb_frames.specs.declared.writing.WriteError.TheVariants as write_error
 use Rattle.tb_frames.specs.declared.header.Field.{Field}
 use Rattle.tb_frames.specs.declared.header.Field.TheVariants.{BadLength}
 use Rattle.tb_frames.specs.declared.reading.Line.{Line}
@@ -109,8 +111,7 @@ ReadsFrame (Err Bad) had left read read' = TakesNoFrame had left × (read' ≡ r
 ReadsFrame (Err NoMemory) had left read read' = read' ≡ read
 
 -- what writing a frame answers, with the writer's count of failures
-abbrev pub WritesFrame : List ℕ → Result (Unit {0}) FrameError → Option (List ℕ) → Option (List ℕ) → ℕ → ℕ → Type 0
+abbrev pub WritesFrame : List ℕ → Result (Unit {0}) WriteError → Option (List ℕ) → Option (List ℕ) → ℕ → ℕ → Type 0
 WritesFrame content (Ok done) old new wrote wrote' = Appends old new (frame_of content) × (wrote' ≡ wrote)
-WritesFrame content (Err Fault) old new wrote wrote' = AppendsPrefix old new (frame_of content) × (wrote' ≢ wrote)
-WritesFrame content (Err Bad) old new wrote wrote' = ⊥
-WritesFrame content (Err NoMemory) old new wrote wrote' = (new ≡ old) × (wrote' ≡ wrote)
+WritesFrame content (Err write_error.Fault) old new wrote wrote' = AppendsPrefix old new (frame_of content) × (wrote' ≢ wrote)
+WritesFrame content (Err write_error.NoMemory) old new wrote wrote' = (new ≡ old) × (wrote' ≡ wrote)

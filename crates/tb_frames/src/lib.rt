@@ -12,4 +12,4 @@ mod writing;
 pub use header::{Field, read_field};
 pub use lines::MOST_LINE;
 pub use reading::{Frame, FrameError, MOST_CONTENT, MOST_LINES, read_frame};
-pub use writing::{frame_of, write_frame};
+pub use writing::{WriteError, frame_of, write_frame};

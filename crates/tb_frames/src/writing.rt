@@ -3,10 +3,18 @@ ghost use Rattle.std.specs.Prelude.{◌≡◌, IfOk, OnOk, OnErr, is_err};
 ghost use Rattle.tb_frames.specs.Frames.{frame_of, WritesFrame};
 ghost use Rattle.tb_streams.specs.Failures.{failures_of};
 
-use crate::reading::FrameError;
 use std::alloc::{AllocError, Global};
 use std::io::Write;
 use tb_streams::{Tracked, write_output};
+
+/// Why a frame was not written.
+#[derive(Clone, Copy, Debug, PartialEq, Eq, Drop)]
+pub enum WriteError {
+    /// The writer failed.
+    Fault,
+    /// A growth was refused.
+    NoMemory,
+}
 
 /// The frame of a content.
 pub fn frame_of(alloc: Global, content: &[u8]) -> Result<Vec<u8>, AllocError>
@@ -24,15 +32,15 @@ pub fn write_frame<W: Write>(
     alloc: Global,
     writer: &mut Tracked<W>,
     content: &[u8],
-) -> Result<(), FrameError>
+) -> Result<(), WriteError>
     ensures { WritesFrame content.now result (W.contents writer.old.stream) (W.contents writer.new.stream)
         (failures_of writer.old) (failures_of writer.new) }
 {
     let Ok(frame) = frame_of(alloc, content) else {
-        return Err(FrameError::NoMemory);
+        return Err(WriteError::NoMemory);
     };
     match write_output(writer, frame.as_slice()) {
         Ok(()) => Ok(()),
-        Err(_) => Err(FrameError::Fault),
+        Err(_) => Err(WriteError::Fault),
     }
 }

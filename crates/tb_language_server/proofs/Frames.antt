@@ -4,8 +4,8 @@ use Rattle.std.specs.Io.KnownBytes.{Appends}
 use Rattle.tb_frames.specs.Frames.{ReadsFrame, WritesFrame, frame_of}
 use Rattle.tb_streams.specs.Streams.{AppendsPrefix}
 use Rattle.tb_frames.specs.declared.reading.Frame.{Frame}
-use Rattle.tb_frames.specs.declared.reading.FrameError.{FrameError}
-use Rattle.tb_frames.specs.declared.reading.FrameError.TheVariants.{Fault}
+use Rattle.tb_frames.specs.declared.writing.WriteError.{WriteError}
+use Rattle.tb_frames.specs.declared.writing.WriteError.TheVariants.{Fault}
 use Rattle.tb_language_server.specs.Dialogue.{TakesOne}
 use Rattle.tb_language_server.specs.declared.server.Reply.{Reply}
 use Rattle.tb_language_server.specs.declared.server.Server.{Server}
@@ -26,6 +26,6 @@ pub begun : (old new : Option (List ℕ)) (text content : List ℕ) → text ≡
 begun old new text content is = subst (λ t. AppendsPrefix old new (frame_of t)) is
 
 -- a writer failed, by the error that says so
-pub failed_by : (content : List ℕ) (e : FrameError) (old new : Option (List ℕ)) (n m : ℕ) → e ≡ Fault → WritesFrame content (Err e) old new n m
+pub failed_by : (content : List ℕ) (e : WriteError) (old new : Option (List ℕ)) (n m : ℕ) → e ≡ Fault → WritesFrame content (Err e) old new n m
     → AppendsPrefix old new (frame_of content) × (m ≢ n)
 failed_by content e old new n m is = subst (λ e. WritesFrame content (Err e) old new n m) is

@@ -1,1 +1,3 @@
 mod Frames
+-- objects that get more members
+pub mod Members

@@ -1,11 +1,18 @@
 -- The life of a server.
-use Rattle.std.specs.Prelude.{ℕ, List, codes, if◌then◌else◌}
+use Rattle.std.specs.Prelude.{ℕ, List, codes, Option, Some, None, if◌then◌else◌}
 use Rattle.std.specs.Str.{bytes_eq}
+use Rattle.tb_answers.specs.Methods.{method_of}
+use Rattle.tb_answers.specs.declared.methods.Method.{Method}
 use Rattle.tb_messages.specs.declared.refusals.Refusal.TheVariants.{NotInitialized, Initialized, ShutDown, UnknownMethod}
 use Rattle.tb_language_server.specs.declared.life.Decision.{Decision}
-use Rattle.tb_language_server.specs.declared.life.Decision.TheVariants.{Begin, End, Refuse}
+use Rattle.tb_language_server.specs.declared.life.Decision.TheVariants.{Begin, End, Answer, Refuse}
 use Rattle.tb_language_server.specs.declared.life.Stage.{Stage}
 use Rattle.tb_language_server.specs.declared.life.Stage.TheVariants.{New, Ready, Shut}
+
+-- what is done with a request on a text, if it is known
+abbrev pub answered : Option Method → Decision
+answered (Some m) = Answer m
+answered None = Refuse UnknownMethod
 
 -- what is done with a request at a stage
 abbrev pub decision_of : Stage → List ℕ → Decision
@@ -13,5 +20,5 @@ decision_of New method = if bytes_eq method (codes "initialize") then Begin else
 decision_of Ready method =
     if bytes_eq method (codes "initialize") then Refuse Initialized
     else if bytes_eq method (codes "shutdown") then End
-    else Refuse UnknownMethod
+    else answered (method_of method)
 decision_of Shut method = Refuse ShutDown

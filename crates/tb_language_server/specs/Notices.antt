@@ -50,6 +50,10 @@ abbrev pub last_text : Option (List ℕ) → Items → Option (List ℕ)
 last_text found no_items = found
 last_text found (item d ds) = option_and_then (λ text. last_text (Some text) ds) (whole_text d)
 
+-- the name of the text that params name
+abbrev pub uri_in : Data → Option (List ℕ)
+uri_in d = option_and_then (λ document. text_in document (codes "uri")) (get (codes "textDocument") d)
+
 -- a text is open now
 abbrev pub opened : Data → Option Told
 opened d = option_and_then (λ document. option_and_then (λ uri. option_and_then (λ text. option_map (λ version. open_text uri text version)

@@ -1,21 +1,26 @@
 -- What a server says to messages.
-use Rattle.std.specs.Prelude.{ℕ, ℤ, ◌≡◌, Bool, true, false, List, [], codes, Option, Some, None, unwrap_or}
+use Rattle.std.specs.Prelude.{ℕ, ℤ, ◌≡◌, Bool, true, false, List, [], codes, Option, Some, None, Result, Ok, Err, unwrap_or}
 use Rattle.std.specs.Str.{bytes_eq}
 use Rattle.std.specs.declared.alloc.Global.{Global}
 use Rattle.std.specs.declared.vec.Vec.{Vec}
-use Rattle.serde_json.specs.Data.{Data, boolean, member, no_members, null, number, object, string, unsigned}
+use Rattle.serde_json.specs.Data.{Data, Members, array, boolean, item, member, no_items, no_members, null, number, object, put, string, unsigned}
 use Rattle.serde_json.specs.View.{view}
+use Rattle.serde_json.specs.declared.value.Value.{Value}
+use Rattle.tb_outline.specs.Tokens.{legend}
+use Rattle.tb_answers.specs.Answers.{Answers}
+use Rattle.tb_answers.specs.declared.methods.Method.{Method}
 use Rattle.tb_messages.specs.Messages.{Says, Tells, failure_of, seen, success_of}
 use Rattle.tb_messages.specs.declared.messages.Message.{Message}
 use Rattle.tb_messages.specs.declared.messages.Message.TheVariants as message
 use Rattle.tb_messages.specs.declared.refusals.Refusal.{Refusal}
-use Rattle.tb_messages.specs.declared.refusals.Refusal.TheVariants.{NoMessage}
+use Rattle.tb_messages.specs.declared.refusals.Refusal.TheVariants.{NoMessage, BadParams, NotOpen}
 use Rattle.tb_diagnostics.specs.Published.{Publishes, published_of}
 use Rattle.tb_language_server.specs.Life.{decision_of}
-use Rattle.tb_language_server.specs.Notices.{Told, open_text, change_text, close_text, notice_of}
-use Rattle.tb_language_server.specs.Texts.{Opens, has, without}
+use Rattle.tb_language_server.specs.Notices.{Told, open_text, change_text, close_text, notice_of, uri_in}
+use Rattle.tb_language_server.specs.Texts.{Opens, has, text_of, without}
+use Rattle.tb_language_server.specs.declared.texts.OpenText.{OpenText}
 use Rattle.tb_language_server.specs.declared.life.Decision.{Decision}
-use Rattle.tb_language_server.specs.declared.life.Decision.TheVariants.{Begin, End, Refuse}
+use Rattle.tb_language_server.specs.declared.life.Decision.TheVariants.{Begin, End, Answer, Refuse}
 use Rattle.tb_language_server.specs.declared.life.Stage.{Stage}
 use Rattle.tb_language_server.specs.declared.life.Stage.TheVariants.{New, Ready, Shut}
 use Rattle.tb_language_server.specs.declared.server.Reply.{Reply}
@@ -27,9 +32,42 @@ use Rattle.tb_language_server.specs.declared.server.Server.{Server}
 abbrev pub synchronization : Data
 synchronization = object (member (codes "change") (number (unsigned 1)) (member (codes "openClose") (boolean true) no_members))
 
+-- of actions it offers fixes
+abbrev pub fixes : Data
+fixes = object (member (codes "codeActionKinds") (array (item (string (codes "quickfix")) no_items)) no_members)
+
+-- it completes behind a space too
+abbrev pub completion : Data
+completion = object (member (codes "triggerCharacters") (array (item (string (codes " ")) no_items)) no_members)
+
+-- it tells what can be renamed
+abbrev pub renaming : Data
+renaming = object (member (codes "prepareProvider") (boolean true) no_members)
+
+-- it tells of all tokens of a text
+abbrev pub tokens : Data
+tokens = object (member (codes "full") (boolean true) (member (codes "legend") legend no_members))
+
+-- which requests it answers, where there is nothing more to say of them
+abbrev pub with_requests : Members → Members
+with_requests ms =
+    put (codes "referencesProvider") (boolean true) (put (codes "hoverProvider") (boolean true) (put (codes "foldingRangeProvider") (boolean true)
+    (put (codes "documentSymbolProvider") (boolean true) (put (codes "documentHighlightProvider") (boolean true)
+    (put (codes "documentFormattingProvider") (boolean true) (put (codes "definitionProvider") (boolean true) ms))))))
+
+-- what there is more to say of
+abbrev pub with_options : Members → Members
+with_options ms =
+    put (codes "textDocumentSync") synchronization (put (codes "semanticTokensProvider") tokens (put (codes "renameProvider") renaming
+    (put (codes "completionProvider") completion (put (codes "codeActionProvider") fixes ms))))
+
+-- how it counts places
+abbrev pub with_encoding : Members
+with_encoding = put (codes "positionEncoding") (string (codes "utf-16")) no_members
+
 -- what it can do
 abbrev pub capabilities : Data
-capabilities = object (member (codes "positionEncoding") (string (codes "utf-16")) (member (codes "textDocumentSync") synchronization no_members))
+capabilities = object (with_options (with_requests with_encoding))
 
 -- what it is, with its version
 abbrev pub information : List ℕ → Data
@@ -71,11 +109,32 @@ pub record ClosesText (uri : List ℕ) (old new : Server) : Type 0 where
   pub version : new.version.now ≡ old.version.now
 
 -- ── requests ──
--- what a request with this id is answered, by what is done with it
-abbrev pub AnswersBy : Decision → Data → Server → Vec ℕ Global → Server → Type 0
-AnswersBy Begin id old content new = Becomes Ready old new × Says content.items (success_of id (initialized old.version.now))
-AnswersBy End id old content new = Becomes Shut old new × Says content.items (success_of id null)
-AnswersBy (Refuse refusal) id old content new = IsSame old new × Says content.items (failure_of id refusal)
+-- the answer to a request on a text, or why it is refused
+abbrev pub said : Data → Result Value Refusal → Data
+said id (Ok v) = success_of id (view v)
+said id (Err refusal) = failure_of id refusal
+
+-- what a request on a text is answered, where that is open
+abbrev pub AnswersOnText : Method → (id : Data) → (uri : List ℕ) → (params : Data) → Option (List ℕ) → (content : List ℕ) → Type 0
+AnswersOnText m id uri params (Some text) content = (r : Result Value Refusal) × Answers m uri text params r × Says content (said id r)
+AnswersOnText m id uri params None content = Says content (failure_of id NotOpen)
+
+-- the same by the text that params name
+abbrev pub AnswersParams : Method → (id params : Data) → Option (List ℕ) → List OpenText → (content : List ℕ) → Type 0
+AnswersParams m id params (Some uri) texts content = AnswersOnText m id uri params (text_of uri texts) content
+AnswersParams m id params None texts content = Says content (failure_of id BadParams)
+
+-- what a request on a text is answered
+abbrev pub AnswersText : Method → Data → Option Data → List OpenText → (content : List ℕ) → Type 0
+AnswersText m id (Some params) texts content = AnswersParams m id params (uri_in params) texts content
+AnswersText m id None texts content = Says content (failure_of id BadParams)
+
+-- what a request with this id and these params is answered, by what is done with it
+abbrev pub AnswersBy : Decision → Data → Option Data → Server → Vec ℕ Global → Server → Type 0
+AnswersBy Begin id params old content new = Becomes Ready old new × Says content.items (success_of id (initialized old.version.now))
+AnswersBy End id params old content new = Becomes Shut old new × Says content.items (success_of id null)
+AnswersBy (Answer m) id params old content new = IsSame old new × AnswersText m id params old.texts.all.items content.items
+AnswersBy (Refuse refusal) id params old content new = IsSame old new × Says content.items (failure_of id refusal)
 
 -- ── notifications ──
 -- a text is taken, and what is said of it is published
@@ -140,10 +199,10 @@ TakesNotification method params old reply new = TakesOther (bytes_eq method (cod
 
 -- ── messages ──
 -- a request is answered
-abbrev pub TakesRequest : Data → List ℕ → Server → Reply → Server → Type 0
-TakesRequest id method old (Content content) new = AnswersBy (decision_of old.stage method) id old content new
-TakesRequest id method old Nothing new = ⊥
-TakesRequest id method old Exit new = ⊥
+abbrev pub TakesRequest : Data → List ℕ → Option Data → Server → Reply → Server → Type 0
+TakesRequest id method params old (Content content) new = AnswersBy (decision_of old.stage method) id params old content new
+TakesRequest id method params old Nothing new = ⊥
+TakesRequest id method params old Exit new = ⊥
 
 -- a message is refused, and nothing changes
 abbrev pub Refuses : Data → Refusal → Server → Reply → Server → Type 0
@@ -153,7 +212,7 @@ Refuses id refusal old Exit new = ⊥
 
 -- what is said to a message
 abbrev pub TakesMessage : Message → Server → Reply → Server → Type 0
-TakesMessage (message.Request id method params) old reply new = TakesRequest (view id.now) method.now old reply new
+TakesMessage (message.Request id method params) old reply new = TakesRequest (view id.now) method.now (seen params) old reply new
 TakesMessage (message.Notification method params) old reply new = TakesNotification method.now (seen params) old reply new
 TakesMessage message.Answer old reply new = Ignores old reply new
 TakesMessage (message.NoMessage id) old reply new = Refuses (unwrap_or (seen id) null) NoMessage old reply new

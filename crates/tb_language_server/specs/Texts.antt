@@ -1,5 +1,5 @@
 -- The texts that are open.
-use Rattle.std.specs.Prelude.{ℕ, ◌+◌, ◌≡◌, Bool, List, [], ◌∷◌, ◌++◌, string_bytes, Option, Some, None, if◌then◌else◌}
+use Rattle.std.specs.Prelude.{ℕ, ◌+◌, ◌≡◌, Bool, List, [], ◌∷◌, ◌++◌, string_bytes, slice_get, Option, Some, None, option_and_then, option_map, if◌then◌else◌}
 use Rattle.std.specs.List.{remove}
 use Rattle.std.specs.Option.{is_some}
 use Rattle.std.specs.Str.{bytes_eq}
@@ -13,6 +13,10 @@ place_from i uri (t ∷ texts) = if bytes_eq (string_bytes t.uri) uri then Some 
 -- whether it is there
 abbrev pub has : List ℕ → List OpenText → Bool
 has uri texts = is_some (place_from 0 uri texts)
+
+-- what a text is that is open
+abbrev pub text_of : List ℕ → List OpenText → Option (List ℕ)
+text_of uri texts = option_and_then (λ i. option_map (λ t. string_bytes t.text) (slice_get texts i)) (place_from 0 uri texts)
 
 -- all but the one at a place
 abbrev pub all_but : Option ℕ → List OpenText → List OpenText

@@ -11,7 +11,7 @@ use crate::outcome::ServerOutcome;
 use crate::server::{Reply, Server};
 use std::alloc::Global;
 use std::io::{Read, Write};
-use tb_frames::{Frame, FrameError, read_frame, write_frame};
+use tb_frames::{Frame, FrameError, WriteError, read_frame, write_frame};
 use tb_messages::{Refusal, Unreadable, failure, read_value};
 use tb_streams::Tracked;
 
@@ -89,9 +89,8 @@ fn take_frame<R: Read, W: Write>(
     };
     match write_frame(alloc, writer, content.as_slice()) {
         Ok(()) => Ok(()),
-        Err(FrameError::Fault) => Err(ServerOutcome::WriteFault),
-        Err(FrameError::Bad) => unreachable!(),
-        Err(FrameError::NoMemory) => Err(ServerOutcome::NoMemory),
+        Err(WriteError::Fault) => Err(ServerOutcome::WriteFault),
+        Err(WriteError::NoMemory) => Err(ServerOutcome::NoMemory),
     }
 }
 

@@ -1,7 +1,8 @@
 //! The life of a server: what is done with requests at each stage of it.
 ghost use Rattle.std.specs.Prelude.{◌≡◌};
-ghost use Rattle.tb_language_server.specs.Life.{decision_of};
+ghost use Rattle.tb_language_server.specs.Life.{answered, decision_of};
 
+use tb_answers::{Method, method_of};
 use tb_messages::Refusal;
 
 /// How far a server's life is.
@@ -15,13 +16,25 @@ pub enum Stage {
 }
 
 /// What is done with a request.
-#[derive(Clone, Copy, Debug, PartialEq, Eq, Drop)]
+#[derive(Clone, Copy, Drop)]
 pub enum Decision {
     /// It tells what it can do, and is ready.
     Begin,
     /// It shuts down.
     End,
+    /// It is asked of a text.
+    Answer(Method),
     Refuse(Refusal),
+}
+
+// What is done with a request on a text, if it is known.
+fn answered(method: Option<Method>) -> Decision
+    ensures { result ≡ answered method }
+{
+    match method {
+        Some(method) => Decision::Answer(method),
+        None => Decision::Refuse(Refusal::UnknownMethod),
+    }
 }
 
 /// What is done with a request at a stage.
@@ -36,7 +49,7 @@ pub fn decide(stage: Stage, method: &str) -> Decision
         Stage::Ready => match method {
             "initialize" => Decision::Refuse(Refusal::Initialized),
             "shutdown" => Decision::End,
-            _ => Decision::Refuse(Refusal::UnknownMethod),
+            _ => answered(method_of(method)),
         },
         Stage::Shut => Decision::Refuse(Refusal::ShutDown),
     }

@@ -66,6 +66,13 @@ fn last_text(changes: &[Value]) -> Option<&str>
     found
 }
 
+/// The name of the text that params name.
+pub fn uri_in(params: &Value) -> Option<&str>
+    ensures { option_map (λ t. t.now) result ≡ spec.uri_in (view params.now) }
+{
+    text_in(params.get("textDocument")?, "uri")
+}
+
 fn opened(params: &Value) -> Option<Notice<'_>>
     ensures { told_by result ≡ spec.opened (view params.now) }
 {

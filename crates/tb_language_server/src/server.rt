@@ -1,18 +1,22 @@
 //! The server: its life and the texts that are open, and what it says to a message.
-ghost use Rattle.std.specs.Prelude.{◌≡◌, IfOk};
-ghost use Rattle.serde_json.specs.View.{view};
-ghost use Rattle.tb_messages.specs.Messages.{seen};
-ghost use Rattle.tb_language_server.specs.Replies.{AnswersBy, IsNew, Takes, TakesMessage, TakesNotice, TakesNotification, TakesText, initialized};
+ghost use Rattle.std.specs.Prelude.{◌≡◌, IfOk, OnOk, codes, option_map};
+ghost use Rattle.serde_json.specs.Data.{string};
+ghost use Rattle.serde_json.specs.View.{members_view, view};
+ghost use Rattle.tb_messages.specs.Messages.{Says, seen};
+ghost use Rattle.tb_language_server.specs.Replies.{AnswersBy, AnswersOnText, AnswersParams, AnswersText, IsNew, said, Takes, TakesMessage, TakesNotice, TakesNotification, TakesText, capabilities, completion, fixes, initialized, renaming, synchronization, tokens, with_encoding, with_options, with_requests};
 ghost use Rattle.tb_language_server.specs.Life.{decision_of};
-ghost use Rattle.tb_language_server.specs.Notices.{told};
+ghost use Rattle.tb_language_server.specs.Texts.{text_of};
+ghost use Rattle.tb_language_server.specs.Notices.{told, uri_in};
 
 use crate::life::{Decision, Stage, decide};
-use crate::notices::{Notice, notice_of};
+use crate::notices::{Notice, notice_of, uri_in};
 use crate::texts::Texts;
-use serde_json::{Value, json};
+use serde_json::{Map, Value, json, put};
 use std::alloc::{AllocError, Global};
+use tb_answers::{Method, answer};
 use tb_diagnostics::{publish, publish_none};
 use tb_messages::{Message, Refusal, failure, message_of, success};
+use tb_outline::legend;
 
 /// What a server says to a message.
 #[derive(Drop)]
@@ -33,17 +37,149 @@ pub struct Server {
     pub version: &'static str,
 }
 
+// That texts are told of as a whole.
+fn synchronization_value(alloc: Global) -> Result<Value, AllocError>
+    ensures { IfOk result (λ v. view v ≡ synchronization) }
+{
+    json!(in alloc; {"change": 1, "openClose": true})
+}
+
+// That of actions it offers fixes.
+fn fixes_value(alloc: Global) -> Result<Value, AllocError>
+    ensures { IfOk result (λ v. view v ≡ fixes) }
+{
+    json!(in alloc; {"codeActionKinds": ["quickfix"]})
+}
+
+// That it completes behind a space too.
+fn completion_value(alloc: Global) -> Result<Value, AllocError>
+    ensures { IfOk result (λ v. view v ≡ completion) }
+{
+    json!(in alloc; {"triggerCharacters": [" "]})
+}
+
+// That it tells what can be renamed.
+fn renaming_value(alloc: Global) -> Result<Value, AllocError>
+    ensures { IfOk result (λ v. view v ≡ renaming) }
+{
+    json!(in alloc; {"prepareProvider": true})
+}
+
+// That it tells of all tokens of a text, and what their numbers mean.
+fn tokens_value(alloc: Global) -> Result<Value, AllocError>
+    ensures { IfOk result (λ v. view v ≡ tokens) }
+{
+    let legend = legend(alloc)?;
+    json!(in alloc; {"full": true, "legend": legend})
+}
+
+// Which requests it answers, where there is nothing more to say of them.
+fn put_requests(alloc: Global, members: &mut Map<String, Value>) -> Result<(), AllocError>
+    ensures { OnOk result (members_view members.new.entries ≡ with_requests (members_view members.old.entries)) }
+{
+    put(members, alloc, "definitionProvider", Value::Bool(true))?;
+    put(
+        members,
+        alloc,
+        "documentFormattingProvider",
+        Value::Bool(true),
+    )?;
+    put(
+        members,
+        alloc,
+        "documentHighlightProvider",
+        Value::Bool(true),
+    )?;
+    put(members, alloc, "documentSymbolProvider", Value::Bool(true))?;
+    put(members, alloc, "foldingRangeProvider", Value::Bool(true))?;
+    put(members, alloc, "hoverProvider", Value::Bool(true))?;
+    put(members, alloc, "referencesProvider", Value::Bool(true))?;
+    Ok(())
+}
+
+// What there is more to say of.
+fn put_options(alloc: Global, members: &mut Map<String, Value>) -> Result<(), AllocError>
+    ensures { OnOk result (members_view members.new.entries ≡ with_options (members_view members.old.entries)) }
+{
+    let fixes = fixes_value(alloc)?;
+    let completion = completion_value(alloc)?;
+    let renaming = renaming_value(alloc)?;
+    let tokens = tokens_value(alloc)?;
+    let synchronization = synchronization_value(alloc)?;
+    put(members, alloc, "codeActionProvider", fixes)?;
+    put(members, alloc, "completionProvider", completion)?;
+    put(members, alloc, "renameProvider", renaming)?;
+    put(members, alloc, "semanticTokensProvider", tokens)?;
+    put(members, alloc, "textDocumentSync", synchronization)?;
+    Ok(())
+}
+
+fn encoding_value(alloc: Global) -> Result<Value, AllocError>
+    ensures { IfOk result (λ v. view v ≡ string (codes "utf-16")) }
+{
+    json!(in alloc; "utf-16")
+}
+
+// How it counts places.
+fn encoding_members(alloc: Global) -> Result<Map<String, Value>, AllocError>
+    ensures { IfOk result (λ m. members_view m.entries ≡ with_encoding) }
+{
+    let encoding = encoding_value(alloc)?;
+    let mut members = Map::new(alloc);
+    put(&mut members, alloc, "positionEncoding", encoding)?;
+    Ok(members)
+}
+
+// What it can do.
+fn capabilities_value(alloc: Global) -> Result<Value, AllocError>
+    ensures { IfOk result (λ v. view v ≡ capabilities) }
+{
+    let mut members = encoding_members(alloc)?;
+    put_requests(alloc, &mut members)?;
+    put_options(alloc, &mut members)?;
+    Ok(Value::Object(members))
+}
+
 // What it is, and what it can do.
-fn capabilities(alloc: Global, version: &str) -> Result<Value, AllocError>
+fn initialized_value(alloc: Global, version: &str) -> Result<Value, AllocError>
     ensures { IfOk result (λ v. view v ≡ initialized version.now) }
 {
+    let capabilities = capabilities_value(alloc)?;
     json!(in alloc; {
-        "capabilities": {
-            "positionEncoding": "utf-16",
-            "textDocumentSync": {"change": 1, "openClose": true}
-        },
+        "capabilities": capabilities,
         "serverInfo": {"name": "tbc", "version": version}
     })
+}
+
+// The content of an answer to a request on a text.
+fn said(alloc: Global, id: &Value, answer: Result<Value, Refusal>) -> Result<Vec<u8>, AllocError>
+    ensures { IfOk result (λ content. Says content.items (said (view id.now) answer)) }
+{
+    match answer {
+        Ok(value) => success(alloc, id, value),
+        Err(refusal) => failure(alloc, Some(id), refusal),
+    }
+}
+
+// What is said to a request on a text, where that is open.
+fn answer_found(
+    alloc: Global,
+    id: &Value,
+    method: Method,
+    params: &Value,
+    uri: &str,
+    text: Option<&str>,
+) -> Result<Vec<u8>, AllocError>
+    ensures { IfOk result (λ content. AnswersOnText method (view id.now) uri.now (view params.now) (option_map (λ t. t.now) text.entry)
+        content.items) }
+{
+    match text {
+        Some(text) => {
+            let answer = answer(alloc, method, uri, text.as_bytes(), params)?;
+            said(alloc, id, answer)
+        }
+        None => failure(alloc, Some(id), Refusal::NotOpen),
+    }
 }
 
 impl Server {
@@ -58,24 +194,90 @@ impl Server {
         }
     }
 
+    // What it says to a request on a text, by its name.
+    fn answer_on_text(
+        &self,
+        alloc: Global,
+        id: &Value,
+        method: Method,
+        params: &Value,
+        uri: &str,
+    ) -> Result<Vec<u8>, AllocError>
+        ensures { IfOk result (λ content. AnswersOnText method (view id.now) uri.now (view params.now)
+            (text_of uri.now self.now.texts.all.items) content.items) }
+    {
+        answer_found(alloc, id, method, params, uri, self.texts.text(uri))
+    }
+
+    // What it says to a request on a text, by the name that params give.
+    fn answer_named(
+        &self,
+        alloc: Global,
+        id: &Value,
+        method: Method,
+        params: &Value,
+        uri: Option<&str>,
+    ) -> Result<Vec<u8>, AllocError>
+        ensures { IfOk result (λ content. AnswersParams method (view id.now) (view params.now) (option_map (λ t. t.now) uri.entry)
+            self.now.texts.all.items content.items) }
+    {
+        match uri {
+            Some(uri) => self.answer_on_text(alloc, id, method, params, uri),
+            None => failure(alloc, Some(id), Refusal::BadParams),
+        }
+    }
+
+    // What it says to a request on a text, by its params.
+    fn answer_params(
+        &self,
+        alloc: Global,
+        id: &Value,
+        method: Method,
+        params: &Value,
+    ) -> Result<Vec<u8>, AllocError>
+        ensures { IfOk result (λ content. AnswersParams method (view id.now) (view params.now) (uri_in (view params.now))
+            self.now.texts.all.items content.items) }
+    {
+        self.answer_named(alloc, id, method, params, uri_in(params))
+    }
+
+    // What it says to a request on a text.
+    fn answer_text(
+        &self,
+        alloc: Global,
+        id: &Value,
+        method: Method,
+        params: Option<&Value>,
+    ) -> Result<Vec<u8>, AllocError>
+        ensures { IfOk result (λ content. AnswersText method (view id.now) (seen params.entry) self.now.texts.all.items content.items) }
+    {
+        match params {
+            Some(params) => self.answer_params(alloc, id, method, params),
+            None => failure(alloc, Some(id), Refusal::BadParams),
+        }
+    }
+
     // What it says to a request.
     fn answer_request(
         &mut self,
         alloc: Global,
         id: &Value,
         method: &str,
+        params: Option<&Value>,
     ) -> Result<Vec<u8>, AllocError>
-        ensures { IfOk result (λ content. AnswersBy (decision_of self.old.stage method.now) (view id.now) self.old content self.new) }
+        ensures { IfOk result (λ content. AnswersBy (decision_of self.old.stage method.now) (view id.now) (seen params.entry)
+            self.old content self.new) }
     {
         match decide(self.stage, method) {
             Decision::Begin => {
                 self.stage = Stage::Ready;
-                success(alloc, id, capabilities(alloc, self.version)?)
+                success(alloc, id, initialized_value(alloc, self.version)?)
             }
             Decision::End => {
                 self.stage = Stage::Shut;
                 success(alloc, id, Value::Null)
             }
+            Decision::Answer(method) => self.answer_text(alloc, id, method, params),
             Decision::Refuse(refusal) => failure(alloc, Some(id), refusal),
         }
     }
@@ -146,8 +348,8 @@ impl Server {
         ensures { IfOk result (λ reply. TakesMessage message.entry self.old reply self.new) }
     {
         match message {
-            Message::Request { id, method, .. } => {
-                Ok(Reply::Content(self.answer_request(alloc, id, method)?))
+            Message::Request { id, method, params } => {
+                Ok(Reply::Content(self.answer_request(alloc, id, method, params)?))
             }
             Message::Notification { method, params } => {
                 self.take_notification(alloc, method, params)

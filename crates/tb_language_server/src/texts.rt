@@ -1,6 +1,6 @@
 //! The texts that are open.
-ghost use Rattle.std.specs.Prelude.{◌≡◌, ◌<◌, [], length, IfOk, IfSome, string_bytes};
-ghost use Rattle.tb_language_server.specs.Texts.{Opens, has, place_from, without};
+ghost use Rattle.std.specs.Prelude.{◌≡◌, ◌<◌, [], length, IfOk, IfSome, option_map, string_bytes};
+ghost use Rattle.tb_language_server.specs.Texts.{Opens, has, place_from, text_of, without};
 
 use std::alloc::{AllocError, Global};
 
@@ -59,6 +59,14 @@ impl Texts {
         self.place(uri).is_some()
     }
 
+    /// A text that is open.
+    pub fn text(&self, uri: &str) -> Option<&str>
+        ensures { option_map (λ t. t.now) result ≡ text_of uri.now self.now.all.items }
+    {
+        let place = self.place(uri)?;
+        Some(self.all.get(place)?.text.as_str())
+    }
+
     /// Closes a text. Where it isn't open nothing happens.
     pub fn close(&mut self, uri: &str)
         ensures { self.new.all.items ≡ without uri.now self.old.all.items }
@@ -68,7 +76,7 @@ impl Texts {
         }
     }
 
-    /// Opens a text, in place of what it was.
+    /// Opens a text, in place of what it was. Where memory runs out, it may be closed.
     pub fn put(&mut self, alloc: Global, uri: &str, text: &str) -> Result<(), AllocError>
         ensures { IfOk result (λ _. Opens uri.now text.now self.old.all.items self.new.all.items) }
     {

@@ -22,6 +22,16 @@ pub enum Refusal {
     BadParams,
     /// The text that it names is not open.
     NotOpen,
+    /// No variable is where it asks.
+    NoVariable,
+    /// The new name of a variable is not one letter.
+    NotALetter,
+    /// A line of the text is bad.
+    BadLine,
+    /// The new name of a variable is that of another one.
+    LetterInUse,
+    /// The new text would be another program.
+    ReadsOtherwise,
 }
 
 impl Refusal {
@@ -35,7 +45,9 @@ impl Refusal {
             Refusal::NotInitialized => -32002,
             Refusal::Initialized | Refusal::ShutDown => -32600,
             Refusal::UnknownMethod => -32601,
-            Refusal::BadParams | Refusal::NotOpen => -32602,
+            Refusal::BadParams | Refusal::NotOpen | Refusal::NotALetter => -32602,
+            Refusal::NoVariable | Refusal::BadLine => -32803,
+            Refusal::LetterInUse | Refusal::ReadsOtherwise => -32803,
         }
     }
 
@@ -53,6 +65,11 @@ impl Refusal {
             Refusal::UnknownMethod => "unknown method",
             Refusal::BadParams => "bad params",
             Refusal::NotOpen => "text not open",
+            Refusal::NoVariable => "no variable here",
+            Refusal::NotALetter => "not a letter",
+            Refusal::BadLine => "bad line in the text",
+            Refusal::LetterInUse => "letter in use",
+            Refusal::ReadsOtherwise => "the new text reads otherwise",
         }
     }
 }

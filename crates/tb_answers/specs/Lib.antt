@@ -1,0 +1,3 @@
+pub mod Methods
+pub mod Asked
+pub mod Answers

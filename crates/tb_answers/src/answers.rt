@@ -1,0 +1,154 @@
+//! The answers to requests on texts.
+ghost use Rattle.std.specs.Prelude.{◌≡◌, ◌≤◌, [], IfOk, length};
+ghost use Rattle.serde_json.specs.View.{view};
+ghost use Rattle.tb_streams.specs.Streams.{most_input};
+ghost use Rattle.tb_answers.specs.Answers.{Answers, AnswersAsked, AnswersBy, AnswersNamed, AnswersNames, AnswersRange, AnswersRename, readable};
+
+use crate::methods::Method;
+use crate::params::{Asked, OfNames, asked_of};
+use serde_json::Value;
+use std::alloc::{AllocError, Global};
+use tb_completion::completion;
+use tb_fixes::{LineRange, actions};
+use tb_formatting::formatting;
+use tb_hover::hover;
+use tb_messages::Refusal;
+use tb_navigation::{definition, highlights, references, symbols};
+use tb_outline::{folds, semantic_tokens};
+use tb_place_values::Place;
+use tb_rename::{prepare, rename};
+use tb_source_names::{Source, read_source};
+use tb_streams::MOST_INPUT;
+
+// What is read of a text: nothing of one that has too many bytes.
+fn readable(text: &[u8]) -> &[u8]
+    ensures { result.now ≡ readable text.now }
+{
+    if text.len() > MOST_INPUT { &[] } else { text }
+}
+
+// The fixes on lines.
+fn fixes(
+    alloc: Global,
+    uri: &str,
+    text: &[u8],
+    range: Option<LineRange>,
+) -> Result<Value, AllocError>
+    ensures { IfOk result (λ v. AnswersRange range uri.now text.now (view v)) }
+{
+    match range {
+        Some(range) => actions(alloc, uri, text, range),
+        None => Ok(Value::Array(Vec::new(alloc))),
+    }
+}
+
+// What is answered from the names of a source.
+fn named(
+    alloc: Global,
+    uri: &str,
+    text: &[u8],
+    source: &Source<'_>,
+    asked: OfNames,
+) -> Result<Value, AllocError>
+    ensures { IfOk result (λ v. AnswersNamed asked uri.now text.now source.now.lines.items (view v)) }
+{
+    match asked {
+        OfNames::Hover(place) => {
+            let (line, character) = (place.line as usize, place.character as usize);
+            hover(alloc, text, source, line, character)
+        }
+        OfNames::Definition(place) => {
+            let (line, character) = (place.line as usize, place.character as usize);
+            definition(alloc, uri, source, line, character)
+        }
+        OfNames::References(place, declared) => {
+            let (line, character) = (place.line as usize, place.character as usize);
+            references(alloc, uri, source, line, character, declared)
+        }
+        OfNames::Highlights(place) => {
+            let (line, character) = (place.line as usize, place.character as usize);
+            highlights(alloc, source, line, character)
+        }
+        OfNames::Symbols => symbols(alloc, source),
+        OfNames::Completion(place) => {
+            let (line, character) = (place.line as usize, place.character as usize);
+            completion(alloc, source, line, character)
+        }
+        OfNames::Prepare(place) => {
+            let (line, character) = (place.line as usize, place.character as usize);
+            prepare(alloc, source, line, character)
+        }
+        OfNames::Folds => folds(alloc, source),
+        OfNames::Tokens => semantic_tokens(alloc, source),
+    }
+}
+
+// What is answered from the names of a text.
+fn names(alloc: Global, uri: &str, text: &[u8], asked: OfNames) -> Result<Value, AllocError>
+    ensures { IfOk result (λ v. AnswersNames asked uri.now text.now (view v)) }
+{
+    let source = read_source(alloc, text)?;
+    named(alloc, uri, text, &source, asked)
+}
+
+// What is answered to a new name for a variable.
+fn renaming(
+    alloc: Global,
+    uri: &str,
+    text: &[u8],
+    place: Place,
+    letter: Option<u8>,
+) -> Result<Result<Value, Refusal>, AllocError>
+    ensures { IfOk result (AnswersRename place letter uri.now text.now) }
+{
+    let source = read_source(alloc, text)?;
+    let (line, character) = (place.line as usize, place.character as usize);
+    let answer = rename(alloc, uri, &source, line, character, letter)?;
+    Ok(answer)
+}
+
+// What is answered to what is asked of a text.
+fn answer_asked(
+    alloc: Global,
+    uri: &str,
+    text: &[u8],
+    asked: Asked,
+) -> Result<Result<Value, Refusal>, AllocError>
+    ensures { IfOk result (AnswersAsked asked uri.now text.now) }
+{
+    match asked {
+        Asked::Names(asked) => Ok(Ok(names(alloc, uri, text, asked)?)),
+        Asked::Actions(range) => Ok(Ok(fixes(alloc, uri, text, range)?)),
+        Asked::Formatting => Ok(Ok(formatting(alloc, text)?)),
+        Asked::Rename(place, letter) => renaming(alloc, uri, text, place, letter),
+    }
+}
+
+// The same, or that the params have not the form that the request asks for.
+fn answer_if_asked(
+    alloc: Global,
+    uri: &str,
+    text: &[u8],
+    asked: Option<Asked>,
+) -> Result<Result<Value, Refusal>, AllocError>
+    ensures { IfOk result (AnswersBy asked uri.now text.now) }
+{
+    let Some(asked) = asked else {
+        return Ok(Err(Refusal::BadParams));
+    };
+    let answer = answer_asked(alloc, uri, readable(text), asked)?;
+    Ok(answer)
+}
+
+/// What is answered to a request on a text, or why it is refused. Fails only if memory runs out.
+pub fn answer(
+    alloc: Global,
+    method: Method,
+    uri: &str,
+    text: &[u8],
+    params: &Value,
+) -> Result<Result<Value, Refusal>, AllocError>
+    ensures { IfOk result (Answers method uri.now text.now (view params.now)) }
+{
+    answer_if_asked(alloc, uri, text, asked_of(method, params))
+}

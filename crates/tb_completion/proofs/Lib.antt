@@ -1,0 +1,2 @@
+-- what is offered, candidate by candidate
+mod Offers

@@ -1,0 +1,4 @@
+pub mod Typed
+pub mod Candidates
+pub mod Offered
+pub mod Items

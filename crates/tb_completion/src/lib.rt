@@ -1,0 +1,9 @@
+//! What may be written at a place of a source, as a language server answers it.
+#![tactic(auto)]
+
+mod candidates;
+mod items;
+mod offered;
+mod typed;
+
+pub use items::completion;

@@ -1,0 +1,107 @@
+//! What is offered: what begins as what is typed, and with which the line before it begins a line of the grammar.
+ghost use Rattle.std.specs.Prelude.{◌≡◌, ◌≢◌, ◌++◌, IfOk, OnOk, MatchBool, string_bytes};
+ghost use Rattle.tb_completion.specs.Candidates.{spelled};
+ghost use Rattle.tb_completion.specs.Offered as spec;
+
+use crate::candidates::Candidate;
+use crate::typed::Typed;
+use std::alloc::{AllocError, Global};
+use tb_parser::{SourceErrorKind, read_line};
+
+/// How a candidate is spelled.
+pub fn spelled(alloc: Global, candidate: Candidate) -> Result<String, AllocError>
+    ensures { IfOk result (λ text. string_bytes text ≡ spelled candidate) }
+{
+    match candidate {
+        Candidate::Word(word) => String::from_str(alloc, word.spelling()),
+        Candidate::Number(number) => format!(in alloc; "{number}"),
+    }
+}
+
+// Whether a text begins with another one, which may have small letters.
+fn begins(text: &[u8], part: &[u8]) -> bool
+    ensures { result ≡ spec.begins text.now part.now }
+{
+    match part {
+        [] => true,
+        [byte, rest @ ..] => match text {
+            [] => false,
+            [first, others @ ..] => *first == byte.to_ascii_uppercase() && begins(others, rest),
+        },
+    }
+}
+
+// Whether a line is good, or nothing is wrong with it but that it ends.
+fn begins_line(alloc: Global, line: &[u8]) -> Result<bool, AllocError>
+    ensures { IfOk result (spec.BeginsLine line.now) }
+{
+    match read_line(alloc, line) {
+        Ok(_) => Ok(true),
+        Err(fault) => match fault.kind {
+            SourceErrorKind::NoMemory => Err(AllocError),
+            SourceErrorKind::Syntax => Ok(fault.column > line.len()),
+            _ => Ok(false),
+        },
+    }
+}
+
+// Whether a text behind another one begins a line of the grammar.
+fn fits(alloc: Global, base: &[u8], text: &[u8]) -> Result<bool, AllocError>
+    ensures { IfOk result (λ fits. spec.BeginsLine (base.now ++ text.now) fits) }
+{
+    let mut line = Vec::from_slice(alloc, base)?;
+    line.extend_from_slice(text)?;
+    begins_line(alloc, line.as_slice())
+}
+
+// Whether a candidate goes on with a number that stands before it.
+fn joins(typed: Typed<'_>, candidate: Candidate) -> bool
+    ensures { result ≡ spec.joins typed.entry.before candidate }
+{
+    match candidate {
+        Candidate::Word(_) => false,
+        Candidate::Number(_) => typed.is_behind_number(),
+    }
+}
+
+// Whether a candidate is offered behind what is typed.
+fn is_offered(alloc: Global, typed: Typed<'_>, candidate: Candidate) -> Result<bool, AllocError>
+    ensures { IfOk result (spec.IsOffered typed.entry candidate) }
+{
+    let text = spelled(alloc, candidate)?;
+    let text = text.as_str().as_bytes();
+    if typed.is_closed() || joins(typed, candidate) || !begins(text, typed.part) {
+        return Ok(false);
+    }
+    fits(alloc, typed.base, text)
+}
+
+// Appends a candidate, if it is offered.
+fn push_offered(
+    alloc: Global,
+    typed: Typed<'_>,
+    candidate: Candidate,
+    found: &mut Vec<Candidate>,
+) -> Result<(), AllocError>
+    ensures { OnOk result (spec.AppendsOffered typed.entry candidate found.old.items found.new.items) }
+{
+    if is_offered(alloc, typed, candidate)? {
+        found.push(candidate)?;
+    }
+    Ok(())
+}
+
+/// Those of these candidates that are offered behind what is typed.
+pub fn offered(
+    alloc: Global,
+    typed: Typed<'_>,
+    candidates: &[Candidate],
+) -> Result<Vec<Candidate>, AllocError>
+    ensures { IfOk result (λ found. spec.Offers typed.entry candidates.now found.items) }
+{
+    let mut found = Vec::new(alloc);
+    for candidate in candidates {
+        push_offered(alloc, typed, *candidate, &mut found)?;
+    }
+    Ok(found)
+}

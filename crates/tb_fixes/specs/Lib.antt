@@ -1,0 +1,4 @@
+pub mod Mends
+pub mod Bounds
+pub mod Fixes
+pub mod Actions

@@ -1,0 +1,216 @@
+//! What mends a finding.
+ghost use Rattle.std.specs.Prelude.{◌≡◌, ◌∷◌, [], IfOk, None, map, option_map, string_bytes};
+ghost use Rattle.serde_json.specs.View.{view};
+ghost use Rattle.tb_diagnostics.specs.Diagnostics.{texts_of};
+ghost use Rattle.tb_source_text.specs.Lines.{pair_of};
+ghost use Rattle.tb_fixes.specs.Fixes as spec;
+
+use crate::bounds::better_bound;
+use serde_json::Value;
+use std::alloc::{AllocError, Global};
+use tb_check::{BadLine, LineWarning, Note, Warning};
+use tb_diagnostics::Lines;
+use tb_edit_values::{edit_value, lines_edit};
+use tb_places::{Span, piece, word_span};
+use tb_source_names::Source;
+use tb_source_text::{Numbered, numbered_lines};
+
+/// What mends a finding.
+#[derive(Drop)]
+pub struct Fix {
+    pub title: String,
+    /// Edits of the text.
+    pub edits: Vec<Value>,
+}
+
+// A fix with one edit.
+fn fix_by(alloc: Global, title: &str, edit: Value) -> Result<Option<Fix>, AllocError>
+    ensures { IfOk result (λ fix. option_map spec.seen fix ≡ spec.fix_by title.now (view edit)) }
+{
+    let mut edits = Vec::new(alloc);
+    edits.push(edit)?;
+    let title = String::from_str(alloc, title)?;
+    Ok(Some(Fix { title, edits }))
+}
+
+// A fix that writes a text in place of a span.
+fn writes(alloc: Global, title: &str, span: Span, text: &str) -> Result<Option<Fix>, AllocError>
+    ensures { IfOk result (λ fix. option_map spec.seen fix ≡ spec.writes title.now span text.now) }
+{
+    let edit = edit_value(alloc, span, text)?;
+    fix_by(alloc, title, edit)
+}
+
+// PRINT in place of a question mark, by what follows that: with a space where none stands and something follows.
+fn print_before(behind: &[u8]) -> &'static str
+    ensures { result.now ≡ spec.print_before behind.now }
+{
+    match behind {
+        [] | [b' ', ..] => "PRINT",
+        _ => "PRINT ",
+    }
+}
+
+// A word in place of that round a column.
+fn writes_word(
+    alloc: Global,
+    line: usize,
+    text: &[u8],
+    column: usize,
+    word: &str,
+) -> Result<Option<Fix>, AllocError>
+    ensures { IfOk result (λ fix. option_map spec.seen fix ≡ spec.writes_word line text.now column word.now) }
+{
+    let title = format!(in alloc; "Write {word}")?;
+    writes(alloc, title.as_str(), word_span(line, text, column), word)
+}
+
+// What follows the byte at a place.
+fn behind(text: &[u8], place: usize) -> &[u8]
+    ensures { result.now ≡ spec.behind place text.now }
+{
+    let from_there = &text[place.min(text.len())..];
+    match from_there {
+        [] => from_there,
+        [_, rest @ ..] => rest,
+    }
+}
+
+// What mends a line by a note, at a column that is counted from 1 as the line is.
+fn fix_by_note(
+    alloc: Global,
+    line: usize,
+    text: &[u8],
+    column: usize,
+    note: Note,
+) -> Result<Option<Fix>, AllocError>
+    ensures { IfOk result (λ fix. option_map spec.seen fix ≡ spec.fix_by_note line text.now column note) }
+{
+    let place = column.saturating_sub(1);
+    match note {
+        Note::ThenNumber => {
+            let span = piece(line, text, place, 0);
+            writes(alloc, "Write THEN GOTO", span, "GOTO ")
+        }
+        Note::QuestionMark => {
+            let print = print_before(behind(text, place));
+            writes(alloc, "Write PRINT", piece(line, text, place, 1), print)
+        }
+        Note::Near(word) => writes_word(alloc, line, text, column, word.spelling()),
+        Note::OpenText => {
+            let span = piece(line, text, text.len(), 0);
+            writes(alloc, "Close the text", span, "\"")
+        }
+        Note::Tab => writes(alloc, "Write a space", piece(line, text, place, 1), " "),
+        Note::ByteOrderMark => {
+            let span = piece(line, text, place, 3);
+            writes(alloc, "Remove the byte order mark", span, "")
+        }
+        _ => Ok(None),
+    }
+}
+
+/// What mends a bad line, if anything is known to.
+pub fn fix_of_bad_line(
+    alloc: Global,
+    text: &Lines<'_>,
+    bad: &BadLine,
+) -> Result<Option<Fix>, AllocError>
+    ensures { IfOk result (λ fix. option_map spec.seen fix ≡ spec.fix_of_bad_line (texts_of text.now) bad.now) }
+{
+    let (line, column) = (bad.error.line, bad.error.column);
+    match bad.note {
+        Some(note) => fix_by_note(alloc, line, text.line(line), column, note),
+        None => Ok(None),
+    }
+}
+
+// The number of the first of these lines.
+fn first_number(lines: &[Numbered<'_>]) -> u32
+    ensures { result ≡ spec.first_number (map pair_of lines.now) }
+{
+    match lines {
+        [] => 0,
+        [first, ..] => first.number,
+    }
+}
+
+// The number that begins a line.
+fn number_of(alloc: Global, text: &[u8]) -> Result<u32, AllocError>
+    ensures { IfOk result (λ n. n ≡ spec.number_of text.now) }
+{
+    let lines = numbered_lines(alloc, text)?;
+    Ok(first_number(&lines))
+}
+
+// A line with END and this number behind a text of so many lines: where the text ends its last line it has an end of its
+// own, or else it begins with one.
+fn end_edit(
+    alloc: Global,
+    count: usize,
+    last: &[u8],
+    is_ended: bool,
+    number: u32,
+) -> Result<Value, AllocError>
+    ensures { IfOk result (λ v. view v ≡ spec.end_edit count last.now is_ended number) }
+{
+    if is_ended {
+        let text = format!(in alloc; "{number} END\n")?;
+        lines_edit(alloc, count, count, text.as_str())
+    } else {
+        let text = format!(in alloc; "\n{number} END")?;
+        edit_value(alloc, piece(count, last, last.len(), 0), text.as_str())
+    }
+}
+
+// A line with END behind all others, of which this is the highest number, if a number is left.
+fn ends(
+    alloc: Global,
+    count: usize,
+    last: &[u8],
+    is_ended: bool,
+    highest: u32,
+) -> Result<Option<Fix>, AllocError>
+    ensures { IfOk result (λ fix. option_map spec.seen fix ≡ spec.ends count last.now is_ended highest) }
+{
+    if highest >= 32_767 {
+        return Ok(None);
+    }
+    let number = (highest + 10).min(32_767);
+    let edit = end_edit(alloc, count, last, is_ended, number)?;
+    fix_by(alloc, "Add a line with END", edit)
+}
+
+// The line with its end is removed; another one follows it.
+fn removes(alloc: Global, line: usize) -> Result<Option<Fix>, AllocError>
+    ensures { IfOk result (λ fix. option_map spec.seen fix ≡ spec.removes line) }
+{
+    let edit = lines_edit(alloc, line.saturating_sub(1), line, "")?;
+    fix_by(alloc, "Remove the line", edit)
+}
+
+/// What mends what a warning tells of a text, by whether that ends its last line, if anything is known to.
+pub fn fix_of_warning(
+    alloc: Global,
+    text: &Lines<'_>,
+    source: &Source<'_>,
+    is_ended: bool,
+    warning: &LineWarning,
+) -> Result<Option<Fix>, AllocError>
+    ensures { IfOk result (λ fix. option_map spec.seen fix
+        ≡ spec.fix_of_warning (texts_of text.now) source.now.lines.items is_ended warning.now) }
+{
+    match warning.warning {
+        Warning::Replaced { .. } | Warning::TakenOut { .. } => removes(alloc, warning.line),
+        Warning::RunsPast => {
+            let highest = number_of(alloc, text.line(warning.line))?;
+            let count = text.lines.len();
+            ends(alloc, count, text.line(count), is_ended, highest)
+        }
+        Warning::EvenBound(bound) => {
+            let line = source.lines.get(warning.line.saturating_sub(1));
+            better_bound(alloc, warning.line, line, bound)
+        }
+        _ => Ok(None),
+    }
+}

@@ -1,0 +1,9 @@
+//! What mends the findings of a source: an edit of the text, as a language server offers it.
+#![tactic(auto)]
+
+mod bounds;
+mod fixes;
+mod offers;
+
+pub use fixes::{Fix, fix_of_bad_line, fix_of_warning};
+pub use offers::{LineRange, actions};

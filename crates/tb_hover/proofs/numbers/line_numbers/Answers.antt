@@ -1,0 +1,20 @@
+-- The goals of `line_numbers` in src/numbers.rt.
+use Rattle.std.proofs.Common.{inl, ◌∙◌}
+use Rattle.tb_syntax.specs.PlainData.{lines_of}
+use Rattle.tb_codegen.proofs.SmallPrograms.{are_small, cost_small}
+use Rattle.tb_hover.specs.Numbers.{part_of}
+use Rattle.tb_hover.proofs.numbers.line_numbers.Goals as goal
+
+pub numbers_in-requires : goal.numbers_in-requires
+numbers_in-requires c =
+    cost_small (lines_of c.in-Ok-parse.program) (are_small (lines_of c.in-Ok-parse.program) c.in-Ok-parse.ensures.stated) c.in-Ok-parse.ensures.rising
+
+pub returns : goal.returns
+returns c =
+    let program = lines_of c.in-Ok-parse.program in inl (
+      c.in-Ok.compiled,
+      program,
+      c.in-Ok.ensures.found,
+      c.in-Ok-parse.ensures.found,
+      c.numbers_in.ensures ∙ (λ i. part_of c.args.number (c.starts-starts.ensures i) (c.table-table.ensures i) program),
+    )

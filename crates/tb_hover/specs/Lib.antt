@@ -1,0 +1,5 @@
+pub mod Words
+pub mod About
+pub mod Numbers
+pub mod Texts
+pub mod Shown

@@ -1,0 +1,2 @@
+-- texts that are UTF-8, or not
+mod Utf8

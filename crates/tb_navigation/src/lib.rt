@@ -1,0 +1,12 @@
+//! Where lines and variables of a source are named, as a language server answers it: definition, references, highlights
+//! and symbols.
+#![tactic(auto)]
+
+mod outline;
+mod places;
+mod remarks;
+mod values;
+
+pub use outline::{calls, standing_number, symbols};
+pub use places::{definition, highlights, references};
+pub use remarks::{is_remark, shown};

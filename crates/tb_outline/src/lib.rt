@@ -1,0 +1,8 @@
+//! How a text is shown, as a language server answers it: which lines can be folded, and what each token is.
+#![tactic(auto)]
+
+mod folding;
+mod tokens;
+
+pub use folding::folds;
+pub use tokens::{legend, semantic_tokens};

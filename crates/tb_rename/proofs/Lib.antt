@@ -1,0 +1,4 @@
+-- texts that are UTF-8, or not
+mod Utf8
+-- renamed lines make the renamed program
+mod Made

@@ -1,0 +1,14 @@
+-- The goal of `changes` in src/renaming.rt.
+use Rattle.std.proofs.Common.{ap, ◌∙◌}
+use Rattle.tb_edit_values.specs.Edits.{changes}
+use Rattle.tb_rename.specs.Rename.{AreRenamed}
+use Rattle.tb_rename.proofs.Made.{text_makes}
+use Rattle.tb_rename.proofs.renaming.changes.Goals as goal
+
+pub returns : goal.returns
+returns c =
+    let reads : AreRenamed c.args.letters c.args.source.now.lines.items = c.in_ok-are_renamed.ensures c.if-not-branch.false in record {
+      edits = c.in_ok-changes_value.ensures ∙ ap (λ edits. changes c.args.uri.now edits) c.in_ok-edits.ensures;
+      reads = reads;
+      makes = text_makes c.args.letters c.args.source.now.lines.items reads;
+    }
