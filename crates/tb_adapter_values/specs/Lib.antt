@@ -1,0 +1,4 @@
+pub mod Arguments
+pub mod Bodies
+pub mod Requests
+pub mod Stops

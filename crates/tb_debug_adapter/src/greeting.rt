@@ -1,0 +1,121 @@
+//! What is said before a program is launched.
+ghost use Rattle.std.specs.Prelude.{◌≡◌, IfOk, option_map};
+ghost use Rattle.serde_json.specs.View.{view};
+ghost use Rattle.tb_debug_adapter.specs.Greeting as spec;
+ghost use Rattle.tb_debug_adapter.specs.Launching.{asked_of};
+ghost use Rattle.tb_debug_adapter.specs.Said.{seen};
+
+use crate::launching::{Launch, is_understood, launch_in};
+use crate::loading::{Loaded, Loading, load};
+use crate::said::Said;
+use crate::session::{alone, refused};
+use serde_json::Value;
+use std::alloc::{AllocError, Global};
+use tb_adapter_messages::Refusal;
+use tb_adapter_values::{Command, capabilities_body};
+use tb_check_engine::Sources;
+
+/// What comes of a request before a program is launched.
+#[derive(Drop)]
+pub enum Greeting {
+    Said(Vec<Said>),
+    Launched(Loaded),
+}
+
+// A refusal alone.
+fn unwelcome(alloc: Global, refusal: Refusal) -> Result<Greeting, AllocError>
+    ensures { IfOk result (spec.Refuses refusal) }
+{
+    Ok(Greeting::Said(refused(alloc, refusal)?))
+}
+
+// What is said to `initialize`.
+fn initialize(alloc: Global, understood: bool) -> Result<Said, AllocError>
+    ensures { IfOk result (λ s. seen s ≡ spec.initialized understood) }
+{
+    if understood {
+        Ok(Said::Done(Some(capabilities_body(alloc)?)))
+    } else {
+        Ok(Said::Refused(Refusal::BadArguments))
+    }
+}
+
+// What comes of `initialize`: whether it was done.
+fn initialize_once(
+    alloc: Global,
+    initialized: &mut bool,
+    understood: bool,
+) -> Result<Greeting, AllocError>
+    ensures { IfOk result (λ greeting. spec.Initializes initialized.old understood greeting initialized.new) }
+{
+    if *initialized {
+        return unwelcome(alloc, Refusal::Initialized);
+    }
+    let said = initialize(alloc, understood)?;
+    let said = alone(alloc, said)?;
+    *initialized = understood;
+    Ok(Greeting::Said(said))
+}
+
+// What comes of loading.
+fn greeted(loading: Loading) -> Greeting
+    ensures { result ≡ spec.greeted loading }
+{
+    match loading {
+        Loading::Loaded(loaded) => Greeting::Launched(loaded),
+        Loading::Unloaded(said) => Greeting::Said(said),
+    }
+}
+
+// What comes of `launch`.
+fn launch<S: Sources>(
+    alloc: Global,
+    sources: &mut S,
+    launch: Option<Launch<'_>>,
+) -> Result<Greeting, AllocError>
+    ensures { IfOk result (λ greeting. spec.Launches S.reads (option_map asked_of launch.entry) sources.old greeting sources.new) }
+{
+    match launch {
+        Some(launch) => Ok(greeted(load(alloc, sources, &launch)?)),
+        None => unwelcome(alloc, Refusal::BadArguments),
+    }
+}
+
+// Why a request comes too early.
+fn too_early(initialized: bool) -> Refusal
+    ensures { result ≡ spec.too_early initialized }
+{
+    if initialized {
+        Refusal::NotLaunched
+    } else {
+        Refusal::NotInitialized
+    }
+}
+
+// That a request is done.
+fn done(alloc: Global) -> Result<Greeting, AllocError>
+    ensures { IfOk result spec.IsDone }
+{
+    Ok(Greeting::Said(alone(alloc, Said::Done(None))?))
+}
+
+/// What comes of a request before a program is launched, by whether the adapter was initialized.
+pub fn greet<S: Sources>(
+    alloc: Global,
+    initialized: &mut bool,
+    sources: &mut S,
+    command: Option<Command>,
+    arguments: &Value,
+) -> Result<Greeting, AllocError>
+    ensures { IfOk result (λ greeting. spec.Greets S.reads command (view arguments.now) initialized.old sources.old greeting initialized.new sources.new) }
+{
+    match command {
+        None => unwelcome(alloc, Refusal::UnknownCommand),
+        Some(Command::Disconnect) => done(alloc),
+        Some(Command::Initialize) => {
+            initialize_once(alloc, initialized, is_understood(arguments))
+        }
+        Some(Command::Launch) if *initialized => launch(alloc, sources, launch_in(arguments)),
+        Some(_) => unwelcome(alloc, too_early(*initialized)),
+    }
+}
