@@ -1,0 +1,30 @@
+-- The goals of `save_texts` in src/saving.rt.
+use Rattle.std.proofs.Common.{◌-◌, ◌∷◌, ◌∙◌, ap, sym, subst, take, drop, length, get_or, [], Bor, List, ℕ}
+use Rattle.tb_files.specs.Deeds.{Saves}
+use Rattle.tb_files.proofs.Orders.{first_of}
+use Rattle.tb_assembly_engine.proofs.Writing.{puts_first, puts_rest}
+use Rattle.tb_assembly_engine.proofs.saving.+save_texts.Goals as goal
+
+pub returns-in-Ok : goal.returns-in-Ok
+returns-in-Ok g t c =
+    let all = c.args.outputs.now in
+    let each = c.args.texts.now in
+    let none : Bor (List ℕ) = record { ref_ptr = (0, 0); now = [] } in
+    puts_rest g.F.FileSystem.does c.save_texts.result c.args.files.now c.save.new.self c.save_texts.new.files (get_or all 0 none)
+    (take (length all - 1) (drop 1 all)) all c.text-item.result (take (length each - 1) (drop 1 each)) each
+    (first_of all none c.in-len1-up.len_at_least)
+    (first_of each c.text-item.result c.in-len1-up-texts.len_at_least ∙ ap (λ t. t ∷ take (length each - 1) (drop 1 each)) (sym c.text-item.is))
+    (subst (λ t. g.F.FileSystem.does c.args.files.now (Saves (get_or all 0 none).now t) c.save.new.self) c.as_slice.ensures.value c.save.ensures)
+    c.save_texts.ensures
+
+pub returns-in-Err : goal.returns-in-Err
+returns-in-Err g t c =
+    let all = c.args.outputs.now in
+    let each = c.args.texts.now in
+    let none : Bor (List ℕ) = record { ref_ptr = (0, 0); now = [] } in
+    puts_first g.F.FileSystem.does _ _ c.args.files.now c.save.new.self (get_or all 0 none)
+    (take (length all - 1) (drop 1 all)) all c.text-item.result (take (length each - 1) (drop 1 each)) each
+    (first_of all none c.in-len1-up.len_at_least)
+    (first_of each c.text-item.result c.in-len1-up-texts.len_at_least ∙ ap (λ t. t ∷ take (length each - 1) (drop 1 each)) (sym c.text-item.is))
+    (subst (λ t. g.F.FileSystem.does c.args.files.now (Saves (get_or all 0 none).now t) c.save.new.self) c.as_slice.ensures.value c.save.ensures)
+    c.unwritten.ensures

@@ -1,0 +1,6 @@
+-- exit statuses
+pub mod Outcomes
+-- what is done with files
+pub mod Deeds
+-- endings of paths
+pub mod Names

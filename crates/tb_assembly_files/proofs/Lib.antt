@@ -1,0 +1,2 @@
+-- what an include makes of what was read
+pub mod Included

@@ -1,0 +1,6 @@
+-- where included files are
+pub mod Paths
+-- files by their paths
+pub mod Libraries
+-- the statements of a text with those of the files that it includes
+pub mod Expansion

@@ -1,0 +1,12 @@
+//! Assembler text in files: the statements of a text with those of the files that it includes, or all that is wrong with
+//! their lines.
+#![tactic(auto)]
+
+mod expanding;
+mod faults;
+mod library;
+mod paths;
+
+pub use expanding::{Reading, Stop, expand};
+pub use faults::{BadLine, DEEPEST, IncludeFault, MOST_LINES, Place, Problem};
+pub use library::{SourceFile, file_with, path_at, text_at};

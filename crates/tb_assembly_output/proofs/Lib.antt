@@ -1,0 +1,2 @@
+-- what is answered
+pub mod Answering

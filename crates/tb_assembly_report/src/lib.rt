@@ -1,0 +1,12 @@
+//! What there is to say of an assembler text: all that is wrong with it, each with its line, its place, and what helps.
+#![tactic(auto)]
+
+mod causes;
+mod near;
+mod notes;
+mod reports;
+mod words;
+
+pub use causes::{Cause, Finding};
+pub use notes::NOTED;
+pub use reports::report;

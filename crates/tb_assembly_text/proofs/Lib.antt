@@ -1,0 +1,12 @@
+-- tokens read one after the other
+pub mod Passing
+-- what stands between commas
+pub mod Segments
+-- the search for a mnemonic by its name
+pub mod Named
+-- expressions read token by token
+pub mod Reading
+-- lists that are read part by part
+pub mod Parts
+-- labels before other statements
+pub mod Labels
