@@ -1,0 +1,31 @@
+-- What comes of listing a PRG file for an assembler.
+use Rattle.std.specs.Prelude.{◌≡◌, ℕ, List, Result, Ok, Err}
+use Rattle.tb_prg.specs.declared.PrgError.{PrgError}
+use Rattle.tb_prg.specs.Prg.{content_of}
+use Rattle.tb_engines.specs.Outcomes.{Product}
+use Rattle.tb_engines.specs.declared.delivery.NoText.{NoText}
+use Rattle.tb_engines.specs.declared.delivery.NoText.TheVariants.{Refused, NoMemory}
+use Rattle.tb_engines.specs.declared.outcome.End.TheVariants.{Done}
+use Rattle.tb_engines.specs.declared.outcome.Refusal.{Refusal}
+use Rattle.tb_engines.specs.declared.outcome.Refusal.TheVariants.{Prg}
+use Rattle.tb_dialects.specs.declared.dialect.Dialect.{Dialect}
+use Rattle.tb_dialects.specs.Listings.{Lists, spelled}
+
+-- the listing of a load address and the bytes there, or the refusal of a file that is no PRG file
+abbrev pub ListsContent : Dialect → Result (ℕ × List ℕ) PrgError → Product → Type 0
+ListsContent d (Ok p) (Ok made) = Lists d p.0 p.1 made.0 × (made.1 ≡ Done)
+ListsContent d (Ok p) (Err e) = ⊥
+ListsContent d (Err e) product = product ≡ Err (Prg e)
+
+-- what comes of listing a PRG file for an assembler
+abbrev pub ListsPrgFor : Dialect → List ℕ → Product → Type 0
+ListsPrgFor d file product = ListsContent d (content_of file) product
+
+-- a listing of a PRG file's program as an assembler takes it
+abbrev pub Spells : Dialect → List ℕ → List ℕ → List ℕ → Type 0
+Spells d file listing text = (p : ℕ × List ℕ) × (content_of file ≡ Ok p) × (text ≡ spelled d p.0 p.1 listing)
+
+-- there is none: the file is no PRG file, or memory ran out
+abbrev pub IsUnspelled : List ℕ → NoText → Type 0
+IsUnspelled file (Refused e) = (why : PrgError) × (content_of file ≡ Err why) × (e ≡ Prg why)
+IsUnspelled file NoMemory = Unit {0}
