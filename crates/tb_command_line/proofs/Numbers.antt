@@ -1,13 +1,18 @@
 -- The texts that say numbers say those of tb_jobs, by computing.
 use Rattle.std.proofs.Common.{◌≡◌, ◌++◌, codes, refl}
 use Rattle.std.specs.Fmt.{decimal, digits}
-use Rattle.tb_jobs.specs.declared.jobs.TheConstants.{MOST_EVENTS, USUAL_EVENTS, USUAL_SEED}
-use Rattle.tb_command_line.specs.declared.arguments.TheConstants.{LIMIT_HELP, PLAY_LIMIT_HELP, MOST_EVENTS_TEXT, USUAL_EVENTS_TEXT, USUAL_SEED_TEXT}
+use Rattle.tb_jobs.specs.declared.jobs.TheConstants.{MOST_EVENTS, USUAL_EVENTS, USUAL_SEED, USUAL_STEP}
+use Rattle.tb_command_line.specs.declared.arguments.TheConstants.{LIMIT_HELP, PLAY_LIMIT_HELP, MOST_EVENTS_TEXT, USUAL_EVENTS_TEXT, USUAL_SEED_TEXT, USUAL_STEP_TEXT}
 
 -- the usual seed
 pub seed_said : USUAL_SEED_TEXT.now ≡ decimal USUAL_SEED
 unfolding digits
 seed_said = refl
+
+-- the usual step
+pub step_said : USUAL_STEP_TEXT.now ≡ decimal USUAL_STEP
+unfolding digits
+step_said = refl
 
 -- the usual limit
 pub usual_said : USUAL_EVENTS_TEXT.now ≡ decimal USUAL_EVENTS

@@ -32,6 +32,10 @@ pub enum Form {
     OutputInPlaceOf(&'static str),
     /// One file or more, named by their places, which may be missing if the option of this name is there.
     FilesUnless(&'static str),
+    /// An option of one of these names.
+    Choice(&'static [&'static str]),
+    /// An option of one of these names, which takes the option of the other name along.
+    ChoiceWith(&'static [&'static str], &'static str),
     /// An option that names a file.
     FileOption,
     /// An option that names a file, and excludes the argument of this name.
@@ -42,16 +46,22 @@ pub enum Form {
     Digits,
     /// An option of hexadecimal digits that must be there.
     Address,
+    /// An option of hexadecimal digits that may be missing.
+    AddressIfNamed,
     /// An option of a number, 0 to 65535.
     Number,
     /// An option of a number, 0 to 65535, and this one if it is missing.
     NumberOr(&'static str),
+    /// An option of a line number, 1 to `HIGHEST_LINE`, and this one if it is missing.
+    LineNumberOr(&'static str),
     /// An option of a number of events, 1 to `MOST_EVENTS`, and this one if it is missing.
     EventsOr(&'static str),
 }
 
 // The numbers of tb_jobs as texts. That they agree is proved in proofs/Numbers.
 const USUAL_SEED_TEXT: &str = "1";
+
+const USUAL_STEP_TEXT: &str = "10";
 
 const USUAL_EVENTS_TEXT: &str = "10000000";
 
@@ -76,6 +86,13 @@ const OUT_NAME: &str = "OUT";
 const OUTPUT_NAME: &str = "output";
 
 const IN_PLACE_NAME: &str = "in-place";
+
+const LIST_NAME: &str = "list";
+
+const FOR_NAME: &str = "for";
+
+/// The assemblers that listings are made for.
+pub const ASSEMBLERS: [&str; 4] = ["64tass", "ca65", "acme", "xa"];
 
 pub const SOURCE: Argument = Argument {
     name: SOURCE_NAME,
@@ -123,6 +140,12 @@ pub const OUT: Argument = Argument {
     name: OUT_NAME,
     help: "The PRG file that is written",
     form: Form::FileUnless(OUTPUT_NAME),
+};
+
+pub const ASSEMBLY_OUT: Argument = Argument {
+    name: OUT_NAME,
+    help: "The PRG file that is written; IN with .prg in place of .asm if it is missing",
+    form: Form::FileIfNamed,
 };
 
 pub const DISK_OUT: Argument = Argument {
@@ -209,6 +232,12 @@ pub const AT: Argument = Argument {
     form: Form::Address,
 };
 
+pub const ORIGIN: Argument = Argument {
+    name: "at",
+    help: "The address of the first byte if the text names none, four hexadecimal digits [default: C000]",
+    form: Form::AddressIfNamed,
+};
+
 pub const LABELS: Argument = Argument {
     name: "labels",
     help: "Write a label file for VICE's monitor",
@@ -216,14 +245,32 @@ pub const LABELS: Argument = Argument {
 };
 
 pub const LIST: Argument = Argument {
-    name: "list",
+    name: LIST_NAME,
     help: "Write a listing, which assembles to the same bytes",
     form: Form::FileOption,
+};
+
+pub const LIST_FOR: Argument = Argument {
+    name: FOR_NAME,
+    help: "Write the listing for this assembler, which makes the PRG file of it",
+    form: Form::ChoiceWith(&ASSEMBLERS, LIST_NAME),
+};
+
+pub const FOR: Argument = Argument {
+    name: FOR_NAME,
+    help: "List it for this assembler, which makes the same file of it",
+    form: Form::Choice(&ASSEMBLERS),
 };
 
 pub const MAP: Argument = Argument {
     name: "map",
     help: "Write a map: what each line takes and costs",
+    form: Form::FileOption,
+};
+
+pub const WATCH: Argument = Argument {
+    name: "watch",
+    help: "Write a watch file for VICE's monitor: it stops where a ROM breaks a rule",
     form: Form::FileOption,
 };
 
@@ -243,6 +290,18 @@ pub const ONLY_CHECK: Argument = Argument {
     name: "check",
     help: "Write only the file's name, if it is not tidy, and end with status 1 then",
     form: Form::FlagInPlaceOf(IN_PLACE_NAME),
+};
+
+pub const FIRST_LINE: Argument = Argument {
+    name: "from",
+    help: "The number of the first line, 1 to 32767",
+    form: Form::LineNumberOr(USUAL_STEP_TEXT),
+};
+
+pub const LINE_STEP: Argument = Argument {
+    name: "step",
+    help: "How much higher each next line's number is, 1 to 32767",
+    form: Form::LineNumberOr(USUAL_STEP_TEXT),
 };
 
 pub const PAGE: Argument = Argument {

@@ -3,9 +3,10 @@ ghost use Rattle.std.specs.Prelude.{◌≡◌};
 ghost use Rattle.tb_command_line.specs.Table.{NamesEach, command_of};
 
 use crate::arguments::{
-    ANSWERS, AT, Argument, BUILD_OUT, DISK_OUT, DISK_OUTPUT, FIT, IN_PLACE, KEY_FILE, KEYS, LABELS,
-    LIMIT, LIST, MAP, ONLY_CHECK, OUT, OUTPUT, PAGE, PLAY_LIMIT, PRG, PRG_FILE, PRG_FILES, RECORD,
-    RUDE, SEED, SOURCE, SOURCE_OR_PRG, SOURCES, TEXT, TYPE,
+    ANSWERS, ASSEMBLY_OUT, AT, Argument, BUILD_OUT, DISK_OUT, DISK_OUTPUT, FIRST_LINE, FIT, FOR,
+    IN_PLACE, KEY_FILE, KEYS, LABELS, LIMIT, LINE_STEP, LIST, LIST_FOR, MAP, ONLY_CHECK, ORIGIN,
+    OUT, OUTPUT, PAGE, PLAY_LIMIT, PRG, PRG_FILE, PRG_FILES, RECORD, RUDE, SEED, SOURCE,
+    SOURCE_OR_PRG, SOURCES, TEXT, TYPE, WATCH,
 };
 
 /// A command of `tbc`.
@@ -15,6 +16,7 @@ pub enum CommandName {
     Run,
     Play,
     Asm,
+    Assemble,
     Dis,
     Step,
     Debug,
@@ -22,6 +24,7 @@ pub enum CommandName {
     Disk,
     Check,
     Format,
+    Renumber,
     Lsp,
     Version,
 }
@@ -46,13 +49,15 @@ pub fn rows() -> &'static [CommandRow]
     &COMMANDS
 }
 
-static COMMANDS: [CommandRow; 13] = [
+static COMMANDS: [CommandRow; 15] = [
     CommandRow {
         command: CommandName::Build,
         name: "build",
         help: "Compile a Tiny BASIC source to a PRG file",
         usage: None,
-        arguments: &[SOURCE, BUILD_OUT, OUTPUT, SEED, FIT, LABELS, LIST, MAP],
+        arguments: &[
+            SOURCE, BUILD_OUT, OUTPUT, SEED, FIT, LABELS, LIST, LIST_FOR, MAP, WATCH,
+        ],
     },
     CommandRow {
         command: CommandName::Run,
@@ -87,11 +92,18 @@ static COMMANDS: [CommandRow; 13] = [
         arguments: &[TEXT, OUT, OUTPUT, AT],
     },
     CommandRow {
+        command: CommandName::Assemble,
+        name: "assemble",
+        help: "Assemble a text as people write it, or show everything that is wrong with it",
+        usage: None,
+        arguments: &[TEXT, ASSEMBLY_OUT, OUTPUT, ORIGIN, LABELS, LIST],
+    },
+    CommandRow {
         command: CommandName::Dis,
         name: "dis",
         help: "List a PRG file as assembler text",
         usage: None,
-        arguments: &[PRG_FILE],
+        arguments: &[PRG_FILE, FOR],
     },
     CommandRow {
         command: CommandName::Step,
@@ -113,10 +125,19 @@ static COMMANDS: [CommandRow; 13] = [
     CommandRow {
         command: CommandName::Debug,
         name: "debug",
-        help: "Debug a source forth and back by commands from standard input; h lists them",
-        usage: None,
+        help: "Debug a source or a PRG file forth and back by commands from standard input; h lists them",
+        usage: Some("tbc debug [OPTIONS] <SOURCE>\n       tbc debug [OPTIONS] --prg <FILE>"),
         arguments: &[
-            SOURCE, SEED, FIT, KEYS, KEY_FILE, TYPE, ANSWERS, LIMIT, RUDE,
+            SOURCE_OR_PRG,
+            PRG,
+            SEED,
+            FIT,
+            KEYS,
+            KEY_FILE,
+            TYPE,
+            ANSWERS,
+            LIMIT,
+            RUDE,
         ],
     },
     CommandRow {
@@ -158,6 +179,13 @@ static COMMANDS: [CommandRow; 13] = [
         help: "Write a source with tidy lines",
         usage: None,
         arguments: &[SOURCE, IN_PLACE, ONLY_CHECK],
+    },
+    CommandRow {
+        command: CommandName::Renumber,
+        name: "renumber",
+        help: "Write a source with other line numbers",
+        usage: None,
+        arguments: &[SOURCE, FIRST_LINE, LINE_STEP, IN_PLACE],
     },
     CommandRow {
         command: CommandName::Lsp,

@@ -9,6 +9,7 @@ mod words;
 
 pub use parser::VERSION;
 pub use tb_jobs::{
-    BuildExtras, Failure, FormatTarget, Job, JobError, Limit, Runnable, Settings, Typed, typed_keys,
+    BuildExtras, Dialect, Failure, FormatTarget, Job, JobError, Limit, Runnable, Settings, Typed,
+    USUAL_SEED, typed_keys,
 };
 pub use words::job;

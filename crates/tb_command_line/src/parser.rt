@@ -3,13 +3,25 @@ use crate::arguments::{Argument, Form};
 use crate::commands::{CommandRow, rows};
 use clap::{Arg, ArgAction, Command, value_parser};
 use std::alloc::{AllocError, Global};
-use tb_jobs::MOST_EVENTS;
+use std::convert::AsStr;
+use tb_jobs::{HIGHEST_LINE, MOST_EVENTS};
 
 /// The version of the program.
 pub const VERSION: &str = "1.0.0";
 
-/// The parser of all words after the program's own name.
-pub fn parser<'a>(alloc: Global) -> Result<Command<'a>, AllocError> {
+// Whether one of the words is this name.
+fn is_named<S: AsStr>(words: &[S], name: &str) -> bool {
+    for word in words {
+        if word.as_str() == name {
+            return true;
+        }
+    }
+    false
+}
+
+/// The parser of these words, all after the program's own name. A command that none of them names has no arguments in
+/// it, which shows nowhere and starts the program sooner.
+pub fn parser<'a, S: AsStr>(alloc: Global, words: &[S]) -> Result<Command<'a>, AllocError> {
     let mut parser = Command::new(alloc, "tbc")
         .about(
             "Compiles Tiny BASIC for the Commodore 64, assembles, lists, runs, plays, steps, debugs, profiles and checks",
@@ -19,7 +31,12 @@ pub fn parser<'a>(alloc: Global) -> Result<Command<'a>, AllocError> {
         .bin_name("tbc")?
         .subcommand_required(true);
     for row in rows() {
-        parser = with_subcommand(parser, subcommand(alloc, row))?;
+        let arguments = if is_named(words, row.name) {
+            row.arguments
+        } else {
+            &[]
+        };
+        parser = with_subcommand(parser, subcommand(alloc, row, arguments))?;
     }
     Ok(parser)
 }
@@ -32,13 +49,17 @@ fn with_subcommand<'a>(
     parser.subcommand(subcommand?)
 }
 
-fn subcommand<'a>(alloc: Global, row: &CommandRow) -> Result<Command<'a>, AllocError> {
+fn subcommand<'a>(
+    alloc: Global,
+    row: &CommandRow,
+    arguments: &[Argument],
+) -> Result<Command<'a>, AllocError> {
     let command = Command::new(alloc, row.name).about(row.help);
     let mut command = match row.usage {
         Some(usage) => command.override_usage(usage),
         None => command,
     };
-    for argument in row.arguments {
+    for argument in arguments {
         command = with_argument(command, clap_argument(alloc, argument))?;
     }
     Ok(command)
@@ -74,11 +95,19 @@ fn clap_argument<'a>(alloc: Global, argument: &Argument) -> Result<Arg<'a>, Allo
         Form::FilesUnless(option) => plain.num_args(1..).required_unless_present(option),
         Form::Output => Ok(output_option(plain)),
         Form::OutputInPlaceOf(excluded) => output_option(plain).conflicts_with(excluded),
+        Form::Choice(names) => Ok(choice_option(plain, argument, names)),
+        Form::ChoiceWith(names, other) => {
+            choice_option(plain, argument, names).requires_arg(other)
+        }
         Form::FileOption => Ok(option(plain, argument, "FILE")),
         Form::Digits => Ok(digits_option(plain, argument)),
         Form::Address => Ok(option(plain, argument, "HEX").required(true)),
+        Form::AddressIfNamed => Ok(option(plain, argument, "HEX")),
         Form::Number => Ok(number_option(plain, argument)),
         Form::NumberOr(usual) => Ok(number_option(plain, argument).default_value(usual)),
+        Form::LineNumberOr(usual) => {
+            Ok(line_number_option(plain, argument).default_value(usual))
+        }
         Form::EventsOr(usual) => Ok(events_option(plain, argument).default_value(usual)),
     }
 }
@@ -86,6 +115,14 @@ fn clap_argument<'a>(alloc: Global, argument: &Argument) -> Result<Arg<'a>, Allo
 // An option with a value of this name.
 fn option<'a>(plain: Arg<'a>, argument: &Argument, value: &'a str) -> Arg<'a> {
     plain.long(argument.name).value_name(value)
+}
+
+fn choice_option<'a>(
+    plain: Arg<'a>,
+    argument: &Argument,
+    names: &'static [&'static str],
+) -> Arg<'a> {
+    option(plain, argument, "ASSEMBLER").value_parser(&*names)
 }
 
 fn output_option(plain: Arg<'_>) -> Arg<'_> {
@@ -100,6 +137,10 @@ fn digits_option<'a>(plain: Arg<'a>, argument: &Argument) -> Arg<'a> {
 
 fn number_option<'a>(plain: Arg<'a>, argument: &Argument) -> Arg<'a> {
     option(plain, argument, "N").value_parser(value_parser!(u16))
+}
+
+fn line_number_option<'a>(plain: Arg<'a>, argument: &Argument) -> Arg<'a> {
+    option(plain, argument, "N").value_parser(value_parser!(u16).range(1..=i64::from(HIGHEST_LINE)))
 }
 
 fn events_option<'a>(plain: Arg<'a>, argument: &Argument) -> Arg<'a> {

@@ -1,11 +1,13 @@
 //! The values of arguments that the parser found.
 use crate::arguments::{
-    ANSWERS, Argument, FIT, IN_PLACE, KEY_FILE, KEYS, LABELS, LIMIT, LIST, MAP, ONLY_CHECK, PRG,
-    RUDE, SEED, SOURCE_OR_PRG, TYPE,
+    ANSWERS, Argument, FIT, FOR, IN_PLACE, KEY_FILE, KEYS, LABELS, LIMIT, LIST, MAP, ONLY_CHECK,
+    PRG, RUDE, SEED, SOURCE_OR_PRG, TYPE, WATCH,
 };
 use clap::ArgMatches;
 use std::alloc::{AllocError, Global};
-use tb_jobs::{BuildExtras, FormatTarget, Limit, Runnable, Settings, Typed, USUAL_SEED};
+use tb_jobs::{
+    BuildExtras, Dialect, FormatTarget, Limit, Runnable, Settings, Typed, USUAL_SEED, USUAL_STEP,
+};
 
 /// A copy of the text of an argument, or an empty one if the parser let it be missing.
 pub fn text(
@@ -66,13 +68,34 @@ pub fn fit_of(found: &ArgMatches<'_>) -> bool {
 
 /// Where the tidy text of a source goes. The parser lets at most one of the two options through.
 pub fn target_of(found: &ArgMatches<'_>) -> FormatTarget {
-    if found.get_flag(IN_PLACE.name) {
+    if in_place_of(found) {
         FormatTarget::InPlace
     } else if found.get_flag(ONLY_CHECK.name) {
         FormatTarget::Check
     } else {
         FormatTarget::Output
     }
+}
+
+/// The assembler that a listing is for. The parser lets no other name through.
+pub fn dialect_of(found: &ArgMatches<'_>) -> Option<Dialect> {
+    match found.get_str(FOR.name)? {
+        "64tass" => Some(Dialect::Tass64),
+        "ca65" => Some(Dialect::Ca65),
+        "acme" => Some(Dialect::Acme),
+        "xa" => Some(Dialect::Xa),
+        _ => None,
+    }
+}
+
+/// Whether a new text takes the source's place.
+pub fn in_place_of(found: &ArgMatches<'_>) -> bool {
+    found.get_flag(IN_PLACE.name)
+}
+
+/// The first new line number, or the step to the next one.
+pub fn line_number_of(found: &ArgMatches<'_>, argument: &Argument) -> u16 {
+    found.get_one::<u16>(argument.name).unwrap_or(USUAL_STEP)
 }
 
 /// The seed of rude events, if they are wanted.
@@ -122,6 +145,8 @@ pub fn extras_of(alloc: Global, found: &ArgMatches<'_>) -> Result<BuildExtras, A
     Ok(BuildExtras {
         labels: optional_text(alloc, found, &LABELS)?,
         listing: optional_text(alloc, found, &LIST)?,
+        dialect: dialect_of(found),
         map: optional_text(alloc, found, &MAP)?,
+        watch: optional_text(alloc, found, &WATCH)?,
     })
 }

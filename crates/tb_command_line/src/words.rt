@@ -3,14 +3,14 @@ ghost use Rattle.std.specs.Prelude.{IfOk};
 ghost use Rattle.tb_jobs.specs.Limits.{IsWithinLimit};
 
 use crate::arguments::{
-    AT, BUILD_OUT, DISK_OUT, DISK_OUTPUT, OUT, OUTPUT, PAGE, PLAY_LIMIT, PRG_FILE, PRG_FILES,
-    RECORD, SOURCE, SOURCES, TEXT,
+    ASSEMBLY_OUT, AT, BUILD_OUT, DISK_OUT, DISK_OUTPUT, FIRST_LINE, LABELS, LINE_STEP, LIST,
+    ORIGIN, OUT, OUTPUT, PAGE, PLAY_LIMIT, PRG_FILE, PRG_FILES, RECORD, SOURCE, SOURCES, TEXT,
 };
 use crate::commands::{CommandName, command_named, rows};
 use crate::parser::{VERSION, parser};
 use crate::values::{
-    extras_of, first_text, fit_of, limit_of, optional_text, rude_of, runnable_of, seed_of,
-    settings_of, target_of, text, texts,
+    dialect_of, extras_of, first_text, fit_of, in_place_of, limit_of, line_number_of,
+    optional_text, rude_of, runnable_of, seed_of, settings_of, target_of, text, texts,
 };
 use clap::ArgMatches;
 use clap::error::ErrorKind;
@@ -23,7 +23,7 @@ use tb_jobs::{Job, JobError, Limit};
 pub fn job<S: AsStr>(alloc: Global, words: &[S]) -> Result<Job, JobError>
     ensures { IfOk result IsWithinLimit }
 {
-    match parser(alloc)?.try_get_matches_from(words) {
+    match parser(alloc, words)?.try_get_matches_from(words) {
         Ok(matches) => with_matches(alloc, &matches),
         Err(error) => without_matches(alloc, &error),
     }
@@ -68,6 +68,7 @@ fn job_of(alloc: Global, command: CommandName, found: &ArgMatches<'_>) -> Result
         CommandName::Run => run_job(alloc, found),
         CommandName::Play => play_job(alloc, found),
         CommandName::Asm => asm_job(alloc, found),
+        CommandName::Assemble => assemble_job(alloc, found),
         CommandName::Dis => dis_job(alloc, found),
         CommandName::Step => step_job(alloc, found),
         CommandName::Debug => debug_job(alloc, found),
@@ -75,6 +76,7 @@ fn job_of(alloc: Global, command: CommandName, found: &ArgMatches<'_>) -> Result
         CommandName::Disk => disk_job(alloc, found),
         CommandName::Check => check_job(alloc, found),
         CommandName::Format => format_job(alloc, found),
+        CommandName::Renumber => renumber_job(alloc, found),
         CommandName::Lsp => Ok(Job::Lsp),
         CommandName::Version => version_job(alloc),
     }
@@ -129,11 +131,34 @@ fn asm_job(alloc: Global, found: &ArgMatches<'_>) -> Result<Job, AllocError>
     })
 }
 
+// The path of an assembler text without its ending.
+fn stem_of(text: &str) -> &str {
+    text.strip_suffix(".asm").unwrap_or(text)
+}
+
+fn assemble_job(alloc: Global, found: &ArgMatches<'_>) -> Result<Job, AllocError>
+    ensures { IfOk result IsWithinLimit }
+{
+    let text = text(alloc, found, &TEXT)?;
+    let out = match first_text(alloc, found, &OUTPUT, &ASSEMBLY_OUT)? {
+        Some(out) => out,
+        None => usual_out(alloc, stem_of(text.as_str()))?,
+    };
+    Ok(Job::Assemble {
+        text,
+        out,
+        at: optional_text(alloc, found, &ORIGIN)?,
+        labels: optional_text(alloc, found, &LABELS)?,
+        listing: optional_text(alloc, found, &LIST)?,
+    })
+}
+
 fn dis_job(alloc: Global, found: &ArgMatches<'_>) -> Result<Job, AllocError>
     ensures { IfOk result IsWithinLimit }
 {
     Ok(Job::Dis {
         prg: text(alloc, found, &PRG_FILE)?,
+        dialect: dialect_of(found),
     })
 }
 
@@ -150,7 +175,7 @@ fn debug_job(alloc: Global, found: &ArgMatches<'_>) -> Result<Job, AllocError>
     ensures { IfOk result IsWithinLimit }
 {
     Ok(Job::Debug {
-        source: text(alloc, found, &SOURCE)?,
+        what: runnable_of(alloc, found)?,
         settings: settings_of(alloc, found)?,
         rude: rude_of(found),
     })
@@ -201,6 +226,17 @@ fn format_job(alloc: Global, found: &ArgMatches<'_>) -> Result<Job, AllocError>
     Ok(Job::Format {
         source: text(alloc, found, &SOURCE)?,
         target: target_of(found),
+    })
+}
+
+fn renumber_job(alloc: Global, found: &ArgMatches<'_>) -> Result<Job, AllocError>
+    ensures { IfOk result IsWithinLimit }
+{
+    Ok(Job::Renumber {
+        source: text(alloc, found, &SOURCE)?,
+        first: line_number_of(found, &FIRST_LINE),
+        step: line_number_of(found, &LINE_STEP),
+        in_place: in_place_of(found),
     })
 }
 

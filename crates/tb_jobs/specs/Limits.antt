@@ -3,7 +3,7 @@ use Rattle.std.specs.Prelude.{◌≤◌, ⊤}
 use Rattle.tb_jobs.specs.declared.jobs.TheConstants.{MOST_EVENTS}
 use Rattle.tb_jobs.specs.declared.jobs.Limit.{Limit}
 use Rattle.tb_jobs.specs.declared.jobs.Job.{Job}
-use Rattle.tb_jobs.specs.declared.jobs.Job.TheVariants.{Build, Run, Play, Asm, Dis, Step, Debug, Profile, Disk, Check, Format, Lsp, Show}
+use Rattle.tb_jobs.specs.declared.jobs.Job.TheVariants.{Build, Run, Play, Asm, Assemble, Dis, Step, Debug, Profile, Disk, Check, Format, Renumber, Lsp, Show}
 
 -- a limit of 1 to MOST_EVENTS events
 abbrev pub IsWithin : Limit → Type 0
@@ -15,12 +15,14 @@ IsWithinLimit (Build source out seed fit beside) = ⊤
 IsWithinLimit (Run what settings rude) = IsWithin settings.limit
 IsWithinLimit (Play what seed fit limit made) = IsWithin limit
 IsWithinLimit (Asm text out at) = ⊤
-IsWithinLimit (Dis prg) = ⊤
+IsWithinLimit (Assemble text out at labels listing) = ⊤
+IsWithinLimit (Dis prg dialect) = ⊤
 IsWithinLimit (Step what settings) = IsWithin settings.limit
-IsWithinLimit (Debug source settings rude) = IsWithin settings.limit
+IsWithinLimit (Debug what settings rude) = IsWithin settings.limit
 IsWithinLimit (Profile what settings rude html) = IsWithin settings.limit
 IsWithinLimit (Disk out files) = ⊤
 IsWithinLimit (Check sources fit) = ⊤
 IsWithinLimit (Format source target) = ⊤
+IsWithinLimit (Renumber source first step in_place) = ⊤
 IsWithinLimit Lsp = ⊤
 IsWithinLimit (Show text) = ⊤

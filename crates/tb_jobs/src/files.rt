@@ -54,13 +54,16 @@ fn written_by_build<'a>(
     out: &'a str,
     beside: &'a BuildExtras,
 ) -> Result<Vec<&'a str>, AllocError>
-    ensures { IfOk result (λ r. map (λ p. p.now) r.items ≡ output_path out.now ∷ wanted beside.now.labels ++ wanted beside.now.listing ++ wanted beside.now.map) }
+    ensures { IfOk result (λ r. map (λ p. p.now) r.items ≡ output_path out.now ∷ wanted beside.now.labels ++ wanted beside.now.listing ++ wanted beside.now.map ++ wanted beside.now.watch) }
 {
     let mut paths = Vec::new(alloc);
     paths.push(output_path(out))?;
     with_wanted(
-        with_wanted(with_wanted(paths, &beside.labels)?, &beside.listing)?,
-        &beside.map,
+        with_wanted(
+            with_wanted(with_wanted(paths, &beside.labels)?, &beside.listing)?,
+            &beside.map,
+        )?,
+        &beside.watch,
     )
 }
 
@@ -91,7 +94,9 @@ impl Job {
     {
         match self {
             Job::Build { source, .. } => one(alloc, input_path(source.as_str())),
-            Job::Asm { text, .. } => one(alloc, input_path(text.as_str())),
+            Job::Asm { text, .. } | Job::Assemble { text, .. } => {
+                one(alloc, input_path(text.as_str()))
+            }
             Job::Disk { files, .. } => all_inputs(alloc, files.as_slice()),
             Job::Play { what, .. } => {
                 let (Runnable::Source(program) | Runnable::Prg(program)) = what;
@@ -117,6 +122,15 @@ impl Job {
         match self {
             Job::Build { out, beside, .. } => written_by_build(alloc, out.as_str(), beside),
             Job::Asm { out, .. } | Job::Disk { out, .. } => one(alloc, output_path(out.as_str())),
+            Job::Assemble {
+                out,
+                labels,
+                listing,
+                ..
+            } => {
+                let paths = one(alloc, output_path(out.as_str()))?;
+                with_wanted(with_wanted(paths, labels)?, listing)
+            }
             Job::Play { record, .. } => with_wanted(Vec::new(alloc), record),
             Job::Profile { html, .. } => with_wanted(Vec::new(alloc), html),
             _ => Ok(Vec::new(alloc)),

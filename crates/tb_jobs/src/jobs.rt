@@ -3,6 +3,7 @@ ghost use Rattle.std.specs.Prelude.{◌≡◌, ◌≤◌, ◌↔◌, IsSome, IfS
 ghost use Rattle.tb_jobs.specs.declared.jobs.TheConstants.{MOST_EVENTS, USUAL_EVENTS};
 
 use std::alloc::AllocError;
+use tb_dialects::Dialect;
 
 /// The most events that a run may be given.
 pub const MOST_EVENTS: u32 = 1_000_000_000;
@@ -12,6 +13,12 @@ pub const USUAL_EVENTS: u32 = 10_000_000;
 
 /// The first state of RND if the words don't say.
 pub const USUAL_SEED: u16 = 1;
+
+/// The first new line number, and the step to the next one, if the words don't say.
+pub const USUAL_STEP: u16 = 10;
+
+/// The highest number that a line may have.
+pub const HIGHEST_LINE: u16 = 32_767;
 
 /// How many events a run may take: 1 to `MOST_EVENTS`.
 #[derive(Clone, Copy, Debug, PartialEq, Eq)]
@@ -93,8 +100,12 @@ pub struct BuildExtras {
     pub labels: Option<String>,
     /// The listing.
     pub listing: Option<String>,
+    /// The assembler that the listing is for, if it isn't `tbc asm`.
+    pub dialect: Option<Dialect>,
     /// The map.
     pub map: Option<String>,
+    /// The watch file.
+    pub watch: Option<String>,
 }
 
 /// Where the tidy text of a source goes.
@@ -148,18 +159,31 @@ pub enum Job {
         /// The address of the first byte.
         at: String,
     },
+    /// Assembles a text as people write it, and writes a PRG file and what else is wanted.
+    Assemble {
+        text: String,
+        out: String,
+        /// The address of the first byte, if the words say it.
+        at: Option<String>,
+        /// The label file.
+        labels: Option<String>,
+        /// The listing.
+        listing: Option<String>,
+    },
     /// Lists a PRG file.
     Dis {
         prg: String,
+        /// The assembler that the listing is for, if it isn't `tbc asm`.
+        dialect: Option<Dialect>,
     },
     /// Steps through a program by commands from standard input.
     Step {
         what: Runnable,
         settings: Settings,
     },
-    /// Debugs a source by commands from standard input.
+    /// Debugs a program by commands from standard input.
     Debug {
-        source: String,
+        what: Runnable,
         settings: Settings,
         /// The seed of rude events, where they are wanted.
         rude: Option<u16>,
@@ -190,6 +214,16 @@ pub enum Job {
     Format {
         source: String,
         target: FormatTarget,
+    },
+    /// Writes a source with other line numbers.
+    Renumber {
+        source: String,
+        /// The number of the first line.
+        first: u16,
+        /// How much higher each next number is.
+        step: u16,
+        /// Whether the new text takes the source's place.
+        in_place: bool,
     },
     /// Serves an editor as its language server.
     Lsp,

@@ -8,7 +8,8 @@ mod typing;
 
 pub use failure::Failure;
 pub use jobs::{
-    BuildExtras, FormatTarget, Job, JobError, Limit, MOST_EVENTS, Runnable, Settings, Typed,
-    USUAL_EVENTS, USUAL_SEED,
+    BuildExtras, FormatTarget, HIGHEST_LINE, Job, JobError, Limit, MOST_EVENTS, Runnable, Settings,
+    Typed, USUAL_EVENTS, USUAL_SEED, USUAL_STEP,
 };
+pub use tb_dialects::Dialect;
 pub use typing::typed_keys;

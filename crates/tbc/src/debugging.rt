@@ -1,48 +1,73 @@
 //! Debugging: commands come from standard input, and each is answered on standard output before the next one is read.
 use crate::host::Host;
 use crate::reading::{read_warned, settings_of};
+use crate::waiting::Progress;
 use std::io;
 use std::rt::Files;
+use std::time::Clock;
 use tb_command_line::Settings;
-use tb_debug_engine::{Rom, Setting, debug};
-use tb_driver::{Outcome, Tracked};
+use tb_debug_engine::{Rom, Setting, debug, debug_prg};
+use tb_driver::{Outcome, Tracked, read_input, without_input};
+use tb_file_engine::opened;
 use tb_kernal::Keyboard;
 
+/// How a program is debugged.
+pub fn setting_of(settings: &Settings, rude: Option<u16>, prompts: bool) -> Setting {
+    Setting {
+        rom: match rude {
+            Some(seed) => Rom::Rude(seed),
+            None => Rom::Quiet,
+        },
+        limit: u64::from(settings.limit.events),
+        prompts,
+    }
+}
+
 /// Debugs a source. Its warnings come before the first stop.
-pub fn debug_file<R: Files + Print + Eprint + Input + AllocGlobal>(
+pub fn debug_source<R: Files + Clock + Print + Eprint + Input + AllocGlobal>(
     host: &mut Host<'_, R>,
-    source: &str,
+    path: &str,
     settings: &Settings,
     keyboard: Keyboard,
-    rude: Option<u16>,
-    prompts: bool,
+    setting: Setting,
 ) -> Outcome {
     let rt = host.rt;
-    match read_warned(host, source, settings_of(settings.seed, settings.fit)) {
-        Ok(source) => {
-            let setting = Setting {
-                rom: rom(rude),
-                limit: u64::from(settings.limit.events),
-                prompts,
-            };
-            let mut commands = Tracked::new(rt.reader());
-            let mut screen = Tracked::new(io::writer(rt));
-            debug(
-                rt.alloc(),
-                &source,
-                keyboard,
-                setting,
-                &mut commands,
-                &mut screen,
-            )
-        }
+    match read_warned(host, path, settings_of(settings.seed, settings.fit)) {
+        Ok(source) => debug(
+            rt.alloc(),
+            &source,
+            keyboard,
+            setting,
+            &mut Tracked::new(rt.reader()),
+            &mut Tracked::new(io::writer(rt)),
+            &mut Progress::new(rt, setting.limit, host.notes),
+        ),
         Err(outcome) => outcome,
     }
 }
 
-fn rom(rude: Option<u16>) -> Rom {
-    match rude {
-        Some(seed) => Rom::Rude(seed),
-        None => Rom::Quiet,
+/// Debugs a PRG file.
+pub fn debug_file<R: Files + Clock + Print + Eprint + Input + AllocGlobal>(
+    host: &mut Host<'_, R>,
+    path: &str,
+    keyboard: Keyboard,
+    setting: Setting,
+) -> Outcome {
+    let rt = host.rt;
+    let mut file = match opened(host, path) {
+        Ok(file) => file,
+        Err(outcome) => return outcome,
+    };
+    match read_input(rt.alloc(), &mut file) {
+        Ok(prg) => debug_prg(
+            rt.alloc(),
+            prg.as_slice(),
+            keyboard,
+            setting,
+            &mut Tracked::new(rt.reader()),
+            &mut Tracked::new(io::writer(rt)),
+            &mut Progress::new(rt, setting.limit, host.notes),
+        ),
+        Err(error) => without_input(error),
     }
 }

@@ -1,6 +1,7 @@
 //! The program `tbc`: its words become a job, and an engine does it over files and standard streams.
 #![tactic(auto)]
 
+mod assembling;
 mod checking;
 mod debugging;
 mod ending;
@@ -13,6 +14,7 @@ mod playing;
 mod profiling;
 mod reading;
 mod refusals;
+mod renumbering;
 mod serving;
 mod tasks;
 mod waiting;

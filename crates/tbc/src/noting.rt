@@ -5,12 +5,14 @@ use crate::places::{clash, file_note, noted_sources};
 use crate::refusals::{note_source, note_text};
 use std::fmt;
 use std::rt::Files;
+use tb_assembly_engine::TextFailure;
 use tb_check_engine::CheckOutcome;
 use tb_command_line::{Failure, Job};
 use tb_disk_engine::DiskOutcome;
 use tb_driver::{End, Outcome, Refusal};
 use tb_file_reasons::{FileNote, Purpose, disk_note, prg_reason};
 use tb_format_engine::FormatOutcome;
+use tb_renumber_engine::RenumberOutcome;
 use tb_run_notes::EndNote;
 
 /// Says a note. Nobody can be told that standard error fails.
@@ -36,7 +38,12 @@ pub fn note<R: Files + Print + Eprint + Input + AllocGlobal>(
         Ok(Ending::Format(FormatOutcome::ReadFault | FormatOutcome::WriteFault)) => {
             file_note(host, None)
         }
-        Ok(Ending::Format(_) | Ending::Server(_)) => {}
+        Ok(Ending::Renumber(RenumberOutcome::Engine(outcome))) => note_outcome(host, job, *outcome),
+        Ok(Ending::Text(Some(TextFailure::ReadFault | TextFailure::WriteFault))) => {
+            file_note(host, None)
+        }
+        Ok(Ending::Text(_)) => {}
+        Ok(Ending::Format(_) | Ending::Renumber(_) | Ending::Server(_)) => {}
         Err(Failure::SameFile) => clash(host, job),
         Err(Failure::ReadFault) => file_note(host, Some(Purpose::Keys)),
         Err(_) => {}

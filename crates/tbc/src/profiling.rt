@@ -1,8 +1,10 @@
 //! Profiles: the table is written on standard output, and then the page to its file. A PRG file has no page.
 use crate::host::Host;
 use crate::reading::settings_of;
+use crate::waiting::Progress;
 use std::io;
 use std::rt::Files;
+use std::time::Clock;
 use tb_command_line::{Runnable, Settings};
 use tb_driver::{Outcome, Report, Tracked};
 use tb_file_engine::{opened, save};
@@ -10,7 +12,7 @@ use tb_kernal::{Keyboard, Outside};
 use tb_profile_engine::{Named, Profiled, profile_prg, profile_text};
 
 /// Profiles a source or a PRG file.
-pub fn profile<R: Files + Print + Input + AllocGlobal, O: Outside>(
+pub fn profile<R: Files + Clock + Print + Eprint + Input + AllocGlobal, O: Outside>(
     host: &mut Host<'_, R>,
     what: &Runnable,
     settings: &Settings,
@@ -35,7 +37,7 @@ pub fn profile<R: Files + Print + Input + AllocGlobal, O: Outside>(
 }
 
 // Profiles a PRG file.
-fn profile_file<R: Files + Print + Input + AllocGlobal, O: Outside>(
+fn profile_file<R: Files + Clock + Print + Eprint + Input + AllocGlobal, O: Outside>(
     host: &mut Host<'_, R>,
     path: &str,
     settings: &Settings,
@@ -47,14 +49,23 @@ fn profile_file<R: Files + Print + Input + AllocGlobal, O: Outside>(
         Ok(mut file) => {
             let mut screen = Tracked::new(io::writer(rt));
             let limit = settings.limit.events;
-            profile_prg(rt.alloc(), &mut file, &mut screen, keyboard, limit, outside)
+            let mut progress = Progress::new(rt, u64::from(limit), host.notes);
+            profile_prg(
+                rt.alloc(),
+                &mut file,
+                &mut screen,
+                keyboard,
+                limit,
+                outside,
+                &mut progress,
+            )
         }
         Err(outcome) => outcome,
     }
 }
 
 // Profiles a source, and writes the page if there is a table and the page is wanted.
-fn profile_source<R: Files + Print + Input + AllocGlobal, O: Outside>(
+fn profile_source<R: Files + Clock + Print + Eprint + Input + AllocGlobal, O: Outside>(
     host: &mut Host<'_, R>,
     named: Named<'_>,
     settings: &Settings,
@@ -76,6 +87,7 @@ fn profile_source<R: Files + Print + Input + AllocGlobal, O: Outside>(
         keyboard,
         settings.limit.events,
         outside,
+        &mut Progress::new(rt, u64::from(settings.limit.events), host.notes),
     );
     match (report.outcome, html) {
         (Outcome::Ended(_), Some(path)) => Report {

@@ -6,7 +6,7 @@ use std::fmt;
 use std::rt::Files;
 use tb_asm_reasons::{item_text, line_text};
 use tb_check_engine::refusal_text;
-use tb_command_line::{Job, Runnable, Settings};
+use tb_command_line::{Job, Runnable, Settings, USUAL_SEED};
 use tb_driver::{CompileError, Refusal, Tracked, bytes_to_fit, read_input};
 use tb_file_engine::opened;
 use tb_files::{FileSystem, Place};
@@ -134,6 +134,12 @@ fn compiled_by(job: &Job) -> Option<Compiles<'_>> {
             seed: *seed,
             fit: *fit,
         }),
+        // (a source that costs too much is not renumbered, so nothing is said of `--fit`)
+        Job::Renumber { source, .. } => Some(Compiles {
+            source: source.as_str(),
+            seed: USUAL_SEED,
+            fit: true,
+        }),
         Job::Run {
             what: Runnable::Source(source),
             settings,
@@ -144,7 +150,7 @@ fn compiled_by(job: &Job) -> Option<Compiles<'_>> {
             settings,
         }
         | Job::Debug {
-            source,
+            what: Runnable::Source(source),
             settings,
             ..
         }

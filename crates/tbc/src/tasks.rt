@@ -1,27 +1,32 @@
 //! The commands. Key lists, key files and addresses are looked at before any other file is opened.
+use crate::assembling::assemble;
 use crate::checking::check_files;
-use crate::debugging::debug_file;
+use crate::debugging::{debug_file, debug_source, setting_of};
 use crate::ending::Ending;
 use crate::formatting::format_file;
 use crate::host::Host;
 use crate::playing::play;
 use crate::profiling::profile;
 use crate::reading::{settings_of, size_limit};
+use crate::renumbering::renumber_file;
 use crate::serving::serve_editor;
 use crate::waiting::Progress;
 use std::alloc::Global;
 use std::io;
 use std::rt::Files;
 use std::time::Clock;
-use tb_command_line::{BuildExtras, Failure, Job, Runnable, Settings, Typed, typed_keys};
+use tb_assembly_engine::TextNames;
+use tb_command_line::{BuildExtras, Dialect, Failure, Job, Runnable, Settings, Typed, typed_keys};
+use tb_dialect_engine::dis_text_for;
 use tb_driver::{
     CompileSettings, End, KeyError, KeyFileError, Outcome, Report, Tracked, address, dis_text,
-    key_list, read_key_file, run_prg, step_prg, step_within, write_output,
+    key_list, read_key_file, step_prg, step_within, write_output,
 };
 use tb_file_engine::{BuildNames, assemble_file, build_file, disk_file, opened};
 use tb_files::{Barred, may_write};
 use tb_kernal::{Keyboard, Outside, Quiet, Rude};
-use tb_run_notes::{NotedRun, run_noted};
+use tb_renumber_engine::Numbering;
+use tb_run_notes::{NotedRun, run_noted, run_prg_watched};
 
 /// Does what the words ask for, if the files that are to be written may be. A prompt is shown before a debugger's command
 /// where that is wanted.
@@ -73,17 +78,19 @@ fn run_job<R: Files + Clock + Print + Eprint + Input + AllocGlobal>(
             html,
         } => Ending::Report(profile_beside(host, what, settings, *rude, name_of(html))?),
         Job::Debug {
-            source,
+            what,
             settings,
             rude,
-        } => debug_beside(host, source, settings, *rude, prompts)?,
+        } => debug_beside(host, what, settings, *rude, prompts)?,
         Job::Step { what, settings } => Ending::Report(step_file(host, what, settings)?),
         Job::Build { .. }
         | Job::Asm { .. }
+        | Job::Assemble { .. }
         | Job::Dis { .. }
         | Job::Disk { .. }
         | Job::Check { .. }
         | Job::Format { .. }
+        | Job::Renumber { .. }
         | Job::Lsp
         | Job::Show { .. } => return Ok(None),
     }))
@@ -104,7 +111,21 @@ fn other_job<R: Files + Print + Input + AllocGlobal>(
             beside,
         } => Ok(build(host, source, out, settings_of(*seed, *fit), beside)),
         Job::Asm { text, out, at } => assemble_at(host, text, out, at),
-        Job::Dis { prg } => Ok(plain_ending(rt, list_file(host, prg))),
+        Job::Assemble {
+            text,
+            out,
+            at,
+            labels,
+            listing,
+        } => {
+            let names = TextNames {
+                out,
+                labels: name_of(labels),
+                listing: name_of(listing),
+            };
+            assemble(host, text, name_of(at), names)
+        }
+        Job::Dis { prg, dialect } => Ok(plain_ending(rt, list_file(host, prg, *dialect))),
         Job::Disk { out, files } => {
             Ok(Ending::Disk(disk_file(rt.alloc(), host, out, files.as_slice())))
         }
@@ -113,6 +134,18 @@ fn other_job<R: Files + Print + Input + AllocGlobal>(
             Ok(Ending::Check(checked))
         }
         Job::Format { source, target } => Ok(Ending::Format(format_file(host, source, *target))),
+        Job::Renumber {
+            source,
+            first,
+            step,
+            in_place,
+        } => {
+            let numbering = Numbering {
+                first: *first,
+                step: *step,
+            };
+            Ok(Ending::Renumber(renumber_file(host, source, numbering, *in_place)))
+        }
         Job::Lsp => Ok(Ending::Server(serve_editor(rt))),
         Job::Show { text } => Ok(plain_ending(rt, show(rt, text))),
         Job::Run { .. }
@@ -160,7 +193,9 @@ fn build<R: Files + Print + Input + AllocGlobal>(
         out,
         labels: name_of(&beside.labels),
         listing: name_of(&beside.listing),
+        dialect: beside.dialect,
         map: name_of(&beside.map),
+        watch: name_of(&beside.watch),
     };
     Ending::Report(build_file(host.rt.alloc(), host, source, settings, names))
 }
@@ -193,7 +228,7 @@ fn run_beside<R: Files + Clock + Print + Eprint + Input + AllocGlobal>(
 }
 
 // A profile with a rude ROM, if one is asked for.
-fn profile_beside<R: Files + Print + Input + AllocGlobal>(
+fn profile_beside<R: Files + Clock + Print + Eprint + Input + AllocGlobal>(
     host: &mut Host<'_, R>,
     what: &Runnable,
     settings: &Settings,
@@ -210,15 +245,25 @@ fn profile_beside<R: Files + Print + Input + AllocGlobal>(
     })
 }
 
-fn debug_beside<R: Files + Print + Eprint + Input + AllocGlobal>(
+fn debug_beside<R: Files + Clock + Print + Eprint + Input + AllocGlobal>(
     host: &mut Host<'_, R>,
-    source: &str,
+    what: &Runnable,
     settings: &Settings,
     rude: Option<u16>,
     prompts: bool,
 ) -> Result<Ending, Failure> {
     let keyboard = keyboard(host, settings)?;
-    let outcome = debug_file(host, source, settings, keyboard, rude, prompts);
+    let setting = setting_of(settings, rude, prompts);
+    let outcome = match what {
+        Runnable::Source(source) => debug_source(
+            host,
+            source.as_str(),
+            settings,
+            keyboard,
+            setting,
+        ),
+        Runnable::Prg(prg) => debug_file(host, prg.as_str(), keyboard, setting),
+    };
     Ok(plain_ending(host.rt, outcome))
 }
 
@@ -319,7 +364,15 @@ fn run_file<R: Files + Clock + Print + Eprint + Input + AllocGlobal, O: Outside>
             )
         }
         Runnable::Prg(_) => {
-            let outcome = run_prg(alloc, &mut file, &mut screen, keyboard, limit, outside);
+            let outcome = run_prg_watched(
+                alloc,
+                &mut file,
+                &mut screen,
+                keyboard,
+                limit,
+                outside,
+                &mut Progress::new(rt, limit, host.notes),
+            );
             untold(plain(rt, outcome))
         }
     }
@@ -371,10 +424,16 @@ fn step_file<R: Files + Print + Input + AllocGlobal>(
 fn list_file<R: Files + Print + Input + AllocGlobal>(
     host: &mut Host<'_, R>,
     path: &str,
+    dialect: Option<Dialect>,
 ) -> Outcome {
     let rt = host.rt;
-    match opened(host, path) {
-        Ok(mut file) => dis_text(rt.alloc(), &mut file, &mut Tracked::new(io::writer(rt))),
-        Err(outcome) => outcome,
+    let mut file = match opened(host, path) {
+        Ok(file) => file,
+        Err(outcome) => return outcome,
+    };
+    let mut screen = Tracked::new(io::writer(rt));
+    match dialect {
+        Some(dialect) => dis_text_for(rt.alloc(), &mut file, &mut screen, dialect),
+        None => dis_text(rt.alloc(), &mut file, &mut screen),
     }
 }

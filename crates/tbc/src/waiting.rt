@@ -12,20 +12,21 @@ const MILLION: u64 = 1_000_000;
 #[derive(Drop)]
 pub struct Progress<'a, R> {
     rt: &'a R,
-    /// When the run began; None if nothing is told.
-    began: Option<Duration>,
     limit: u64,
+    is_told: bool,
+    /// When the run began, if it is told.
+    began: Option<Duration>,
     is_shown: bool,
 }
 
 impl<'a, R: Clock> Progress<'a, R> {
-    /// The progress of a run of at most `limit` events that begins now, if it is told at all.
+    /// The progress of runs of at most `limit` events, if it is told at all.
     pub fn new(rt: &'a R, limit: u64, is_told: bool) -> Progress<'a, R> {
-        let began = if is_told { rt.monotonic().ok() } else { None };
         Progress {
             rt,
-            began,
             limit,
+            is_told,
+            began: None,
             is_shown: false,
         }
     }
@@ -42,6 +43,14 @@ impl<R: Clock> Progress<'_, R> {
 }
 
 impl<R: Clock + Eprint> Watch for Progress<'_, R> {
+    fn began(&mut self) {
+        self.began = if self.is_told {
+            self.rt.monotonic().ok()
+        } else {
+            None
+        };
+    }
+
     fn took(&mut self, events: u64) {
         if self.is_due() {
             let (done, all) = (events / MILLION, self.limit / MILLION);
