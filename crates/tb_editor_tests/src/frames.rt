@@ -1,7 +1,7 @@
 //! Frames, over readers that hand on a few bytes, fail, or end early.
 use std::alloc::Global;
 use std::test::Fail;
-use tb_frames::{Frame, FrameError, MOST_CONTENT, read_frame, write_frame};
+use tb_frames::{Frame, FrameError, MOST_CONTENT, WriteError, read_frame, write_frame};
 use tb_streams::Tracked;
 use tb_test_support::{FailingReader, FailingWriter, HoldingWriter};
 
@@ -161,7 +161,7 @@ fn a_frame_is_written_whole_and_flushed(rt: HostRuntime) -> Result<(), Fail> {
         let mut writer = Tracked::new(FailingWriter::new(alloc, length, 3));
         assert_eq!(rt;
             write_frame(alloc, &mut writer, b"{}"),
-            Err(FrameError::Fault)
+            Err(WriteError::Fault)
         );
         assert_eq!(rt; writer.stream.taken.as_slice(), &wanted[..length]);
     }

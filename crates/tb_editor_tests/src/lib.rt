@@ -3,6 +3,16 @@
 #![tactic(auto)]
 
 #[cfg(test)]
+mod adapter_messages;
+#[cfg(test)]
+mod completions;
+#[cfg(test)]
 mod dialogues;
 #[cfg(test)]
+mod fixes;
+#[cfg(test)]
 mod frames;
+#[cfg(test)]
+mod renames;
+#[cfg(test)]
+mod requests;

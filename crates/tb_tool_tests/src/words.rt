@@ -4,46 +4,48 @@ use std::test::Fail;
 use tb_command_line::{Failure, job};
 
 /// Words, and the job that they become.
-static JOBS: [(&[&str], &str); 39] = [
+static JOBS: [(&[&str], &str); 49] = [
     (
         &["build", "a", "b"],
-        "Ok(Build { source: \"a\", out: \"b\", seed: 1, fit: false, beside: BuildExtras { labels: None, listing: None, map: None } })",
+        "Ok(Build { source: \"a\", out: \"b\", seed: 1, fit: false, beside: BuildExtras { labels: None, listing: None, dialect: None, map: None, watch: None } })",
     ),
     (
         &["build", "f.d/a.bas"],
-        "Ok(Build { source: \"f.d/a.bas\", out: \"f.d/a.prg\", seed: 1, fit: false, beside: BuildExtras { labels: None, listing: None, map: None } })",
+        "Ok(Build { source: \"f.d/a.bas\", out: \"f.d/a.prg\", seed: 1, fit: false, beside: BuildExtras { labels: None, listing: None, dialect: None, map: None, watch: None } })",
     ),
     (
         &["build", "a.BAS"],
-        "Ok(Build { source: \"a.BAS\", out: \"a.BAS.prg\", seed: 1, fit: false, beside: BuildExtras { labels: None, listing: None, map: None } })",
+        "Ok(Build { source: \"a.BAS\", out: \"a.BAS.prg\", seed: 1, fit: false, beside: BuildExtras { labels: None, listing: None, dialect: None, map: None, watch: None } })",
     ),
     (
         &["build", "a"],
-        "Ok(Build { source: \"a\", out: \"a.prg\", seed: 1, fit: false, beside: BuildExtras { labels: None, listing: None, map: None } })",
+        "Ok(Build { source: \"a\", out: \"a.prg\", seed: 1, fit: false, beside: BuildExtras { labels: None, listing: None, dialect: None, map: None, watch: None } })",
     ),
     (
         &["build", "-"],
-        "Ok(Build { source: \"-\", out: \"-\", seed: 1, fit: false, beside: BuildExtras { labels: None, listing: None, map: None } })",
+        "Ok(Build { source: \"-\", out: \"-\", seed: 1, fit: false, beside: BuildExtras { labels: None, listing: None, dialect: None, map: None, watch: None } })",
     ),
     (
         &["build", "a", "-o", "b"],
-        "Ok(Build { source: \"a\", out: \"b\", seed: 1, fit: false, beside: BuildExtras { labels: None, listing: None, map: None } })",
+        "Ok(Build { source: \"a\", out: \"b\", seed: 1, fit: false, beside: BuildExtras { labels: None, listing: None, dialect: None, map: None, watch: None } })",
     ),
     (
         &["build", "-ob", "-"],
-        "Ok(Build { source: \"-\", out: \"b\", seed: 1, fit: false, beside: BuildExtras { labels: None, listing: None, map: None } })",
+        "Ok(Build { source: \"-\", out: \"b\", seed: 1, fit: false, beside: BuildExtras { labels: None, listing: None, dialect: None, map: None, watch: None } })",
     ),
     (
         &["build", "--seed", "65535", "a", "b"],
-        "Ok(Build { source: \"a\", out: \"b\", seed: 65535, fit: false, beside: BuildExtras { labels: None, listing: None, map: None } })",
+        "Ok(Build { source: \"a\", out: \"b\", seed: 65535, fit: false, beside: BuildExtras { labels: None, listing: None, dialect: None, map: None, watch: None } })",
     ),
     (
-        &["build", "a", "b", "--map=m", "--labels", "v", "--list", "s"],
-        "Ok(Build { source: \"a\", out: \"b\", seed: 1, fit: false, beside: BuildExtras { labels: Some(\"v\"), listing: Some(\"s\"), map: Some(\"m\") } })",
+        &[
+            "build", "a", "b", "--map=m", "--labels", "v", "--watch", "w", "--list", "s",
+        ],
+        "Ok(Build { source: \"a\", out: \"b\", seed: 1, fit: false, beside: BuildExtras { labels: Some(\"v\"), listing: Some(\"s\"), dialect: None, map: Some(\"m\"), watch: Some(\"w\") } })",
     ),
     (
         &["build", "--fit", "a", "b"],
-        "Ok(Build { source: \"a\", out: \"b\", seed: 1, fit: true, beside: BuildExtras { labels: None, listing: None, map: None } })",
+        "Ok(Build { source: \"a\", out: \"b\", seed: 1, fit: true, beside: BuildExtras { labels: None, listing: None, dialect: None, map: None, watch: None } })",
     ),
     (
         &["run", "a"],
@@ -93,10 +95,38 @@ static JOBS: [(&[&str], &str); 39] = [
         &["asm", "a", "-o", "b", "--at", "c00"],
         "Ok(Asm { text: \"a\", out: \"b\", at: \"c00\" })",
     ),
-    (&["dis", "a"], "Ok(Dis { prg: \"a\" })"),
+    (
+        &["assemble", "a.asm"],
+        "Ok(Assemble { text: \"a.asm\", out: \"a.prg\", at: None, labels: None, listing: None })",
+    ),
+    (
+        &["assemble", "a", "b", "--at", "c00", "--labels", "v"],
+        "Ok(Assemble { text: \"a\", out: \"b\", at: Some(\"c00\"), labels: Some(\"v\"), listing: None })",
+    ),
+    (
+        &["assemble", "-", "--list=s"],
+        "Ok(Assemble { text: \"-\", out: \"-\", at: None, labels: None, listing: Some(\"s\") })",
+    ),
+    (&["dis", "a"], "Ok(Dis { prg: \"a\", dialect: None })"),
+    (
+        &["dis", "a", "--for", "64tass"],
+        "Ok(Dis { prg: \"a\", dialect: Some(Tass64) })",
+    ),
+    (
+        &["dis", "--for=ca65", "a"],
+        "Ok(Dis { prg: \"a\", dialect: Some(Ca65) })",
+    ),
+    (
+        &["dis", "--for", "acme", "-"],
+        "Ok(Dis { prg: \"-\", dialect: Some(Acme) })",
+    ),
+    (
+        &["build", "a", "b", "--list", "s", "--for", "xa"],
+        "Ok(Build { source: \"a\", out: \"b\", seed: 1, fit: false, beside: BuildExtras { labels: None, listing: Some(\"s\"), dialect: Some(Xa), map: None, watch: None } })",
+    ),
     (
         &["debug", "a"],
-        "Ok(Debug { source: \"a\", settings: Settings { seed: 1, fit: false, keys: Digits(\"\"), answers: \"\", limit: Limit { events: 10000000 } }, rude: None })",
+        "Ok(Debug { what: Source(\"a\"), settings: Settings { seed: 1, fit: false, keys: Digits(\"\"), answers: \"\", limit: Limit { events: 10000000 } }, rude: None })",
     ),
     (
         &[
@@ -109,7 +139,11 @@ static JOBS: [(&[&str], &str); 39] = [
             "--limit",
             "9",
         ],
-        "Ok(Debug { source: \"a\", settings: Settings { seed: 1, fit: false, keys: File(\"k\"), answers: \"\", limit: Limit { events: 9 } }, rude: Some(7) })",
+        "Ok(Debug { what: Source(\"a\"), settings: Settings { seed: 1, fit: false, keys: File(\"k\"), answers: \"\", limit: Limit { events: 9 } }, rude: Some(7) })",
+    ),
+    (
+        &["debug", "--prg", "a", "--type", "b"],
+        "Ok(Debug { what: Prg(\"a\"), settings: Settings { seed: 1, fit: false, keys: Text(\"b\"), answers: \"\", limit: Limit { events: 10000000 } }, rude: None })",
     ),
     (
         &["profile", "a"],
@@ -161,6 +195,22 @@ static JOBS: [(&[&str], &str); 39] = [
         &["format", "a", "--check"],
         "Ok(Format { source: \"a\", target: Check })",
     ),
+    (
+        &["renumber", "a"],
+        "Ok(Renumber { source: \"a\", first: 10, step: 10, in_place: false })",
+    ),
+    (
+        &[
+            "renumber",
+            "--step",
+            "32767",
+            "--from",
+            "1",
+            "--in-place",
+            "a",
+        ],
+        "Ok(Renumber { source: \"a\", first: 1, step: 32767, in_place: true })",
+    ),
     (&["lsp"], "Ok(Lsp)"),
     (
         &["check", "a", "b", "--", "-c"],
@@ -200,7 +250,10 @@ static JOBS: [(&[&str], &str); 39] = [
 ];
 
 /// Words that are refused.
-static REFUSED: [&[&str]; 37] = [
+static REFUSED: [&[&str]; 42] = [
+    &["renumber", "a", "--from", "0"],
+    &["renumber", "a", "--step", "32768"],
+    &["renumber", "--in-place"],
     &["format"],
     &["format", "a", "--check", "--in-place"],
     &[],
@@ -220,6 +273,8 @@ static REFUSED: [&[&str]; 37] = [
     &["run", "a", "--rude", "65536"],
     &["asm", "a", "b"],
     &["asm", "a", "--at", "c000"],
+    &["assemble"],
+    &["assemble", "a", "b", "-o", "c"],
     &["dis"],
     &["build"],
     &["build", "a", "b", "c"],

@@ -209,6 +209,81 @@ S=9
 S=0
 ";
 
+const OVER_AND_OUT: &str = "10 LET N=4
+> j
+20 GOSUB 100
+> over
+| 10
+| 10
+| 10
+| 10
+30 PRINT \"DONE \";S
+> p
+150 RETURN
+> u
+30 PRINT \"DONE \";S
+> t 6
+100 IF N=0 RETURN
+> finish
+| 10
+| 10
+| 10
+140 PRINT S
+> b 140
+set
+> t 5
+130 GOSUB 100
+> j
+140 PRINT S
+> r
+140 PRINT S
+140 PRINT S
+140 PRINT S
+30 PRINT \"DONE \";S
+> b 140
+cleared
+> u
+| 10
+140 PRINT S
+> 
+| 10
+140 PRINT S
+> j
+| 10
+150 RETURN
+> 
+140 PRINT S
+> u
+| 10
+30 PRINT \"DONE \";S
+> u
+| DONE 10
+returned
+> j
+returned
+> j 2
+what?
+> overs
+what?
+> finish 1
+what?
+> q
+";
+
+const OUT_TO_A_FAULT: &str = "10 LET A=2
+> f
+stops at faults
+> u
+| 3
+| 6
+20 PRINT 6/A
+> u
+| 
+| !2 AT 20
+returned
+> q
+";
+
 const A_PROGRAM_THAT_WAITS: &str = "10 PRINT \"A,B\"
 > n
 | A,B
@@ -512,12 +587,14 @@ what?
 ";
 
 /// Programs, and dialogues about them.
-static DIALOGUES: [(&[u8], &str); 14] = [
+static DIALOGUES: [(&[u8], &str); 16] = [
     (LOOP, LINES_FORTH_AND_BACK),
     (LOOP, BREAKPOINTS),
     (LOOP, WATCHES),
     (LOOP, A_WATCH_FROM_WITHIN_A_LINE),
     (NESTS, A_BREAKPOINT_IN_A_SUBROUTINE),
+    (NESTS, OVER_AND_OUT),
+    (FAULTS, OUT_TO_A_FAULT),
     (ASKS, A_PROGRAM_THAT_WAITS),
     (FAULTS, A_PROGRAM_THAT_FAULTS),
     (FOREVER, A_PROGRAM_THAT_RUNS_FOREVER),

@@ -8,6 +8,7 @@ use tb_driver::{CompileSettings, CompiledSource, read_source};
 use tb_engines::Outcome;
 use tb_streams::Tracked;
 use tb_test_support::{CountingWriter, FailingReader, FailingWriter, HoldingWriter, no_keys};
+use tb_watch::Unwatched;
 
 /// Each command once, and some lines that are no commands.
 const COMMANDS: &[u8] =
@@ -27,7 +28,15 @@ fn debugs_so<R: Read, W: Write>(
         limit: 100_000,
         prompts,
     };
-    debug(alloc, source, no_keys(alloc), setting, reader, writer)
+    debug(
+        alloc,
+        source,
+        no_keys(alloc),
+        setting,
+        reader,
+        writer,
+        &mut Unwatched,
+    )
 }
 
 /// Debugs as at a terminal, with no keys and with a quiet ROM.

@@ -9,6 +9,7 @@ use tb_kernal::Machine;
 use tb_meaning::{Place, RunEnd, SourceRun, run_source};
 use tb_parser::{Letter, Program, parse};
 use tb_test_support::keyboard_of;
+use tb_watch::Unwatched;
 
 /// How many lines of a run are looked at.
 const MOST_TIME: u64 = 150;
@@ -229,8 +230,8 @@ fn stops(dice: &mut Dice, program: &Compiled) -> Wanted {
 fn set_stops(alloc: Global, debugger: &mut Debugger<'_>, wanted: Wanted) -> Result<(), Fail> {
     let place = u8::try_from(wanted.index).unwrap_or(0);
     let letter = Letter::read(b'A'.wrapping_add(place)).ok_or("no letter")?;
-    debugger.respond(alloc, Command::Breakpoint(wanted.line), 0)?;
-    debugger.respond(alloc, Command::Watch(letter), 0)?;
+    debugger.respond(alloc, Command::Breakpoint(wanted.line), 0, &mut Unwatched)?;
+    debugger.respond(alloc, Command::Watch(letter), 0, &mut Unwatched)?;
     Ok(())
 }
 
@@ -246,7 +247,7 @@ fn walk_on(
     let mut time = 0;
     for step in 0..MOVES {
         let (command, to) = command(dice, course, time, wanted);
-        debugger.respond(alloc, command, 100_000)?;
+        debugger.respond(alloc, command, 100_000, &mut Unwatched)?;
         time = to;
         if !course.agrees(debugger, program, time) {
             return Ok(step);

@@ -19,6 +19,7 @@ fn in_memory(alloc: Global) -> BuildFiles<Vec<u8>> {
         labels: None,
         listing: wanted(alloc),
         map: wanted(alloc),
+        watch: wanted(alloc),
     }
 }
 
@@ -47,6 +48,7 @@ fn wanted_files_are_written(rt: HostRuntime) -> Result<(), Fail> {
     assert!(rt; files.labels.is_none());
     assert!(rt; files.listing.is_some() && length(&files.listing) > 1000);
     assert!(rt; length(&files.map) == 6 * 33);
+    assert!(rt; length(&files.watch) > 50_000);
     Ok(())
 }
 
@@ -56,7 +58,9 @@ fn nothing_is_written_of_a_refused_source(rt: HostRuntime) -> Result<(), Fail> {
     let report = built(rt.alloc(), b"10 FOR", &mut files);
     assert!(rt; matches!(report.outcome, Outcome::Refused(_)));
     assert!(rt; files.out.stream.is_empty());
-    assert!(rt; length(&files.listing) == 0 && length(&files.map) == 0);
+    assert!(rt;
+        length(&files.listing) == 0 && length(&files.map) == 0 && length(&files.watch) == 0
+    );
     Ok(())
 }
 
@@ -76,6 +80,7 @@ fn files_after_a_fault_are_left(rt: HostRuntime) -> Result<(), Fail> {
         labels: Some(Tracked::new(&mut labels[..])),
         listing: None,
         map: Some(Tracked::new(&mut map[..])),
+        watch: None,
     };
     let mut source = Tracked::new(SOURCE.as_bytes());
     let report = build_files(

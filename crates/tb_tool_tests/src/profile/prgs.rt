@@ -5,6 +5,7 @@ use tb_driver::{Outcome, Tracked};
 use tb_kernal::Quiet;
 use tb_profile_engine::profile_prg;
 use tb_test_support::{FailingReader, FailingWriter, keyboard_of};
+use tb_watch::Unwatched;
 
 /// A PRG file, what each poll gives, the status, and the table.
 type Row = (&'static [u8], &'static [u8], u8, &'static [u8]);
@@ -76,6 +77,7 @@ fn profiled(
         keyboard_of(alloc, b"", answers)?,
         1000,
         &mut Quiet,
+        &mut Unwatched,
     );
     Ok((outcome.status(), out.stream))
 }
@@ -100,6 +102,7 @@ fn notices(alloc: Global, until_fault: usize) -> Result<bool, AllocError> {
         keyboard_of(alloc, b"", b"")?,
         1000,
         &mut Quiet,
+        &mut Unwatched,
     );
     let mut failing = Tracked::new(FailingWriter::new(alloc, until_fault, 7));
     let written = profile_prg(
@@ -109,6 +112,7 @@ fn notices(alloc: Global, until_fault: usize) -> Result<bool, AllocError> {
         keyboard_of(alloc, b"", b"")?,
         1000,
         &mut Quiet,
+        &mut Unwatched,
     );
     let prefix = SENT.get(..until_fault) == Some(failing.stream.taken.as_slice());
     Ok(

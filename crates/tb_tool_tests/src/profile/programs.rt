@@ -6,6 +6,7 @@ use tb_kernal::Quiet;
 use tb_profile_engine::{Named, Profiled, profile_text};
 use tb_streams::Tracked;
 use tb_test_support::keyboard_of;
+use tb_watch::Unwatched;
 
 /// A source, what is typed, a limit of events, and what comes of it.
 #[derive(Clone, Copy)]
@@ -40,6 +41,7 @@ pub fn profiles<R: Read, W: Write>(
         keyboard,
         program.limit,
         &mut Quiet,
+        &mut Unwatched,
     );
     (report.outcome.status(), page)
 }
@@ -52,13 +54,13 @@ pub const LOOP: Program = Program {
     limit: 100_000,
     status: 0,
     table: " line      times instructions        cycles   share  statement
-start          1          192           634   35.1%
+start          1          192           634   35.6%
    10          1            8            29    1.6%  LET I=1
-   20          5          250           820   45.5%  PRINT I
-   30          5           30           130    7.2%  LET I=I+1
-   40          5           50           169    9.4%  IF I<6 GOTO 20
+   20          5          240           795   44.7%  PRINT I
+   30          5           30           130    7.3%  LET I=I+1
+   40          5           50           169    9.5%  IF I<6 GOTO 20
    50          1            5            22    1.2%  END
-  sum         17          535          1804  100.0%
+  sum         17          525          1779  100.0%
 ",
 };
 
@@ -71,14 +73,14 @@ static PROGRAMS: [Program; 8] = [
         limit: 100_000,
         status: 0,
         table: " line      times instructions        cycles   share  statement
-start          1          192           634   31.6%
-   10          1            8            29    1.4%  LET A=7
+start          1          192           634   32.3%
+   10          1            8            29    1.5%  LET A=7
    20          1           14            52    2.6%  GOSUB 100
    30          1           14            52    2.6%  GOSUB 100
    40          1            5            22    1.1%  END
-  100          2          334          1108   55.2%  PRINT A*A
-  110          2           30           110    5.5%  RETURN
-  sum          8          597          2007  100.0%
+  100          2          326          1064   54.2%  PRINT A*A
+  110          2           30           110    5.6%  RETURN
+  sum          8          589          1963  100.0%
 ",
     },
     Program {
@@ -88,11 +90,11 @@ start          1          192           634   31.6%
         limit: 100_000,
         status: 0,
         table: " line      times instructions        cycles   share  statement
-start          1          192           634   52.1%
+start          1          192           634   52.0%
    10          1            8            29    2.4%  LET A=0
-   20          1          161           553   45.5%  PRINT 1/A
+   20          1          162           557   45.7%  PRINT 1/A
    30          0            0             0    0.0%  PRINT 2
-  sum          2          361          1216  100.0%
+  sum          2          362          1220  100.0%
 ",
     },
     Program {
@@ -102,11 +104,11 @@ start          1          192           634   52.1%
         limit: 100_000,
         status: 6,
         table: " line      times instructions        cycles   share  statement
-start          1          192           634   37.1%
-   10          1          116           473   27.7%  PRINT \"HOW MANY\"
-   20          1          179           603   35.3%  INPUT A,B
+start          1          192           634   37.6%
+   10          1          116           473   28.1%  PRINT \"HOW MANY\"
+   20          1          177           577   34.3%  INPUT A,B
    30          0            0             0    0.0%  PRINT A+B
-  sum          2          487          1710  100.0%
+  sum          2          485          1684  100.0%
 ",
     },
     Program {
@@ -157,12 +159,12 @@ start          1          192           634    3.1%
         limit: 100_000,
         status: 0,
         table: " line      times instructions        cycles   share  statement
-start          1          192           634   39.1%
-    5          1            4            17    1.0%  REM a b
+start          1          192           634   40.1%
+    5          1            4            17    1.1%  REM a b
    10          1            8            29    1.8%  LET A = 1
-   20          1          241           920   56.7%  PRINT \"<A & 'B'>\",A
+   20          1          225           880   55.6%  PRINT \"<A & 'B'>\",A
    40          1            5            22    1.4%  END
-  sum          4          450          1622  100.0%
+  sum          4          434          1582  100.0%
 ",
     },
 ];
