@@ -2,8 +2,8 @@
 """Plays a program at a pseudo-terminal: at_a_terminal.py PROMPT LINE .. -- COMMAND ..
 
 Waits for each prompt before it types the line after it, so a prompt that comes only with the key that it asks for is
-never seen. No LINE is the end of the input, and a line end alone is an empty line. Writes what the terminal showed, with
-plain line ends, and ends with the command's status; or with 124 after some seconds without a prompt, and with 125 if
+never seen. No LINE is the end of the input, and a line end alone is an empty line. Writes what the terminal showed,
+with plain line ends, and ends with the command's status; or with 124 after some seconds without a prompt, and with 125 if
 none can come any more.
 """
 import os
@@ -11,7 +11,7 @@ import pty
 import select
 import sys
 
-SECONDS = 5
+SECONDS = 20
 END_OF_INPUT = b"\x04"
 
 

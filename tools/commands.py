@@ -6,8 +6,8 @@ HELP = Path(__file__).resolve().parent / "help.txt"
 
 
 class Option:
-    def __init__(self, names, value, text):
-        self.names, self.value, self.text = names, value, text
+    def __init__(self, names, value, text, choices):
+        self.names, self.value, self.text, self.choices = names, value, text, choices
 
 
 class Command:
@@ -24,7 +24,8 @@ def rows(text, head):
 def option_of(words, text):
     names = re.findall(r"--?[\w-]+", words)
     value = re.search(r"<(.*?)>", words)
-    return Option(names, value[1] if value else None, text)
+    choices = re.search(r"\[possible values: (.*?)\]", text or "")
+    return Option(names, value[1] if value else None, text, choices[1].split(", ") if choices else [])
 
 
 def read():

@@ -15,13 +15,16 @@ def bash(table):
         names = " ".join(name for option in command.options for name in option.names if name.startswith("--"))
         print(f'        {command.name}) words="{names}" ;;')
     print("        esac\n    fi")
+    for name, choices in sorted({(name, " ".join(option.choices)) for it in table for option in it.options if option.choices for name in option.names}):
+        print(f'    if [[ ${{COMP_WORDS[COMP_CWORD - 1]}} == {name} ]]; then\n        mapfile -t COMPREPLY < <(compgen -W "{choices}" -- "$word")\n        return\n    fi')
     print('    if ((COMP_CWORD > 1)) && [[ $word != -* ]]; then\n        mapfile -t COMPREPLY < <(compgen -f -- "$word")')
     print('    else\n        mapfile -t COMPREPLY < <(compgen -W "$words" -- "$word")\n    fi\n}\ncomplete -o filenames -F _tbc tbc')
 
 
 def zsh_option(option):
     text = option.text.replace("[", "\\[").replace("]", "\\]").replace(":", "\\:")
-    value = f":{option.value}:" + ("_files" if option.value == "FILE" else " ") if option.value else ""
+    choices = "(" + " ".join(option.choices) + ")" if option.choices else " "
+    value = f":{option.value}:" + ("_files" if option.value == "FILE" else choices) if option.value else ""
     return [f"'{name}[{quoted(text)}]{value}'" for name in option.names if name.startswith("--")]
 
 
@@ -44,6 +47,7 @@ def fish(table):
             for name in option.names:
                 if name.startswith("--"):
                     takes = (" -r" if option.value == "FILE" else " -x") if option.value else ""
+                    takes += f" -a '{' '.join(option.choices)}'" if option.choices else ""
                     print(f"complete -c tbc -n '__fish_seen_subcommand_from {command.name}' -l {name[2:]}{takes} -d '{quoted(option.text)}'")
 
 

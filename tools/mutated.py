@@ -82,18 +82,24 @@ def kinds(program, examples):
         subprocess.run([program, "build", "source.bas", f"{number}.prg"], capture_output=True)
         if Path(f"{number}.prg").exists():
             images.append(Path(f"{number}.prg").read_bytes())
+    texts = [it.read_bytes() for it in sorted(Path(examples, "asm").glob("*.asm"))]
     few = ["--limit", "20000"]
     known = str(Path(examples) / "guess.bas")
     return [
         (sources, lambda it: ["check", it], None),
-        (sources, lambda it: ["build", it, f"{it}.prg", "--map", f"{it}.map", "--list", f"{it}.s", "--labels", f"{it}.l"], None),
+        (sources, lambda it: ["build", it, f"{it}.prg", "--map", f"{it}.map", "--list", f"{it}.s", "--labels", f"{it}.l", "--watch", f"{it}.w"], None),
         (sources, lambda it: ["run", it, *few, "--keys", "350d"], None),
         (sources, lambda it: ["profile", it, *few], None),
         (sources, lambda it: ["debug", it, *few], COMMANDS),
         (images, lambda it: ["run", "--prg", it, *few], None),
+        (images, lambda it: ["debug", "--prg", it, *few], COMMANDS),
+        (images, lambda it: ["profile", "--prg", it, *few], None),
         (images, lambda it: ["dis", it], None),
+        (images, lambda it: ["dis", it, "--for", "xa"], None),
+        (sources, lambda it: ["build", it, f"{it}.prg", "--list", f"{it}.s", "--for", "acme"], None),
         (images, lambda it: ["disk", f"{it}.d64", it], None),
         ([ASSEMBLY], lambda it: ["asm", it, f"{it}.prg", "--at", "c000"], None),
+        (texts, lambda it: ["assemble", it, f"{it}.prg", "--list", f"{it}.s", "--labels", f"{it}.l"], None),
         ([KEYS], lambda it: ["run", known, *few, "--keys-file", it], None),
         ([STEPS], lambda it: ["step", known, *few], True),
         ([COMMANDS], lambda it: ["debug", known, *few], True),

@@ -2,7 +2,7 @@
 # Runs each command of the built program with the first, the second, .. growth of its memory refused, until a run
 # meets no refusal; of a large program, with each hundredth or so. Each run must end with status 4,
 # `tbc: out of memory` and nothing written (of a program that is played, debugged or profiled, its warnings and a prefix
-# of what it shows; of sources that are checked, a prefix of what is said of them), or answer exactly what the command
+# of what it shows; of sources that are checked, a prefix of what is said of them; of a server, of its answers), or answer exactly what the command
 # answers with ample memory; if no growth was refused, it must not run out of memory. The same holds for the calls that
 # no command makes or shows, each a name after `tb_bench call`. The refusing malloc is preloaded, so this needs a C
 # compiler (cc) and glibc.
@@ -66,7 +66,7 @@ is_out_of_memory() { # NAME WORD..
     [ "$(tail -n 1 said)" = "$1: out of memory" ] && nothing_made || return
     head -n -1 said >before
     case ${2-} in
-        play | debug | profile | check) begins before said.wanted && begins shown shown.wanted ;;
+        play | debug | profile | check | lsp) begins before said.wanted && begins shown shown.wanted ;;
         *) [ ! -s before ] && [ ! -s shown ] ;;
     esac
 }
@@ -140,6 +140,7 @@ printf '10\n' >empty.bas
 check build hello.bas out.prg
 check build all.bas out.prg --seed 7
 check build all.bas out.prg --labels beside.vs --list beside.s --map beside.map
+check build hello.bas out.prg --watch beside.watch
 check build hello.bas hello.bas
 check build hello.bas out.prg --map ./out.prg
 check build hello.bas there.bas
@@ -176,12 +177,28 @@ check dis hello.prg
 check dis wrong.prg
 check dis mixed.prg
 check dis bad.s
+check dis mixed.prg --for 64tass
+check dis echo.prg --for xa
+check dis bad.s --for acme
+check build bad.bas out.prg --list beside.s --for ca65
 check asm text.s out.prg --at c000
 check asm wrong.s out.prg --at c000
 check asm mixed.s out.prg --at c000
 check asm bad.s out.prg --at c000
 check asm unknown.s out.prg --at c000
 check asm text.s out.prg --at c00
+printf 'chrout = $ffd2\nloop lda text\n@a jsr chrout\n bne @a\n .include "more.asm"\ntext .text "hi",13\n .align 16\n' >people.asm
+printf ' .fill 3,loop&255\n' >more.asm
+printf ' lda nowhere\nnowhen = 1\n ldx #256\n' >meaning.asm
+printf ' lda #\n .include "none.asm"\n' >lines.asm
+check assemble people.asm out.prg --labels beside.lab --list beside.lst
+check assemble meaning.asm out.prg
+check assemble lines.asm out.prg
+check assemble nowhere.asm out.prg
+check assemble people.asm more.asm
+check assemble people.asm text.s
+printf ' .bite 1\n' >directive.asm
+check assemble directive.asm out.prg
 printf '310d3\n' >bad.keys
 printf '332c350d\r\n' >some.keys
 check run all.bas --keys-file some.keys
@@ -218,6 +235,15 @@ check format all.bas --check
 check format bad.bas
 check format hello.bas --in-place
 check format nowhere.bas --in-place
+check renumber hello.bas
+check renumber bad.bas
+check renumber hello.bas --in-place
+check renumber nowhere.bas --in-place
+while IFS= read -r content; do
+    printf 'Content-Length: %d\r\n\r\n%s' "$(printf %s "$content" | wc -c)" "$content"
+done <"$root/tools/clients/dialogue.jsonl" >commands
+check lsp
+: >commands
 printf '10 FOR I=1 TO 10\n20 PRIMT "X"\n30 PRINT "Y\nEND\n' >slips.bas
 printf '10 PRINT RND(6)\n20 IF A=1 GOTO 99\n10 REM\n' >dice.bas
 check check hello.bas
@@ -244,6 +270,9 @@ check debug nowhere.bas
 printf '10 A=0\n20 PRINT 1/A\n' >fault.bas
 printf 'f\nc\nv\nc\nf\nq\n' >commands
 check debug fault.bas
+printf 'n 3\np\nb $C002\nb\nc\nrc\nt 2\nv\no\nk A\ns 9\nx\ni\nq\n' >commands
+check debug --prg hello.prg
+check debug --prg nowhere.prg
 : >commands
 check --version
 check --help
@@ -258,6 +287,8 @@ stride=101
 check build "$large" out.prg --fit
 check build "$large" out.prg --fit --labels beside.vs --list beside.s --map beside.map
 check build "$large" out.prg --map beside.map
+check dis hello.prg --for ca65
+check build hello.bas out.prg --list beside.s --for acme
 check check "$large" --fit
 printf '0d' >long.keys
 check run "$large" --fit --keys-file long.keys

@@ -66,6 +66,7 @@ IMAGES = [
     Image("prints_if_256", ['10 IF A-256=0 THEN PRINT "A";', "20 END"]),
     Image("prints_if_positive", ['10 IF A>0 THEN PRINT "A";', "20 END"]),
     Image("prints_if_below_256", ['10 IF A-1<256 THEN PRINT "A";', "20 END"]),
+    Image("prints_rest", ["10 LET A=A-1", "20 PRINT A-A/4*4;"]),
 ]
 
 TEXT = "a9 .. 85 fb a9 .. 85 fc a9 01 8d 6c c0 20 text 4c .. .. 41"
@@ -103,14 +104,14 @@ CHANGES = [
         ("a9 01 85 fb a9 00 85 fc a9 00 85 fd a9 00 85 fe 20 divide", ".. 00 " + ".. " * 14 + "ea ea ea"),
     ]),
     Change("quotient_left_zero", "STY and STX, of 0, instead of each last ROL that completes a byte of the quotient", "prints_quotient", [
-        ("36 fb ca", "94 .. .."),
+        ("26 fb 8d 66 c0", "84 .. .. .. .."),
         ("26 fb 8d 67 c0", "86 .. .. .. .."),
     ]),
     Change("quotient_rounded_down", "complements instead of the negations before and after a division of a negative number", "prints_negative_quotient", [
         ("negation", "a2 00 38 a9 00 f5 fb", ".. " * 7),
-        ("divide_by", "a5 fe 10 0b a2 02", ".. " * 6),
-        ("20 negation 20 divide_by a2 00 38", "20 poll+3 4c poll" + " .." * 3),
-        ("poll: " + ".. " * 9, "20 divide_by a2 00 18 4c negation+3"),
+        ("sizes", "a5 fc 10 03 20 negation", ".. " * 4 + "20 poll+3"),
+        ("20 sizes a2 00 38", "4c poll" + " .." * 3),
+        ("poll: " + ".. " * 9, "20 sizes a2 00 18 4c negation+3"),
     ]),
     Change("difference_wrapped", "four NOP instead of BVC and EOR, which mend the sign of a difference that does not fit", "compares_far", [
         ("50 02 49 80", "ea " * 4),
@@ -127,6 +128,9 @@ CHANGES = [
     Change("sign_not_turned", "two NOP in place of EOR, which turns the sign of a high byte", "prints_if_below_256", [
         ("49 80 c9 81", "ea ea .. .."),
     ]),
+    Change("sign_not_looked_at", "0 in place of the high byte whose sign a remainder gets", "prints_rest", [
+        ("ac 01 c0 10 0f", "a0 00 ea .. .."),
+    ]),
     Change("digit_in_rom_memory", "the fault's digit at $026D, which the ROM may write, instead of $C06D", "goes_nowhere", [
         ("69 30 8d 6d c0", ".. .. .. .. 02"),
         ("ad 6d c0 20 send a9 20", ".. .. 02 .. .. .. .. .."),
@@ -140,8 +144,8 @@ CHANGES = [
         ("ce 6c c0 d0", "ca ea ea .."),
     ]),
     Change("line_dropped_at_comma", "a comma drops the rest of the line by a loop in place of the unused Poll, and ends it", "inputs_two", [
-        ("4e 6d c0 90 .. ce 35 c0", "20 poll ea ea" + " .." * 3),
-        ("poll: " + ".. " * 13, "ad 6d c0 c9 0d f0 ~pop+34 20 cf ff 4c poll+3"),
+        ("c0 0d d0 .. ce 35 c0", "20 poll ea" + " .." * 3),
+        ("poll: " + ".. " * 12, "98 c9 0d f0 ~pop+34 20 cf ff a8 4c poll+1"),
     ]),
     Change("calls_by_jsr", "JSR to the line instead of a note: the return is kept on the stack", "calls_itself", [
         ("line10: " + POLL + " ae 3d c0", ".. " * 7 + "20 line10"),

@@ -130,10 +130,17 @@ mkdir emulator
 printf '#!/bin/sh\necho x64sc "$@"\n' >emulator/x64sc
 chmod +x emulator/x64sc
 PATH=$work/emulator:$PATH
-touch game.prg named.prg named.labels
+touch game.prg named.prg named.labels watched.prg watched.watch named.watch
 row 0 '' 'x64sc -autostart game.prg' built/tbc vice game.prg
 row 0 '' 'x64sc -autostart named.prg -moncommands named.labels' unbuilt/tbc vice named.prg
+row 0 '' 'x64sc -autostart watched.prg -moncommands watched.watch' unbuilt/tbc vice --watch watched.prg
+row 0 '' 'x64sc -autostart watched.prg' built/tbc vice watched.prg
+row 0 '' 'x64sc -autostart named.prg -moncommands /dev/fd/*' built/tbc vice --watch named.prg
+row 3 'tbc: game.watch is not there: tbc build SOURCE game.prg --watch game.watch writes it' '' built/tbc vice --watch game.prg
 row 3 'tbc: read fault' '' built/tbc vice nowhere.prg
+row 3 'tbc: read fault' '' built/tbc vice --watch nowhere.prg
+row 2 'tbc: vice takes a PRG file' '' built/tbc vice --watch
+row 2 'tbc: vice takes a PRG file' '' built/tbc vice game.prg watched.prg
 row 2 'tbc: vice takes a PRG file' '' built/tbc vice
 
 # A copy that isn't built, with no toolchain at all: texts come at once, and are the program's

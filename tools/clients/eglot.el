@@ -41,4 +41,28 @@
   (shows "2:0 tbc [no-line]: no line 99")
   (replace-text "99" "30")
   (shows "")
+  (let* ((server (eglot-current-server))
+         (document (list :uri (eglot--path-to-uri buffer-file-name)))
+         (asks (lambda (method line character &rest others)
+                 (jsonrpc-request
+                  server method
+                  `(:textDocument ,document :position (:line ,line :character ,character) ,@others))))
+         (line (lambda (it) (plist-get (plist-get (plist-get it :range) :start) :line))))
+    (unless (equal (funcall line (funcall asks :textDocument/definition 1 8)) 2)
+      (error "Emacs gets another definition"))
+    (unless (equal (mapcar line (funcall asks :textDocument/references 2 0 :context '(:includeDeclaration t))) '(1 2))
+      (error "Emacs gets other references"))
+    (unless (string-prefix-p "line 20: $"
+                             (plist-get (plist-get (funcall asks :textDocument/hover 1 0) :contents) :value))
+      (error "Emacs gets another hover"))
+    (unless (equal (mapcar (lambda (it) (plist-get it :label))
+                           (plist-get (funcall asks :textDocument/completion 1 4) :items))
+                   '("GOTO" "GOSUB"))
+      (error "Emacs is offered something else"))
+    (unless (equal (append (plist-get (jsonrpc-request server :textDocument/semanticTokens/full
+                                                       (list :textDocument document))
+                                      :data)
+                           nil)
+                   '(0 0 2 2 1 0 3 5 0 0 0 6 3 3 0 1 0 2 2 1 0 3 4 0 0 0 5 2 2 0 1 0 2 2 1 0 3 3 0 0))
+      (error "Emacs gets other tokens")))
   (eglot-shutdown (eglot-current-server)))

@@ -9,6 +9,7 @@ import sys
 from pathlib import Path
 
 EDGES = [0, 1, 2, 3, 10, 100, 126, 127, 128, 129, 255, 256, 257, 511, 512, 1000, 16383, 16384, 32766, 32767]
+REMAINDERS = [2, 2, 4, 8, 16, 32, 64, 128, 256, 3, 10, 127, 255, 257, 512]
 FIRST, LAST = "ABCDEFGH", "IJKLMNOP"
 
 
@@ -39,7 +40,7 @@ def program(random_source):
         lines.append(f"LET {name}={text(divisor(random_source))}")
     for _ in range(random_source.randrange(6, 14)):
         left, right = random_source.choice(FIRST), random_source.choice(LAST)
-        kind = random_source.randrange(6)
+        kind = random_source.randrange(7)
         if kind == 0:
             lines.append(f"PRINT {left}/{right};\" \";{left}-{left}/{right}*{right}")
         elif kind == 1:
@@ -51,6 +52,11 @@ def program(random_source):
             lines.append(f"IF {left}/{right}*{right}={left} THEN PRINT \"YES\"")
         elif kind == 4:
             lines.append(f"PRINT RND({abs(divisor(random_source))})")
+        elif kind == 5:
+            constant = random_source.choice(REMAINDERS)
+            into = random_source.choice((left, "Z"))
+            lines.append(f"LET {into}={left}-{left}/{constant}*{constant}")
+            lines.append(f"PRINT {into};\" \";{right}-{right}/{constant}*{constant}")
         else:
             lines.append(f"LET {left}=({left}+{random_source.choice(FIRST)})/{right}")
     if random_source.random() < 0.125:
@@ -68,4 +74,5 @@ def main():
         (folder / f"dividing{k}.keys").write_text(keys.encode().hex())
 
 
-main()
+if __name__ == "__main__":
+    main()

@@ -1,11 +1,12 @@
 #!/usr/bin/env python3
 """Runs a program on a machine that is not this project's, and compares each byte that it sends, and how it ends.
 
-    foreign_run.py sim65|vice SERVICES PRG KEYS WANTED STATUS
+    foreign_run.py sim65|vice|watched SERVICES PRG KEYS WANTED STATUS
 
 SERVICES is the PRG that `tbc asm` made of sim65.asm or kernal.asm, KEYS what is typed, in hexadecimal digits. WANTED is
-what `tbc run` showed, and STATUS its status: 0 where the program returned, 6 where it waits for a key. Ends with status 0
-where all is the same, with 1 where something differs, with 2 where the machine doesn't start.
+what `tbc run` showed, and STATUS its status: 0 where the program returned, 6 where it waits for a key. `watched` is VICE
+with the watch file next to the PRG, PRG.watch: where its monitor stops, that differs. Ends with status 0 where all is the
+same, with 1 where something differs, with 2 where the machine doesn't start.
 """
 import os
 import re
@@ -16,6 +17,7 @@ import tempfile
 RETURNED = 0
 WAITS = 6
 SECONDS = 300
+MOST_SENT = 0xFFFF  # bytes: the length is a word in the expansion that VICE's services read
 
 
 def word(value):
@@ -65,14 +67,25 @@ def in_sim65(folder, services, prg, keys, wanted, status):
 
 
 VICE = {1: "another byte", 2: "too many bytes", 3: "it waits", 4: "too few bytes", 5: "it returned"}
+RESET, IRQ, NMI = 0xFCE2, 0xFF48, 0xFE43  # where the Commodore's ROM has them
+ENTRIES = {RESET: 0xE000, 0xFFD2: 0xE003, 0xFFCF: 0xE006, 0xFFE4: 0xE009, IRQ: 0xE00C, NMI: 0xE00F}
+WATCHING = "-nativemonitor -moncommands watch -monlog -monlogname said".split()
 
 
-def in_vice(folder, services, prg, keys, wanted, status):
+def stop(said):
+    """What the monitor says where it stops, if it does; or that it did not watch."""
+    found = re.search(r"^#\d+ \(Stop on .*\n.*\n(?:Executing: ; )?(.*)", said, re.M)
+    if found:
+        return f"stopped: {found[1]}"
+    return None if "(Trace  exec 0c00)" in said else "it was not watched"
+
+
+def in_vice(folder, services, prg, keys, wanted, status, watch=None):
     rom = bytearray(0x2000)
     put(rom, 0, services[2:])
-    for service, entry in ((0xFFD2, 0xE003), (0xFFCF, 0xE006), (0xFFE4, 0xE009)):
-        put(rom, service - 0xE000, jump(entry))
-    put(rom, 0x1FFA, word(0xE00F) + word(0xE000) + word(0xE00C))
+    for place, entry in ENTRIES.items():
+        put(rom, place - 0xE000, jump(entry))
+    put(rom, 0x1FFA, word(NMI) + word(RESET) + word(IRQ))
     expansion = bytearray(0x40000)
     put(expansion, 0x00000, word(len(prg) - 2) + word(len(wanted)) + word(len(keys)) + bytes((status == WAITS,)))
     put(expansion, 0x00100, prg[2:])
@@ -83,18 +96,28 @@ def in_vice(folder, services, prg, keys, wanted, status):
         with open(os.path.join(folder, name), "wb") as file:
             file.write(those)
     words = "x64sc -default -console -warp +sound -debugcart -limitcycles 400000000 -drive8type 0 -kernal kernal -basic basic"
-    words += " -chargen chargen -reu -reusize 256 -reuimage expansion +reuimagerw"
-    ran = subprocess.run(words.split(), cwd=folder, capture_output=True, timeout=SECONDS)
-    if ran.returncode == 0:
-        return None
+    words = (words + " -chargen chargen -reu -reusize 256 -reuimage expansion +reuimagerw").split()
+    if watch is not None:
+        with open(os.path.join(folder, "watch"), "wb") as file:
+            file.write(watch)
+        words += WATCHING
+    ran = subprocess.run(words, cwd=folder, capture_output=True, timeout=SECONDS, input=b"quit\n")
+    stopped = None if watch is None else stop(contents(os.path.join(folder, "said")).decode(errors="replace"))
+    if stopped or ran.returncode == 0:
+        return stopped
+    if b"cycle limit reached" in ran.stdout:  # the status is that of another byte then
+        return "it doesn't end"
     said = ran.stderr.decode(errors="replace")[-300:] + ran.stdout.decode(errors="replace")[-300:]
     return VICE.get(ran.returncode, f"x64sc ended with status {ran.returncode}: {said}")
 
 
+RUNS = {"sim65": in_sim65, "vice": in_vice, "watched": in_vice}
+
+
 def main(machine, services, prg, keys, wanted, status):
-    run = {"sim65": in_sim65, "vice": in_vice}[machine]
+    watch = [contents(prg.removesuffix("prg") + "watch")] if machine == "watched" else []
     with tempfile.TemporaryDirectory() as folder:
-        differs = run(folder, contents(services), contents(prg), bytes.fromhex(keys), sent(contents(wanted)), int(status))
+        differs = RUNS[machine](folder, contents(services), contents(prg), bytes.fromhex(keys), sent(contents(wanted)), int(status), *watch)
     if differs is not None:
         print(f"{os.path.basename(prg)} in {machine}: {differs}")
     return differs is not None

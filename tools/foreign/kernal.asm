@@ -1,14 +1,15 @@
-; A ROM for the Commodore 64 at $E000, assembled by `tbc asm`, that runs one program and judges what it sends. The jumps
-; below are named by the ROM's last bytes (vice_roms.py). It finds all it needs in a RAM expansion: at $000000 a header, at
+; A ROM for the Commodore 64 at $E000, assembled by `tbc asm`, that runs one program and judges what it sends. Its services
+; and interrupts are where the Commodore's are: foreign_run.py puts jumps to the ones below there, and the vectors. It finds
+; all it needs in a RAM expansion: at $000000 a header, at
 ; $000100 the program, at $010000 the bytes that are wanted, at $020000 the keys.
 ; It ends by the debug cartridge: 0 all is as wanted, 1 another byte, 2 too many bytes, 3 it waits though it should not,
 ; 4 too few bytes, 5 it returned though it should wait.
-        JMP RESET
+        JMP RESET               ; $E000, from $FCE2
         JMP CHROUT              ; $E003, from $FFD2
         JMP CHRIN               ; $E006, from $FFCF
         JMP GETIN               ; $E009, from $FFE4
-        JMP TICK                ; $E00C, from $FFFE
-        RTI                     ; $E00F, from $FFFA
+        JMP TICK                ; $E00C, from $FF48
+        RTI                     ; $E00F, from $FE43
 
 ; The header, from $0340: the program's length, how many bytes are wanted, how many keys there are, and whether it is to
 ; wait at the end. Behind it the ROM's own.
@@ -93,7 +94,7 @@ WELL:   LDA #$00
 STOP:   STA $D7FF
 HANG:   JMP HANG
 
-CHROUT: STA $0350
+CHROUT: STA $0350               ; a service breaks a rule here (breaches.txt)
         LDA $0342
         ORA $0343
         BNE MORE
@@ -176,7 +177,7 @@ SPOIL:  LDA $035A
         RTS
 
 ; The interrupt: it rewrites three bytes, and keeps the registers.
-TICK:   PHA
+TICK:   PHA                     ; an interrupt breaks a rule here
         INC $035B
         LDA $035B
         STA $02
