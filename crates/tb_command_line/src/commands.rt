@@ -26,6 +26,7 @@ pub enum CommandName {
     Format,
     Renumber,
     Lsp,
+    Dap,
     Version,
 }
 
@@ -49,7 +50,7 @@ pub fn rows() -> &'static [CommandRow]
     &COMMANDS
 }
 
-static COMMANDS: [CommandRow; 15] = [
+static COMMANDS: [CommandRow; 16] = [
     CommandRow {
         command: CommandName::Build,
         name: "build",
@@ -191,6 +192,13 @@ static COMMANDS: [CommandRow; 15] = [
         command: CommandName::Lsp,
         name: "lsp",
         help: "Serve an editor as its language server, over standard input and output",
+        usage: None,
+        arguments: &[],
+    },
+    CommandRow {
+        command: CommandName::Dap,
+        name: "dap",
+        help: "Serve an editor as its debug adapter, over standard input and output",
         usage: None,
         arguments: &[],
     },

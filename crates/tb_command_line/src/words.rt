@@ -78,6 +78,7 @@ fn job_of(alloc: Global, command: CommandName, found: &ArgMatches<'_>) -> Result
         CommandName::Format => format_job(alloc, found),
         CommandName::Renumber => renumber_job(alloc, found),
         CommandName::Lsp => Ok(Job::Lsp),
+        CommandName::Dap => Ok(Job::Dap),
         CommandName::Version => version_job(alloc),
     }
 }

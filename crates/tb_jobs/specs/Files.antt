@@ -7,7 +7,7 @@ use Rattle.tb_jobs.specs.declared.jobs.Typed.TheVariants.{Digits, File, Text}
 use Rattle.tb_jobs.specs.declared.jobs.Runnable.{Runnable}
 use Rattle.tb_jobs.specs.declared.jobs.Runnable.TheVariants.{Source, Prg}
 use Rattle.tb_jobs.specs.declared.jobs.Job.{Job}
-use Rattle.tb_jobs.specs.declared.jobs.Job.TheVariants.{Build, Run, Play, Asm, Assemble, Dis, Step, Debug, Profile, Disk, Check, Format, Renumber, Lsp, Show}
+use Rattle.tb_jobs.specs.declared.jobs.Job.TheVariants.{Build, Run, Play, Asm, Assemble, Dis, Step, Debug, Profile, Disk, Check, Format, Renumber, Lsp, Dap, Show}
 
 -- where standard input is found as a file
 abbrev pub standard_input : List ℕ
@@ -57,6 +57,7 @@ kept_of (Check sources fit) = []
 kept_of (Format source target) = []
 kept_of (Renumber source first step in_place) = []
 kept_of Lsp = []
+kept_of Dap = []
 kept_of (Show text) = []
 
 -- The files that a job writes, in the order in which it writes them. A source that is made tidy or renumbered is none of
@@ -77,4 +78,5 @@ written_of (Check sources fit) = []
 written_of (Format source target) = []
 written_of (Renumber source first step in_place) = []
 written_of Lsp = []
+written_of Dap = []
 written_of (Show text) = []

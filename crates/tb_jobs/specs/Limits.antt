@@ -3,7 +3,7 @@ use Rattle.std.specs.Prelude.{◌≤◌, ⊤}
 use Rattle.tb_jobs.specs.declared.jobs.TheConstants.{MOST_EVENTS}
 use Rattle.tb_jobs.specs.declared.jobs.Limit.{Limit}
 use Rattle.tb_jobs.specs.declared.jobs.Job.{Job}
-use Rattle.tb_jobs.specs.declared.jobs.Job.TheVariants.{Build, Run, Play, Asm, Assemble, Dis, Step, Debug, Profile, Disk, Check, Format, Renumber, Lsp, Show}
+use Rattle.tb_jobs.specs.declared.jobs.Job.TheVariants.{Build, Run, Play, Asm, Assemble, Dis, Step, Debug, Profile, Disk, Check, Format, Renumber, Lsp, Dap, Show}
 
 -- a limit of 1 to MOST_EVENTS events
 abbrev pub IsWithin : Limit → Type 0
@@ -25,4 +25,5 @@ IsWithinLimit (Check sources fit) = ⊤
 IsWithinLimit (Format source target) = ⊤
 IsWithinLimit (Renumber source first step in_place) = ⊤
 IsWithinLimit Lsp = ⊤
+IsWithinLimit Dap = ⊤
 IsWithinLimit (Show text) = ⊤

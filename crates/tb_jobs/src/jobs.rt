@@ -227,6 +227,8 @@ pub enum Job {
     },
     /// Serves an editor as its language server.
     Lsp,
+    /// Serves an editor as its debug adapter.
+    Dap,
     /// A help text or the version, to be shown.
     Show {
         text: String,

@@ -212,6 +212,7 @@ static JOBS: [(&[&str], &str); 49] = [
         "Ok(Renumber { source: \"a\", first: 1, step: 32767, in_place: true })",
     ),
     (&["lsp"], "Ok(Lsp)"),
+    (&["dap"], "Ok(Dap)"),
     (
         &["check", "a", "b", "--", "-c"],
         "Ok(Check { sources: [\"a\", \"b\", \"-c\"], fit: false })",

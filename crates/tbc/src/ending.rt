@@ -2,6 +2,7 @@
 use std::fmt;
 use tb_assembly_engine::{MOST_FILES, TextFailure};
 use tb_check_engine::CheckOutcome;
+use tb_debug_adapter::AdapterOutcome;
 use tb_disk_engine::DiskOutcome;
 use tb_driver::{End, Outcome, Refusal, Report};
 use tb_format_engine::FormatOutcome;
@@ -26,8 +27,10 @@ pub enum Ending {
     Renumber(RenumberOutcome),
     /// The assembling of a text, and why it failed, if it did.
     Text(Option<TextFailure>),
-    /// The serving of an editor.
+    /// The serving of an editor by a language server.
     Server(ServerOutcome),
+    /// The serving of an editor by a debug adapter.
+    Adapter(AdapterOutcome),
 }
 
 impl Ending {
@@ -42,6 +45,7 @@ impl Ending {
             Ending::Text(None) => Outcome::Ended(End::Done).status(),
             Ending::Text(Some(failure)) => failure.status(),
             Ending::Server(outcome) => outcome.status(),
+            Ending::Adapter(outcome) => outcome.status(),
         }
     }
 }
@@ -78,6 +82,8 @@ impl fmt::Display for Ending {
             Ending::Text(Some(failure)) => write_failure(failure, f),
             Ending::Server(ServerOutcome::Ended | ServerOutcome::NotShutDown) => Ok(()),
             Ending::Server(outcome) => writeln!(f, "tbc: {outcome}"),
+            Ending::Adapter(AdapterOutcome::Ended) => Ok(()),
+            Ending::Adapter(outcome) => writeln!(f, "tbc: {outcome}"),
         }
     }
 }

@@ -9,7 +9,7 @@ use crate::playing::play;
 use crate::profiling::profile;
 use crate::reading::{settings_of, size_limit};
 use crate::renumbering::renumber_file;
-use crate::serving::serve_editor;
+use crate::serving::{serve_debugger, serve_editor};
 use crate::waiting::Progress;
 use std::alloc::Global;
 use std::io;
@@ -92,6 +92,7 @@ fn run_job<R: Files + Clock + Print + Eprint + Input + AllocGlobal>(
         | Job::Format { .. }
         | Job::Renumber { .. }
         | Job::Lsp
+        | Job::Dap
         | Job::Show { .. } => return Ok(None),
     }))
 }
@@ -147,6 +148,7 @@ fn other_job<R: Files + Print + Input + AllocGlobal>(
             Ok(Ending::Renumber(renumber_file(host, source, numbering, *in_place)))
         }
         Job::Lsp => Ok(Ending::Server(serve_editor(rt))),
+        Job::Dap => Ok(Ending::Adapter(serve_debugger(host))),
         Job::Show { text } => Ok(plain_ending(rt, show(rt, text))),
         Job::Run { .. }
         | Job::Play { .. }
