@@ -66,7 +66,7 @@ is_out_of_memory() { # NAME WORD..
     [ "$(tail -n 1 said)" = "$1: out of memory" ] && nothing_made || return
     head -n -1 said >before
     case ${2-} in
-        play | debug | profile | check | lsp | dap) begins before said.wanted && begins shown shown.wanted ;;
+        play | debug | profile | check | lsp) begins before said.wanted && begins shown shown.wanted ;;
         *) [ ! -s before ] && [ ! -s shown ] ;;
     esac
 }
@@ -243,11 +243,6 @@ while IFS= read -r content; do
     printf 'Content-Length: %d\r\n\r\n%s' "$(printf %s "$content" | wc -c)" "$content"
 done <"$root/tools/clients/dialogue.jsonl" >commands
 check lsp
-while IFS= read -r content; do
-    content=${content//SOURCE/all.bas}
-    printf 'Content-Length: %d\r\n\r\n%s' "$(printf %s "$content" | wc -c)" "$content"
-done <"$root/tools/clients/adapter.jsonl" >commands
-check dap
 : >commands
 printf '10 FOR I=1 TO 10\n20 PRIMT "X"\n30 PRINT "Y\nEND\n' >slips.bas
 printf '10 PRINT RND(6)\n20 IF A=1 GOTO 99\n10 REM\n' >dice.bas

@@ -3,10 +3,6 @@
 #![tactic(auto)]
 
 #[cfg(test)]
-mod arguments;
-#[cfg(test)]
-mod messages;
-#[cfg(test)]
 mod sessions;
 #[cfg(test)]
 mod states;

@@ -5,7 +5,7 @@ ghost use Rattle.tb_command_line.specs.Table.{NamesEach, command_of};
 use crate::arguments::{
     ANSWERS, ASSEMBLY_OUT, AT, Argument, BUILD_OUT, DISK_OUT, DISK_OUTPUT, FIRST_LINE, FIT, FOR,
     IN_PLACE, KEY_FILE, KEYS, LABELS, LIMIT, LINE_STEP, LIST, LIST_FOR, MAP, ONLY_CHECK, ORIGIN,
-    OUT, OUTPUT, PAGE, PLAY_LIMIT, PRG, PRG_FILE, PRG_FILES, RECORD, RUDE, SEED, SOURCE,
+    OUT, OUTPUT, PAGE, PLAY_LIMIT, PRG, PRG_FILE, PRG_FILES, RECORD, RUDE, SCREEN, SEED, SOURCE,
     SOURCE_OR_PRG, SOURCES, TEXT, TYPE, WATCH,
 };
 
@@ -26,7 +26,6 @@ pub enum CommandName {
     Format,
     Renumber,
     Lsp,
-    Dap,
     Version,
 }
 
@@ -50,7 +49,7 @@ pub fn rows() -> &'static [CommandRow]
     &COMMANDS
 }
 
-static COMMANDS: [CommandRow; 16] = [
+static COMMANDS: [CommandRow; 15] = [
     CommandRow {
         command: CommandName::Build,
         name: "build",
@@ -83,7 +82,7 @@ static COMMANDS: [CommandRow; 16] = [
         name: "play",
         help: "Play a source or a PRG file: what you type is its keyboard",
         usage: Some("tbc play [OPTIONS] <SOURCE>\n       tbc play [OPTIONS] --prg <FILE>"),
-        arguments: &[SOURCE_OR_PRG, PRG, SEED, FIT, PLAY_LIMIT, RECORD],
+        arguments: &[SOURCE_OR_PRG, PRG, SEED, FIT, PLAY_LIMIT, RECORD, SCREEN],
     },
     CommandRow {
         command: CommandName::Asm,
@@ -192,13 +191,6 @@ static COMMANDS: [CommandRow; 16] = [
         command: CommandName::Lsp,
         name: "lsp",
         help: "Serve an editor as its language server, over standard input and output",
-        usage: None,
-        arguments: &[],
-    },
-    CommandRow {
-        command: CommandName::Dap,
-        name: "dap",
-        help: "Serve an editor as its debug adapter, over standard input and output",
         usage: None,
         arguments: &[],
     },

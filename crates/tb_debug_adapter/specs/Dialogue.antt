@@ -251,14 +251,13 @@ pub record IsSession (at : List ℕ) (source : CompiledSource) (machine : Machin
 abbrev pub Opens : ℕ → Session → Result (Unit {0}) AdapterOutcome → Written → Written → Type 0
 Opens asked s result a b = Says asked (codes "launch") (opening s) result a b ⊎ RunsOut result a b
 
--- A program that is launched is debugged: it is opened, and then frames are answered. If there is no memory for its session,
--- nothing is read or written.
+-- a program that is launched is debugged: it is opened, and then frames are answered
 abbrev pub Debugs : Launched → AdapterOutcome → (Session → Moment) → (Session → Moment) → Type 0
 Debugs l outcome first last =
     ((s : Session) × IsSession (string_bytes l.loaded.path) l.loaded.source l.loaded.machine l.loaded.rom l.loaded.plan s
     × (((w : Written) × Opens l.asked s (Ok (record {})) (first s).written w × ((z : Session) × TalksTo (moment s (first s).left (first s).read w) outcome (last z)))
     ⊎ (Opens l.asked s (Err outcome) (first s).written (last s).written × ((last s).left ≡ (first s).left))))
-    ⊎ ((outcome ≡ NoMemory) × ((s : Session) → last s ≡ first s))
+    ⊎ (outcome ≡ NoMemory)
 
 -- a whole dialogue: up to a launch, and then with the program
 abbrev pub Serves : {S : Type 0} → Reading S → Early S → AdapterOutcome → (Bool → ℕ → Early S) → Type 0

@@ -13,8 +13,5 @@ mod session;
 mod setting;
 mod stops;
 
-pub use dialogue::{Heard, serve};
-pub use launching::Plan;
+pub use dialogue::serve;
 pub use outcome::AdapterOutcome;
-pub use session::{Session, Stage};
-pub use stops::Stop;

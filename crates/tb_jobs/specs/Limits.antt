@@ -3,7 +3,7 @@ use Rattle.std.specs.Prelude.{◌≤◌, ⊤}
 use Rattle.tb_jobs.specs.declared.jobs.TheConstants.{MOST_EVENTS}
 use Rattle.tb_jobs.specs.declared.jobs.Limit.{Limit}
 use Rattle.tb_jobs.specs.declared.jobs.Job.{Job}
-use Rattle.tb_jobs.specs.declared.jobs.Job.TheVariants.{Build, Run, Play, Asm, Assemble, Dis, Step, Debug, Profile, Disk, Check, Format, Renumber, Lsp, Dap, Show}
+use Rattle.tb_jobs.specs.declared.jobs.Job.TheVariants.{Build, Run, Play, Asm, Assemble, Dis, Step, Debug, Profile, Disk, Check, Format, Renumber, Lsp, Show}
 
 -- a limit of 1 to MOST_EVENTS events
 abbrev pub IsWithin : Limit → Type 0
@@ -13,7 +13,7 @@ IsWithin limit = (1 ≤ limit.events) × (limit.events ≤ MOST_EVENTS)
 abbrev pub IsWithinLimit : Job → Type 0
 IsWithinLimit (Build source out seed fit beside) = ⊤
 IsWithinLimit (Run what settings rude) = IsWithin settings.limit
-IsWithinLimit (Play what seed fit limit made) = IsWithin limit
+IsWithinLimit (Play what seed fit limit made screen) = IsWithin limit
 IsWithinLimit (Asm text out at) = ⊤
 IsWithinLimit (Assemble text out at labels listing) = ⊤
 IsWithinLimit (Dis prg dialect) = ⊤
@@ -25,5 +25,4 @@ IsWithinLimit (Check sources fit) = ⊤
 IsWithinLimit (Format source target) = ⊤
 IsWithinLimit (Renumber source first step in_place) = ⊤
 IsWithinLimit Lsp = ⊤
-IsWithinLimit Dap = ⊤
 IsWithinLimit (Show text) = ⊤

@@ -2,7 +2,6 @@
 use std::fmt;
 use tb_assembly_engine::{MOST_FILES, TextFailure};
 use tb_check_engine::CheckOutcome;
-use tb_debug_adapter::AdapterOutcome;
 use tb_disk_engine::DiskOutcome;
 use tb_driver::{End, Outcome, Refusal, Report};
 use tb_format_engine::FormatOutcome;
@@ -27,10 +26,8 @@ pub enum Ending {
     Renumber(RenumberOutcome),
     /// The assembling of a text, and why it failed, if it did.
     Text(Option<TextFailure>),
-    /// The serving of an editor by a language server.
+    /// The serving of an editor.
     Server(ServerOutcome),
-    /// The serving of an editor by a debug adapter.
-    Adapter(AdapterOutcome),
 }
 
 impl Ending {
@@ -45,7 +42,6 @@ impl Ending {
             Ending::Text(None) => Outcome::Ended(End::Done).status(),
             Ending::Text(Some(failure)) => failure.status(),
             Ending::Server(outcome) => outcome.status(),
-            Ending::Adapter(outcome) => outcome.status(),
         }
     }
 }
@@ -82,8 +78,6 @@ impl fmt::Display for Ending {
             Ending::Text(Some(failure)) => write_failure(failure, f),
             Ending::Server(ServerOutcome::Ended | ServerOutcome::NotShutDown) => Ok(()),
             Ending::Server(outcome) => writeln!(f, "tbc: {outcome}"),
-            Ending::Adapter(AdapterOutcome::Ended) => Ok(()),
-            Ending::Adapter(outcome) => writeln!(f, "tbc: {outcome}"),
         }
     }
 }

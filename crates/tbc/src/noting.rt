@@ -43,7 +43,7 @@ pub fn note<R: Files + Print + Eprint + Input + AllocGlobal>(
             file_note(host, None)
         }
         Ok(Ending::Text(_)) => {}
-        Ok(Ending::Format(_) | Ending::Renumber(_) | Ending::Server(_) | Ending::Adapter(_)) => {}
+        Ok(Ending::Format(_) | Ending::Renumber(_) | Ending::Server(_)) => {}
         Err(Failure::SameFile) => clash(host, job),
         Err(Failure::ReadFault) => file_note(host, Some(Purpose::Keys)),
         Err(_) => {}
