@@ -106,7 +106,7 @@ cc65_start=$(cost cc65 --version)
 echo "the start of a process: tbc $start $unit, cc65 $cc65_start $unit"
 measure mixed200 0 "200 mixed lines, ten in a function" 2.8
 measure joint200 0 "200 mixed lines, in one function"
-measure cheap1000 0 "1,000 lines of PRINT and REM" 7.6
+measure cheap1000 0 "1,000 lines of PRINT and REM" 7.9
 measure mixed1000 1 "1,000 mixed lines, ten in a function, refused"
 measure joint1000 1 "1,000 mixed lines, in one function, refused"
 measure_fit 228

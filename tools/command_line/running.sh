@@ -79,10 +79,6 @@ rest 'A\n? \n14\n\n!7 AT 30\n8\n9' '7\n8\n9' wait.bas
 rest 'Qrest\n' 'q\r\nrest\n' --prg once.prg
 rest 'HELLO\nall\n' 'all\n' hello.bas
 
-# The machine's screen is shown at a terminal alone (tools/screen_play.py); no file is opened before that is known
-row 2 'tbc: not a terminal' '' play --screen hello.bas
-row 2 'tbc: not a terminal' '' play nowhere.bas --screen --record nowhere/out.keys
-
 # The limit is that of one line
 yes 1 | head -n 40 >typed
 from=typed

@@ -280,12 +280,6 @@ pub const RECORD: Argument = Argument {
     form: Form::FileOption,
 };
 
-pub const SCREEN: Argument = Argument {
-    name: "screen",
-    help: "Show the machine's screen, at a terminal of at least 40 by 25",
-    form: Form::Flag,
-};
-
 pub const IN_PLACE: Argument = Argument {
     name: IN_PLACE_NAME,
     help: "Write the file itself, in place of standard output",

@@ -5,7 +5,7 @@ ghost use Rattle.tb_command_line.specs.Table.{NamesEach, command_of};
 use crate::arguments::{
     ANSWERS, ASSEMBLY_OUT, AT, Argument, BUILD_OUT, DISK_OUT, DISK_OUTPUT, FIRST_LINE, FIT, FOR,
     IN_PLACE, KEY_FILE, KEYS, LABELS, LIMIT, LINE_STEP, LIST, LIST_FOR, MAP, ONLY_CHECK, ORIGIN,
-    OUT, OUTPUT, PAGE, PLAY_LIMIT, PRG, PRG_FILE, PRG_FILES, RECORD, RUDE, SCREEN, SEED, SOURCE,
+    OUT, OUTPUT, PAGE, PLAY_LIMIT, PRG, PRG_FILE, PRG_FILES, RECORD, RUDE, SEED, SOURCE,
     SOURCE_OR_PRG, SOURCES, TEXT, TYPE, WATCH,
 };
 
@@ -82,7 +82,7 @@ static COMMANDS: [CommandRow; 15] = [
         name: "play",
         help: "Play a source or a PRG file: what you type is its keyboard",
         usage: Some("tbc play [OPTIONS] <SOURCE>\n       tbc play [OPTIONS] --prg <FILE>"),
-        arguments: &[SOURCE_OR_PRG, PRG, SEED, FIT, PLAY_LIMIT, RECORD, SCREEN],
+        arguments: &[SOURCE_OR_PRG, PRG, SEED, FIT, PLAY_LIMIT, RECORD],
     },
     CommandRow {
         command: CommandName::Asm,

@@ -10,7 +10,7 @@ use crate::commands::{CommandName, command_named, rows};
 use crate::parser::{VERSION, parser};
 use crate::values::{
     dialect_of, extras_of, first_text, fit_of, in_place_of, limit_of, line_number_of,
-    optional_text, rude_of, runnable_of, screen_of, seed_of, settings_of, target_of, text, texts,
+    optional_text, rude_of, runnable_of, seed_of, settings_of, target_of, text, texts,
 };
 use clap::ArgMatches;
 use clap::error::ErrorKind;
@@ -118,7 +118,6 @@ fn play_job(alloc: Global, found: &ArgMatches<'_>) -> Result<Job, AllocError>
         fit: fit_of(found),
         limit: limit_of(found, &PLAY_LIMIT, Limit::most()),
         record: optional_text(alloc, found, &RECORD)?,
-        screen: screen_of(found),
     })
 }
 

@@ -44,7 +44,7 @@ path_of (Prg program) = string_bytes program
 -- what a job that writes files reads, and the standard streams that it uses
 abbrev pub kept_of : Job → List (List ℕ)
 kept_of (Build source out seed fit beside) = input_path (string_bytes source) ∷ []
-kept_of (Play what seed fit limit made screen) = input_path (path_of what) ∷ standard_input ∷ standard_output ∷ []
+kept_of (Play what seed fit limit made) = input_path (path_of what) ∷ standard_input ∷ standard_output ∷ []
 kept_of (Asm text out at) = input_path (string_bytes text) ∷ []
 kept_of (Assemble text out at labels listing) = input_path (string_bytes text) ∷ []
 kept_of (Profile what settings rude html) = input_path (path_of what) ∷ standard_output ∷ keys_of settings.keys
@@ -64,7 +64,7 @@ kept_of (Show text) = []
 abbrev pub written_of : Job → List (List ℕ)
 written_of (Build source out seed fit beside) =
     output_path (string_bytes out) ∷ wanted beside.labels ++ wanted beside.listing ++ wanted beside.map ++ wanted beside.watch
-written_of (Play what seed fit limit made screen) = wanted made
+written_of (Play what seed fit limit made) = wanted made
 written_of (Asm text out at) = output_path (string_bytes out) ∷ []
 written_of (Assemble text out at labels listing) = output_path (string_bytes out) ∷ wanted labels ++ wanted listing
 written_of (Profile what settings rude html) = wanted html

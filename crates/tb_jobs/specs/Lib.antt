@@ -2,4 +2,3 @@ pub mod Limits
 pub mod Statuses
 pub mod Files
 pub mod Typing
-pub mod Terminals

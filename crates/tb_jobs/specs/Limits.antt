@@ -13,7 +13,7 @@ IsWithin limit = (1 ≤ limit.events) × (limit.events ≤ MOST_EVENTS)
 abbrev pub IsWithinLimit : Job → Type 0
 IsWithinLimit (Build source out seed fit beside) = ⊤
 IsWithinLimit (Run what settings rude) = IsWithin settings.limit
-IsWithinLimit (Play what seed fit limit made screen) = IsWithin limit
+IsWithinLimit (Play what seed fit limit made) = IsWithin limit
 IsWithinLimit (Asm text out at) = ⊤
 IsWithinLimit (Assemble text out at labels listing) = ⊤
 IsWithinLimit (Dis prg dialect) = ⊤

@@ -22,10 +22,6 @@ pub enum Failure {
     SameFile,
     /// A source that is there would be written, at this path.
     IsSource(String),
-    /// The machine's screen would be shown where no terminal is.
-    NoTerminal,
-    /// It would be shown at a terminal that is too small for it.
-    SmallTerminal,
     /// A key file can't be read.
     ReadFault,
     /// A growth was refused.
@@ -43,9 +39,7 @@ impl Failure {
             | Failure::BadKeys
             | Failure::BadAddress
             | Failure::SameFile
-            | Failure::IsSource(_)
-            | Failure::NoTerminal
-            | Failure::SmallTerminal => status::BAD_WORDS,
+            | Failure::IsSource(_) => status::BAD_WORDS,
             Failure::ReadFault => status::FAULT,
             Failure::NoMemory => status::NO_MEMORY,
         }
@@ -62,8 +56,6 @@ impl fmt::Display for Failure {
             Failure::BadAddress => f.write_str("tbc: bad address\n"),
             Failure::SameFile => f.write_str("tbc: same file twice\n"),
             Failure::IsSource(path) => writeln!(f, "tbc: {path} is a source"),
-            Failure::NoTerminal => f.write_str("tbc: not a terminal\n"),
-            Failure::SmallTerminal => f.write_str("tbc: terminal smaller than 40 by 25\n"),
             Failure::ReadFault => f.write_str("tbc: read fault\n"),
             Failure::NoMemory => f.write_str("tbc: out of memory\n"),
         }

@@ -151,8 +151,6 @@ pub enum Job {
         limit: Limit,
         /// The key file that is written of all that was typed, if it is wanted.
         record: Option<String>,
-        /// Whether the machine's screen is shown, in place of the host form of what is sent.
-        screen: bool,
     },
     /// Assembles a text, and writes a PRG file.
     Asm {

@@ -4,7 +4,6 @@
 mod failure;
 mod files;
 mod jobs;
-mod terminals;
 mod typing;
 
 pub use failure::Failure;
@@ -13,5 +12,4 @@ pub use jobs::{
     Typed, USUAL_EVENTS, USUAL_SEED, USUAL_STEP,
 };
 pub use tb_dialects::Dialect;
-pub use terminals::room_for_screen;
 pub use typing::typed_keys;

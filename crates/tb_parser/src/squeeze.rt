@@ -1,5 +1,5 @@
 //! A line without its spaces and in upper case.
-ghost use Rattle.std.specs.Prelude.{◌≡◌, ◌+◌, ◌++◌, ◌<◌, ◌∷◌, [], ℕ, IfOk, length, map, take};
+ghost use Rattle.std.specs.Prelude.{◌≡◌, ℕ, IfOk, map};
 ghost use Rattle.tb_parser.specs.Squeezed.{after, is_dropped, is_in_code, shown, squeezed_from};
 ghost use Rattle.tb_parser.specs.declared.squeeze.Mode.TheVariants.{Code};
 
@@ -54,13 +54,6 @@ pub(crate) struct Placed {
     pub in_code: bool,
 }
 
-// What stands where no byte is yet.
-const NOT_YET: Placed = Placed {
-    byte: 0,
-    column: 0,
-    in_code: false,
-};
-
 fn drops(mode: Mode, byte: u8) -> bool
     ensures { result ≡ is_dropped mode byte }
 {
@@ -76,38 +69,22 @@ fn show(mode: Mode, byte: u8) -> u8
     }
 }
 
-// Puts one more byte after the first `count` ones.
-#[tactic(auto, using(std::proofs::lemmas::List::take_more_set))]
-#[inline(always)]
-fn put(placed: &mut Vec<Placed>, count: usize, one: Placed)
-    requires { count < length placed.old.items }
-    ensures next { take (count + 1) placed.new.items ≡ take count placed.old.items ++ one ∷ [] }
-    ensures length { length placed.new.items ≡ length placed.old.items }
-{
-    placed[count] = one;
-}
-
 /// The line without spaces and in upper case outside texts and remarks. A text keeps its spaces, a remark is unchanged.
-// Bytes are stored in place, since a push asks for room each time.
 pub(crate) fn squeeze(alloc: Global, line: &[u8]) -> Result<Vec<Placed>, AllocError>
     ensures { IfOk result (λ s. s.items ≡ squeezed_from Code 1 line.now) }
 {
-    let mut placed = vec![in alloc; NOT_YET; line.len()]?;
-    let mut count = 0;
+    let mut placed = Vec::with_capacity(alloc, line.len())?;
     let mut mode = Mode::Code;
     for (i, byte) in line.iter().enumerate() {
         if !drops(mode, *byte) {
-            let one = Placed {
+            placed.push(Placed {
                 byte: show(mode, *byte),
                 column: i + 1,
                 in_code: mode.is_in_code(),
-            };
-            put(&mut placed, count, one);
-            count += 1;
+            })?;
         }
         mode = mode.after(*byte);
     }
-    placed.truncate(count);
     Ok(placed)
 }
 

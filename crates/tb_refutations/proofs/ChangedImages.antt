@@ -162,7 +162,7 @@ returns_kept_on_page_one_below_s = sends_wrong notes_below_s calls_and_returns 1
 -- it finds no line 20
 pub search_skips_last_entry : IsRefuted last_entry_skipped goes_to_sum
 unfolding decoded
-search_skips_last_entry = sends_after last_entry_skipped goes_to_sum 1 plain refl 380 (fault_text 1 10) refl 2 refl
+search_skips_last_entry = sends_after last_entry_skipped goes_to_sum 1 plain refl 370 (fault_text 1 10) refl 2 refl
 
 -- the break comes in line 20
 pub poll_only_at_jumps : IsRefuted poll_at_jump_alone prints_forever

@@ -30,7 +30,7 @@ pub mod UnsignedRuns
 -- Divide
 pub mod DivideRuns
 -- ── numbers ──
--- the digits of a number
+-- the digits of a number by powers of ten
 pub mod DigitTexts
 -- Number
 pub mod NumberRuns

@@ -12,7 +12,6 @@ mod orders;
 mod pieces;
 mod program;
 mod scaled;
-mod search;
 mod sources;
 mod templates;
 

@@ -1,9 +1,11 @@
 //! The code of a whole program.
 ghost use Rattle.std.specs.Prelude.{◌≡◌, ◌-◌, ◌<◌, IfOk, [], ◌∷◌, map, length, replicate};
+ghost use Rattle.tb_opcodes.specs.declared.Mnemonic.TheVariants.{Jmp};
 ghost use Rattle.tb_asm.specs.Layout.{word};
 ghost use Rattle.tb_asm.specs.declared.items.Operand.TheVariants as operand;
 ghost use Rattle.tb_templates.specs.Putting.{Puts};
 ghost use Rattle.tb_templates.specs.Labels.{label_of};
+ghost use Rattle.tb_runtime16.specs.Addresses as places;
 ghost use Rattle.tb_asm.specs.Layout.{entry_of};
 ghost use Rattle.tb_syntax.specs.Source.{numbers, Rises};
 ghost use Rattle.tb_meaning.specs.Control.{highest};
@@ -18,13 +20,13 @@ ghost use Rattle.tb_templates.specs.Templates as templates;
 use crate::breaks::{put_behind, put_polled, some_leaves};
 use crate::groups::put_group;
 use crate::labels::{Target, label};
-use crate::pieces::{put, put_faulted, put_here};
-use crate::search::{compares, put_find};
+use crate::pieces::{put, put_address, put_at, put_constant, put_faulted, put_here};
 use crate::templates::Spot;
 use std::alloc::{AllocError, Global};
 use tb_asm::{Item, Operand};
 use tb_lower::{SlotCode, SlotInstr, SlotLine};
-use tb_runtime16::{BLOCK_AT, LINES_AT, block};
+use tb_opcodes::Mnemonic;
+use tb_runtime16::{BLOCK_AT, COUNT, LINE, LINES_AT, Routine, TABLE, block, entry};
 use tb_selection::{Group, select};
 
 // A rough mean of the number of items that a line has; it only affects speed.
@@ -45,7 +47,7 @@ pub fn program_items(alloc: Global, seed: u16, code: &SlotCode) -> Result<Vec<It
     put_block(&mut items)?;
     put_lines(&mut items, &numbers, seed, code.lines())?;
     put_past(&mut items, &numbers)?;
-    put_find(&mut items, compares(code.lines()), &numbers)?;
+    put_find(&mut items, &numbers)?;
     put_table(&mut items, &numbers)?;
     Ok(items)
 }
@@ -190,6 +192,25 @@ fn last(numbers: &[u16]) -> u16
     ensures { result ≡ highest numbers.now }
 {
     numbers.last().copied().unwrap_or(0)
+}
+
+// The search in the line table.
+fn put_find(items: &mut Vec<Item>, numbers: &[u16]) -> Result<(), AllocError>
+    requires { length numbers.now < 65536 }
+    ensures { Puts result items.old items.new (program.find_code numbers.now) }
+{
+    put_here(items, Target::Find)?;
+    put_address(items, Target::Table, TABLE as u8)?;
+    put_constant(items, numbers.len() as u16, COUNT)?;
+    put_jump_to_routine(items, Routine::Search)?;
+    Ok(())
+}
+
+// A jump to a routine of the block.
+fn put_jump_to_routine(items: &mut Vec<Item>, routine: Routine) -> Result<(), AllocError>
+    ensures { Puts result items.old items.new (templates.at Jmp (places.entry_of routine) ∷ []) }
+{
+    put_at(items, Mnemonic::Jmp, entry(routine))
 }
 
 // The line table.

@@ -10,8 +10,6 @@ mod generated;
 #[cfg(test)]
 mod interrupts;
 #[cfg(test)]
-mod jumps;
-#[cfg(test)]
 mod limits;
 #[cfg(test)]
 mod machines;

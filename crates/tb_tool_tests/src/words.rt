@@ -1,10 +1,10 @@
 //! The words of a command line, and the jobs that they become.
 use std::alloc::Global;
 use std::test::Fail;
-use tb_command_line::{Failure, job, room_for_screen};
+use tb_command_line::{Failure, job};
 
 /// Words, and the job that they become.
-static JOBS: [(&[&str], &str); 50] = [
+static JOBS: [(&[&str], &str); 49] = [
     (
         &["build", "a", "b"],
         "Ok(Build { source: \"a\", out: \"b\", seed: 1, fit: false, beside: BuildExtras { labels: None, listing: None, dialect: None, map: None, watch: None } })",
@@ -75,21 +75,17 @@ static JOBS: [(&[&str], &str); 50] = [
     ),
     (
         &["play", "a"],
-        "Ok(Play { what: Source(\"a\"), seed: 1, fit: false, limit: Limit { events: 1000000000 }, record: None, screen: false })",
+        "Ok(Play { what: Source(\"a\"), seed: 1, fit: false, limit: Limit { events: 1000000000 }, record: None })",
     ),
     (
         &[
             "play", "--prg=p", "--seed", "9", "--limit", "5", "--record", "r",
         ],
-        "Ok(Play { what: Prg(\"p\"), seed: 9, fit: false, limit: Limit { events: 5 }, record: Some(\"r\"), screen: false })",
+        "Ok(Play { what: Prg(\"p\"), seed: 9, fit: false, limit: Limit { events: 5 }, record: Some(\"r\") })",
     ),
     (
         &["play", "a", "--fit"],
-        "Ok(Play { what: Source(\"a\"), seed: 1, fit: true, limit: Limit { events: 1000000000 }, record: None, screen: false })",
-    ),
-    (
-        &["play", "--screen", "a"],
-        "Ok(Play { what: Source(\"a\"), seed: 1, fit: false, limit: Limit { events: 1000000000 }, record: None, screen: true })",
+        "Ok(Play { what: Source(\"a\"), seed: 1, fit: true, limit: Limit { events: 1000000000 }, record: None })",
     ),
     (
         &["asm", "a", "b", "--at", "c00"],
@@ -367,60 +363,19 @@ fn help_is_shown(rt: HostRuntime) -> Result<(), Fail> {
 fn failures_have_their_texts(rt: HostRuntime) -> Result<(), Fail> {
     let text = String::from_str(rt.alloc(), "error: no\n")?;
     let path = String::from_str(rt.alloc(), "b.bas")?;
-    let rows: [(Failure, u8, &[u8]); 10] = [
+    let rows: [(Failure, u8, &[u8]); 8] = [
         (Failure::Words(text), 2, b"error: no\n"),
         (Failure::NotUtf8, 2, b"tbc: an argument is not UTF-8\n"),
         (Failure::BadKeys, 2, b"tbc: bad key list\n"),
         (Failure::BadAddress, 2, b"tbc: bad address\n"),
         (Failure::SameFile, 2, b"tbc: same file twice\n"),
         (Failure::IsSource(path), 2, b"tbc: b.bas is a source\n"),
-        (Failure::NoTerminal, 2, b"tbc: not a terminal\n"),
-        (
-            Failure::SmallTerminal,
-            2,
-            b"tbc: terminal smaller than 40 by 25\n",
-        ),
         (Failure::ReadFault, 3, b"tbc: read fault\n"),
         (Failure::NoMemory, 4, b"tbc: out of memory\n"),
     ];
     for (failure, status, said) in rows {
         assert_eq!(rt; failure.status(), status);
         assert_eq!(rt; format!(in rt.alloc(); "{failure}")?.as_bytes(), said);
-    }
-    Ok(())
-}
-
-// What is said where standard output is a terminal or none, of so many columns and lines.
-fn said_of(
-    alloc: Global,
-    is_terminal: bool,
-    columns: Option<usize>,
-    lines: Option<usize>,
-) -> Result<String, Fail> {
-    Ok(match room_for_screen(is_terminal, columns, lines) {
-        Ok(()) => String::new(alloc),
-        Err(failure) => format!(in alloc; "{failure}")?,
-    })
-}
-
-#[test]
-fn a_screen_wants_a_terminal_of_40_by_25(rt: HostRuntime) -> Result<(), Fail> {
-    let small = "tbc: terminal smaller than 40 by 25\n";
-    let rows: [(bool, Option<usize>, Option<usize>, &str); 8] = [
-        (true, None, None, ""),
-        (true, Some(40), Some(25), ""),
-        (true, Some(200), None, ""),
-        (true, Some(39), Some(25), small),
-        (true, Some(40), Some(24), small),
-        (true, None, Some(0), small),
-        (false, None, None, "tbc: not a terminal\n"),
-        (false, Some(39), Some(24), "tbc: not a terminal\n"),
-    ];
-    for (is_terminal, columns, lines, said) in rows {
-        assert_eq!(rt;
-            said_of(rt.alloc(), is_terminal, columns, lines)?.as_str(),
-            said
-        );
     }
     Ok(())
 }

@@ -43,26 +43,18 @@ fn job_of_words<R: Env + AllocGlobal>(rt: &R) -> Result<Job, Failure> {
     Ok(job(rt.alloc(), words(rt)?.as_slice())?)
 }
 
-// Which of the standard streams are terminals.
-#[derive(Clone, Copy)]
-struct Terminals {
-    input: bool,
-    output: bool,
-    errors: bool,
-}
-
 // Does what the words ask for, and says how it ended: the exit status.
 fn start<R: Files + Env + Clock + Print + Eprint + Input + AllocGlobal>(
     rt: &R,
-    terminals: Terminals,
+    prompts: bool,
+    notes: bool,
 ) -> u8 {
-    let notes = terminals.errors;
     let job = match job_of_words(rt) {
         Ok(job) => job,
         Err(failure) => return refused(rt, failure, notes),
     };
-    let mut host = Host::new(rt, notes, terminals.output);
-    let done = tasks::perform(&mut host, &job, terminals.input && terminals.output);
+    let mut host = Host::new(rt, notes);
+    let done = tasks::perform(&mut host, &job, prompts);
     let status = told(rt, &done);
     if notes {
         note(&mut host, &job, &done);
@@ -94,10 +86,7 @@ fn told<R: Eprint>(rt: &R, done: &Result<Ending, Failure>) -> u8 {
 }
 
 fn main(rt: HostRuntime) -> ExitCode {
-    let terminals = Terminals {
-        input: rt.stdin().is_terminal(),
-        output: rt.stdout().is_terminal(),
-        errors: rt.stderr().is_terminal(),
-    };
-    ExitCode::from(start(&rt, terminals))
+    let prompts = rt.stdin().is_terminal() && rt.stdout().is_terminal();
+    let notes = rt.stderr().is_terminal();
+    ExitCode::from(start(&rt, prompts, notes))
 }

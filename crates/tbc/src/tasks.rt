@@ -5,7 +5,7 @@ use crate::debugging::{debug_file, debug_source, setting_of};
 use crate::ending::Ending;
 use crate::formatting::format_file;
 use crate::host::Host;
-use crate::playing::{Playing, play};
+use crate::playing::play;
 use crate::profiling::profile;
 use crate::reading::{settings_of, size_limit};
 use crate::renumbering::renumber_file;
@@ -13,7 +13,7 @@ use crate::serving::serve_editor;
 use crate::waiting::Progress;
 use std::alloc::Global;
 use std::io;
-use std::rt::{Env, Files};
+use std::rt::Files;
 use std::time::Clock;
 use tb_assembly_engine::TextNames;
 use tb_command_line::{BuildExtras, Dialect, Failure, Job, Runnable, Settings, Typed, typed_keys};
@@ -30,7 +30,7 @@ use tb_run_notes::{NotedRun, run_noted, run_prg_watched};
 
 /// Does what the words ask for, if the files that are to be written may be. A prompt is shown before a debugger's command
 /// where that is wanted.
-pub fn perform<R: Files + Env + Clock + Print + Eprint + Input + AllocGlobal>(
+pub fn perform<R: Files + Clock + Print + Eprint + Input + AllocGlobal>(
     host: &mut Host<'_, R>,
     job: &Job,
     prompts: bool,
@@ -43,7 +43,7 @@ pub fn perform<R: Files + Env + Clock + Print + Eprint + Input + AllocGlobal>(
 }
 
 // Does a job that runs a program; None for any other job.
-fn run_job<R: Files + Env + Clock + Print + Eprint + Input + AllocGlobal>(
+fn run_job<R: Files + Clock + Print + Eprint + Input + AllocGlobal>(
     host: &mut Host<'_, R>,
     job: &Job,
     prompts: bool,
@@ -60,15 +60,15 @@ fn run_job<R: Files + Env + Clock + Print + Eprint + Input + AllocGlobal>(
             fit,
             limit,
             record,
-            screen,
         } => {
-            let playing = Playing {
-                settings: settings_of(*seed, *fit),
-                limit: u64::from(limit.events),
-                record: name_of(record),
-                screen: *screen,
-            };
-            let outcome = play(host, what, playing)?;
+            let settings = settings_of(*seed, *fit);
+            let outcome = play(
+                host,
+                what,
+                settings,
+                u64::from(limit.events),
+                name_of(record),
+            );
             plain_ending(host.rt, outcome)
         }
         Job::Profile {

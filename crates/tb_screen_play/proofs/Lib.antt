@@ -1,3 +1,0 @@
-mod Talking
-mod Leaving
-mod Starting

@@ -1,3 +1,0 @@
-pub mod Screens
-pub mod Talks
-pub mod Files

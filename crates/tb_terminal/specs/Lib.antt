@@ -1,4 +1,0 @@
-pub mod Strokes
-pub mod Terminals
-pub mod Looks
-pub mod Frames
