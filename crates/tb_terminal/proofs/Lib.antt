@@ -1,0 +1,4 @@
+pub mod Spelling
+pub mod Pushing
+pub mod Drawing
+pub mod Rows

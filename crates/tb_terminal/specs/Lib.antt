@@ -1,0 +1,4 @@
+pub mod Strokes
+pub mod Terminals
+pub mod Looks
+pub mod Frames
