@@ -85,10 +85,10 @@ module _ (table seed_option : ℕ) (numbers : List ℕ) (start : ℕ → ℕ) (f
   asks : (l h : ℕ) (m : ℕ → ℕ) (text answers : List ℕ) (o : Bool) (j : ℕ) (t : Turn) → m OPEN ≡ bit o → m COLUMN < 256 → AreBytes text
       → WordAt m LINE j → Entered f lo hi m → turn Nothing text ≡ t → (x y z : ℕ) (n b i c d : Bool)
       → Comes f (view x y z n b i c d INPUT_AT (l ∷ h ∷ own) m text answers) (asking.Ended f l h own m answers (m COLUMN) (prompt o) t)
-      (prompt o ++ asking.turn_sends j t) (45 * length text + 587)
+      (prompt o ++ asking.turn_sends j t) (45 * length text + 463)
   asks l h m text answers o j t is_open column small line e is x y z n b i c d =
       subst (λ t. Comes f (view x y z n b i c d INPUT_AT (l ∷ h ∷ own) m text answers) (asking.Ended f l h own m answers (m COLUMN) (prompt o) t)
-      (prompt o ++ asking.turn_sends j t) (45 * length text + 587)) is
+      (prompt o ++ asking.turn_sends j t) (45 * length text + 463)) is
       (input_law f 16 (let most : 13 ≤ 16 = omega arith in most) fits block lo hi [] (let deep : 6 ≤ 16 = omega arith in deep) l h text answers m e j
       line small o is_open (m COLUMN) (let r : m COLUMN ≡ m COLUMN % 256 = omega (arith, column) in r) x y z n b i c d)
 
@@ -119,7 +119,7 @@ module _ (table seed_option : ℕ) (numbers : List ℕ) (start : ℕ → ℕ) (f
         (unchanged m));
     number = λ l h m text answers a left column.
         from_here f _ _ m text answers _ (digits_of a) (limit_by keys) (λ x y z n v i c d.
-        beside f own _ _ _ _ _ _ (digits_of a) 458 (limit_by keys) (omega arith)
+        beside f own _ _ _ _ _ _ (digits_of a) 334 (limit_by keys) (omega arith)
         (number_law (under f own) (omega (arith, fits)) block l h text answers m x y z n v i c d a left column)
         (λ w k. record { column = k.column; others = λ p o q. k.others p (not_argument p (unless_scratch p o)) q }));
     text = λ l h m text answers at bytes pointer count shown small from to few column.
@@ -157,12 +157,12 @@ module _ (table seed_option : ℕ) (numbers : List ℕ) (start : ℕ → ℕ) (f
         (λ w k. record { line = k LINE refl; line_high = k (LINE + 1) refl; home_s = k HOME_S refl }));
     fault = λ k small m text answers n line e.
         from_a f _ k _ m text answers _ (fault_text k n) (limit_by keys) (λ y z b v i c d.
-        looser f _ _ _ (fault_text k n) 540 (limit_by keys) (omega arith) (λ w h. h)
+        looser f _ _ _ (fault_text k n) 416 (limit_by keys) (omega arith) (λ w h. h)
         (fault_law f 16 (let most : 13 ≤ 16 = omega arith in most) fits block lo hi [] (let deep : 2 ≤ 16 = omega arith in deep) text answers m e n line k y z b v i c d small));
     fault_line = λ k small m text answers n few e.
         from_line f _ k n _ m text answers _ (fault_text k n) (limit_by keys) (λ b v i c d.
-        looser f _ _ _ (fault_text k n) 542 (limit_by keys) (omega arith) (λ w h. h)
-        (subst (λ j. Comes f (view k (n % 256) (n / 256) b v i c d FAULT_LINE_AT own m text answers) (IsHome f) (fault_text k j) 542) (let s : n % 256 + 256 * (n / 256) ≡ n = omega arith in s)
+        looser f _ _ _ (fault_text k n) 418 (limit_by keys) (omega arith) (λ w h. h)
+        (subst (λ j. Comes f (view k (n % 256) (n / 256) b v i c d FAULT_LINE_AT own m text answers) (IsHome f) (fault_text k j) 418) (let s : n % 256 + 256 * (n / 256) ≡ n = omega arith in s)
         (fault_line_law f 16 (let most : 13 ≤ 16 = omega arith in most) fits block lo hi [] (let deep : 2 ≤ 16 = omega arith in
         deep) text answers m e k (n % 256) (n / 256) b v i c d small (omega arith) (omega (arith, few)))));
     pop = λ l h m text answers return_address returns count is few.
@@ -200,18 +200,18 @@ module _ (table seed_option : ℕ) (numbers : List ℕ) (start : ℕ → ℕ) (f
         (unchanged m));
     input = λ l h m text answers o stays v left j is_open column small few line e got.
         from_here f _ _ m text answers _ (prompt o ++ line_end stays) (limit_by keys) (λ x y z n b i c d.
-        looser f _ _ _ (prompt o ++ line_end stays) (45 * length text + 587) (limit_by keys) (omega (arith, few)) (λ w k. taken l h m answers stays v left o w k)
+        looser f _ _ _ (prompt o ++ line_end stays) (45 * length text + 463) (limit_by keys) (omega (arith, few)) (λ w k. taken l h m answers stays v left o w k)
         (subst (λ s. Comes f (view x y z n b i c d INPUT_AT (l ∷ h ∷ own) m text answers) (asking.Ended f l h own m answers (m COLUMN) (prompt o)
-        (Got v stays left)) s (45 * length text + 587)) (ends_with o stays v left j)
+        (Got v stays left)) s (45 * length text + 463)) (ends_with o stays v left j)
         (asks l h m text answers o j (Got v stays left) is_open column small line e got x y z n b i c d)));
     input_fails = λ l h m text answers o j is_open column small few got line e.
         from_here f _ _ m text answers _ (prompt o ++ fault_text 6 j) (limit_by keys) (λ x y z n b i c d.
-        looser f _ _ _ (prompt o ++ fault_text 6 j) (45 * length text + 587) (limit_by keys) (omega (arith, few)) (λ w k. k)
+        looser f _ _ _ (prompt o ++ fault_text 6 j) (45 * length text + 463) (limit_by keys) (omega (arith, few)) (λ w k. k)
         (asks l h m text answers o j Bad is_open column small line e got x y z n b i c d));
     input_waits = λ l h m text answers o j is_open column small few got line e.
         from_here f _ _ m text answers _ (prompt o) (limit_by keys) (λ x y z n b i c d.
-        looser f _ _ _ (prompt o) (45 * length text + 587) (limit_by keys) (omega (arith, few)) (λ w k. record { waits = k.0; deep = omega (arith, k.1) })
-        (subst (λ s. Comes f (view x y z n b i c d INPUT_AT (l ∷ h ∷ own) m text answers) (λ w. IsWaiting w × (length w.stack ≤ 6)) s (45 * length text + 587)) (append-nil (prompt o))
+        looser f _ _ _ (prompt o) (45 * length text + 463) (limit_by keys) (omega (arith, few)) (λ w k. record { waits = k.0; deep = omega (arith, k.1) })
+        (subst (λ s. Comes f (view x y z n b i c d INPUT_AT (l ∷ h ∷ own) m text answers) (λ w. IsWaiting w × (length w.stack ≤ 6)) s (45 * length text + 463)) (append-nil (prompt o))
         (asks l h m text answers o j Dry is_open column small line e got x y z n b i c d)));
     poll = λ l h m text answers j small other line e.
         from_here f _ _ m text answers _ [] (limit_by keys) (λ x y z n v i c d.
@@ -220,7 +220,7 @@ module _ (table seed_option : ℕ) (numbers : List ℕ) (start : ℕ → ℕ) (f
         j line (first_small answers small) x y z n v i c d).0 (λ q. let bad : true ≡ false = sym (eq-eqb (first_or_zero answers) 3 q) ∙ other in cc)));
     poll_breaks = λ l h m text answers j small stop line e.
         from_here f _ _ m text answers _ (fault_text 0 j) (limit_by keys) (λ x y z n v i c d.
-        looser f _ _ _ (fault_text 0 j) 546 (limit_by keys) (omega arith) (λ w k. k)
+        looser f _ _ _ (fault_text 0 j) 422 (limit_by keys) (omega arith) (λ w k. k)
         ((poll_law f 16 (let most : 13 ≤ 16 = omega arith in most) fits block lo hi [] (let deep : 6 ≤ 16 = omega arith in deep) l h text answers m e
         j line (first_small answers small) x y z n v i c d).1 (eqb-true (first_or_zero answers) 3 stop)));
   }

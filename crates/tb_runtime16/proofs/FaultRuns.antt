@@ -49,13 +49,13 @@ module _ (f : Setup) (fits : Fits f 13) (block : Holds block_part f.code) (hlo h
       (looser f _ _ _ (13 ∷ []) 7 7 (omega arith) (λ w h. record { pc = h.pc ∙ sym home; stack = h.stack_is; binary = h.binary })
       (send_law f (omega (arith, fits)) block hlo hhi text answers _ _ _ _ _ _ _ _ _ (omega arith)))
 
-  tell : Later (FAULT_AT + 0x2E) (digits_of (l + 256 * h) ++ 13 ∷ []) (5 + (458 + 9))
+  tell : Later (FAULT_AT + 0x2E) (digits_of (l + 256 * h) ++ 13 ∷ []) (5 + (334 + 9))
   unfolding Later
   tell a x y n v i z c m k small =
       let line : m LINE + 256 * m (LINE + 1) ≡ l + 256 * h = ap₂ (λ a b. a + 256 * b) k.low k.high in
-      subst (λ w. Comes f (view a x y n v i z c (FAULT_AT + 0x2E) own m text answers) (IsHome f) (digits_of w ++ 13 ∷ []) (5 + (458 + 9))) line
-      (after f 13 fits fault_part (fault_in f.code block) 4 (view a x y n v i z c (FAULT_AT + 0x2E) own m text answers) _ _ (458 + 9) refl
-      (calls f own _ _ _ _ _ _ _ _ NUMBER_AT ((FAULT_AT + 0x3A) % 256) ((FAULT_AT + 0x3A) / 256) _ text answers _ (IsHome f) (digits_of (m LINE + 256 * m (LINE + 1))) (13 ∷ []) 458 9
+      subst (λ w. Comes f (view a x y n v i z c (FAULT_AT + 0x2E) own m text answers) (IsHome f) (digits_of w ++ 13 ∷ []) (5 + (334 + 9))) line
+      (after f 13 fits fault_part (fault_in f.code block) 4 (view a x y n v i z c (FAULT_AT + 0x2E) own m text answers) _ _ (334 + 9) refl
+      (calls f own _ _ _ _ _ _ _ _ NUMBER_AT ((FAULT_AT + 0x3A) % 256) ((FAULT_AT + 0x3A) / 256) _ text answers _ (IsHome f) (digits_of (m LINE + 256 * m (LINE + 1))) (13 ∷ []) 334 9
       (number_law (under f own) (omega (arith, fits)) block ((FAULT_AT + 0x3A) % 256) ((FAULT_AT + 0x3A) / 256) text answers _ _ _ _ _ _ _ _ _
       (m LINE + 256 * m (LINE + 1)) (holds_word _ LEFT _ (omega (arith, k.low, is_word.0), omega (arith, k.high, is_word.1)) refl) small)
       (λ a x y n v i z c w g. last a x y n v i z c w)))
@@ -77,20 +77,20 @@ module _ (f : Setup) (fits : Fits f 13) (block : Holds block_part f.code) (hlo h
       }) (omega (arith, s.column))))
 
   text_sent : From (FAULT_AT + 0xA) (13 ∷ 33 ∷ d ∷ 32 ∷ 65 ∷ 84 ∷ 32 ∷ (digits_of (l + 256 * h) ++ 13 ∷ []))
-      (2 + (7 + (2 + (7 + (2 + (7 + (2 + (7 + (2 + (7 + (2 + (7 + (2 + (7 + (5 + (458 + 9))))))))))))))))
+      (2 + (7 + (2 + (7 + (2 + (7 + (2 + (7 + (2 + (7 + (2 + (7 + (2 + (7 + (5 + (334 + 9))))))))))))))))
   text_sent =
       say (FAULT_AT + 0xA) 13 ((FAULT_AT + 0xE) % 256) ((FAULT_AT + 0xE) / 256) _
-      (2 + (7 + (2 + (7 + (2 + (7 + (2 + (7 + (2 + (7 + (2 + (7 + (5 + (458 + 9)))))))))))))) (omega arith) (λ a x y n v i z c m k. refl)
+      (2 + (7 + (2 + (7 + (2 + (7 + (2 + (7 + (2 + (7 + (2 + (7 + (5 + (334 + 9)))))))))))))) (omega arith) (λ a x y n v i z c m k. refl)
       (later _ _ _ (say (FAULT_AT + 0xF) 33 ((FAULT_AT + 0x13) % 256) ((FAULT_AT + 0x13) / 256) _
-      (2 + (7 + (2 + (7 + (2 + (7 + (2 + (7 + (2 + (7 + (5 + (458 + 9)))))))))))) (omega arith) (λ a x y n v i z c m k. refl)
+      (2 + (7 + (2 + (7 + (2 + (7 + (2 + (7 + (2 + (7 + (5 + (334 + 9)))))))))))) (omega arith) (λ a x y n v i z c m k. refl)
       (later _ _ _ (say (FAULT_AT + 0x14) d ((FAULT_AT + 0x19) % 256) ((FAULT_AT + 0x19) / 256) _
-      (2 + (7 + (2 + (7 + (2 + (7 + (2 + (7 + (5 + (458 + 9)))))))))) d_small
+      (2 + (7 + (2 + (7 + (2 + (7 + (2 + (7 + (5 + (334 + 9)))))))))) d_small
       (λ a x y n v i z c m k. ap (λ b. Some (view b x y (eqb (b / 128 % 2) 1) v i (eqb b 0) c SEND_AT ((FAULT_AT + 0x19) % 256
       ∷ (FAULT_AT + 0x19) / 256 ∷ own) m text answers)) k.byte)
-      (later _ _ _ (say (FAULT_AT + 0x1A) 32 ((FAULT_AT + 0x1E) % 256) ((FAULT_AT + 0x1E) / 256) _ (2 + (7 + (2 + (7 + (2 + (7 + (5 + (458 + 9)))))))) (omega arith) (λ a x y n v i z c m k. refl)
-      (later _ _ _ (say (FAULT_AT + 0x1F) 65 ((FAULT_AT + 0x23) % 256) ((FAULT_AT + 0x23) / 256) _ (2 + (7 + (2 + (7 + (5 + (458 + 9)))))) (omega arith) (λ a x y n v i z c m k. refl)
-      (later _ _ _ (say (FAULT_AT + 0x24) 84 ((FAULT_AT + 0x28) % 256) ((FAULT_AT + 0x28) / 256) _ (2 + (7 + (5 + (458 + 9)))) (omega arith) (λ a x y n v i z c m k. refl)
-      (later _ _ _ (say (FAULT_AT + 0x29) 32 ((FAULT_AT + 0x2D) % 256) ((FAULT_AT + 0x2D) / 256) _ (5 + (458 + 9)) (omega arith) (λ a x y n v i z c m k. refl) tell))))))))))))
+      (later _ _ _ (say (FAULT_AT + 0x1A) 32 ((FAULT_AT + 0x1E) % 256) ((FAULT_AT + 0x1E) / 256) _ (2 + (7 + (2 + (7 + (2 + (7 + (5 + (334 + 9)))))))) (omega arith) (λ a x y n v i z c m k. refl)
+      (later _ _ _ (say (FAULT_AT + 0x1F) 65 ((FAULT_AT + 0x23) % 256) ((FAULT_AT + 0x23) / 256) _ (2 + (7 + (2 + (7 + (5 + (334 + 9)))))) (omega arith) (λ a x y n v i z c m k. refl)
+      (later _ _ _ (say (FAULT_AT + 0x24) 84 ((FAULT_AT + 0x28) % 256) ((FAULT_AT + 0x28) / 256) _ (2 + (7 + (5 + (334 + 9)))) (omega arith) (λ a x y n v i z c m k. refl)
+      (later _ _ _ (say (FAULT_AT + 0x29) 32 ((FAULT_AT + 0x2D) % 256) ((FAULT_AT + 0x2D) / 256) _ (5 + (334 + 9)) (omega arith) (λ a x y n v i z c m k. refl) tell))))))))))))
 
 -- Fault's law, from the block's bytes
 pub fault_law : FaultLaw
@@ -99,9 +99,9 @@ fault_law f room most fits block hlo hhi above deep text answers m e line is_lin
     let own = above ++ hlo ∷ hhi ∷ [] in
     let start = view k x y n v i z c FAULT_AT [] m text answers in
     let next = the start (run_view fault_part 0 4 start) in
-    let rest = 2 + (7 + (2 + (7 + (2 + (7 + (2 + (7 + (2 + (7 + (2 + (7 + (2 + (7 + (5 + (458 + 9))))))))))))))) in
-    of_word (λ j. Comes f (view k x y n v i z c FAULT_AT own m text answers) (IsHome f) (fault_text k j) 540) m LINE line is_line
-    (looser f _ _ _ (fault_text k (word_in m LINE)) (4 + (1 + rest)) 540 (omega arith) (λ w h. h)
+    let rest = 2 + (7 + (2 + (7 + (2 + (7 + (2 + (7 + (2 + (7 + (2 + (7 + (2 + (7 + (5 + (334 + 9))))))))))))))) in
+    of_word (λ j. Comes f (view k x y n v i z c FAULT_AT own m text answers) (IsHome f) (fault_text k j) 416) m LINE line is_line
+    (looser f _ _ _ (fault_text k (word_in m LINE)) (4 + (1 + rest)) 416 (omega arith) (λ w h. h)
     (calling f own start (λ w. w ≡ next) (IsHome f) [] (fault_text k (word_in m LINE)) 4 (1 + rest)
     (ending (under f own) 0 (omega (arith, fits, deep, length-append own f.rest, length-append above (hlo ∷ hhi ∷ []))) fault_part (fault_in f.code block) 3 start (λ w. w ≡ next) refl refl)
     (λ w same. subst (λ w. Comes f (stacked_on own w) (IsHome f) (fault_text k (word_in m LINE)) (1 + rest)) (sym same)
@@ -115,6 +115,6 @@ pub fault_line_law : FaultLineLaw
 fault_line_law f room most fits block hlo hhi above deep text answers m e k x y n v i z c small low high =
     let own = above ++ hlo ∷ hhi ∷ [] in
     after_on f own 0 (omega (arith, fits, deep, length-append own f.rest, length-append above (hlo ∷ hhi ∷ []))) fault_line_part
-    (fault_line_in f.code block) 1 (view k x y n v i z c FAULT_LINE_AT [] m text answers) (IsHome f) (fault_text k (x + 256 * y)) 540 refl
+    (fault_line_in f.code block) 1 (view k x y n v i z c FAULT_LINE_AT [] m text answers) (IsHome f) (fault_text k (x + 256 * y)) 416 refl
     (fault_law f room most fits block hlo hhi above deep text answers (with_byte (with_byte m LINE x) (LINE + 1) y)
     (record { homed = e.homed; kept = e.kept }) (x + 256 * y) (holds_word _ LINE (x + 256 * y) (low, high) refl) k x y n v i z c small)

@@ -70,17 +70,17 @@ unchanged m w e = record { line = ap (λ r. r LINE) e; line_high = ap (λ r. r (
 
 -- a routine that goes to Fault, and the fault: its text is sent, and the machine has returned
 pub faulting : (f : Setup) (lo hi : ℕ) → Fits f 16 → Holds block_part f.code → (l h k : ℕ) → k < 10 → (m : ℕ → ℕ) (text answers : List ℕ) (n : ℕ)
-    → WordAt m LINE n → Entered f lo hi m → (v : View) (q : (ℕ → ℕ) → Type 0) (j limit : ℕ) → j + 540 ≤ limit
+    → WordAt m LINE n → Entered f lo hi m → (v : View) (q : (ℕ → ℕ) → Type 0) (j limit : ℕ) → j + 416 ≤ limit
     → Comes (under f (lo ∷ hi ∷ [])) v (Faults l h text answers k q) [] j → ((w : ℕ → ℕ) → q w → Stays m w) → Comes f (stacked_on (lo ∷ hi ∷ []) v)
     (IsHome f) (fault_text k n) limit
 faulting f lo hi fits block l h k small m text answers n line e v q j limit le c go =
-    looser f _ _ _ (fault_text k n) (j + 540) limit le (λ w h. h)
-    (calling f (lo ∷ hi ∷ []) v (Faults l h text answers k q) (IsHome f) [] (fault_text k n) j 540 c (λ u a.
+    looser f _ _ _ (fault_text k n) (j + 416) limit le (λ w h. h)
+    (calling f (lo ∷ hi ∷ []) v (Faults l h text answers k q) (IsHome f) [] (fault_text k n) j 416 c (λ u a.
     let s = go u.mem a.leaves.memory in
-    known f (stacked_on (lo ∷ hi ∷ []) u) FAULT_AT (l ∷ h ∷ lo ∷ hi ∷ []) text answers (IsHome f) (fault_text k n) 540 a.leaves.pc
+    known f (stacked_on (lo ∷ hi ∷ []) u) FAULT_AT (l ∷ h ∷ lo ∷ hi ∷ []) text answers (IsHome f) (fault_text k n) 416 a.leaves.pc
     (ap (λ s. s ++ (lo ∷ hi ∷ [])) a.leaves.stack_is) a.leaves.binary a.leaves.same_text a.leaves.same_answers
     (subst (λ r. Comes f (view r u.regs.x u.regs.y u.regs.flags.n u.regs.flags.v u.regs.flags.i u.regs.flags.z u.regs.flags.c FAULT_AT
-    (l ∷ h ∷ lo ∷ hi ∷ []) u.mem text answers) (IsHome f) (fault_text k n) 540) (sym a.number)
+    (l ∷ h ∷ lo ∷ hi ∷ []) u.mem text answers) (IsHome f) (fault_text k n) 416) (sym a.number)
     (fault_law f 14 (let le : 13 ≤ 14 = omega arith in le) (omega (arith, fits)) block lo hi (l ∷ h ∷ []) (let le : 4 ≤ 14 = omega arith in
     le) text answers u.mem (record { homed = e.homed; kept = ap (λ s. s + 2) s.home_s ∙ e.kept }) n
     (same_place m u.mem LINE n line s.line s.line_high) k _ _ _ _ _ _ _ small))))

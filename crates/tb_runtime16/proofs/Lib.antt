@@ -30,7 +30,7 @@ pub mod UnsignedRuns
 -- Divide
 pub mod DivideRuns
 -- ── numbers ──
--- the digits of a number by powers of ten
+-- the digits of a number
 pub mod DigitTexts
 -- Number
 pub mod NumberRuns

@@ -20,7 +20,7 @@ use Rattle.tb_runtime16.specs.Block.{block_part}
 use Rattle.tb_runtime16.specs.Laws.{Back, Leaves, Parted, Changes, is_argument}
 use Rattle.tb_runtime16.proofs.InMemory.{IsWord, holds_word}
 use Rattle.tb_runtime16.proofs.Within.{divide_part, divide_in}
-use Rattle.tb_runtime16.proofs.Words.{small_byte, one_high}
+use Rattle.tb_runtime16.proofs.Words.{one_high}
 use Rattle.tb_words.proofs.Powers.{pow2}
 use Rattle.tb_runtime16.proofs.WideRuns.{bit_small, sum_less, sum_more}
 use Rattle.tb_runtime16.proofs.Frames.{Frame, frame_put, changes_put, leaves_now}

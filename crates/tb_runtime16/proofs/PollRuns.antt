@@ -29,10 +29,10 @@ poll_law f room most fits block hlo hhi above deep lo hi text answers m e line i
           (rw t (ending_on f own 4 free poll_part st 0 (view _ _ _ _ _ _ _ _ (POLL_AT + 0x7) (lo ∷ hi ∷ []) m text (drop 1 answers)) _ refl
           (leaves_now refl refl))))),
       λ stop. let t : eqb ((first_or_zero answers + 256 - 3) % 256) 0 ≡ true = eq-eqb _ _ (omega (arith, stop)) in
-          looser f _ _ _ (fault_text 0 line) (1 + (1 + (2 + (2 + 540)))) 546 (omega arith) (λ w h. h)
-          (after_on f own 4 free poll_part st 0 (view a x y n v i z c POLL_AT (lo ∷ hi ∷ []) m text answers) _ _ (1 + (2 + (2 + 540))) refl
-          (serving f room fits Getin _ _ _ _ _ _ (2 + (2 + 540)) (le-leb _ _ (omega (arith, deep, size))) refl refl refl (λ j.
-          after_on f own 4 free poll_part st 1 (view (first_or_zero answers) j.x j.y j.n j.v j.i j.z j.c (POLL_AT + 0x3) (lo ∷ hi ∷ []) m text (drop 1 answers)) _ _ (2 + 540) refl
-          (rw t (after_on f own 4 free poll_part st 1 (view _ _ _ _ _ _ _ _ (POLL_AT + 0x8) (lo ∷ hi ∷ []) m text (drop 1 answers)) _ _ 540 refl
+          looser f _ _ _ (fault_text 0 line) (1 + (1 + (2 + (2 + 416)))) 422 (omega arith) (λ w h. h)
+          (after_on f own 4 free poll_part st 0 (view a x y n v i z c POLL_AT (lo ∷ hi ∷ []) m text answers) _ _ (1 + (2 + (2 + 416))) refl
+          (serving f room fits Getin _ _ _ _ _ _ (2 + (2 + 416)) (le-leb _ _ (omega (arith, deep, size))) refl refl refl (λ j.
+          after_on f own 4 free poll_part st 1 (view (first_or_zero answers) j.x j.y j.n j.v j.i j.z j.c (POLL_AT + 0x3) (lo ∷ hi ∷ []) m text (drop 1 answers)) _ _ (2 + 416) refl
+          (rw t (after_on f own 4 free poll_part st 1 (view _ _ _ _ _ _ _ _ (POLL_AT + 0x8) (lo ∷ hi ∷ []) m text (drop 1 answers)) _ _ 416 refl
           (fault_law f room most fits block hlo hhi (lo ∷ hi ∷ above) (omega (arith, deep)) text (drop 1 answers) m e line is_line 0 _ _ _ _ _ _ _ (omega arith))))))),
     )

@@ -1,6 +1,6 @@
 -- Random.
 use Rattle.std.proofs.Common.{◌≡◌, ℕ, ◌+◌, ◌*◌, ◌/◌, ◌%◌, ◌<◌, ◌≤◌, Bool, true, false, if◌then◌else◌, List, []}
-use Rattle.std.proofs.Common.{◌∷◌, refl, sym, ap, ap₂, ◌∙◌, ⊎_elim, inl, inr, arith, eqb}
+use Rattle.std.proofs.Common.{◌∷◌, refl, ap, ap₂, ◌∙◌, ⊎_elim, inl, inr, arith, eqb}
 use Rattle.std.specs.Prelude.{◌==◌, nat_lt, bit_or}
 use Rattle.std.proofs.lemmas.Bool.{ne_eqb, eq-eqb, cases_eq}
 use Rattle.std.proofs.Math.Nat.{mod-add-mod}

@@ -18,7 +18,7 @@ abbrev pub five_low : ℕ → ℕ
 five_low l = (2 * (2 * l % 256) % 256 + l + 0) % 256
 
 abbrev pub five_high : ℕ → ℕ → ℕ
-five_high l h = high_sum (2 * (2 * l % 256) % 256) (high_twice (2 * l % 256) (high_twice l h)) l h
+five_high l h = high_sum (2 * (2 * l % 256) % 256) h l (high_twice (2 * l % 256) (high_twice l h))
 
 -- a word times ten: times five, and doubled
 abbrev pub ten_low : ℕ → ℕ
@@ -48,7 +48,7 @@ times_ten l h p q =
     let ts' : t' < 256 = high_twice_small s s' ss in
     let e1 : a + 256 * a' ≡ 2 * (l + 256 * h) % 65536 = doubled l h p q in
     let e2 : b + 256 * b' ≡ 2 * (a + 256 * a') % 65536 = doubled a a' la la' in
-    let e3 : s + 256 * s' ≡ (b + 256 * b' + (l + 256 * h)) % 65536 = added b b' l h bs bs' p q in
+    let e3 : s + 256 * s' ≡ (b + 256 * b' + (l + 256 * h)) % 65536 = added b h l b' bs q p bs' ∙ (let g : (b + 256 * h + (l + 256 * b')) % 65536 ≡ (b + 256 * b' + (l + 256 * h)) % 65536 = omega arith in g) in
     let e4 : t + 256 * t' ≡ 2 * (s + 256 * s') % 65536 = doubled s s' ss ss' in
     let w = l + 256 * h in
     let f2 : b + 256 * b' ≡ 4 * w % 65536 = e2 ∙ ap (λ x. 2 * x % 65536) e1 ∙ (let g : 2 * (2 * w % 65536) % 65536 ≡ 4 * w % 65536 = omega arith in g) in

@@ -20,14 +20,14 @@ abbrev pub FaultLaw : Type 0
 FaultLaw =
     (f : Setup) (room : ℕ) → 13 ≤ room → Fits f room → Holds block_part f.code → (hlo hhi : ℕ) (above : List ℕ) → length above + 2 ≤ room
     → (text answers : List ℕ) (m : ℕ → ℕ) → Entered f hlo hhi m → (line : ℕ) → WordAt m LINE line → (k x y : ℕ) (n v i z c : Bool) → k < 10 →
-    Comes f (view k x y n v i z c FAULT_AT (above ++ hlo ∷ hhi ∷ []) m text answers) (IsHome f) (fault_text k line) 540
+    Comes f (view k x y n v i z c FAULT_AT (above ++ hlo ∷ hhi ∷ []) m text answers) (IsHome f) (fault_text k line) 416
 
 -- the entry that takes the line's number too: k in A, the number in X and Y, low byte first
 abbrev pub FaultLineLaw : Type 0
 FaultLineLaw =
     (f : Setup) (room : ℕ) → 13 ≤ room → Fits f room → Holds block_part f.code → (hlo hhi : ℕ) (above : List ℕ) → length above + 2 ≤ room
     → (text answers : List ℕ) (m : ℕ → ℕ) → Entered f hlo hhi m → (k x y : ℕ) (n v i z c : Bool) → k < 10 → x < 256 → y < 256 →
-    Comes f (view k x y n v i z c FAULT_LINE_AT (above ++ hlo ∷ hhi ∷ []) m text answers) (IsHome f) (fault_text k (x + 256 * y)) 542
+    Comes f (view k x y n v i z c FAULT_LINE_AT (above ++ hlo ∷ hhi ∷ []) m text answers) (IsHome f) (fault_text k (x + 256 * y)) 418
 
 -- Poll: an answer is taken, and 3 stops the program, from any depth
 abbrev pub PollLaw : Type 0
@@ -37,7 +37,7 @@ PollLaw =
     → (a x y : ℕ) (n v i z c : Bool) →
     (first_or_zero answers ≢ 3 → Comes f (view a x y n v i z c POLL_AT (lo ∷ hi ∷ above ++ hlo ∷ hhi ∷ []) m text answers)
     (Leaves (back_at lo hi) (above ++ hlo ∷ hhi ∷ []) text (drop 1 answers) (λ w. w ≡ m)) [] 5)
-    × (first_or_zero answers ≡ 3 → Comes f (view a x y n v i z c POLL_AT (lo ∷ hi ∷ above ++ hlo ∷ hhi ∷ []) m text answers) (IsHome f) (fault_text 0 line) 546)
+    × (first_or_zero answers ≡ 3 → Comes f (view a x y n v i z c POLL_AT (lo ∷ hi ∷ above ++ hlo ∷ hhi ∷ []) m text answers) (IsHome f) (fault_text 0 line) 422)
 
 -- addresses that the prologue clears
 abbrev pub is_cleared : ℕ → Bool

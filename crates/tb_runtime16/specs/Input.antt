@@ -49,4 +49,4 @@ InputLaw =
     → (lo hi : ℕ) (text answers : List ℕ) (m : ℕ → ℕ) → Entered f hlo hhi m → (line : ℕ) → WordAt m LINE line → AreBytes text → (is_open : Bool)
     → m OPEN ≡ bit is_open → (c : ℕ) → m COLUMN ≡ c % 256 → (a x y : ℕ) (n v i z carry : Bool) →
     Comes f (view a x y n v i z carry INPUT_AT (lo ∷ hi ∷ above ++ hlo ∷ hhi ∷ []) m text answers)
-    (Ended f lo hi (above ++ hlo ∷ hhi ∷ []) m answers c (prompt is_open) (turn Nothing text)) (prompt is_open ++ turn_sends line (turn Nothing text)) (45 * length text + 587)
+    (Ended f lo hi (above ++ hlo ∷ hhi ∷ []) m answers c (prompt is_open) (turn Nothing text)) (prompt is_open ++ turn_sends line (turn Nothing text)) (45 * length text + 463)

@@ -158,7 +158,7 @@ abbrev pub NumberLaw : Type 0
 NumberLaw =
     (f : Setup) → Fits f 6 → Holds block_part f.code → (lo hi : ℕ) (text answers : List ℕ) (m : ℕ → ℕ) (a x y : ℕ) (n v i z c : Bool) (number : ℕ)
     → WordAt m LEFT number → m COLUMN < 256 →
-    Comes f (view a x y n v i z c NUMBER_AT (lo ∷ hi ∷ []) m text answers) (Back lo hi text answers (Sent is_argument m (digits_of number))) (digits_of number) 458
+    Comes f (view a x y n v i z c NUMBER_AT (lo ∷ hi ∷ []) m text answers) (Back lo hi text answers (Sent is_argument m (digits_of number))) (digits_of number) 334
 
 -- ---- Random
 

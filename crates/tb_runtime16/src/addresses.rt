@@ -64,13 +64,13 @@ pub const RANDOM_LENGTH: usize = 92;
 /// Bytes of Multiply.
 pub const MULTIPLY_LENGTH: usize = 37;
 /// Bytes of Number.
-pub const NUMBER_LENGTH: usize = 84;
+pub const NUMBER_LENGTH: usize = 93;
 /// Bytes of Text.
 pub const TEXT_LENGTH: usize = 24;
 /// Bytes of Zone.
 pub const ZONE_LENGTH: usize = 13;
 /// Bytes of Input.
-pub const INPUT_LENGTH: usize = 157;
+pub const INPUT_LENGTH: usize = 148;
 /// Bytes of Search.
 pub const SEARCH_LENGTH: usize = 186;
 /// Bytes of Push.

@@ -12,8 +12,8 @@ use crate::addresses::{
     SEARCH_LENGTH, SEND_LENGTH, TEXT_LENGTH, ZONE_LENGTH,
 };
 use crate::targets::{
-    FAULT, LINES, NEGATE, NUMBER, OPPOSITE, PLAIN, POWERS_HIGH, POWERS_LOW, ROUNDS, SEARCH, SEND,
-    SIZES, STORE, UNSIGNED,
+    DECIMAL, FAULT, LINES, NEGATE, NUMBER, OPPOSITE, PLAIN, ROUNDS, SEARCH, SEND, SIZES, STORE,
+    UNSIGNED,
 };
 
 // The prologue: decimal mode off, $C000 to $C03D cleared, S kept at HOME_S, and on to the first line.
@@ -249,7 +249,8 @@ macro_rules! multiply {
     };
 }
 
-// Number: sends the signed word at LEFT in decimal.
+// Number: sends the signed word at LEFT in decimal. A word of 768 or more is divided by 100, and its quotient sent before
+// its rest.
 macro_rules! number {
     ([$($before:tt)*] $next:ident $($others:ident)*) => {
         $next!([$($before)*
@@ -258,39 +259,47 @@ macro_rules! number {
         0xa9, 0x2d, // 4: LDA #$2D
         0x20, PLAIN.0, PLAIN.1, // 6: JSR SEND1
         0x20, OPPOSITE.0, OPPOSITE.1, // 9: JSR NEGATELEFT
-        0xa9, 0x00, // 12 NUMBERPLAIN: LDA #$00
-        0x85, 0xfd, // 14: STA RIGHT
-        0xa2, 0x03, // 16: LDX #$03
-        0xa5, 0xfc, // 18: LDA LEFT+1
-        0xd0, 0x02, // 20: BNE NUMBERNEXT
-        0xa2, 0x01, // 22: LDX #$01
-        0xa4, 0xfd, // 24 NUMBERNEXT: LDY RIGHT
-        0xa5, 0xfb, // 26 NUMBERTAKE: LDA LEFT
-        0xdd, POWERS_LOW.0, POWERS_LOW.1, // 28: CMP POWERSLOW,X
-        0xa5, 0xfc, // 31: LDA LEFT+1
-        0xfd, POWERS_HIGH.0, POWERS_HIGH.1, // 33: SBC POWERSHIGH,X
-        0x90, 0x0c, // 36: BCC NUMBERDIGIT
-        0x85, 0xfc, // 38: STA LEFT+1
-        0xa5, 0xfb, // 40: LDA LEFT
-        0xfd, POWERS_LOW.0, POWERS_LOW.1, // 42: SBC POWERSLOW,X
-        0x85, 0xfb, // 45: STA LEFT
-        0xc8, // 47: INY
-        0xd0, 0xe8, // 48: BNE NUMBERTAKE
-        0x98, // 50 NUMBERDIGIT: TYA
-        0xf0, 0x0d, // 51: BEQ NUMBERSKIP
-        0x09, 0x30, // 53: ORA #$30
-        0xa0, 0x30, // 55: LDY #$30
-        0x84, 0xfd, // 57: STY RIGHT
-        0x86, 0xfe, // 59: STX RIGHT+1
-        0x20, PLAIN.0, PLAIN.1, // 61: JSR SEND1
-        0xa6, 0xfe, // 64: LDX RIGHT+1
-        0xca, // 66 NUMBERSKIP: DEX
-        0x10, 0xd3, // 67: BPL NUMBERNEXT
-        0xa5, 0xfb, // 69: LDA LEFT
-        0x09, 0x30, // 71: ORA #$30
-        0x4c, PLAIN.0, PLAIN.1, // 73: JMP SEND1
-        0x0a, 0x64, 0xe8, 0x10, // 76 POWERSLOW: 10, 100, 1000 and 10000, their low bytes
-        0x00, 0x00, 0x03, 0x27, // 80 POWERSHIGH: their high bytes
+        0xa5, 0xfb, // 12 NUMBERPLAIN: LDA LEFT
+        0xa4, 0xfc, // 14: LDY LEFT+1
+        0xf0, 0x17, // 16: BEQ NUMBERBYTE
+        0xc0, 0x03, // 18: CPY #$03
+        0x90, 0x1b, // 20: BCC HUNDREDS
+        0xa2, 0x64, // 22: LDX #$64
+        0x86, 0xfd, // 24: STX RIGHT
+        0xa2, 0x00, // 26: LDX #$00
+        0x86, 0xfe, // 28: STX RIGHT+1
+        0x20, UNSIGNED.0, UNSIGNED.1, // 30: JSR UNSIGNED
+        0x20, DECIMAL.0, DECIMAL.1, // 33: JSR NUMBERPLAIN
+        0xad, 0x66, 0xc0, // 36: LDA RESULT
+        0x10, 0x1d, // 39: BPL TENS
+        0xc9, 0x0a, // 41 NUMBERBYTE: CMP #$0A
+        0x90, 0x2b, // 43: BCC LASTDIGIT
+        0xc9, 0x64, // 45: CMP #$64
+        0x90, 0x15, // 47: BCC TENS
+        0xa2, 0x2f, // 49 HUNDREDS: LDX #$2F
+        0x38, // 51 HUNDREDSAGAIN: SEC
+        0xe8, // 52 HUNDREDSTAKE: INX
+        0xe9, 0x64, // 53: SBC #$64
+        0xb0, 0xfb, // 55: BCS HUNDREDSTAKE
+        0x88, // 57: DEY
+        0x10, 0xf7, // 58: BPL HUNDREDSAGAIN
+        0x69, 0x64, // 60: ADC #$64
+        0x85, 0xfb, // 62: STA LEFT
+        0x8a, // 64: TXA
+        0x20, PLAIN.0, PLAIN.1, // 65: JSR SEND1
+        0xa5, 0xfb, // 68: LDA LEFT
+        0xa2, 0x2f, // 70 TENS: LDX #$2F
+        0x38, // 72: SEC
+        0xe8, // 73 TENSTAKE: INX
+        0xe9, 0x0a, // 74: SBC #$0A
+        0xb0, 0xfb, // 76: BCS TENSTAKE
+        0x69, 0x0a, // 78: ADC #$0A
+        0x85, 0xfb, // 80: STA LEFT
+        0x8a, // 82: TXA
+        0x20, PLAIN.0, PLAIN.1, // 83: JSR SEND1
+        0xa5, 0xfb, // 86: LDA LEFT
+        0x09, 0x30, // 88 LASTDIGIT: ORA #$30
+        0x4c, PLAIN.0, PLAIN.1, // 90: JMP SEND1
         ] $($others)*)
     };
 }
@@ -348,66 +357,64 @@ macro_rules! input {
         0xc9, 0x20, // 31: CMP #$20
         0xf0, 0xf9, // 33: BEQ READ
         0xc9, 0x2b, // 35: CMP #$2B
-        0xf0, 0x43, // 37: BEQ SIGN
+        0xf0, 0x3a, // 37: BEQ SIGN
         0xc9, 0x2d, // 39: CMP #$2D
-        0xf0, 0x3f, // 41: BEQ SIGN
+        0xf0, 0x36, // 41: BEQ SIGN
         0xc9, 0x2c, // 43: CMP #$2C
-        0xf0, 0x4a, // 45: BEQ DONE
+        0xf0, 0x41, // 45: BEQ DONE
         0xc9, 0x0d, // 47: CMP #$0D
-        0xf0, 0x46, // 49: BEQ DONE
-        0x38, // 51: SEC
-        0xe9, 0x30, // 52: SBC #$30
-        0xc9, 0x0a, // 54: CMP #$0A
-        0xb0, 0x3a, // 56: BCS BAD
-        0xaa, // 58: TAX
-        0xa5, 0xfc, // 59: LDA LEFT+1
-        0x8d, 0x66, 0xc0, // 61: STA RESULT
-        0xa5, 0xfb, // 64: LDA LEFT
-        0x0a, // 66: ASL A
-        0x2e, 0x66, 0xc0, // 67: ROL RESULT
-        0x0a, // 70: ASL A
-        0x2e, 0x66, 0xc0, // 71: ROL RESULT
-        0x18, // 74: CLC
-        0x65, 0xfb, // 75: ADC LEFT
-        0x85, 0xfb, // 77: STA LEFT
-        0xad, 0x66, 0xc0, // 79: LDA RESULT
-        0x65, 0xfc, // 82: ADC LEFT+1
-        0x85, 0xfc, // 84: STA LEFT+1
-        0x06, 0xfb, // 86: ASL LEFT
-        0x26, 0xfc, // 88: ROL LEFT+1
-        0x8a, // 90: TXA
-        0x18, // 91: CLC
-        0x65, 0xfb, // 92: ADC LEFT
-        0x85, 0xfb, // 94: STA LEFT
-        0x90, 0x02, // 96: BCC DIGIT
-        0xe6, 0xfc, // 98: INC LEFT+1
-        0xa9, 0x02, // 100 DIGIT: LDA #$02
-        0x85, 0xfd, // 102: STA RIGHT
-        0xd0, 0xb2, // 104: BNE READ
-        0xa4, 0xfd, // 106 SIGN: LDY RIGHT
-        0xd0, 0x06, // 108: BNE BAD
-        0x85, 0xfe, // 110: STA RIGHT+1
-        0xe6, 0xfd, // 112: INC RIGHT
-        0xd0, 0xa8, // 114: BNE READ
-        0xa9, 0x06, // 116 BAD: LDA #$06
-        0x4c, FAULT.0, FAULT.1, // 118: JMP FAULT
-        0xa8, // 121 DONE: TAY
-        0x46, 0xfd, // 122: LSR RIGHT
-        0xf0, 0xf6, // 124: BEQ BAD
-        0xa5, 0xfe, // 126: LDA RIGHT+1
-        0xc9, 0x2d, // 128: CMP #$2D
-        0xd0, 0x03, // 130: BNE DONE1
-        0x20, OPPOSITE.0, OPPOSITE.1, // 132: JSR NEGATELEFT
-        0xa5, 0xfb, // 135 DONE1: LDA LEFT
-        0x8d, 0x66, 0xc0, // 137: STA RESULT
-        0xa5, 0xfc, // 140: LDA LEFT+1
-        0x8d, 0x67, 0xc0, // 142: STA RESULT+1
-        0xc0, 0x0d, // 145: CPY #$0D
-        0xd0, 0x07, // 147: BNE DONE2
-        0xce, 0x35, 0xc0, // 149: DEC OPEN
-        0x98, // 152: TYA
-        0x4c, SEND.0, SEND.1, // 153: JMP SEND
-        0x60, // 156 DONE2: RTS
+        0xf0, 0x3d, // 49: BEQ DONE
+        0xe9, 0x30, // 51: SBC #$30
+        0xc9, 0x0a, // 53: CMP #$0A
+        0xb0, 0x32, // 55: BCS BAD
+        0xa8, // 57: TAY
+        0xa6, 0xfc, // 58: LDX LEFT+1
+        0xa5, 0xfb, // 60: LDA LEFT
+        0x0a, // 62: ASL A
+        0x26, 0xfc, // 63: ROL LEFT+1
+        0x0a, // 65: ASL A
+        0x26, 0xfc, // 66: ROL LEFT+1
+        0x18, // 68: CLC
+        0x65, 0xfb, // 69: ADC LEFT
+        0x85, 0xfb, // 71: STA LEFT
+        0x8a, // 73: TXA
+        0x65, 0xfc, // 74: ADC LEFT+1
+        0x06, 0xfb, // 76: ASL LEFT
+        0x2a, // 78: ROL A
+        0x85, 0xfc, // 79: STA LEFT+1
+        0x98, // 81: TYA
+        0x18, // 82: CLC
+        0x65, 0xfb, // 83: ADC LEFT
+        0x85, 0xfb, // 85: STA LEFT
+        0x90, 0x02, // 87: BCC DIGIT
+        0xe6, 0xfc, // 89: INC LEFT+1
+        0xa9, 0x02, // 91 DIGIT: LDA #$02
+        0x85, 0xfd, // 93: STA RIGHT
+        0xd0, 0xbb, // 95: BNE READ
+        0xa4, 0xfd, // 97 SIGN: LDY RIGHT
+        0xd0, 0x06, // 99: BNE BAD
+        0x85, 0xfe, // 101: STA RIGHT+1
+        0xe6, 0xfd, // 103: INC RIGHT
+        0xd0, 0xb1, // 105: BNE READ
+        0xa9, 0x06, // 107 BAD: LDA #$06
+        0x4c, FAULT.0, FAULT.1, // 109: JMP FAULT
+        0xa8, // 112 DONE: TAY
+        0x46, 0xfd, // 113: LSR RIGHT
+        0xf0, 0xf6, // 115: BEQ BAD
+        0xa5, 0xfe, // 117: LDA RIGHT+1
+        0xc9, 0x2d, // 119: CMP #$2D
+        0xd0, 0x03, // 121: BNE DONE1
+        0x20, OPPOSITE.0, OPPOSITE.1, // 123: JSR NEGATELEFT
+        0xa5, 0xfb, // 126 DONE1: LDA LEFT
+        0x8d, 0x66, 0xc0, // 128: STA RESULT
+        0xa5, 0xfc, // 131: LDA LEFT+1
+        0x8d, 0x67, 0xc0, // 133: STA RESULT+1
+        0xc0, 0x0d, // 136: CPY #$0D
+        0xd0, 0x07, // 138: BNE DONE2
+        0xce, 0x35, 0xc0, // 140: DEC OPEN
+        0x98, // 143: TYA
+        0x4c, SEND.0, SEND.1, // 144: JMP SEND
+        0x60, // 147 DONE2: RTS
         ] $($others)*)
     };
 }

@@ -28,10 +28,8 @@ pub const SIZES: (u8, u8) = word!(DIVIDE_AT + 50);
 pub const UNSIGNED: (u8, u8) = word!(DIVIDE_AT + 66);
 /// Divide's ROUNDS: eight rounds on the byte at LEFT, with the rest in A.
 pub const ROUNDS: (u8, u8) = word!(DIVIDE_AT + 101);
-/// Number's POWERSLOW: the low bytes of the powers of ten from 10 to 10,000.
-pub const POWERS_LOW: (u8, u8) = word!(NUMBER_AT + 76);
-/// Number's POWERSHIGH: their high bytes.
-pub const POWERS_HIGH: (u8, u8) = word!(NUMBER_AT + 80);
+/// Number's NUMBERPLAIN: LEFT is sent as a word without a sign.
+pub const DECIMAL: (u8, u8) = word!(NUMBER_AT + 12);
 /// Search.
 pub const SEARCH: (u8, u8) = word!(SEARCH_AT);
 /// Pop's POP_STORE: A and Y are the return.
