@@ -1,17 +1,18 @@
 //! Statements, read by their first words.
-ghost use Rattle.std.specs.Prelude.{◌≡◌, ℕ, [], length, Option, Some, None, IfOk, MatchOption};
+ghost use Rattle.std.specs.Prelude.{◌≡◌, ℕ, [], ◌∷◌, length, Option, Some, None, IfOk, MatchOption};
 ghost use Rattle.tb_words.specs.Letters.{letter_index};
 ghost use Rattle.tb_syntax.specs.Source.{Statement as SourceStatement, Let, Goto, Gosub};
 ghost use Rattle.tb_syntax.specs.PlainData.{statement_of};
 ghost use Rattle.tb_grammar.specs.ReadValues.{told, Gives, Answers};
 ghost use Rattle.tb_grammar.specs.StatementReading.{target_at, relation_at, made, alone, behind_then, conditional_by};
-ghost use Rattle.tb_grammar.specs.StatementReading.{keyword_at, assigned_at, behind_keyword, statement_at};
+ghost use Rattle.tb_grammar.specs.StatementReading.{spelled, first_word, keyword_at, assigned_at, behind_keyword, statement_at};
+ghost use Rattle.tb_grammar.specs.Reading.{behind_word};
 ghost use Rattle.tb_grammar.specs.StatementReading.{statement_in};
 ghost use Rattle.tb_grammar.specs.Statements.{States};
 
 use crate::expressions::{behind, behind_word, expression, leading, split_letter};
 use crate::items::{behind_variable, input, print};
-use crate::keywords::{KEYWORDS, Keyword, THEN};
+use crate::keywords::{Keyword, THEN};
 use crate::read_error::{ReadError, left_at};
 use std::alloc::Global;
 use std::boxed::Box;
@@ -27,16 +28,40 @@ pub struct ReadStatement {
     pub large: Option<usize>,
 }
 
+// A word at the front, and what is left after it.
+fn split_word(word: Keyword, text: &[u8]) -> Option<(Keyword, &[u8])>
+    ensures { MatchOption result (behind_word (spelled word) text.now ≡ None)
+        (λ p. (p.0 ≡ word) × (behind_word (spelled word) text.now ≡ Some p.1.now)) }
+{
+    let rest = behind_word(word.spelling().as_bytes(), text)?;
+    Some((word, rest))
+}
+
+// The first of two words that is at the front.
+fn split_either(first: Keyword, second: Keyword, text: &[u8]) -> Option<(Keyword, &[u8])>
+    ensures { MatchOption result (first_word (first ∷ second ∷ []) text.now ≡ None)
+        (λ p. first_word (first ∷ second ∷ []) text.now ≡ Some (p.0, p.1.now)) }
+{
+    match split_word(first, text) {
+        Some(found) => Some(found),
+        None => split_word(second, text),
+    }
+}
+
+// Its first byte leaves at most two words to be tried.
 #[tactic(auto, unfolding(crate::specs::StatementReading::keyword_at))]
 fn split_keyword(text: &[u8]) -> Option<(Keyword, &[u8])>
     ensures { MatchOption result (keyword_at text.now ≡ None) (λ p. keyword_at text.now ≡ Some (p.0, p.1.now)) }
 {
-    for keyword in KEYWORDS {
-        if let Some(rest) = behind_word(keyword.spelling().as_bytes(), text) {
-            return Some((keyword, rest));
-        }
+    match text {
+        [b'L', ..] => split_word(Keyword::Let, text),
+        [b'P', ..] => split_either(Keyword::Print, Keyword::Pr, text),
+        [b'I', ..] => split_either(Keyword::Input, Keyword::If, text),
+        [b'G', ..] => split_either(Keyword::Goto, Keyword::Gosub, text),
+        [b'R', ..] => split_either(Keyword::Return, Keyword::Rem, text),
+        [b'E', ..] => split_word(Keyword::End, text),
+        _ => None,
     }
-    None
 }
 
 #[tactic(auto, unfolding(crate::specs::StatementReading::target_at))]

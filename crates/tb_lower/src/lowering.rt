@@ -88,11 +88,12 @@ fn lower_line(alloc: Global, number: u16, statement: &Statement) -> Result<SlotL
     Ok(SlotLine { number, code })
 }
 
-// One more instruction.
+// One more instruction. A push that may fail hands it back, and so copies it once more.
 fn put(code: &mut Vec<SlotInstr>, instr: SlotInstr) -> Result<(), AllocError>
     ensures { OnOk result (map instr_of code.new.items ≡ map instr_of code.old.items ++ instr_of instr ∷ []) }
 {
-    code.push(instr)?;
+    code.reserve(1)?;
+    code.push_reserved(instr);
     Ok(())
 }
 

@@ -4,6 +4,7 @@ use Rattle.std.proofs.Common.{drop, Some, None, refl, sym, ◌∙◌, append_ass
 use Rattle.std.proofs.lemmas.List.{append-nil, drop_all, take_all, length-drop}
 use Rattle.std.proofs.lemmas.Bool.{ne_eqb, eq-eqb}
 use Rattle.tb_parser.specs.declared.squeeze.Mode.{Mode}
+use Rattle.tb_parser.specs.declared.squeeze.Mode.TheVariants.{Remark}
 use Rattle.tb_parser.specs.declared.squeeze.Placed.{Placed}
 use Rattle.tb_parser.specs.Squeezed.{after, is_dropped, is_in_code, shown, squeezed_from}
 use Rattle.tb_parser.specs.Scans.{first_written, is_bad, first_bad, is_left_out, left_out_word}
@@ -64,6 +65,15 @@ module _ (line : List ℕ) (i : ℕ) where
   pub squeezed_ends : (m : Mode) (column : ℕ) (old all : List Placed) → length line ≤ i → old ++ squeezed_from m column (drop i line) ≡ all → old ≡ all
   unfolding squeezed_from
   squeezed_ends m column old all le e = sym (append-nil old) ∙ (let d : drop i line ≡ [] = drop_all i line le in rw d at e)
+
+-- in a remark no byte is bad
+pub remark_good : (m : Mode) (column : ℕ) (line : List ℕ) → m ≡ Remark → first_bad m column line ≡ None
+unfolding first_bad
+remark_good m column line is = rw is (good column line)
+  where
+    good : (column : ℕ) (line : List ℕ) → first_bad Remark column line ≡ None
+    good column [] = refl
+    good column (b ∷ line) = good (column + 1) line
 
 -- nothing of the rest is left out if a slice goes to the end
 pub rest_of : {A : Type 0} (line : List A) (i : ℕ) → take (length line - i) (drop i line) ≡ drop i line

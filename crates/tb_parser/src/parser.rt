@@ -15,7 +15,7 @@ use crate::edits::{LineEdit, apply};
 use crate::errors::{LineFault, OUT_OF_MEMORY, SourceError, SourceErrorKind};
 use crate::lines::next_line;
 use crate::scans::{bad_byte, column_of_left, is_numbered, left_out, line_number, written};
-use crate::squeeze::{Placed, bytes_of, squeeze};
+use crate::squeeze::{Placed, copy_bytes, squeeze};
 use std::alloc::Global;
 use tb_grammar::{ReadError, read_expression, read_statement};
 use tb_syntax::{Expr, Program, Statement};
@@ -42,10 +42,12 @@ pub fn parse(alloc: Global, source: &[u8]) -> Result<Program, SourceError>
     ensures memory { IfErr result (λ e. e.kind ≡ NoMemory → e ≡ out_of_memory) }
 {
     let mut program = Program::new(alloc);
+    let mut placed = Vec::new(alloc);
+    let mut bytes = Vec::new(alloc);
     let mut rest = source;
     let mut number = 1;
     while let Some((line, behind)) = next_line(rest) {
-        match read_line(alloc, line) {
+        match read_line_in(alloc, line, &mut placed, &mut bytes) {
             Ok(edit) => apply(&mut program, edit)?,
             Err(fault) => return Err(fault.at_line(number)),
         }
@@ -79,18 +81,32 @@ pub fn parse_expr(alloc: Global, text: &[u8]) -> Result<Expr, SourceError>
 pub fn read_line(alloc: Global, line: &[u8]) -> Result<LineEdit, LineFault>
     ensures { Says edit_of result (LineIs line.now) }
 {
+    let mut placed = Vec::new(alloc);
+    let mut bytes = Vec::new(alloc);
+    read_line_in(alloc, line, &mut placed, &mut bytes)
+}
+
+// The same. The lists only lend their room, so that not each line asks for its own.
+fn read_line_in(
+    alloc: Global,
+    line: &[u8],
+    placed: &mut Vec<Placed>,
+    bytes: &mut Vec<u8>,
+) -> Result<LineEdit, LineFault>
+    ensures { Says edit_of result (LineIs line.now) }
+{
     let Some(first) = written(line) else {
         return Ok(LineEdit::Nothing);
     };
     check_bytes(line)?;
-    let placed = squeeze(alloc, line)?;
-    if !is_numbered(&placed) {
+    squeeze(placed, line)?;
+    if !is_numbered(placed) {
         return Err(LineFault {
             kind: SourceErrorKind::Unnumbered,
             column: first,
         });
     }
-    let Some((number, text)) = line_number(&placed) else {
+    let Some((number, text)) = line_number(placed) else {
         return Err(LineFault {
             kind: SourceErrorKind::BadLineNumber,
             column: first,
@@ -99,7 +115,8 @@ pub fn read_line(alloc: Global, line: &[u8]) -> Result<LineEdit, LineFault>
     if text.is_empty() {
         return Ok(LineEdit::Delete(number));
     }
-    Ok(LineEdit::Set(number, read_line_statement(alloc, line, text)?))
+    let statement = read_line_statement(alloc, line, text, bytes)?;
+    Ok(LineEdit::Set(number, statement))
 }
 
 // A line that is neither too long nor has a bad byte.
@@ -123,11 +140,16 @@ fn check_bytes(line: &[u8]) -> Result<(), LineFault>
 }
 
 // The statement after a line's number.
-fn read_line_statement(alloc: Global, line: &[u8], text: &[Placed]) -> Result<Statement, LineFault>
+fn read_line_statement(
+    alloc: Global,
+    line: &[u8],
+    text: &[Placed],
+    bytes: &mut Vec<u8>,
+) -> Result<Statement, LineFault>
     ensures { Says statement_of result (TextIs SourceStatement States text.now) }
 {
-    let bytes = bytes_of(alloc, text)?;
-    match read_statement(alloc, &bytes) {
+    copy_bytes(text, bytes)?;
+    match read_statement(alloc, bytes) {
         Ok(read) => in_range(read.statement, read.large, text),
         Err(ReadError::NoMemory) => Err(OUT_OF_MEMORY),
         Err(ReadError::NoReading(left)) => Err(unread(line, text, left)),
@@ -139,7 +161,8 @@ fn read_expression_line(alloc: Global, line: &[u8]) -> Result<Expr, LineFault>
     ensures { Says expression_of result (ExpressionIs line.now) }
 {
     check_bytes(line)?;
-    let placed = squeeze(alloc, line)?;
+    let mut placed = Vec::new(alloc);
+    squeeze(&mut placed, line)?;
     read_value(alloc, line, &placed)
 }
 
@@ -147,7 +170,8 @@ fn read_expression_line(alloc: Global, line: &[u8]) -> Result<Expr, LineFault>
 fn read_value(alloc: Global, line: &[u8], text: &[Placed]) -> Result<Expr, LineFault>
     ensures { Says expression_of result (TextIs Expression Expresses text.now) }
 {
-    let bytes = bytes_of(alloc, text)?;
+    let mut bytes = Vec::new(alloc);
+    copy_bytes(text, &mut bytes)?;
     match read_expression(alloc, &bytes) {
         Ok(read) => in_range(read.expr, read.large, text),
         Err(ReadError::NoMemory) => Err(OUT_OF_MEMORY),

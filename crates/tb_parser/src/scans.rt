@@ -37,6 +37,9 @@ pub(crate) fn bad_byte(line: &[u8]) -> Option<usize>
 {
     let mut mode = Mode::Code;
     for (i, byte) in line.iter().enumerate() {
+        if let Mode::Remark = mode {
+            return None;
+        }
         if is_bad_byte(mode, *byte) {
             return Some(i + 1);
         }

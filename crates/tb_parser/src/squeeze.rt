@@ -1,9 +1,9 @@
 //! A line without its spaces and in upper case.
-ghost use Rattle.std.specs.Prelude.{◌≡◌, ℕ, IfOk, map};
+ghost use Rattle.std.specs.Prelude.{◌≡◌, ◌+◌, ◌++◌, ◌<◌, ◌∷◌, [], ℕ, OnOk, map};
 ghost use Rattle.tb_parser.specs.Squeezed.{after, is_dropped, is_in_code, shown, squeezed_from};
 ghost use Rattle.tb_parser.specs.declared.squeeze.Mode.TheVariants.{Code};
 
-use std::alloc::{AllocError, Global};
+use std::alloc::AllocError;
 
 /// What part of a line the next byte is in, by the bytes before it.
 #[derive(Clone, Copy)]
@@ -70,27 +70,35 @@ fn show(mode: Mode, byte: u8) -> u8
 }
 
 /// The line without spaces and in upper case outside texts and remarks. A text keeps its spaces, a remark is unchanged.
-pub(crate) fn squeeze(alloc: Global, line: &[u8]) -> Result<Vec<Placed>, AllocError>
-    ensures { IfOk result (λ s. s.items ≡ squeezed_from Code 1 line.now) }
+// It takes the place of what `placed` held. There is room for the whole line, so no byte asks for any.
+pub(crate) fn squeeze(placed: &mut Vec<Placed>, line: &[u8]) -> Result<(), AllocError>
+    ensures { OnOk result (placed.new.items ≡ squeezed_from Code 1 line.now) }
 {
-    let mut placed = Vec::with_capacity(alloc, line.len())?;
+    placed.clear();
+    placed.reserve(line.len())?;
     let mut mode = Mode::Code;
     for (i, byte) in line.iter().enumerate() {
         if !drops(mode, *byte) {
-            placed.push(Placed {
+            placed.push_reserved(Placed {
                 byte: show(mode, *byte),
                 column: i + 1,
                 in_code: mode.is_in_code(),
-            })?;
+            });
         }
         mode = mode.after(*byte);
     }
-    Ok(placed)
+    Ok(())
 }
 
-/// The bytes alone.
-pub(crate) fn bytes_of(alloc: Global, placed: &[Placed]) -> Result<Vec<u8>, AllocError>
-    ensures { IfOk result (λ v. v.items ≡ map (λ p. p.byte) placed.now) }
+/// The bytes alone, in the place of what `bytes` held.
+#[tactic(auto, using(std::proofs::lemmas::List::map_more))]
+pub(crate) fn copy_bytes(placed: &[Placed], bytes: &mut Vec<u8>) -> Result<(), AllocError>
+    ensures { OnOk result (bytes.new.items ≡ map (λ p. p.byte) placed.now) }
 {
-    placed.iter().map(|p| p.byte).collect(alloc)
+    bytes.clear();
+    bytes.reserve(placed.len())?;
+    for one in placed {
+        bytes.push_reserved(one.byte);
+    }
+    Ok(())
 }

@@ -20,4 +20,4 @@ pub use groups::{
     Conversion, Destination, Divisibility, Group, Home, Operand, Side, Tested, Usage,
 };
 pub use laws::{groups_run_as_slot_code, lines_are_closed, omitted_words_are_dead};
-pub use selecting::select;
+pub use selecting::{Placed, select, select_in};

@@ -375,16 +375,32 @@ pub fn select<'a>(alloc: Global, code: &'a [SlotInstr]) -> Result<Vec<Group<'a>>
     ensures bracketed { IfOk result (λ groups. expand_all (map group_of groups.items) ≡ map instr_of code.now) }
 {
     let mut placed = Vec::new(alloc);
+    let mut groups = Vec::new(alloc);
+    select_in(&mut placed, &mut groups, code)?;
+    Ok(groups)
+}
+
+/// The same, in the place of what `groups` held. Both lists only lend their room, so that not each line asks for its
+/// own.
+pub fn select_in<'a>(
+    placed: &mut Vec<Placed<'a>>,
+    groups: &mut Vec<Group<'a>>,
+    code: &'a [SlotInstr],
+) -> Result<(), AllocError>
+    ensures selected { OnOk result (map group_of groups.new.items ≡ select.select (map instr_of code.now)) }
+    ensures bracketed { OnOk result (expand_all (map group_of groups.new.items) ≡ map instr_of code.now) }
+{
+    placed.clear();
+    groups.clear();
     let mut before = Live::NOTHING;
     let mut rest = code;
     while let Some((instr, front)) = rest.split_last() {
-        attach(&mut placed, instr, before)?;
+        attach(placed, instr, before)?;
         before = live_before(instr, before);
         rest = front;
     }
-    let mut groups = Vec::with_capacity(alloc, placed.len())?;
     while let Some(first) = placed.pop() {
         groups.push(first.group)?;
     }
-    Ok(groups)
+    Ok(())
 }

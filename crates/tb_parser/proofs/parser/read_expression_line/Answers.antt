@@ -27,5 +27,5 @@ returns-in_err-check_bytes c =
 
 pub returns : goal.returns
 returns c =
-    let placed : c.deref.result.now ≡ squeezed c.args.line.now = c.deref.ensures.value ∙ c.in_ok-placed.ensures in
+    let placed : c.deref.result.now ≡ squeezed c.args.line.now = c.deref.ensures.value ∙ c.in_ok-squeeze.ensures in
     expression_said c.args.line.now c.read_value.result c.in_ok-check_bytes.ensures (rw placed at c.read_value.ensures)

@@ -1,4 +1,4 @@
--- The goals of `select` in src/selecting.rt.
+-- The goals of `select_in` in src/selecting.rt.
 use Rattle.std.proofs.Common.{rules, ◌≡◌, [], sym, ap, ◌∙◌, subst, map}
 use Rattle.tb_lower.specs.PlainData.{instr_of}
 use Rattle.tb_selection.specs.Groups.{expand_all}
@@ -7,11 +7,11 @@ use Rattle.tb_selection.specs.Liveness.{live}
 use Rattle.tb_selection.specs.PlainData.{groups_in, in_order}
 use Rattle.tb_selection.proofs.Bracketed.{brackets}
 use Rattle.tb_selection.proofs.Stacked.{onto, onto_none, attached_live, map_last, stepped}
-use Rattle.tb_selection.proofs.selecting.select.Goals as goal
+use Rattle.tb_selection.proofs.selecting.select_in.Goals as goal
 
 pub loop-instr-init : goal.loop-instr-init
 loop-instr-init c =
-    let e : in_order c.new-placed.result.items ≡ [] = ap in_order c.new-placed.ensures.items in (
+    let e : in_order c.clear.new.self.items ≡ [] = ap in_order c.clear.ensures.items in (
       ap (λ ps. live (expand_all (groups_in ps))) (sym e),
       ap (λ ps. onto (map instr_of c.args.code.now) (groups_in ps)) e ∙ onto_none (map instr_of c.args.code.now),
       subst AreLive (sym e) tt,

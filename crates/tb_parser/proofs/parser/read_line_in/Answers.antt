@@ -1,4 +1,4 @@
--- The goals of `read_line` in src/parser.rt.
+-- The goals of `read_line_in` in src/parser.rt.
 use Rattle.std.proofs.Common.{◌≡◌, ◌≢◌, ◌∙◌, arith, ℕ, List, [], ◌∷◌, true, false, length, sym, refl, Some, Err, IfSome, ◌==◌}
 use Rattle.std.proofs.lemmas.Result.{err_from_is_err_and}
 use Rattle.std.proofs.lemmas.Bool.{eqb-true}
@@ -12,7 +12,7 @@ use Rattle.tb_parser.specs.Readings.{LineIs, IsFit, IsUnfit, IsLineNumber, IsNum
 use Rattle.tb_parser.specs.Scans.{first_written, number_at}
 use Rattle.tb_parser.specs.Squeezed.{squeezed}
 use Rattle.tb_parser.proofs.ReaderAnswers.{passes}
-use Rattle.tb_parser.proofs.parser.read_line.Goals as goal
+use Rattle.tb_parser.proofs.parser.read_line_in.Goals as goal
 
 line_unfit : (line : List ℕ) (first : ℕ) (fault : LineFault) → first_written 1 line ≡ Some first → IfSome (refusal_of fault.kind fault.column)
     (IsUnfit line) → Says edit_of (Err fault) (LineIs line)
@@ -45,33 +45,33 @@ returns-in_err-check_bytes c =
 
 pub returns-then-not-is_numbered : goal.returns-then-not-is_numbered
 returns-then-not-is_numbered c =
-    let placed : c.deref.result.now ≡ squeezed c.args.line.now = c.deref.ensures.value ∙ c.in_ok-placed.ensures in
+    let placed : c.deref.result.now ≡ squeezed c.args.line.now = c.deref.ensures.value ∙ c.in_ok-squeeze.ensures in
     unnumbered c.in-Some.first (sym c.in-Some.ensures) c.in_ok-check_bytes.ensures (rw placed at (sym c.if-not-is_numbered.ensures))
 
 pub returns-in_default-line_number : goal.returns-in_default-line_number
 returns-in_default-line_number c =
-    let placed : c.deref.result.now ≡ squeezed c.args.line.now = c.deref.ensures.value ∙ c.in_ok-placed.ensures in
-    let again : c.deref-2.result.now ≡ squeezed c.args.line.now = c.deref-2.ensures.value ∙ c.in_ok-placed.ensures in
+    let placed : c.deref.result.now ≡ squeezed c.args.line.now = c.deref.ensures.value ∙ c.in_ok-squeeze.ensures in
+    let again : c.deref-2.result.now ≡ squeezed c.args.line.now = c.deref-2.ensures.value ∙ c.in_ok-squeeze.ensures in
     bad_line_number c.in-Some.first (sym c.in-Some.ensures) c.in_ok-check_bytes.ensures (rw placed at (sym c.if-not-is_numbered.ensures)) (rw again at c.in_default-line_number.ensures)
 
 pub returns-then-is_empty : goal.returns-then-is_empty
 returns-then-is_empty c =
-    let placed : c.deref-2.result.now ≡ squeezed c.args.line.now = c.deref-2.ensures.value ∙ c.in_ok-placed.ensures in
+    let placed : c.deref-2.result.now ≡ squeezed c.args.line.now = c.deref-2.ensures.value ∙ c.in_ok-squeeze.ensures in
     let n = c.in-Some-line_number in
     deletes n.number (numbered c.args.line.now n.number [] c.in_ok-check_bytes.ensures n.ensures.0 (rw placed at n.ensures.1)
     (rw placed at n.ensures.2 ∙ is_empty n.text.now (sym c.if-is_empty.ensures)))
 
-pub returns-in_err-read_line_statement : goal.returns-in_err-read_line_statement
-returns-in_err-read_line_statement c =
-    let placed : c.deref-2.result.now ≡ squeezed c.args.line.now = c.deref-2.ensures.value ∙ c.in_ok-placed.ensures in
+pub returns-in_err-statement : goal.returns-in_err-statement
+returns-in_err-statement c =
+    let placed : c.deref-2.result.now ≡ squeezed c.args.line.now = c.deref-2.ensures.value ∙ c.in_ok-squeeze.ensures in
     let n = c.in-Some-line_number in
     let is = numbered c.args.line.now n.number n.text.now c.in_ok-check_bytes.ensures n.ensures.0 (rw placed at n.ensures.1) (rw placed at n.ensures.2) in
-    let p = err_from_is_err_and c.from_residual-in_err-read_line_statement.result c.from_residual-in_err-read_line_statement.ensures.1 in
-    rw (p.1, p.2) (line_unread c.args.line.now n.number n.text.now c.in_err-read_line_statement.field-0.0 is (not_empty n.text.now (sym c.if-is_empty.ensures)) c.in_err-read_line_statement.ensures)
+    let p = err_from_is_err_and c.from_residual-in_err-statement.result c.from_residual-in_err-statement.ensures.1 in
+    rw (p.1, p.2) (line_unread c.args.line.now n.number n.text.now c.in_err-statement.field-0.0 is (not_empty n.text.now (sym c.if-is_empty.ensures)) c.in_err-statement.ensures)
 
 pub returns : goal.returns
 returns c =
-    let placed : c.deref-2.result.now ≡ squeezed c.args.line.now = c.deref-2.ensures.value ∙ c.in_ok-placed.ensures in
+    let placed : c.deref-2.result.now ≡ squeezed c.args.line.now = c.deref-2.ensures.value ∙ c.in_ok-squeeze.ensures in
     let n = c.in-Some-line_number in
     let is = numbered c.args.line.now n.number n.text.now c.in_ok-check_bytes.ensures n.ensures.0 (rw placed at n.ensures.1) (rw placed at n.ensures.2) in
-    sets n.number n.text.now (statement_of c.in_ok-read_line_statement.field-0) is (not_empty n.text.now (sym c.if-is_empty.ensures)) c.in_ok-read_line_statement.ensures
+    sets n.number n.text.now (statement_of c.in_ok-statement.statement) is (not_empty n.text.now (sym c.if-is_empty.ensures)) c.in_ok-statement.ensures

@@ -1,4 +1,4 @@
--- What holds at each turn of the loops of `select` in src/selecting.rt.
+-- What holds at each turn of the loops of `select_in` in src/selecting.rt.
 use Rattle.std.proofs.Common.{◌≡◌, ◌++◌, map, length}
 use Rattle.tb_lower.specs.PlainData.{instr_of}
 use Rattle.tb_selection.specs.Groups.{expand_all}
@@ -7,7 +7,7 @@ use Rattle.tb_selection.specs.Liveness.{live}
 use Rattle.tb_selection.specs.Select.{select}
 use Rattle.tb_selection.specs.PlainData.{group_of, groups_in, in_order}
 use Rattle.tb_selection.proofs.Stacked.{onto}
-use Rattle.tb_selection.proofs.selecting.select.Given as goal
+use Rattle.tb_selection.proofs.selecting.select_in.Given as goal
 
 abbrev pub invariant-loop-instr : goal.invariant-loop-instr
 invariant-loop-instr l =
