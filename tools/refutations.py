@@ -154,8 +154,12 @@ CHANGES = [
         ("9d 00 c1 a9 .. 9d 00 c3", ".. .. 01" + " .." * 5),
         ("bd 00 c1 8d 66 c0 bd 00 c3", ".. .. 01" + " .." * 6),
     ]),
-    Change("last_entry_skipped", "the search is told of one line of two", "goes_to_sum", [
+    Change("last_entry_skipped", "JMP over the last comparison, and the search is told of one line of two", "goes_to_sum", [
+        ("c9 14 d0 0f e0 00 d0 0b", "4c @+19" + " .." * 5),
         ("a9 02 8d 6a c0", ".. 01 .. .. .."),
+    ]),
+    Change("high_byte_for_low", "CPX #0 instead of CMP #10: the comparison with line 10 looks at the high byte alone", "goes_to_sum", [
+        ("c9 0a d0 0f e0 00 d0 0b", "e0 00" + " .." * 6),
     ]),
     Change("poll_at_jump_alone", "JMP over the poll of line 10, which doesn't jump, and what is done for the STOP key", "prints_forever", [
         ("line10: 20 e4 ff c9 03 d0 09", "4c @+16" + " .." * 4),

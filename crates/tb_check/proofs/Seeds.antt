@@ -12,7 +12,8 @@ use Rattle.tb_selection.specs.Select.{select}
 use Rattle.tb_runtime16.specs.Addresses.{PROLOGUE_AT, RANDOM_AT, RESULT}
 use Rattle.tb_templates.specs.Breaks.{some_leaves, polled, behind}
 use Rattle.tb_templates.specs.GroupTemplates.{group_template, handed, lined, may_have_none}
-use Rattle.tb_templates.specs.Program.{block_code, find_code, line_code, lines_code, list_code, past_code, program_code, rest_code, table_code}
+use Rattle.tb_templates.specs.Search.{compares, find_code}
+use Rattle.tb_templates.specs.Program.{block_code, line_code, lines_code, list_code, past_code, program_code, rest_code, table_code}
 use Rattle.tb_templates.specs.Sources.{destination_at, source_of}
 use Rattle.tb_templates.specs.Templates.{here}
 use Rattle.tb_templates.specs.declared.labels.Target.TheVariants.{Line}
@@ -63,7 +64,7 @@ module _ (ns : List ℕ) (seed other : ℕ) where
 program_alike : (seed other : ℕ) (code : SlotCode) → Alike (program_code seed code) (program_code other code)
 program_alike seed other code =
     let ns = numbers code in
-    let after = past_code ns ++ (find_code ns ++ table_code ns) in
+    let after = past_code ns ++ (find_code (compares code) ns ++ table_code ns) in
     join block_code block_code (lines_code ns seed code ++ after) (lines_code ns other code ++ after) refl
     (join (lines_code ns seed code) (lines_code ns other code) after after (lines ns seed other code) refl)
 

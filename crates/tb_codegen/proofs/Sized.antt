@@ -22,8 +22,10 @@ use Rattle.tb_settling.proofs.Forms.{forms_most, items_size, kept_forms, settled
 use Rattle.tb_templates.specs.declared.labels.Target.TheVariants.{Past, Table}
 use Rattle.tb_templates.specs.Labels.{label_of}
 use Rattle.tb_templates.specs.Sizes.{room, list_room}
-use Rattle.tb_templates.specs.Program.{past_code, find_code, table_code, block_code, program_code, AreCodable}
+use Rattle.tb_templates.specs.Program.{past_code, table_code, block_code, program_code, AreCodable}
+use Rattle.tb_templates.specs.Search.{compares, find_code}
 use Rattle.tb_templates.proofs.Fitting.{statement_room, program_fits}
+use Rattle.tb_templates.proofs.Prices.{program_price}
 use Rattle.tb_templates.proofs.Taken.{block_size, program_most}
 use Rattle.tb_words.specs.Words.{word_of}
 use Rattle.tb_codegen.specs.declared.compiled.Compiled.{Compiled}
@@ -110,11 +112,11 @@ cheap_fits seed p {code} {n} same stated cheap long =
     let t = subst (TakesTooMuch n seed) same long in
     let es = program_code seed (lowered.program_code p) in
     let a = program_fits p (small_spaced p (are_small p stated)) in
-    let b = program_most seed (lowered.program_code p) in
+    let b = program_most seed (lowered.program_code p) (cost p) a (program_price p) in
     let d = forms_most es t.forms (settled_forms PROLOGUE_AT es (map kept es) t.forms t.rounds (kept_forms es)) in
     let e = items_size PROLOGUE_AT t.forms in
     let f = t.past in let g = t.takes in
-    omega (arith, a, b, cheap, d, e, f, g)
+    omega (arith, b, cheap, d, e, f, g)
 
 -- ── its image ──
 module _ (seed : ℕ) {code : SlotCode} (s : IsListed code) {from : ℕ} {image : List ℕ} {labels : List (Name × ℕ)} (l : IsLaid PROLOGUE_AT (program_code seed code) from image labels) where
@@ -150,7 +152,7 @@ file_texts seed p items file g is =
     let ns = numbers code in
     let labels = labels_from PROLOGUE_AT items in
     let lines = items_from LINES_AT g.lines in
-    let tail = past_code ns ++ (find_code ns ++ table_code ns) in
+    let tail = past_code ns ++ (find_code (compares code) ns ++ table_code ns) in
     let start = PROLOGUE_AT + size block_code in
     let here : start ≡ LINES_AT = (let b = block_size in omega (arith, b)) in
     let block = bytes_from labels PROLOGUE_AT block_code in

@@ -15,6 +15,8 @@ pub mod Sending
 pub mod Conversions
 -- the laws of END, and of jumps to a line's number
 pub mod Leaving
+-- the number of a line that is sought, compared with those of lines in turn
+pub mod Comparing
 -- the laws of jumps to a line whose number is a word
 pub mod Finding
 -- a return that is stored or taken in line: the code's pieces, and what they leave in memory

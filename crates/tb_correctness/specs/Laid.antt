@@ -12,7 +12,8 @@ use Rattle.tb_runtime16.specs.Block.{block_bytes}
 use Rattle.tb_settling.specs.Settled.{AreFormsOf}
 use Rattle.tb_templates.specs.declared.labels.Target.TheVariants as target
 use Rattle.tb_templates.specs.Templates.{next_line}
-use Rattle.tb_templates.specs.Program.{line_code, past_code, find_code, table_code}
+use Rattle.tb_templates.specs.Program.{line_code, past_code, table_code}
+use Rattle.tb_templates.specs.Search.{compares, find_code}
 use Rattle.tb_reaching.specs.View.{Part, Bytes}
 use Rattle.tb_simulation.specs.Layout.{Lies, label_address, place_address, layout_of}
 
@@ -47,8 +48,8 @@ pub record Laid (labels : List (Name × ℕ)) (seed : ℕ) (code : Part) (progra
   pub lines : (n : ℕ) (is : List Instr) → content_at program n ≡ Some is → LineLies labels code (numbers program) seed n is
   pub past : Lies code labels (label_address labels target.Past) (past_code (numbers program))
   pub past_clear : IsClear labels (numbers program) (label_address labels target.Past) (past_code (numbers program))
-  pub find : Lies code labels (label_address labels target.Find) (find_code (numbers program))
-  pub find_clear : IsClear labels (numbers program) (label_address labels target.Find) (find_code (numbers program))
+  pub find : Lies code labels (label_address labels target.Find) (find_code (compares program) (numbers program))
+  pub find_clear : IsClear labels (numbers program) (label_address labels target.Find) (find_code (compares program) (numbers program))
   pub table : Lies code labels (label_address labels target.Table) (table_code (numbers program))
   pub table_clear : IsClear labels (numbers program) (label_address labels target.Table) (table_code (numbers program))
   -- the lines begin after the block

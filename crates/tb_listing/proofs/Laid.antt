@@ -20,7 +20,8 @@ use Rattle.tb_settling.proofs.Forms.{forms_size, items_size, size_append, split,
 use Rattle.tb_templates.specs.declared.labels.Target.TheVariants.{Line}
 use Rattle.tb_templates.specs.Labels.{label_of}
 use Rattle.tb_templates.specs.Layout.{LabelsAt}
-use Rattle.tb_templates.specs.Program.{line_code, lines_code, past_code, find_code, table_code, block_code, program_code}
+use Rattle.tb_templates.specs.Search.{compares, find_code}
+use Rattle.tb_templates.specs.Program.{line_code, lines_code, past_code, table_code, block_code, program_code}
 use Rattle.tb_templates.proofs.Settled.{Sections, sections, labels_behind, line_at, some_bytes, total_size}
 use Rattle.tb_templates.proofs.Taken.{block_size}
 use Rattle.tb_codegen.specs.declared.compiled.Compiled.{Compiled}
@@ -82,7 +83,7 @@ are_laid seed ls c stated rises h =
     let g : Sections seed code h.items labels = sections seed code s.lists s.rising h.items
     (settled_by PROLOGUE_AT (program_code seed code) h.items h.settled (settled_reaches PROLOGUE_AT (program_code seed code) h.items h.settled)) in
     let own = items_from LINES_AT g.lines in
-    let past = past_code ns in let find = find_code ns in let rows = table_code ns in
+    let past = past_code ns in let find = find_code (compares code) ns in let rows = table_code ns in
     let table : table_of c ≡ LINES_AT + forms_size g.lines + size past + size find = ap (λ o. unwrap_or o 0) (sym h.table ∙ g.table) in
     let all : size h.items ≡ size block_code + (size own + (size past + (size find + size rows))) =
     ap size g.are ∙ size_append block_code (own ++ (past ++ (find ++ rows)))

@@ -5,7 +5,7 @@ use Rattle.tb_opcodes.specs.declared.Mode.{Mode}
 use Rattle.tb_opcodes.specs.declared.Mode.TheVariants.{Implied, Accumulator, Immediate}
 use Rattle.tb_asm.specs.Layout.{Entry, instr, size_of, number_in}
 use Rattle.tb_disasm.specs.Listing.{line_at}
-use Rattle.tb_runtime16.specs.Addresses.{PROLOGUE_AT, LINES_AT, RETURN_LOW, entry_of}
+use Rattle.tb_runtime16.specs.Addresses.{PROLOGUE_AT, LINES_AT, RETURN_LOW, WANTED}
 use Rattle.tb_runtime16.specs.declared.addresses.Routine.TheVariants.{Push, Text}
 use Rattle.tb_codegen.specs.Compiled.{pair_of}
 use Rattle.tb_listing.specs.declared.pieces.Kind.{Kind}
@@ -15,7 +15,7 @@ use Rattle.tb_listing.specs.declared.pieces.Named.TheVariants.{Nothing, Whole, L
 use Rattle.tb_listing.specs.declared.pieces.Piece.{Piece}
 use Rattle.tb_listing.specs.declared.pieces.Program.{Program}
 use Rattle.tb_listing.specs.declared.pieces.Span.{Span}
-use Rattle.tb_listing.specs.declared.sizes.TheConstants.{BLOCK_SIZE, FAULT_SIZE, POWERS_SIZE, ROW_SIZE, SEARCH_SIZE, WORD}
+use Rattle.tb_listing.specs.declared.sizes.TheConstants.{ASKED_SIZE, BLOCK_SIZE, COMPARED_SIZE, FAULT_SIZE, LOOK_UP_SIZE, ROW_SIZE, TOO_MANY_LINES, WORD}
 use Rattle.tb_listing.specs.Bytes.{back, forth, last, word_in, pair_in, is_at, is_call}
 
 -- ── a program ──
@@ -29,9 +29,25 @@ pub record Plan : Type 0 where
 abbrev pub plan_of : Program → Plan
 plan_of p = record { image = p.image.now; starts = map pair_of p.starts.now; table = p.table }
 
--- where the search for a line is, before the line table
+-- where the search in the line table is, before the table
+abbrev pub look_up : Plan → ℕ
+look_up p = back p.table LOOK_UP_SIZE
+
+-- where the comparisons with the lines' numbers begin, if there are any
+abbrev pub comparisons : Plan → ℕ
+comparisons p = back (look_up p) (ASKED_SIZE + COMPARED_SIZE * length p.starts)
+
+-- the bytes of the image from an address on
+abbrev pub bytes_from : Plan → ℕ → List ℕ
+bytes_from p at = last (length p.image - back at PROLOGUE_AT) p.image
+
+-- whether the number of the line that is sought is loaded here
+abbrev pub asks_for_wanted : List ℕ → Bool
+asks_for_wanted rest = is_at rest 0 0xAD && (eqb (word_in rest 1) WANTED && (is_at rest 3 0xAE && eqb (word_in rest 4) (WANTED + 1)))
+
+-- where the search for a line is: its comparisons, if it begins with these
 abbrev pub search : Plan → ℕ
-search p = back p.table SEARCH_SIZE
+search p = if nat_lt (length p.starts) TOO_MANY_LINES && asks_for_wanted (bytes_from p (comparisons p)) then comparisons p else look_up p
 
 -- where fault 7 is, between the last line and the search
 abbrev pub past : Plan → ℕ
@@ -49,7 +65,7 @@ hands_to_text rest = is_at rest 6 0x85 && (is_at rest 8 0xA9 && (is_at rest 10 0
 -- whether an address is loaded byte by byte into page zero: for the search, for Push, or for Text
 abbrev pub is_load : Plan → ℕ → List ℕ → Bool
 is_load p at rest =
-    is_at rest 0 0xA9 && (is_at rest 2 0x85 && (is_at rest 4 0xA9 && (nat_le 6 (length rest) && (eqb at (search p) || (hands_to_push rest || hands_to_text rest)))))
+    is_at rest 0 0xA9 && (is_at rest 2 0x85 && (is_at rest 4 0xA9 && (nat_le 6 (length rest) && (eqb at (look_up p) || (hands_to_push rest || hands_to_text rest)))))
 
 -- whether the address of the line to return to is loaded byte by byte, each stored in the list of returns
 abbrev pub is_load_by_x : List ℕ → Bool
@@ -96,12 +112,11 @@ text_here text at rest =
 abbrev pub block_end : ℕ
 block_end = PROLOGUE_AT + BLOCK_SIZE
 
--- how many bytes of data begin here, by the text that was found last: of a text, of Number's powers of ten, and of what
--- lies between the block and the lines; 0 for code and for the line table
+-- how many bytes of data begin here, by the text that was found last: of a text, and of what lies between the block and
+-- the lines; 0 for code and for the line table
 abbrev pub data_size : Span → ℕ → ℕ
 data_size text at =
     if eqb at text.from then text.to - text.from else
-    if eqb at (entry_of Text - 2 * POWERS_SIZE) || eqb at (entry_of Text - POWERS_SIZE) then POWERS_SIZE else
     if eqb at block_end then LINES_AT - block_end else 0
 
 -- what comes first

@@ -1,25 +1,19 @@
 -- The sizes of code by which a listing finds its way are those of the templates and of the block.
-use Rattle.std.specs.Prelude.{◌≡◌, ℕ, ◌+◌, ◌*◌, List, length}
+use Rattle.std.specs.Prelude.{◌≡◌, ℕ, ◌+◌, ◌*◌, true, false, List, length}
 use Rattle.tb_asm.specs.Layout.{size}
-use Rattle.tb_runtime16.specs.Addresses.{entry_of}
 use Rattle.tb_runtime16.specs.Block.{block_bytes}
-use Rattle.tb_runtime16.specs.declared.addresses.Routine.TheVariants.{Text}
-use Rattle.tb_runtime16.specs.declared.targets.TheConstants.{POWERS_LOW, POWERS_HIGH}
-use Rattle.tb_templates.specs.Program.{find_code, past_code, row_code}
-use Rattle.tb_listing.specs.declared.sizes.TheConstants.{BLOCK_SIZE, FAULT_SIZE, POWERS_SIZE, ROW_SIZE, SEARCH_SIZE, WORD}
+use Rattle.tb_templates.specs.Program.{past_code, row_code}
+use Rattle.tb_templates.specs.Search.{find_code, too_many_lines}
+use Rattle.tb_listing.specs.declared.sizes.TheConstants.{ASKED_SIZE, BLOCK_SIZE, COMPARED_SIZE, FAULT_SIZE, LOOK_UP_SIZE, ROW_SIZE, TOO_MANY_LINES, WORD}
 
 -- what follows the lines: fault 7, the search, and the rows of the line table, each of two words
 pub record AfterTheLines : Type 0 where
   pub past : (ns : List ℕ) → size (past_code ns) ≡ FAULT_SIZE
-  pub search : (ns : List ℕ) → size (find_code ns) ≡ SEARCH_SIZE
+  pub look_up : (ns : List ℕ) → size (find_code false ns) ≡ LOOK_UP_SIZE
+  pub compared : (ns : List ℕ) → size (find_code true ns) ≡ ASKED_SIZE + COMPARED_SIZE * length ns + LOOK_UP_SIZE
+  pub few : too_many_lines ≡ TOO_MANY_LINES
   pub row : (n : ℕ) → size (row_code n) ≡ ROW_SIZE
   pub words : ROW_SIZE ≡ WORD + WORD
-
--- Number's powers of ten: their low bytes, their high bytes, and then Text
-abbrev pub PowersStand : Type 0
-PowersStand =
-    (POWERS_LOW.0 + 256 * POWERS_LOW.1 + POWERS_SIZE ≡ POWERS_HIGH.0 + 256 * POWERS_HIGH.1)
-    × (POWERS_HIGH.0 + 256 * POWERS_HIGH.1 + POWERS_SIZE ≡ entry_of Text)
 
 -- the block has as many bytes
 abbrev pub BlockStands : Type 0
@@ -27,4 +21,4 @@ BlockStands = length block_bytes ≡ BLOCK_SIZE
 
 -- all of these
 abbrev pub AreSizesOfCode : Type 0
-AreSizesOfCode = AfterTheLines × (PowersStand × BlockStands)
+AreSizesOfCode = AfterTheLines × BlockStands

@@ -6,13 +6,15 @@ ghost use Rattle.tb_listing.specs.PlaceNames.{address_named};
 ghost use Rattle.tb_listing.specs.Pieces.{plan_of, row_of, rows_of};
 
 use crate::bytes::{behind, forth, is_at, is_call, last, pair_in, word_in};
-use crate::sizes::{BLOCK_SIZE, FAULT_SIZE, POWERS_SIZE, ROW_SIZE, SEARCH_SIZE, WORD};
+use crate::sizes::{
+    ASKED_SIZE, BLOCK_SIZE, COMPARED_SIZE, FAULT_SIZE, LOOK_UP_SIZE, ROW_SIZE, TOO_MANY_LINES, WORD,
+};
 use std::alloc::{AllocError, Global};
 use tb_asm::Operand;
 use tb_codegen::LineStart;
 use tb_disasm::{Content, first_line};
 use tb_opcodes::Mode;
-use tb_runtime16::{BLOCK_AT, LINES_AT, RETURN_LOW, Routine, entry};
+use tb_runtime16::{BLOCK_AT, LINES_AT, RETURN_LOW, Routine, WANTED, entry};
 
 // The opcodes by which the code that loads addresses and texts is found.
 const JMP: u8 = 0x4c;
@@ -25,6 +27,10 @@ const STA_BY_X: u8 = 0x9d;
 
 const LDA_NUMBER: u8 = 0xa9;
 
+const LDA: u8 = 0xad;
+
+const LDX: u8 = 0xae;
+
 /// A compiled program: the bytes after its BASIC line, where its lines begin, and where its line table does.
 #[derive(Clone, Copy, Drop)]
 pub struct Program<'a> {
@@ -34,11 +40,41 @@ pub struct Program<'a> {
 }
 
 impl Program<'_> {
-    /// The address of the search for a line in the line table.
+    /// The address of the search in the line table, before the table.
+    pub fn look_up(&self) -> u16
+        ensures { result ≡ plans.look_up (plan_of self.now) }
+    {
+        self.table.wrapping_sub(LOOK_UP_SIZE)
+    }
+
+    // Where the comparisons with the lines' numbers begin, if there are any: before the search in the line table.
+    fn comparisons(&self) -> u16
+        requires { length self.now.starts.now < 64 }
+        ensures { result ≡ plans.comparisons (plan_of self.now) }
+    {
+        let size = ASKED_SIZE + COMPARED_SIZE * self.starts.len() as u16;
+        self.look_up().wrapping_sub(size)
+    }
+
+    // The bytes of the image from an address on.
+    fn bytes_from(&self, at: u16) -> &[u8]
+        ensures { result.now ≡ plans.bytes_from (plan_of self.now) at }
+    {
+        let offset = usize::from(at.wrapping_sub(BLOCK_AT));
+        last(self.image, self.image.len().saturating_sub(offset))
+    }
+
+    /// The address of the search for a line: of its comparisons, if it begins with these.
     pub fn search(&self) -> u16
         ensures { result ≡ plans.search (plan_of self.now) }
     {
-        self.table.wrapping_sub(SEARCH_SIZE)
+        if self.starts.len() < TOO_MANY_LINES
+            && asks_for_wanted(self.bytes_from(self.comparisons()))
+        {
+            self.comparisons()
+        } else {
+            self.look_up()
+        }
     }
 
     /// The address of fault 7, between the last line and the search.
@@ -182,11 +218,8 @@ fn data_size(text: Span, at: u16) -> u16
     ensures { result ≡ plans.data_size text at }
 {
     let block_end = BLOCK_AT + BLOCK_SIZE;
-    let behind_number = entry(Routine::Text);
     if at == text.from {
         text.to.saturating_sub(text.from)
-    } else if at == behind_number - 2 * POWERS_SIZE || at == behind_number - POWERS_SIZE {
-        POWERS_SIZE
     } else if at == block_end {
         LINES_AT.saturating_sub(block_end)
     } else {
@@ -272,7 +305,17 @@ fn is_load(program: &Program<'_>, at: u16, rest: &[u8]) -> bool
         && is_at(rest, 2, STA_PAGE_ZERO)
         && is_at(rest, 4, LDA_NUMBER)
         && 6 <= rest.len()
-        && (at == program.search() || hands_to_push(rest) || hands_to_text(rest))
+        && (at == program.look_up() || hands_to_push(rest) || hands_to_text(rest))
+}
+
+// Whether the number of the line that is sought is loaded here.
+fn asks_for_wanted(rest: &[u8]) -> bool
+    ensures { result ≡ plans.asks_for_wanted rest.now }
+{
+    is_at(rest, 0, LDA)
+        && word_in(rest, 1) == WANTED
+        && is_at(rest, 3, LDX)
+        && word_in(rest, 4) == WANTED + 1
 }
 
 // Whether, after both loads, STA to page zero and JSR Push follow.

@@ -1,8 +1,17 @@
-//! The sizes of code by which a listing finds its way: of what follows a program's lines, and of the tables in Number.
+//! The sizes of code by which a listing finds its way: of the block, and of what follows a program's lines.
 ghost use Rattle.tb_listing.specs.Sizes.{AreSizesOfCode};
 
-/// How many bytes the search for a line takes, which lies before the line table.
-pub const SEARCH_SIZE: u16 = 21;
+/// How many bytes the search in the line table takes, which lies before the table.
+pub const LOOK_UP_SIZE: u16 = 21;
+
+/// How many bytes the loads of the number that is sought take, with which a search that compares numbers begins.
+pub const ASKED_SIZE: u16 = 6;
+
+/// How many bytes a comparison with the number of a line takes.
+pub const COMPARED_SIZE: u16 = 19;
+
+/// Programs with fewer lines may have their numbers compared.
+pub const TOO_MANY_LINES: usize = 64;
 
 /// How many bytes the code of fault 7 takes, after the last line.
 pub const FAULT_SIZE: u16 = 9;
@@ -15,9 +24,6 @@ pub const ROW_SIZE: u16 = 4;
 
 /// How many bytes a word takes.
 pub const WORD: usize = 2;
-
-/// How many bytes the low bytes of Number's powers of ten take, and also the high ones. They follow its code.
-pub const POWERS_SIZE: u16 = 4;
 
 /// Each of these sizes is that of its template, or of its part of the block.
 pub fn sizes_are_those_of_code()

@@ -11,7 +11,7 @@ use Rattle.tb_refutations.specs.Statements.{IsRefuted}
 use Rattle.tb_refutations.specs.Changed.{end_that_loops, loop_that_returns, end_without_break, break_in_line_20, line_10_left_out}
 use Rattle.tb_refutations.specs.Changed.{end_without_cld, variables_uncleared, quotient_before_text, folded_to_zero, quotient_left_zero}
 use Rattle.tb_refutations.specs.Changed.{digit_in_rom_memory, digit_below_s, text_counted_in_x, line_dropped_at_comma, calls_by_jsr}
-use Rattle.tb_refutations.specs.Changed.{notes_below_s, last_entry_skipped, poll_at_jump_alone, poll_after_if}
+use Rattle.tb_refutations.specs.Changed.{notes_below_s, last_entry_skipped, high_byte_for_low, poll_at_jump_alone, poll_after_if}
 use Rattle.tb_refutations.specs.Programs.{ends, goto_itself, prints_two, prints_variable, prints_and_faults, prints_quotient}
 use Rattle.tb_refutations.specs.Programs.{goes_nowhere, inputs_two, calls_itself, calls_and_returns, goes_to_sum, prints_forever}
 use Rattle.tb_refutations.specs.Programs.{prints_if_zero}
@@ -162,7 +162,12 @@ returns_kept_on_page_one_below_s = sends_wrong notes_below_s calls_and_returns 1
 -- it finds no line 20
 pub search_skips_last_entry : IsRefuted last_entry_skipped goes_to_sum
 unfolding decoded
-search_skips_last_entry = sends_after last_entry_skipped goes_to_sum 1 plain refl 370 (fault_text 1 10) refl 2 refl
+search_skips_last_entry = sends_after last_entry_skipped goes_to_sum 1 plain refl 380 (fault_text 1 10) refl 2 refl
+
+-- the second answer is a break, in line 10 again
+pub comparison_looks_at_the_high_byte : IsRefuted high_byte_for_low goes_to_sum
+unfolding decoded
+comparison_looks_at_the_high_byte = sends_after high_byte_for_low goes_to_sum 1 (answering (0 ∷ 3 ∷ [])) refl 420 (fault_text 0 10) refl 2 refl
 
 -- the break comes in line 20
 pub poll_only_at_jumps : IsRefuted poll_at_jump_alone prints_forever

@@ -45,7 +45,7 @@ abbrev pub quotient_before_text : List ℕ
 quotient_before_text = changed prints_and_faults_image 0x0c11 (
     0x0a ∷ 0x8d ∷ 0x3a ∷ 0xc0 ∷ 0xa9 ∷ 0x00 ∷ 0x8d ∷ 0x3b ∷ 0xc0 ∷ 0xa9 ∷ 0x01 ∷ 0x85 ∷ 0xfb ∷ 0xa9 ∷ 0x00 ∷ 0x85 ∷ 0xfc ∷ 0xa9 ∷ 0x00 ∷ 0x85 ∷
     0xfd ∷ 0xa9 ∷ 0x00 ∷ 0x85 ∷ 0xfe ∷ 0x20 ∷ 0x2e ∷ 0x08 ∷ 0xa5 ∷ 0xfb ∷ 0x8d ∷ 0x40 ∷ 0xc0 ∷ 0xa5 ∷ 0xfc ∷ 0x8d ∷ 0x41 ∷ 0xc0 ∷ 0xa9 ∷ 0x4a ∷
-    0x85 ∷ 0xfb ∷ 0xa9 ∷ 0x0c ∷ 0x85 ∷ 0xfc ∷ 0xa9 ∷ 0x01 ∷ 0x8d ∷ 0x6c ∷ 0xc0 ∷ 0x20 ∷ 0xd0 ∷ 0x09 ∷ 0x4c ∷ 0x4b ∷ 0x0c ∷ 0x41 ∷ [])
+    0x85 ∷ 0xfb ∷ 0xa9 ∷ 0x0c ∷ 0x85 ∷ 0xfc ∷ 0xa9 ∷ 0x01 ∷ 0x8d ∷ 0x6c ∷ 0xc0 ∷ 0x20 ∷ 0xd9 ∷ 0x09 ∷ 0x4c ∷ 0x4b ∷ 0x0c ∷ 0x41 ∷ [])
 
 -- 0 instead of 1, and three NOP instead of the division
 abbrev pub folded_to_zero : List ℕ
@@ -93,7 +93,7 @@ digit_below_s = changed (changed goes_nowhere_image 0x0bb7 (0x80 ∷ 0x01 ∷ []
 
 -- LDX and DEX instead of LDA and DEC: the bytes left are counted in X over CHROUT
 abbrev pub text_counted_in_x : List ℕ
-text_counted_in_x = changed (changed prints_two_image 0x09d0 (0xae ∷ [])) 0x09e2 (0xca ∷ 0xea ∷ 0xea ∷ [])
+text_counted_in_x = changed (changed prints_two_image 0x09d9 (0xae ∷ [])) 0x09eb (0xca ∷ 0xea ∷ 0xea ∷ [])
 
 -- a comma drops the rest of the line by a loop in place of the unused Poll, and ends it
 abbrev pub line_dropped_at_comma : List ℕ
@@ -108,9 +108,13 @@ calls_by_jsr = changed calls_itself_image 0x0c07 (0x20 ∷ 0x00 ∷ 0x0c ∷ [])
 abbrev pub notes_below_s : List ℕ
 notes_below_s = changed (changed calls_and_returns_image 0x0c13 (0x01 ∷ [])) 0x0c6d (0x01 ∷ [])
 
--- the search is told of one line of two
+-- JMP over the last comparison, and the search is told of one line of two
 abbrev pub last_entry_skipped : List ℕ
-last_entry_skipped = changed goes_to_sum_image 0x0c60 (0x01 ∷ [])
+last_entry_skipped = changed (changed goes_to_sum_image 0x0c70 (0x4c ∷ 0x83 ∷ 0x0c ∷ [])) 0x0c8c (0x01 ∷ [])
+
+-- CPX #0 instead of CMP #10: the comparison with line 10 looks at the high byte alone
+abbrev pub high_byte_for_low : List ℕ
+high_byte_for_low = changed goes_to_sum_image 0x0c5d (0xe0 ∷ 0x00 ∷ [])
 
 -- JMP over the poll of line 10, which doesn't jump, and what is done for the STOP key
 abbrev pub poll_at_jump_alone : List ℕ
@@ -118,7 +122,7 @@ poll_at_jump_alone = changed prints_forever_image 0x0c00 (0x4c ∷ 0x10 ∷ 0x0c
 
 -- the text's call goes by way of one more poll, in place of the unused Poll
 abbrev pub poll_after_if : List ℕ
-poll_after_if = changed (changed prints_if_zero_image 0x0c28 (0xf3 ∷ 0x0b ∷ [])) 0x0bf9 (0x03 ∷ 0x4c ∷ 0xd0 ∷ 0x09 ∷ 0x4c ∷ 0x07 ∷ 0x0c ∷ [])
+poll_after_if = changed (changed prints_if_zero_image 0x0c28 (0xf3 ∷ 0x0b ∷ [])) 0x0bf9 (0x03 ∷ 0x4c ∷ 0xd9 ∷ 0x09 ∷ 0x4c ∷ 0x07 ∷ 0x0c ∷ [])
 
 -- where the line table of END begins, as if its line began there
 abbrev pub line_table : ℕ → ℕ

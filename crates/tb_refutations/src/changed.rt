@@ -12,7 +12,7 @@ ghost use Rattle.tb_refutations.specs.Changed.{high_byte_ignored};
 ghost use Rattle.tb_refutations.specs.Changed.{upper_byte_rounded_down};
 ghost use Rattle.tb_refutations.specs.Changed.{digit_in_rom_memory, digit_below_s, text_counted_in_x};
 ghost use Rattle.tb_refutations.specs.Changed.{line_dropped_at_comma, calls_by_jsr, notes_below_s, last_entry_skipped};
-ghost use Rattle.tb_refutations.specs.Changed.{poll_at_jump_alone, poll_after_if};
+ghost use Rattle.tb_refutations.specs.Changed.{high_byte_for_low, poll_at_jump_alone, poll_after_if};
 ghost use Rattle.tb_refutations.specs.Programs.{ends, goto_itself, prints_two, prints_variable, prints_and_faults};
 ghost use Rattle.tb_refutations.specs.Programs.{prints_negative_quotient, compares_far};
 ghost use Rattle.tb_refutations.specs.Programs.{prints_if_below_256};
@@ -146,6 +146,11 @@ pub fn returns_kept_on_page_one_below_s()
 /// A computed GOTO does not find the last line.
 pub fn search_skips_last_entry()
     ensures { IsRefuted last_entry_skipped goes_to_sum }
+{}
+
+/// A computed GOTO goes to the first line whose number has the same high byte.
+pub fn comparison_looks_at_the_high_byte()
+    ensures { IsRefuted high_byte_for_low goes_to_sum }
 {}
 
 /// A line that does not jump takes no break.

@@ -7,7 +7,7 @@ use Rattle.tb_words.specs.Words.{word}
 use Rattle.tb_meaning.specs.Control.{has_line, highest, next_after}
 use Rattle.tb_lower.specs.Slots as slots
 use Rattle.tb_kernal.specs.declared.rom.TheConstants.{CHROUT}
-use Rattle.tb_runtime16.specs.Addresses.{POINTER, RESULT, TABLE, COUNT, LENGTH, COLUMN, TEXT_AT, ZONE_AT, INPUT_AT, SEARCH_AT, FAULT_LINE_AT, POLL_AT}
+use Rattle.tb_runtime16.specs.Addresses.{POINTER, RESULT, TABLE, COUNT, WANTED, LENGTH, COLUMN, TEXT_AT, ZONE_AT, INPUT_AT, SEARCH_AT, FAULT_LINE_AT, POLL_AT}
 use Rattle.tb_templates.specs.Templates.{var_at, slot_at}
 use Rattle.tb_opcodes.specs.Bytes.{AreBytes}
 use Rattle.tb_simulation.specs.Layout.{Layout, place_address}
@@ -123,5 +123,28 @@ Lies code at (p ∷ ps) = (at + piece_size p ≤ highest_code) × PieceLies code
 abbrev pub past_code : Layout → List Piece
 past_code ly = Code (faulting (highest ly.numbers) 7) ∷ []
 
-abbrev pub find_code : Layout → List Piece
-find_code ly = Code (pointed ly.table TABLE) ∷ Code (constant (length ly.numbers) COUNT) ∷ Code (jump SEARCH_AT) ∷ []
+-- on to the next comparison unless the number in A and X is this line's
+abbrev pub differing : ℕ → List Instr
+differing n = ins 0xC9 (n % 256) ∷ ins 0xD0 15 ∷ ins 0xE0 (n / 256) ∷ ins 0xD0 11 ∷ []
+
+-- back to the caller
+abbrev pub back : List Instr
+back = ins 0x60 0 ∷ []
+
+-- the number is compared with those of these lines, before other pieces
+abbrev pub all_compared : Layout → List ℕ → List Piece → List Piece
+all_compared ly [] ps = ps
+all_compared ly (n ∷ ns) ps = Code (differing n) ∷ Code (constant (ly.start n) RESULT) ∷ Code back ∷ all_compared ly ns ps
+
+-- the number that is sought, in A and X
+abbrev pub asked : List Instr
+asked = ins 0xAD WANTED ∷ ins 0xAE (WANTED + 1) ∷ []
+
+-- the search in the line table
+abbrev pub looked_up : Layout → List Piece
+looked_up ly = Code (pointed ly.table TABLE) ∷ Code (constant (length ly.numbers) COUNT) ∷ Code (jump SEARCH_AT) ∷ []
+
+-- the search for a line, by whether numbers are compared
+abbrev pub find_code : Bool → Layout → List Piece
+find_code true ly = Code asked ∷ all_compared ly ly.numbers (looked_up ly)
+find_code false ly = looked_up ly

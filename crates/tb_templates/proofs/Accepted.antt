@@ -1,5 +1,5 @@
 -- The items of a program's code have forms that exist, and they may be moved.
-use Rattle.std.proofs.Common.{◌≡◌, ℕ, ◌+◌, Bool, true, false, List, [], ◌∷◌, ◌++◌, refl, sym, ap, ◌∙◌, is_some, true≢false, Option, Some, None}
+use Rattle.std.proofs.Common.{◌≡◌, ℕ, ◌+◌, Bool, true, false, List, [], ◌∷◌, ◌++◌, length, refl, sym, ap, ◌∙◌, is_some, true≢false, Option, Some, None}
 use Rattle.std.specs.Prelude.{◌&&◌, if◌then◌else◌, nat_lt}
 use Rattle.std.specs.List.{list_all}
 use Rattle.std.proofs.lemmas.Bool.{and_from}
@@ -33,8 +33,9 @@ use Rattle.tb_templates.specs.InPlace.{Change, Increment, Decrement, Raise, Lowe
 use Rattle.tb_templates.specs.Masks.{mask}
 use Rattle.tb_templates.proofs.Divided.{asked_rest_plain, left_over_plain}
 use Rattle.tb_templates.specs.Orders.{Side, Below, NotBelow, Order, BySign, ByPositive, ByConstant, ByDifference, lifted, positive, ordered_by, signed, unless_carry, unless_negative, wanted_side, weighed}
-use Rattle.tb_templates.specs.Program.{rest_code, list_code, line_code, lines_code, past_code, find_code, rows_code, table_code, program_code}
+use Rattle.tb_templates.specs.Program.{rest_code, list_code, line_code, lines_code, past_code, rows_code, table_code, program_code}
 use Rattle.tb_templates.specs.Breaks.{polled, behind}
+use Rattle.tb_templates.specs.Search.{all_compared, compares, comparisons, find_code, looked_up}
 use Rattle.tb_settling.specs.Settled.{may_move}
 use Rattle.tb_syntax.specs.Source.{numbers}
 use Rattle.tb_templates.proofs.Listed.{by_poll, tested_by}
@@ -298,10 +299,19 @@ rows_forms : (ns : List ℕ) → list_all has_form (rows_code ns) ≡ true
 rows_forms [] = refl
 rows_forms (n ∷ ns) = rows_forms ns
 
+compared_forms : (ns : List ℕ) → list_all has_form (all_compared ns) ≡ true
+compared_forms [] = refl
+compared_forms (n ∷ ns) = compared_forms ns
+
+find_forms : (t : Bool) (ns : List ℕ) → list_all has_form (find_code t ns) ≡ true
+find_forms true ns = forms_append (comparisons true ns) (looked_up (length ns)) (compared_forms ns) refl
+find_forms false ns = refl
+
 program_forms : (seed : ℕ) (code : SlotCode) → list_all has_form (program_code seed code) ≡ true
 program_forms seed code =
-    let ns = numbers code in
-    forms_append (lines_code ns seed code) (past_code ns ++ (find_code ns ++ table_code ns)) (lines_forms ns seed code) (rows_forms ns)
+    let ns = numbers code in let search = find_code (compares code) ns in
+    forms_append (lines_code ns seed code) (past_code ns ++ (search ++ table_code ns)) (lines_forms ns seed code)
+    (forms_append search (table_code ns) (find_forms (compares code) ns) (rows_forms ns))
 
 -- each item of a program's code has a form that exists
 pub program_modes : (seed : ℕ) (code : SlotCode) → list_all has_mode (program_code seed code) ≡ true

@@ -15,6 +15,8 @@ pub mod Fitting
 pub mod Listed
 -- the labels of a whole program rise
 pub mod Ordered
+-- a program costs no less than its instructions do
+pub mod Prices
 -- instructions that name no label
 pub mod Plain
 -- groups are in range, and no more than instructions

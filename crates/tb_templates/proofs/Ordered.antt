@@ -20,7 +20,7 @@ use Rattle.tb_templates.specs.declared.labels.Inner.{Inner}
 use Rattle.tb_templates.specs.declared.labels.Inner.TheVariants as inner
 use Rattle.tb_templates.specs.Labels.{label_of, letter_of}
 use Rattle.tb_templates.specs.declared.labels.Target.{Target}
-use Rattle.tb_templates.specs.declared.labels.Target.TheVariants.{Line, Inside, Polled, Table}
+use Rattle.tb_templates.specs.declared.labels.Target.TheVariants.{Line, Inside, Polled, Find, Table}
 use Rattle.tb_templates.specs.Templates.{branch, here, var_at, template, faulted, called, jump_to, next_line, target_of, call, copied, constant}
 use Rattle.tb_templates.specs.Sources.{Source, FixedWord, AtAddress, source_of, tested_source, home_at, destination_at}
 use Rattle.tb_templates.specs.GroupTemplates.{brought, joined, handed, multiplied, divided, calculated, computed, changed_or, converted, used, equal, unequal}
@@ -32,9 +32,10 @@ use Rattle.tb_templates.specs.Masks.{mask}
 use Rattle.tb_templates.proofs.Divided.{asked_rest_plain, copied_plain, left_over_plain}
 use Rattle.tb_templates.specs.Orders.{Below, NotBelow, positive}
 use Rattle.tb_templates.specs.Orders.{Side, Order, BySign, ByPositive, ByConstant, ByDifference, lifted, ordered_by, signed, unless_carry, wanted_side, weighed}
-use Rattle.tb_templates.specs.Program.{rest_code, list_code, line_code, lines_code, past_code, find_code, rows_code, table_code, program_code, AreCodable}
+use Rattle.tb_templates.specs.Program.{rest_code, list_code, line_code, lines_code, past_code, rows_code, table_code, program_code, AreCodable}
 use Rattle.tb_templates.specs.Program.{first_of, AreInTurn}
 use Rattle.tb_templates.specs.Breaks.{polled, behind}
+use Rattle.tb_templates.specs.Search.{all_compared, compares, comparisons, find_code, looked_up}
 use Rattle.tb_templates.proofs.Listed.{tested_by, by_poll}
 use Rattle.tb_templates.proofs.Plain.{low_matched_plain, high_matched_plain, lifted_plain, plain_rises, times_plain, shifted_plain}
 use Rattle.tb_templates.proofs.Ranged.{selected_few}
@@ -346,15 +347,26 @@ rows_woven : (ns : List ℕ) (low breaks : ℕ) → Woven low breaks (rows_code 
 rows_woven [] low breaks = tt
 rows_woven (n ∷ ns) low breaks = rows_woven ns low breaks
 
+compared_woven : (ns : List ℕ) (low breaks : ℕ) (es : List Entry) → Woven low breaks es → Woven low breaks (all_compared ns ++ es)
+compared_woven [] low breaks es w = w
+compared_woven (n ∷ ns) low breaks es w = compared_woven ns low breaks es w
+
 -- what belongs to no line
-rest_woven : (ns : List ℕ) → Woven (base 65536 0) (polled_base 65536) (past_code ns ++ (find_code ns ++ table_code ns))
-rest_woven ns =
-    inl (omega arith, omega arith, inl (omega arith, omega arith, inl (omega arith, omega arith, rows_woven ns (key_of (label_of Table) + 1) (polled_base 65536))))
+rest_woven : (t : Bool) (ns : List ℕ) → Woven (base 65536 0) (polled_base 65536) (past_code ns ++ (find_code t ns ++ table_code ns))
+rest_woven t ns = inl (omega arith, omega arith, inl (omega arith, omega arith, by t))
+  where
+    table : Woven (key_of (label_of Find) + 1) (polled_base 65536) (looked_up (length ns) ++ table_code ns)
+    table = inl (omega arith, omega arith, rows_woven ns (key_of (label_of Table) + 1) (polled_base 65536))
+
+    by : (t : Bool) → Woven (key_of (label_of Find) + 1) (polled_base 65536) ((comparisons t ns ++ looked_up (length ns)) ++ table_code ns)
+    by true = subst (Woven (key_of (label_of Find) + 1) (polled_base 65536)) (sym (append_assoc (all_compared ns) (looked_up (length ns)) (table_code ns)))
+        (compared_woven ns (key_of (label_of Find) + 1) (polled_base 65536) (looked_up (length ns) ++ table_code ns) table)
+    by false = table
 
 -- the labels of a whole program rise in their two orders
 pub program_woven : (seed : ℕ) (code : SlotCode) → Rises 0 65536 (numbers code) → AreCodable code → Woven lowest 0 (program_code seed code)
 program_woven seed code r c =
     let ns = numbers code in
-    let rest = past_code ns ++ (find_code ns ++ table_code ns) in
+    let rest = past_code ns ++ (find_code (compares code) ns ++ table_code ns) in
     woven_lower lowest lowest 0 (polled_base 0) (lines_code ns seed code ++ rest) (omega arith) (omega arith)
-    (lines_woven ns seed 0 code rest (omega arith) r c (rest_woven ns))
+    (lines_woven ns seed 0 code rest (omega arith) r c (rest_woven (compares code) ns))

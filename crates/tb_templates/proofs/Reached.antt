@@ -1,5 +1,5 @@
 -- Each label that a program's code names is known.
-use Rattle.std.proofs.Common.{◌≡◌, ℕ, ◌+◌, ◌%◌, ◌/◌, Bool, true, false, List, [], ◌∷◌, ◌++◌, refl, sym, ap, arith, subst}
+use Rattle.std.proofs.Common.{◌≡◌, ℕ, ◌+◌, ◌%◌, ◌/◌, Bool, true, false, List, [], ◌∷◌, ◌++◌, length, refl, sym, ap, arith, subst}
 use Rattle.std.proofs.Common.{Option, Some, None, is_some, true≢false}
 use Rattle.std.specs.Prelude.{option_map, if◌then◌else◌, ◌||◌, nat_lt, nat_eq}
 use Rattle.std.proofs.lemmas.Bool.Decides.{nat_tests}
@@ -39,8 +39,9 @@ use Rattle.tb_templates.specs.Masks.{mask}
 use Rattle.tb_templates.proofs.Divided.{asked_rest_plain, left_over_plain}
 use Rattle.tb_templates.specs.Orders.{Below, NotBelow, positive}
 use Rattle.tb_templates.specs.Orders.{Side, Order, BySign, ByPositive, ByConstant, ByDifference, lifted, ordered_by, unless_carry, wanted_side, weighed}
-use Rattle.tb_templates.specs.Program.{rest_code, list_code, line_code, lines_code, past_code, find_code, rows_code, table_code, block_code, program_code}
+use Rattle.tb_templates.specs.Program.{rest_code, list_code, line_code, lines_code, past_code, rows_code, table_code, block_code, program_code}
 use Rattle.tb_templates.specs.Breaks.{polled, behind}
+use Rattle.tb_templates.specs.Search.{all_compared, compares, comparisons, find_code, looked_up}
 use Rattle.tb_settling.specs.Settled.{AllKnown}
 use Rattle.tb_templates.proofs.Listed.{tested_by, by_poll}
 use Rattle.tb_templates.proofs.Plain.{low_matched_plain, high_matched_plain, lifted_plain, plain_known, times_plain, shifted_plain}
@@ -378,6 +379,21 @@ module _ (labels : List (Name × ℕ)) (ns : List ℕ) (known : Known labels ns)
   rows_known (m ∷ ms) h =
       (refl ▹ to_label (target.Line m) (h m (first_line m ms)) ▹ rows_known ms (λ n e. h n (or_right (nat_eq m n) (has_line ms n) e)))
 
+  compared_known : (ms : List ℕ) → LinesStand labels ms → AllKnown labels (all_compared ms)
+  compared_known [] h = tt
+  compared_known (m ∷ ms) h =
+      let line = h m (first_line m ms) in
+      (refl ▹ refl ▹ refl ▹ refl ▹ low_label (target.Line m) line ▹ refl ▹ high_label (target.Line m) line ▹ refl ▹ refl ▹
+      compared_known ms (λ n e. h n (or_right (nat_eq m n) (has_line ms n) e)))
+
+  find_known : (t : Bool) → AllKnown labels (find_code t ns)
+  find_known t = (refl ▹ known_append labels (comparisons t ns) (looked_up (length ns)) (by t) (low_label target.Table known.table ▹ refl ▹ high_label target.Table known.table ▹ refl ▹
+      refl ▹ refl ▹ refl ▹ refl ▹ refl ▹ tt))
+    where
+      by : (t : Bool) → AllKnown labels (comparisons t ns)
+      by true = (refl ▹ refl ▹ compared_known ns known.lines)
+      by false = tt
+
 -- ── a program ──
 lines_stand : (labels : List (Name × ℕ)) (ns : List ℕ) (seed a : ℕ) (lines : SlotCode)
     → LabelsAt labels a (lines_code ns seed lines) → LinesStand labels (numbers lines)
@@ -397,7 +413,7 @@ lines_stand labels ns seed a (line ∷ lines) h =
 pub program_known : (labels : List (Name × ℕ)) (a seed : ℕ) (code : SlotCode) → LabelsAt labels a (program_code seed code) → AllKnown labels (program_code seed code)
 program_known labels a seed code h =
     let ns = numbers code in
-    let lines = lines_code ns seed code in let past = past_code ns in let search = find_code ns in let table = table_code ns in
+    let lines = lines_code ns seed code in let past = past_code ns in let search = find_code (compares code) ns in let table = table_code ns in
     let tail = past ++ (search ++ table) in
     let s = labels_split labels a block_code (lines ++ tail) h in
     let b = a + size block_code in
@@ -407,6 +423,4 @@ program_known labels a seed code h =
     let w = labels_split labels (c + size past) search table u.1 in
     let known : Known labels ns = record { lines = lines_stand labels ns seed b code t.0; past = ap is_some u.0.0; find = ap is_some w.0.0; table = ap is_some w.1.0 } in
     (refl ▹ refl ▹ known_append labels lines tail (lines_known labels ns known seed b code t.0)
-    (refl ▹ refl ▹ refl ▹ refl ▹ refl ▹
-    refl ▹ low_label labels ns known target.Table known.table ▹ refl ▹ high_label labels ns known target.Table known.table ▹ refl ▹ refl ▹ refl ▹ refl ▹ refl ▹ refl ▹
-    refl ▹ rows_known labels ns known ns known.lines))
+    (refl ▹ refl ▹ refl ▹ refl ▹ refl ▹ known_append labels search table (find_known labels ns known (compares code)) (refl ▹ rows_known labels ns known ns known.lines)))

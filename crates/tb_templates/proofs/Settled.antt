@@ -1,5 +1,5 @@
 -- The settled items of a program: where its lines and labels are among them.
-use Rattle.std.proofs.Common.{◌≡◌, ℕ, ◌+◌, ◌≤◌, List, [], ◌∷◌, ◌++◌, ap, sym, subst, ◌∙◌, arith, refl, true, inl, inr, Some}
+use Rattle.std.proofs.Common.{◌≡◌, ℕ, ◌+◌, ◌≤◌, Bool, false, List, [], ◌∷◌, ◌++◌, append_assoc, length, ap, sym, subst, ◌∙◌, arith, refl, true, inl, inr, Some}
 use Rattle.std.specs.Prelude.{unwrap_or}
 use Rattle.std.specs.List.{list_all}
 use Rattle.tb_asm.specs.declared.names.Name.{Name}
@@ -14,7 +14,8 @@ use Rattle.tb_settling.proofs.Forms.{forms_size, items_append, items_size, size_
 use Rattle.tb_templates.specs.declared.labels.Target.TheVariants.{Line, Past, Table}
 use Rattle.tb_templates.specs.Labels.{label_of}
 use Rattle.tb_templates.specs.Layout.{LabelAt, LabelsAt}
-use Rattle.tb_templates.specs.Program.{line_code, lines_code, past_code, find_code, rows_code, table_code, block_code, program_code, AreCodable}
+use Rattle.tb_templates.specs.Program.{line_code, lines_code, past_code, rows_code, table_code, block_code, program_code, AreCodable}
+use Rattle.tb_templates.specs.Search.{all_compared, compares, find_code, looked_up}
 use Rattle.tb_templates.proofs.Ordered.{program_woven}
 use Rattle.tb_templates.proofs.Reached.{labels_split}
 use Rattle.tb_templates.proofs.Rising.{key_of}
@@ -87,15 +88,25 @@ rows_straight : (ns : List ℕ) → list_all is_straight (rows_code ns) ≡ true
 rows_straight [] = refl
 rows_straight (n ∷ ns) = rows_straight ns
 
+compared_straight : (ns : List ℕ) (es : List Entry) → list_all is_straight es ≡ true → list_all is_straight (all_compared ns ++ es) ≡ true
+compared_straight [] es h = h
+compared_straight (n ∷ ns) es h = compared_straight ns es h
+
+-- what belongs to no line has no branch to a label
+rest_straight : (t : Bool) (ns : List ℕ) → list_all is_straight (past_code ns ++ (find_code t ns ++ table_code ns)) ≡ true
+rest_straight true ns = subst (λ es. list_all is_straight es ≡ true) (sym (append_assoc (all_compared ns) (looked_up (length ns)) (table_code ns)))
+    (compared_straight ns (looked_up (length ns) ++ table_code ns) (rows_straight ns))
+rest_straight false ns = rows_straight ns
+
 -- a program's settled items: the block, the lines' settled items, and what belongs to none of them
 pub record Sections (seed : ℕ) (code : SlotCode) (items : List Entry) (labels : List (Name × ℕ)) : Type 0 where
   pub lines : List Form
   pub of_lines : AreFormsOf (lines_code (numbers code) seed code) lines
-  pub are : items ≡ block_code ++ (items_from LINES_AT lines ++ (past_code (numbers code) ++ (find_code (numbers code) ++ table_code (numbers code))))
+  pub are : items ≡ block_code ++ (items_from LINES_AT lines ++ (past_code (numbers code) ++ (find_code (compares code) (numbers code) ++ table_code (numbers code))))
   pub all_labels : LabelsAt labels PROLOGUE_AT items
   pub line_labels : LabelsAt labels LINES_AT (items_from LINES_AT lines)
   pub past : unwrap_or (address_in labels (label_of Past)) 0 ≡ LINES_AT + forms_size lines
-  pub table : address_in labels (label_of Table) ≡ Some (LINES_AT + forms_size lines + size (past_code (numbers code)) + size (find_code (numbers code)))
+  pub table : address_in labels (label_of Table) ≡ Some (LINES_AT + forms_size lines + size (past_code (numbers code)) + size (find_code (compares code) (numbers code)))
 
 -- the settled items of a program consist of these sections
 pub sections : (seed : ℕ) (code : SlotCode) → AreCodable code → Rises 0 65536 (numbers code) → (items : List Entry)
@@ -103,14 +114,14 @@ pub sections : (seed : ℕ) (code : SlotCode) → AreCodable code → Rises 0 65
 sections seed code lists rises items settled =
     let ns = numbers code in
     let labels = labels_from PROLOGUE_AT items in
-    let lines = lines_code ns seed code in let past = past_code ns in let search = find_code ns in let table = table_code ns in
+    let lines = lines_code ns seed code in let past = past_code ns in let search = find_code (compares code) ns in let table = table_code ns in
     let tail = past ++ (search ++ table) in
     let s = split block_code (lines ++ tail) settled.forms settled.of in
     let t = split lines tail s.back s.of_back in
     let block : items_from PROLOGUE_AT s.front ≡ block_code = straight_items PROLOGUE_AT block_code s.front refl s.of_front in
     let start : PROLOGUE_AT + forms_size s.front ≡ LINES_AT = (let a = items_size PROLOGUE_AT s.front in let b = ap size block in let c = block_size in omega (arith, a, b, c)) in
     let here = LINES_AT + forms_size t.front in
-    let last_items : items_from here t.back ≡ tail = straight_items here tail t.back (rows_straight ns) t.of_back in
+    let last_items : items_from here t.back ≡ tail = straight_items here tail t.back (rest_straight (compares code) ns) t.of_back in
     let rest : items_from (PROLOGUE_AT + forms_size s.front) s.back ≡ items_from LINES_AT t.front ++ tail = ap (λ a. items_from a s.back) start
     ∙ joined_items LINES_AT s.back t.front t.back t.are ∙ ap (λ es. items_from LINES_AT t.front ++ es) last_items in
     let are : items ≡ block_code ++ (items_from LINES_AT t.front ++ tail) = settled.are ∙ joined_items PROLOGUE_AT settled.forms s.front s.back s.are ∙ (λ i. block i ++ rest i) in

@@ -1,6 +1,5 @@
 -- The code of a whole program, as items of the assembler from the block's address on.
 use Rattle.std.specs.Prelude.{◌≡◌, ℕ, ◌+◌, ◌-◌, ◌<◌, List, [], ◌∷◌, ◌++◌, length, replicate}
-use Rattle.tb_opcodes.specs.declared.Mnemonic.TheVariants.{Jmp}
 use Rattle.tb_asm.specs.declared.items.Operand.TheVariants as operand
 use Rattle.tb_asm.specs.Layout.{Entry, bytes, word}
 use Rattle.tb_syntax.specs.Source.{Numbered, numbers}
@@ -10,13 +9,14 @@ use Rattle.tb_lower.specs.Ranges.{AreInRange}
 use Rattle.tb_selection.specs.Groups.{Group}
 use Rattle.tb_selection.specs.Select.{select}
 use Rattle.tb_runtime16.specs.Block.{block_bytes}
-use Rattle.tb_runtime16.specs.Addresses.{PROLOGUE_AT, LINES_AT, TABLE, COUNT, SEARCH_AT}
+use Rattle.tb_runtime16.specs.Addresses.{PROLOGUE_AT, LINES_AT}
 use Rattle.tb_templates.specs.declared.labels.Target.{Target}
-use Rattle.tb_templates.specs.declared.labels.Target.TheVariants.{Line, Past, Find, Table}
+use Rattle.tb_templates.specs.declared.labels.Target.TheVariants.{Line, Past, Table}
 use Rattle.tb_templates.specs.Labels.{label_of}
-use Rattle.tb_templates.specs.Templates.{at, here, constant, address, faulted, next_line}
+use Rattle.tb_templates.specs.Templates.{here, faulted, next_line}
 use Rattle.tb_templates.specs.GroupTemplates.{group_template}
 use Rattle.tb_templates.specs.Breaks.{some_leaves, polled, behind}
+use Rattle.tb_templates.specs.Search.{compares, find_code}
 
 -- the groups of a line from group i on, one after another
 abbrev pub rest_code : List ℕ → ℕ → ℕ → ℕ → List Group → List Entry
@@ -42,10 +42,6 @@ lines_code ns seed (line ∷ lines) = line_code ns seed line ++ lines_code ns se
 abbrev pub past_code : List ℕ → List Entry
 past_code ns = here Past ∷ faulted (highest ns) 7
 
--- the search in the line table
-abbrev pub find_code : List ℕ → List Entry
-find_code ns = here Find ∷ (address Table TABLE ++ (constant (length ns) COUNT ++ (at Jmp SEARCH_AT ∷ [])))
-
 -- an entry of the line table: the line's number and the address of its code
 abbrev pub row_code : ℕ → List Entry
 row_code n = word (operand.Word n) ∷ word (operand.Label (label_of (Line n))) ∷ []
@@ -67,7 +63,7 @@ block_code = bytes block_bytes ∷ bytes (replicate (LINES_AT - PROLOGUE_AT - le
 abbrev pub program_code : ℕ → SlotCode → List Entry
 program_code seed code =
     let ns = numbers code in
-    block_code ++ (lines_code ns seed code ++ (past_code ns ++ (find_code ns ++ table_code ns)))
+    block_code ++ (lines_code ns seed code ++ (past_code ns ++ (find_code (compares code) ns ++ table_code ns)))
 
 -- code whose operands are in their ranges, with lists and lines that can be counted by a word
 abbrev pub AreCodable : SlotCode → Type 0

@@ -1,4 +1,4 @@
--- How many bytes the code of a group takes at most, by its instructions, and that of a program.
+-- How many bytes the code of a group takes at most, by its instructions, and that of a program; and what it costs at least.
 use Rattle.std.specs.Prelude.{ℕ, ◌+◌, Bool, true, false, List, [], ◌∷◌, length}
 use Rattle.tb_syntax.specs.Source.{Item, Text, Value, Zone, Statement, Print, If, Program}
 use Rattle.tb_meaning.specs.Cost.{item_cost}
@@ -41,6 +41,39 @@ lines_room (line ∷ lines) = 13 + list_room line.content + lines_room lines
 -- the same for fault 7 and the search
 abbrev pub rest_room : ℕ
 rest_room = 32
+
+-- ── prices ──
+-- what the program's cost has for an instruction at least
+abbrev pub price : Instr → ℕ
+price (Put k w) = 48
+price (Load k x) = 48
+price (Negate k) = 48
+price (Compute op k) = 48
+price (Random k) = 48
+price (SendText bs) = 24 + length bs
+price SendNumber = 24
+price (Input x) = 32
+price (LeaveUnless rel) = 64
+price Jump = 48
+price Call = 48
+price (JumpTo target) = 96
+price (CallTo target) = 96
+price Return = 48
+price _ = 0
+
+-- the same for a list
+abbrev pub list_price : List Instr → ℕ
+list_price [] = 0
+list_price (i ∷ is) = price i + list_price is
+
+-- the same for a program's lines, 36 for each
+abbrev pub lines_price : SlotCode → ℕ
+lines_price [] = 0
+lines_price (line ∷ lines) = 36 + list_price line.content + lines_price lines
+
+-- what a program's cost has besides its lines
+abbrev pub rest_price : ℕ
+rest_price = 64
 
 -- ── zones ──
 -- a comma follows a text or a value of its own, so that these pay for it; the Bool says whether one comes before

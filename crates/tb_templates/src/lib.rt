@@ -12,6 +12,7 @@ mod orders;
 mod pieces;
 mod program;
 mod scaled;
+mod search;
 mod sources;
 mod templates;
 

@@ -1,5 +1,5 @@
 //! Small pieces of code, as items of the assembler.
-ghost use Rattle.std.specs.Prelude.{◌+◌, ◌<◌, [], ◌∷◌};
+ghost use Rattle.std.specs.Prelude.{◌≡◌, ◌+◌, ◌<◌, [], ◌∷◌, OnOk, vec_capacity, vec_len};
 ghost use Rattle.tb_asm.specs.Layout.{entry_of};
 ghost use Rattle.tb_templates.specs.Putting.{Puts};
 ghost use Rattle.tb_templates.specs.Templates as templates;
@@ -12,11 +12,25 @@ use tb_opcodes::{Mnemonic, Mode};
 use tb_runtime16::{LEFT, RESULT, Routine, entry};
 
 /// One more item.
+// A push that may fail hands the item back, and so copies it once more.
 pub fn put(items: &mut Vec<Item>, item: Item) -> Result<(), AllocError>
     ensures { Puts result items.old items.new (entry_of item ∷ []) }
 {
-    items.push(item)?;
+    make_room(items)?;
+    items.push_reserved(item);
     Ok(())
+}
+
+// Makes room for one more item, which is mostly there.
+#[inline(always)]
+fn make_room(items: &mut Vec<Item>) -> Result<(), AllocError>
+    ensures items { OnOk result (items.new.items ≡ items.old.items) }
+    ensures room { OnOk result (vec_len items.new < vec_capacity items.new) }
+{
+    if items.len() < items.capacity() {
+        return Ok(());
+    }
+    items.reserve(1)
 }
 
 /// An instruction on the byte at an address.

@@ -1,11 +1,9 @@
 //! The code of a whole program.
 ghost use Rattle.std.specs.Prelude.{◌≡◌, ◌-◌, ◌<◌, IfOk, [], ◌∷◌, map, length, replicate};
-ghost use Rattle.tb_opcodes.specs.declared.Mnemonic.TheVariants.{Jmp};
 ghost use Rattle.tb_asm.specs.Layout.{word};
 ghost use Rattle.tb_asm.specs.declared.items.Operand.TheVariants as operand;
 ghost use Rattle.tb_templates.specs.Putting.{Puts};
 ghost use Rattle.tb_templates.specs.Labels.{label_of};
-ghost use Rattle.tb_runtime16.specs.Addresses as places;
 ghost use Rattle.tb_asm.specs.Layout.{entry_of};
 ghost use Rattle.tb_syntax.specs.Source.{numbers, Rises};
 ghost use Rattle.tb_meaning.specs.Control.{highest};
@@ -20,14 +18,14 @@ ghost use Rattle.tb_templates.specs.Templates as templates;
 use crate::breaks::{put_behind, put_polled, some_leaves};
 use crate::groups::put_group;
 use crate::labels::{Target, label};
-use crate::pieces::{put, put_address, put_at, put_constant, put_faulted, put_here};
+use crate::pieces::{put, put_faulted, put_here};
+use crate::search::{compares, put_find};
 use crate::templates::Spot;
 use std::alloc::{AllocError, Global};
 use tb_asm::{Item, Operand};
 use tb_lower::{SlotCode, SlotInstr, SlotLine};
-use tb_opcodes::Mnemonic;
-use tb_runtime16::{BLOCK_AT, COUNT, LINE, LINES_AT, Routine, TABLE, block, entry};
-use tb_selection::{Group, select};
+use tb_runtime16::{BLOCK_AT, LINES_AT, block};
+use tb_selection::{Group, Placed, select_in};
 
 // A rough mean of the number of items that a line has; it only affects speed.
 const ITEMS_IN_A_LINE: usize = 32;
@@ -47,7 +45,7 @@ pub fn program_items(alloc: Global, seed: u16, code: &SlotCode) -> Result<Vec<It
     put_block(&mut items)?;
     put_lines(&mut items, &numbers, seed, code.lines())?;
     put_past(&mut items, &numbers)?;
-    put_find(&mut items, &numbers)?;
+    put_find(&mut items, compares(code.lines()), &numbers)?;
     put_table(&mut items, &numbers)?;
     Ok(items)
 }
@@ -93,9 +91,13 @@ fn put_lines(
     requires in_turn { AreInTurn numbers.now (code_of lines.now) }
     ensures { Puts result items.old items.new (program.lines_code numbers.now seed (code_of lines.now)) }
 {
+    let alloc = *items.allocator();
+    let mut placed = Vec::new(alloc);
+    let mut groups = Vec::new(alloc);
     let mut rest = lines;
     while let [line, behind @ ..] = rest {
-        put_line(items, numbers, seed, line, first_of(behind))?;
+        let next = first_of(behind);
+        put_line(items, numbers, seed, line, next, &mut placed, &mut groups)?;
         rest = behind;
     }
     Ok(())
@@ -111,13 +113,15 @@ fn first_of(lines: &[SlotLine]) -> Target
     }
 }
 
-// A line at its label.
-fn put_line(
+// A line at its label. The last two lists lend their room to the choice of groups.
+fn put_line<'a>(
     items: &mut Vec<Item>,
     numbers: &[u16],
     seed: u16,
-    line: &SlotLine,
+    line: &'a SlotLine,
     next: Target,
+    placed: &mut Vec<Placed<'a>>,
+    groups: &mut Vec<Group<'a>>,
 ) -> Result<(), AllocError>
     requires rising { Rises 0 65536 numbers.now }
     requires lists { AreInRange 256 (map instr_of line.now.code.items) × (length line.now.code.items < 65536) }
@@ -125,33 +129,46 @@ fn put_line(
     ensures { Puts result items.old items.new (program.line_code numbers.now seed (slot_line_of line.now)) }
 {
     put_here(items, Target::Line(line.number))?;
-    put_list(items, numbers, seed, line.number, next, &line.code)
+    put_list(
+        items,
+        numbers,
+        seed,
+        line.number,
+        next,
+        &line.code,
+        placed,
+        groups,
+    )
 }
 
 // A line's list: it takes an answer and then does its groups.
-fn put_list(
+fn put_list<'a>(
     items: &mut Vec<Item>,
     numbers: &[u16],
     seed: u16,
     line: u16,
     next: Target,
-    list: &[SlotInstr],
+    list: &'a [SlotInstr],
+    placed: &mut Vec<Placed<'a>>,
+    groups: &mut Vec<Group<'a>>,
 ) -> Result<(), AllocError>
     requires rising { Rises 0 65536 numbers.now }
     requires list { AreInRange 256 (map instr_of list.now) × (length list.now < 65536) }
     requires next { next ≡ templates.next_line numbers.now line }
     ensures { Puts result items.old items.new (program.list_code numbers.now seed line (map instr_of list.now)) }
 {
-    let alloc = *items.allocator();
     match list {
         [SlotInstr::Poll, behind @ ..] => {
-            let groups = select(alloc, behind)?;
-            let away = some_leaves(&groups);
+            select_in(placed, groups, behind)?;
+            let away = some_leaves(groups);
             put_polled(items, away, line)?;
-            put_groups(items, numbers, seed, line, next, &groups)?;
+            put_groups(items, numbers, seed, line, next, groups)?;
             put_behind(items, away, line)
         }
-        _ => put_groups(items, numbers, seed, line, next, &select(alloc, list)?),
+        _ => {
+            select_in(placed, groups, list)?;
+            put_groups(items, numbers, seed, line, next, groups)
+        }
     }
 }
 
@@ -192,25 +209,6 @@ fn last(numbers: &[u16]) -> u16
     ensures { result ≡ highest numbers.now }
 {
     numbers.last().copied().unwrap_or(0)
-}
-
-// The search in the line table.
-fn put_find(items: &mut Vec<Item>, numbers: &[u16]) -> Result<(), AllocError>
-    requires { length numbers.now < 65536 }
-    ensures { Puts result items.old items.new (program.find_code numbers.now) }
-{
-    put_here(items, Target::Find)?;
-    put_address(items, Target::Table, TABLE as u8)?;
-    put_constant(items, numbers.len() as u16, COUNT)?;
-    put_jump_to_routine(items, Routine::Search)?;
-    Ok(())
-}
-
-// A jump to a routine of the block.
-fn put_jump_to_routine(items: &mut Vec<Item>, routine: Routine) -> Result<(), AllocError>
-    ensures { Puts result items.old items.new (templates.at Jmp (places.entry_of routine) ∷ []) }
-{
-    put_at(items, Mnemonic::Jmp, entry(routine))
 }
 
 // The line table.

@@ -1,8 +1,8 @@
 -- The laws of uses of a word: as a number that is sent, or as the number of a line for GOTO or GOSUB.
-use Rattle.std.proofs.Common.{◌≡◌, ℕ, ◌+◌, Bool, true, false, if◌then◌else◌, List, [], ◌∷◌, length, refl, sym, subst, arith}
+use Rattle.std.proofs.Common.{◌≡◌, ℕ, ◌+◌, ◌≤◌, Bool, true, false, if◌then◌else◌, List, [], ◌∷◌, length, refl, sym, subst, arith}
 use Rattle.std.specs.Prelude.{nat_lt}
 use Rattle.tb_words.specs.Words.{digits_of}
-use Rattle.tb_meaning.specs.Control.{At, State, deepest, fault, fault_text, has_line, next_after}
+use Rattle.tb_meaning.specs.Control.{At, State, deepest, fault, has_line, next_after}
 use Rattle.tb_lower.specs.Slots.{Instr, Slots, SlotCode, leaving, settled}
 use Rattle.tb_meaning.specs.Steps.{Goes}
 use Rattle.tb_reaching.proofs.Comes.{looser}
@@ -18,7 +18,7 @@ use Rattle.tb_correctness.proofs.Alone.Sending.{number_law}
 use Rattle.tb_correctness.proofs.Slots.SlotSide.{fetched, line, with_fetched}
 use Rattle.tb_correctness.proofs.Relation.Surroundings.{Serves, Surroundings}
 
-module _ (around : Surroundings) (fits : Fits around.f 16) (limit : ℕ) (rs : Serves around limit) (code : SlotCode)
+module _ (around : Surroundings) (fits : Fits around.f 16) (limit : ℕ) (rs : Serves around limit) (wide : 300 ≤ limit) (code : SlotCode)
     (laid : GroupsLaid around.ly around.f.code around.f.whole code) (n : ℕ) (a : Operand) (is : List Instr) (s : State) (r : Slots) (w : View) where
   open around use {ly, f}
 
@@ -37,15 +37,15 @@ module _ (around : Surroundings) (fits : Fits around.f 16) (limit : ℕ) (rs : S
 
   by_line : Begins AsLine → (t : Bool) → has_line ly.numbers x ≡ t → Leads around fits limit rs code laid w
       (settled n is slots (leaving (if t then Goes (record s { place = At x }) [] else fault 1 n)))
-  by_line h true e = looser f w _ _ [] (19 + limit) most (omega arith) (λ u x. x) (jump_found around fits limit rs code laid n is s r w a h e)
-  by_line h false e = looser f w _ _ (fault_text 1 n) (19 + limit) most (omega arith) (λ u x. x) (jump_fails around fits limit rs code laid n is s r w a h e)
+  by_line h true e = looser f w _ _ [] (19 + limit) most (omega arith) (λ u x. x) (jump_found around fits limit rs wide code laid n is s r w a h e)
+  by_line h false e = jump_fails around fits limit rs wide code laid n is s r w a h e
 
   by_room : Begins AsSubroutine → (t u : Bool) → has_line ly.numbers x ≡ t → nat_lt (length s.returns) deepest ≡ u
       → Leads around fits limit rs code laid w
       (settled n is slots (leaving (if t then (if u then Goes (record s { place = At x; returns = next_after ly.numbers n ∷ s.returns }) [] else fault 4 n) else fault 1 n)))
-  by_room h false u e e' = looser f w _ _ (fault_text 1 n) (19 + limit) most (omega arith) (λ u x. x) (call_fails around fits limit rs code laid n is s r w a h e)
-  by_room h true false e e' = call_full around fits limit rs code laid n is s r w a h e e'
-  by_room h true true e e' = call_found around fits limit rs code laid n is s r w a h e e'
+  by_room h false u e e' = call_fails around fits limit rs wide code laid n is s r w a h e
+  by_room h true false e e' = call_full around fits limit rs wide code laid n is s r w a h e e'
+  by_room h true true e e' = call_found around fits limit rs wide code laid n is s r w a h e e'
 
   does : (how : Usage) → Begins how → Leads around fits limit rs code laid w (settled n is slots (used ly.numbers n how x s slots))
   does AsNumber h = looser f w _ _ (digits_of x) (5 + limit) most (omega arith) (λ u x. x) (number_law around fits limit rs code n is s r w a h)

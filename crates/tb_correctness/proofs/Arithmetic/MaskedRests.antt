@@ -14,7 +14,7 @@ use Rattle.tb_reaching.proofs.Placed.{placed_last, placing, stores_at}
 use Rattle.tb_reaching.specs.View.{Comes, Fits, Setup, View, view}
 use Rattle.tb_runtime16.specs.Routines.{Here, Moves, WithA}
 use Rattle.tb_simulation.proofs.Pieces.{InData, loads_last, moves_then, put_word, stores, whatever_a}
-use Rattle.tb_simulation.proofs.Resolved.{highest_code, size}
+use Rattle.tb_simulation.proofs.Resolved.{highest_code}
 use Rattle.tb_templates.specs.declared.sources.Source.TheVariants.{AtAddress}
 use Rattle.tb_correctness.proofs.Arithmetic.Remainders.{turned_size}
 use Rattle.tb_correctness.proofs.CodeBytes.GroupCode.{both_stored, rest_and_sign, rest_below}

@@ -1,6 +1,6 @@
 -- The bytes of calculations, also of those that change a word in place, whatever the way of the branch.
 use Rattle.std.proofs.Common.{◌≡◌, ℕ, ◌+◌, ◌/◌, ◌%◌, ◌<◌, Bool, true, false, List, [], ◌∷◌, ◌++◌, map, refl, sym, ap, ◌∙◌, subst, arith, Option}
-use Rattle.std.specs.Prelude.{◌&&◌, ◌-◌, ◌^◌, Some, None}
+use Rattle.std.specs.Prelude.{◌&&◌, ◌-◌, ◌^◌, None}
 use Rattle.std.specs.List.{list_all}
 use Rattle.tb_opcodes.specs.Opcodes as opcodes
 use Rattle.tb_opcodes.specs.declared.Mnemonic.TheVariants.{Adc, Asl, Clc, Dec, Inc, Lda, Ldy, Ror, Sbc, Sec, Sta}

@@ -2,7 +2,7 @@
 use Rattle.std.specs.Prelude.{◌≡◌, ℕ, zero, suc, ◌+◌, ◌/◌, ◌%◌, ◌≤◌, ◌<◌, List, [], ◌∷◌, ◌++◌, length, Bool, cond, true}
 use Rattle.std.specs.Prelude.{false, not, if◌then◌else◌, bit_xor, nat_eq, nat_lt, Option, Some, None}
 use Rattle.tb_asm.specs.Layout.{distance, is_near}
-use Rattle.tb_syntax.specs.Source.{numbers}
+use Rattle.tb_syntax.specs.Source.{numbers, Rises}
 use Rattle.tb_reaching.specs.View.{Part}
 use Rattle.tb_reaching.proofs.Instr.{Instr, ins, Stands}
 use Rattle.tb_words.specs.declared.Rel.{Rel}
@@ -28,6 +28,7 @@ use Rattle.tb_templates.specs.declared.in_place.Change.{Change}
 use Rattle.tb_templates.specs.declared.in_place.Change.TheVariants.{Increment, Decrement, Raise, Lower, Halve, Double}
 use Rattle.tb_templates.specs.InPlace.{change_of}
 use Rattle.tb_templates.specs.Masks.{mask}
+use Rattle.tb_templates.specs.Search.{compares}
 use Rattle.tb_templates.specs.Templates.{var_at}
 use Rattle.tb_templates.specs.Sources.{source_of, tested_source, home_at, destination_at}
 use Rattle.tb_simulation.specs.Layout.{Layout, place_address}
@@ -700,7 +701,8 @@ pub record GroupsLaid (ly : Layout) (code whole : Part) (program : slots.SlotCod
   pub absent : (n : ℕ) → content_at program n ≡ None → ly.start n ≡ ly.past
   pub places : (p : Place) → place_address ly p < 65536
   pub past : Lies code ly.past (past_code ly)
-  pub find : Lies code ly.find (find_code ly)
+  pub find : Lies code ly.find (find_code (compares program) ly)
+  pub rising : Rises 0 65536 ly.numbers
   pub top : highest ly.numbers < 65536
   pub table_small : ly.table < 65536
   pub count_small : length ly.numbers < 65536

@@ -19,7 +19,8 @@ use Rattle.tb_settling.specs.Settled.{AreFormsOf, IsSettled}
 use Rattle.tb_settling.proofs.Forms.{forms_size, items_size, near_split, split}
 use Rattle.tb_templates.specs.declared.labels.Target.TheVariants as target
 use Rattle.tb_templates.specs.Templates.{next_line}
-use Rattle.tb_templates.specs.Program.{line_code, lines_code, past_code, find_code, table_code, block_code, program_code, first_of, AreCodable, AreInTurn}
+use Rattle.tb_templates.specs.Program.{line_code, lines_code, past_code, table_code, block_code, program_code, first_of, AreCodable, AreInTurn}
+use Rattle.tb_templates.specs.Search.{compares, find_code}
 use Rattle.tb_templates.proofs.Ordered.{lines_in_turn}
 use Rattle.tb_templates.proofs.Settled.{Sections, joined_items, line_at, sections, some_bytes, total_size}
 use Rattle.tb_templates.proofs.Taken.{block_size}
@@ -228,7 +229,7 @@ pub image_laid : (seed : ℕ) (code : SlotCode) → seed < 65536 → Rises 0 655
 image_laid seed code seed_small rises codable polls some few items settled ends part small shown =
     let ns = numbers code in
     let labels = labels_from PROLOGUE_AT items in
-    let past = past_code ns in let search = find_code ns in let table = table_code ns in
+    let past = past_code ns in let search = find_code (compares code) ns in let table = table_code ns in
     let tail = past ++ (search ++ table) in
     let g : Sections seed code items labels = sections seed code codable rises items settled in
     let lines = items_from LINES_AT g.lines in

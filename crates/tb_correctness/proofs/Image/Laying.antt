@@ -1,5 +1,5 @@
 -- A program whose settled code lies where its labels say is laid out as the laws of the groups want it.
-use Rattle.std.proofs.Common.{leb, ◌≡◌, ◌⊎◌, ℕ, ◌+◌, ◌%◌, ◌≤◌, ◌<◌, Bool, true, false, ◌||◌, List, [], ◌∷◌, ◌++◌}
+use Rattle.std.proofs.Common.{leb, ◌≡◌, ◌⊎◌, ℕ, ◌+◌, ◌/◌, ◌%◌, ◌≤◌, ◌<◌, Bool, true, false, ◌||◌, List, [], ◌∷◌, ◌++◌}
 use Rattle.std.proofs.Common.{length, refl, sym, ap, ◌∙◌, subst, inr, ⊎_elim, arith, Some, None}
 use Rattle.std.specs.Prelude.{if◌then◌else◌, nat_eq}
 use Rattle.std.proofs.lemmas.Bool.{leb-true, eq-eqb, ne_eqb}
@@ -7,26 +7,30 @@ use Rattle.std.proofs.Math.Bool.{or-true}
 use Rattle.tb_opcodes.specs.declared.Mnemonic.TheVariants.{Jmp}
 use Rattle.tb_opcodes.specs.Opcodes as opcodes
 use Rattle.tb_asm.specs.declared.names.Name.{Name}
-use Rattle.tb_asm.specs.Layout.{Entry, bytes_from, size}
+use Rattle.tb_asm.specs.declared.items.Operand.TheVariants.{LowOf, HighOf}
+use Rattle.tb_asm.specs.Layout.{Entry, bytes_from, number_in, size}
 use Rattle.tb_asm.proofs.Laws.{bytes_append, all_size}
 use Rattle.tb_reaching.specs.View.{Part, Bytes}
 use Rattle.tb_reaching.proofs.Parts.{bytes_front}
-use Rattle.tb_syntax.specs.Source.{numbers}
+use Rattle.tb_syntax.specs.Source.{numbers, Rises}
 use Rattle.tb_meaning.specs.Control.{Place, At, Past, has_line, highest, content_at}
 use Rattle.tb_lower.specs.Slots as slots
-use Rattle.tb_runtime16.specs.Addresses.{COUNT, LINES_AT, PROLOGUE_AT, SEARCH_AT, TABLE}
+use Rattle.tb_runtime16.specs.Addresses.{COUNT, LINES_AT, PROLOGUE_AT, RESULT, SEARCH_AT, TABLE, WANTED}
 use Rattle.tb_runtime16.specs.Block.{block_bytes}
 use Rattle.tb_settling.proofs.Forms.{size_append}
 use Rattle.tb_templates.specs.declared.labels.Target.TheVariants as target
 use Rattle.tb_templates.specs.Templates as product
 use Rattle.tb_templates.specs.Program as program
+use Rattle.tb_templates.specs.Search as search
+use Rattle.tb_templates.specs.Search.{compares}
+use Rattle.tb_templates.specs.Labels.{label_of}
 use Rattle.tb_templates.proofs.Reached.{labels_split}
 use Rattle.tb_simulation.specs.Layout.{Layout, Lies, label_address, layout_of, place_address, is_start, inner}
 use Rattle.tb_simulation.proofs.Resolved as resolved
 use Rattle.tb_simulation.proofs.Resolved.{Piece, pieces_size}
 use Rattle.tb_simulation.proofs.Emitted.{pieces_bytes, pieces_length, behind, lies}
 use Rattle.tb_simulation.proofs.LineStarts.{has_content}
-use Rattle.tb_simulation.proofs.Numbers.{joined, constant_bytes, faulted_bytes, address_bytes, start_of_line}
+use Rattle.tb_simulation.proofs.Numbers.{joined, constant_bytes, faulted_bytes, address_bytes, start_of_line, low_byte, high_byte, low_of, high_of}
 use Rattle.tb_correctness.specs.Laid.{IsClear, LineLies, Laid}
 
 -- ---- one list of items after another
@@ -166,7 +170,7 @@ module _ (labels : List (Name × ℕ)) (seed : ℕ) (code : Part) (sc : slots.Sl
       let same : size es ≡ pieces_size ps = sym (all_size labels at es) ∙ ap length e ∙ pieces_length ps in
       (same, lies within within_small at ps (omega (arith, h.below, same)) (subst (Bytes within at) e h.bytes))
 
-  -- fault 7 and the search
+  -- fault 7
   pub past_lies : resolved.Lies within (label_address labels target.Past) (resolved.past_code laid_layout)
   unfolding opcodes.encoded
   past_lies =
@@ -178,16 +182,43 @@ module _ (labels : List (Name × ℕ)) (seed : ℕ) (code : Part) (sc : slots.Sl
   pub table_small : label_address labels target.Table < 65536
   table_small = omega (arith, laid.table.below)
 
-  -- the search is laid at its label
-  pub find_lies : resolved.Lies within (label_address labels target.Find) (resolved.find_code laid_layout)
+  -- the search in the line table
+  looked_up_bytes : (at : ℕ) → bytes_from labels at (search.looked_up (length ns)) ≡ pieces_bytes (resolved.looked_up laid_layout)
   unfolding opcodes.encoded
-  find_lies =
-      let at = label_address labels target.Find in
-      (pieces at (program.find_code ns) (resolved.find_code laid_layout) (inside at (program.find_code ns) laid.find laid.find_clear)
-      (joined labels ns seed at 8 (product.here target.Find ∷ product.address target.Table TABLE) (product.constant (length ns) COUNT
-      ++ (product.at Jmp SEARCH_AT ∷ [])) _ _ refl (address_bytes labels ns seed at target.Table (label_address labels target.Table) TABLE refl table_small (omega arith))
+  looked_up_bytes at =
+      joined labels ns seed at 8 (product.address target.Table TABLE) (product.constant (length ns) COUNT ++ (product.at Jmp SEARCH_AT ∷ []))
+      _ _ refl (address_bytes labels ns seed at target.Table (label_address labels target.Table) TABLE refl table_small (omega arith))
       (joined labels ns seed (at + 8) 10 (product.constant (length ns) COUNT) (product.at Jmp SEARCH_AT ∷ []) _ _ refl
-      (constant_bytes labels ns seed (at + 8) (length ns) COUNT laid.count_small) refl))).1
+      (constant_bytes labels ns seed (at + 8) (length ns) COUNT laid.count_small) refl)
+
+  -- comparisons with some of the lines' numbers, before other pieces
+  compared_bytes : (ms : List ℕ) (low : ℕ) → Rises low 65536 ms → ((n : ℕ) → has_line ms n ≡ true → has_line ns n ≡ true) → (at : ℕ) (es : List Entry)
+      (ps : List Piece) → ((a : ℕ) → bytes_from labels a es ≡ pieces_bytes ps)
+      → bytes_from labels at (search.all_compared ms ++ es) ≡ pieces_bytes (resolved.all_compared laid_layout ms ps)
+  unfolding opcodes.encoded
+  compared_bytes [] low r among at es ps h = h at
+  compared_bytes (n ∷ ms) low r among at es ps h =
+      let there = start_of_line labels ns seed n (among n (ap (λ b. b || has_line ms n) (eq-eqb n n refl))) in
+      let small = start_small n in
+      let l : number_in labels (LowOf (label_of (target.Line n))) % 256 ≡ laid_layout.start n % 256 = omega (arith, low_of labels ns seed (label_of (target.Line n)), there) in
+      let u : number_in labels (HighOf (label_of (target.Line n))) % 256 ≡ laid_layout.start n / 256 = omega (arith, high_of labels ns seed (label_of (target.Line n)), there, small) in
+      let rest = compared_bytes ms (n + 1) r.2 (λ m e. among m (ap (λ b. nat_eq n m || b) e ∙ or-true (nat_eq n m))) (at + 2 + 2 + 2 + 2 + 2 + 3 + 2 + 3 + 1) es ps h in
+      λ i. 0xc9 ∷ low_byte n i ∷ 0xd0 ∷ 15 ∷ 0xe0 ∷ high_byte n r.1 i ∷ 0xd0 ∷ 11 ∷ 0xa9 ∷ l i ∷ 0x8d ∷ RESULT % 256 ∷ RESULT / 256 ∷ 0xa9 ∷ u i
+      ∷ 0x8d ∷ (RESULT + 1) % 256 ∷ (RESULT + 1) / 256 ∷ 0x60 ∷ rest i
+
+  -- the whole search
+  find_bytes : (t : Bool) (at : ℕ) → bytes_from labels at (search.find_code t ns) ≡ pieces_bytes (resolved.find_code t laid_layout)
+  unfolding opcodes.encoded
+  find_bytes true at =
+      let rest = compared_bytes ns 0 laid.rising (λ n h. h) (at + 0 + 3 + 3) (search.looked_up (length ns)) (resolved.looked_up laid_layout) looked_up_bytes in
+      λ i. 0xad ∷ WANTED % 256 ∷ WANTED / 256 ∷ 0xae ∷ (WANTED + 1) % 256 ∷ (WANTED + 1) / 256 ∷ rest i
+  find_bytes false at = looked_up_bytes (at + 0)
+
+  -- the search is laid at its label
+  pub find_lies : resolved.Lies within (label_address labels target.Find) (resolved.find_code (compares sc) laid_layout)
+  find_lies =
+      let at = label_address labels target.Find in let t = compares sc in
+      (pieces at (search.find_code t ns) (resolved.find_code t laid_layout) (inside at (search.find_code t ns) laid.find laid.find_clear) (find_bytes t at)).1
 
   -- the block and the line table lie among the inner bytes, for the routines
   pub block_short : leb (length block_bytes) 1011 ≡ true

@@ -307,6 +307,7 @@ module _ (labels : List (Name × ℕ)) (seed : ℕ) (code : Part) (sc : slots.Sl
     places = place_small labels seed code sc laid;
     past = past_lies labels seed code sc laid;
     find = find_lies labels seed code sc laid;
+    rising = laid.rising;
     top = top_small labels seed code sc laid sc (λ n e. (line_of labels seed code sc laid n e).1.small);
     table_small = table_small labels seed code sc laid;
     count_small = laid.count_small;

@@ -117,7 +117,10 @@ module _ (around : Surroundings) (fits : Fits around.f 16) (limit : ℕ) (code :
   pub moves : (a : Operand) (home : Home) → GroupLaw (Move a home)
   moves a home = by_steps (Move a home) 4 (omega arith) (bracketed (Move a home) 4 (spread_move a home) (spread_move_is a home) (λ is n s r w h. move_law around fits code n a home is s r w h))
 
-  module _ (rs : Serves around limit) (wide : 200 ≤ limit) where
+  module _ (rs : Serves around limit) (wide : 300 ≤ limit) where
+    wide_enough : 200 ≤ limit
+    wide_enough = omega (arith, wide)
+
     -- the slot steps of a calculation
     calculates : (o : Operator) (a b : Operand) (d : Destination) (is : List Instr) → StepsLaw (Calculate o a b d) (expand (Calculate o a b d) ++ is) is (17 + limit)
     calculates op.Add a b d = computes op.Add a b d (17 + limit) (omega arith) (λ is n s r w h lies rest. looser f w _ _ _ 7 (17 + limit) (omega arith) (λ u z. z) (add_law h fits code lies rest))
@@ -125,9 +128,9 @@ module _ (around : Surroundings) (fits : Fits around.f 16) (limit : ℕ) (code :
         (omega arith) (λ u z. z) (subtract_law h fits code lies rest))
     calculates op.Multiply a b d = computes op.Multiply a b d (17 + limit) (omega arith) (λ is n s r w h lies rest.
         looser f w _ _ _ (13 + limit) (17 + limit) (omega arith) (λ u z. z)
-        (product_law fits limit rs wide code h (scaling (source_of (slot_of d) a) (source_of (slot_of d + 1) b)) (scaling_is (source_of (slot_of d) a) (source_of (slot_of d + 1) b)) lies rest))
+        (product_law fits limit rs wide_enough code h (scaling (source_of (slot_of d) a) (source_of (slot_of d + 1) b)) (scaling_is (source_of (slot_of d) a) (source_of (slot_of d + 1) b)) lies rest))
     calculates op.Divide a b d = computes op.Divide a b d (17 + limit) (omega arith) (λ is n s r w h.
-        quotient_law fits limit rs wide code h (shifts (source_of (slot_of d + 1) b)) (shifting_is (source_of (slot_of d + 1) b)))
+        quotient_law fits limit rs wide_enough code h (shifts (source_of (slot_of d + 1) b)) (shifting_is (source_of (slot_of d + 1) b)))
 
     -- the law of a calculation
     pub calculating : (o : Operator) (a b : Operand) (d : Destination) → GroupLaw (Calculate o a b d)
@@ -248,7 +251,7 @@ module _ (around : Surroundings) (fits : Fits around.f 16) (limit : ℕ) (code :
       -- the law of a use
       pub uses : (how : Usage) (a : Operand) → GroupLaw (Use how a)
       uses how a = by_steps (Use how a) (34 + (limit + limit)) (omega arith) (bracketed (Use how a) (34 + (limit + limit)) (spread_use how a)
-          (spread_use_is how a) (λ is n s r w h. use_law around fits limit rs code laid n a is s r w how h))
+          (spread_use_is how a) (λ is n s r w h. use_law around fits limit rs wide code laid n a is s r w how h))
 
       -- an instruction that is a group of its own
       alones : (i : Instr) → GroupLaw (Single i)

@@ -57,7 +57,7 @@ module _ (place : ℕ) (bytes : List ℕ) (from : 0x0800 ≤ place) (to : place 
     few = m.0.state.few;
   }
 
-  module _ (limit : ℕ → ℕ) (wide : (k : ℕ) → 200 ≤ limit k) (n : ℕ) (routines : RoutineLaws limit) (prologue : PrologueLaw n) where
+  module _ (limit : ℕ → ℕ) (wide : (k : ℕ) → 300 ≤ limit k) (n : ℕ) (routines : RoutineLaws limit) (prologue : PrologueLaw n) where
     -- the prologue leads to the relation at the first line
     pub opening : OpeningLaw place bytes from to ly Related sc n
     opening s h =

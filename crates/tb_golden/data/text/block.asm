@@ -349,60 +349,75 @@ MULTIPLY2:
 ; ---- Number: sends a signed word in decimal, as short as can be
 ;
 ; In:      LEFT.
-; Changes: RIGHT, COLUMN.
-; Stack:   2.  Time: 458.
+; Changes: RIGHT, RESULT, COLUMN.
+; Stack:   4.  Time: 334.
 ;
-; A negative word sends its sign and is negated. Then 10,000, 1,000, 100 and 10 are taken from LEFT, each as often as
-; it goes in, and what is left is the last digit. X counts the powers, and begins at 100 where LEFT is below 256. Y
-; counts how often one went in, from RIGHT on, which is 0 as long as no digit was sent, and then the text of the digit
-; 0: so where Y is 0 a digit is left out. X waits in RIGHT + 1 while a digit is sent. No byte of it is a 13, so it goes
-; past Send's test.
+; A negative word sends its sign and is negated. A word of 768 or more is divided by 100: its quotient, which is at most
+; 327, is sent as a number by itself, and then the two digits of the rest, which is in RESULT. Of any other word 100 is
+; taken as often as it goes in, and then 10: a byte below 100 begins with its tens, a byte below 10 with its last digit.
+; X counts, from the text before that of 0 on. What is left waits in LEFT while a digit is sent. No byte of it is a 13,
+; so it goes past Send's test.
 NUMBER:
         LDA $FC                 ; LEFT's sign
         BPL NUMBERPLAIN
         LDA #$2D                ; -
         JSR SEND1
         JSR NEGATELEFT
+
+; The word at LEFT, without a sign.
 NUMBERPLAIN:
-        LDA #$00
-        STA $FD                 ; RIGHT: no digit was sent
-        LDX #$03
-        LDA $FC
-        BNE NUMBERNEXT
-        LDX #$01
-NUMBERNEXT:
-        LDY $FD
-NUMBERTAKE:
-        LDA $FB                 ; LEFT - the power: C clear where LEFT is below
-        CMP POWERSLOW,X
-        LDA $FC
-        SBC POWERSHIGH,X
-        BCC NUMBERDIGIT
-        STA $FC                 ; LEFT = LEFT - the power
-        LDA $FB
-        SBC POWERSLOW,X
-        STA $FB
-        INY
-        BNE NUMBERTAKE          ; always
-NUMBERDIGIT:
-        TYA
-        BEQ NUMBERSKIP
-        ORA #$30
-        LDY #$30
-        STY $FD                 ; RIGHT: a digit was sent
+        LDA $FB                 ; LEFT, in A and Y
+        LDY $FC
+        BEQ NUMBERBYTE
+        CPY #$03
+        BCC HUNDREDS
+        LDX #$64                ; RIGHT = 100
+        STX $FD
+        LDX #$00
         STX $FE
+        JSR UNSIGNED
+        JSR NUMBERPLAIN         ; the quotient
+        LDA $C066               ; RESULT: the rest
+        BPL TENS                ; always
+NUMBERBYTE:
+        CMP #$0A
+        BCC LASTDIGIT
+        CMP #$64
+        BCC TENS
+
+; The word in A and Y, below 1,000. A hundred is taken once too often, and put back.
+HUNDREDS:
+        LDX #$2F
+HUNDREDSAGAIN:
+        SEC
+HUNDREDSTAKE:
+        INX
+        SBC #$64
+        BCS HUNDREDSTAKE
+        DEY
+        BPL HUNDREDSAGAIN
+        ADC #$64                ; C is clear
+        STA $FB
+        TXA
         JSR SEND1
-        LDX $FE
-NUMBERSKIP:
-        DEX
-        BPL NUMBERNEXT
-        LDA $FB                 ; LEFT: the last digit
+        LDA $FB
+
+; The byte in A, below 100.
+TENS:
+        LDX #$2F
+        SEC
+TENSTAKE:
+        INX
+        SBC #$0A
+        BCS TENSTAKE
+        ADC #$0A                ; C is clear
+        STA $FB
+        TXA
+        JSR SEND1
+        LDA $FB
+LASTDIGIT:
         ORA #$30
         JMP SEND1
-POWERSLOW:
-        .byte $0A,$64,$E8,$10   ; 10, 100, 1000, 10000
-POWERSHIGH:
-        .byte $00,$00,$03,$27
 
 ; ---- Text: sends bytes of the program
 ;
@@ -446,7 +461,7 @@ ZONE:
 ;          RIGHT + 1: the sign's byte, or 0.
 ; Fault:   6 at a byte that is not the number's next.
 ; Waits:   in CHRIN where the keyboard's text ends.
-; Stack:   2.  Time: 45 for each byte of the keyboard's text, and 587 (with the fault).
+; Stack:   2.  Time: 45 for each byte of the keyboard's text, and 463 (with the fault).
 ;
 ; Where no line is open, "? " is sent and a line is open. Spaces are passed over, before, inside and behind the
 ; number. It ends at a comma, which leaves the line open for the next turn, or at a 13, which is sent and closes
@@ -478,27 +493,25 @@ READ:
         BEQ DONE
         CMP #$0D
         BEQ DONE
-        SEC
-        SBC #$30
+        SBC #$30                ; C is clear below 13 alone: no digit comes of that either
         CMP #$0A
         BCS BAD
-        TAX                     ; the digit
-        LDA $FC                 ; RESULT, the high byte, and A: LEFT * 4
-        STA $C066
+        TAY                     ; the digit
+        LDX $FC                 ; LEFT + 1 and A: LEFT * 4
         LDA $FB
         ASL A
-        ROL $C066
-        ASL A
-        ROL $C066
-        CLC
-        ADC $FB                 ; LEFT = that + LEFT: 5 times
-        STA $FB
-        LDA $C066
-        ADC $FC
-        STA $FC
-        ASL $FB                 ; 10 times
         ROL $FC
+        ASL A
+        ROL $FC
+        CLC
+        ADC $FB                 ; A and LEFT: that + LEFT, 5 times
+        STA $FB
         TXA
+        ADC $FC
+        ASL $FB                 ; LEFT = that * 2
+        ROL A
+        STA $FC
+        TYA
         CLC
         ADC $FB                 ; LEFT = that + the digit
         STA $FB
@@ -721,7 +734,7 @@ POP_NONE:
 ; ---- Fault: ends the program with the text of a fault: 13, !k AT n, 13
 ;
 ; In:      A: the fault's number k, 0 to 7. LINE: n. HOME_S.
-; Stack:   4 below the start's.  Time: 540, and 542 from FAULTLINE on.
+; Stack:   6 below the start's.  Time: 416, and 418 from FAULTLINE on.
 ;
 ; FAULTLINE takes n in X (low byte) and Y, and puts it into LINE.
 ;
@@ -761,7 +774,7 @@ FAULT:
 ; ---- Poll: one look at the keyboard
 ;
 ; Fault:   0 where the STOP key is down, that is where GETIN gives 3; any other answer is lost.
-; Stack:   2.  Time: 5, and 546 with the fault.
+; Stack:   2.  Time: 5, and 422 with the fault.
 POLL:
         JSR $FFE4               ; GETIN
         CMP #$03

@@ -32,13 +32,13 @@ pub put_groups-requires-clause-groups : goal.put_groups-requires-clause-groups
 put_groups-requires-clause-groups c =
     let e = c.deref-in-Poll.ensures.value in
     let list = c.args.list.now in
-    selected_in_range group_of c.deref-in-Poll.result.now _ (ap (map group_of) e ∙ c.in_ok-groups-in-Poll.ensures.selected)
-    (ap (λ gs. expand_all (map group_of gs)) e ∙ c.in_ok-groups-in-Poll.ensures.bracketed)
+    selected_in_range group_of c.deref-in-Poll.result.now _ (ap (map group_of) e ∙ c.in_ok-select_in-in-Poll.ensures.selected)
+    (ap (λ gs. expand_all (map group_of gs)) e ∙ c.in_ok-select_in-in-Poll.ensures.bracketed)
     (range_behind (length list - 1) list c.requires.list.0) (short_behind (length list - 1) list c.requires.list.1)
 
 pub put_groups-requires-in_default-clause-groups : goal.put_groups-requires-in_default-clause-groups
 put_groups-requires-in_default-clause-groups c =
     let e = c.deref-in_default.ensures.value in
     let long = length-map c.args.list.now instr_of in let short = c.requires.list.1 in
-    selected_in_range group_of c.deref-in_default.result.now _ (ap (map group_of) e ∙ c.in_ok-select-in_default.ensures.selected)
-    (ap (λ gs. expand_all (map group_of gs)) e ∙ c.in_ok-select-in_default.ensures.bracketed) c.requires.list.0 (omega (arith, long, short))
+    selected_in_range group_of c.deref-in_default.result.now _ (ap (map group_of) e ∙ c.in_ok-select_in-in_default.ensures.selected)
+    (ap (λ gs. expand_all (map group_of gs)) e ∙ c.in_ok-select_in-in_default.ensures.bracketed) c.requires.list.0 (omega (arith, long, short))
