@@ -146,10 +146,13 @@ abbrev pub distance_extra : Regs → Result ℕ Wrong → ℕ
 distance_extra r (Ok distance) = taken_extra r.pc (branch_target r distance)
 distance_extra r (Err w) = 0
 
+-- a branch at PC, by whether it is taken
+abbrev pub branch_by : Bool → Regs → Reader → ℕ
+branch_by taken r read = if taken then distance_extra (advanced r Relative) (read ((r.pc + 1) % 65536)) else 0
+
 -- a branch: 0 if it is not taken
 abbrev pub branch_extra : Mnemonic → Regs → Reader → ℕ
-branch_extra mnemonic r read =
-    if is_taken mnemonic r.flags then distance_extra (advanced r Relative) (read ((r.pc + 1) % 65536)) else 0
+branch_extra mnemonic r read = branch_by (is_taken mnemonic r.flags) r read
 
 -- what comes on top for a mnemonic in a mode
 abbrev pub extra_of : Mnemonic → Mode → Regs → Reader → ℕ
@@ -159,12 +162,16 @@ extra_of mnemonic IndirectY r read = index_extra mnemonic r read
 extra_of mnemonic Relative r read = branch_extra mnemonic r read
 extra_of mnemonic _ r read = 0
 
+-- what comes on top for a byte's instruction, 0 if the byte is no opcode
+abbrev pub extra_by : Option (Mnemonic × Mode) → Regs → Reader → ℕ
+extra_by None r read = 0
+extra_by (Some (mnemonic, mode)) r read = extra_of mnemonic mode r read
+
 -- ---- the whole
 
 -- an opcode's base, and what comes on top
 abbrev pub cycles_of : Option (Mnemonic × Mode) → Regs → Reader → ℕ
-cycles_of None r read = 0
-cycles_of (Some (mnemonic, mode)) r read = base_of mnemonic mode + extra_of mnemonic mode r read
+cycles_of byte r read = base_by byte + extra_by byte r read
 
 -- the same, 0 if the opcode cannot be read
 abbrev pub cycles_by : Result ℕ Wrong → Regs → Reader → ℕ

@@ -1,18 +1,18 @@
 //! The cycles of instructions of the NMOS 6502, as the MCS6500 Programming Manual gives them.
 //!
 //! The definition is `specs/Cycles.antt`: a base by kind and mode, one more for a page that a reading instruction's
-//! index crosses, one more for a branch that is taken, or two if that branch leads into another page. The code has a
-//! table of its own, in the order of the opcodes, and the proof compares the two. No call takes memory.
+//! index crosses, one more for a branch that is taken, or two if that branch leads into another page. The code has
+//! tables of its own, in the order of the opcodes, and the proof compares them with it. No call takes memory.
 #![tactic(auto)]
 
-ghost use Rattle.std.specs.Prelude.{◌≡◌, ◌+◌, ◌≤◌, ◌%◌, ◌<◌};
+ghost use Rattle.std.specs.Prelude.{◌≡◌, ◌+◌, ◌≤◌, ◌%◌, ◌<◌, true};
 ghost use Rattle.tb_opcodes.specs.Opcodes.{decoded};
-ghost use Rattle.tb_opcodes.specs.declared.Mode.TheVariants.{Relative};
 ghost use Rattle.tb_memmap.specs.Bytes.{at};
-ghost use Rattle.tb_cpu.specs.Operands.{reading};
-ghost use Rattle.tb_cpu.specs.Instructions.{advanced, branch_target};
+ghost use Rattle.tb_cpu.specs.declared.registers.Regs.{Regs};
+ghost use Rattle.tb_cpu.specs.Operands.{Reader, reading};
+ghost use Rattle.tb_cpu.specs.Instructions.{branch_target};
 ghost use Rattle.tb_cycles.specs.Cycles.{base_by, reads_indexed, crosses_page, index_extra, is_taken, taken_extra};
-ghost use Rattle.tb_cycles.specs.Cycles.{branch_extra, extra_of, same_page, cycles_at};
+ghost use Rattle.tb_cycles.specs.Cycles.{branch_by, extra_of, extra_by, same_page, cycles_at};
 
 use tb_cpu::{Flags, Regs, operand_address};
 use tb_memmap::Memory;
@@ -36,6 +36,27 @@ static BASE: [u8; 256] = [
     2, 5, 0, 0, 0, 4, 6, 0, 2, 4, 0, 0, 0, 4, 7, 0, //
     2, 6, 0, 0, 3, 3, 5, 0, 2, 2, 2, 0, 4, 4, 6, 0, //
     2, 5, 0, 0, 0, 4, 6, 0, 2, 4, 0, 0, 0, 4, 7, 0, //
+];
+
+/// The most cycles that come on top of an opcode's base, in the same order: 1 where an index may lead out of a page, 2 where
+/// a branch may be taken, else 0.
+static MOST_EXTRA: [u8; 256] = [
+    0, 0, 0, 0, 0, 0, 0, 0, 0, 0, 0, 0, 0, 0, 0, 0, //
+    2, 1, 0, 0, 0, 0, 0, 0, 0, 1, 0, 0, 0, 1, 0, 0, //
+    0, 0, 0, 0, 0, 0, 0, 0, 0, 0, 0, 0, 0, 0, 0, 0, //
+    2, 1, 0, 0, 0, 0, 0, 0, 0, 1, 0, 0, 0, 1, 0, 0, //
+    0, 0, 0, 0, 0, 0, 0, 0, 0, 0, 0, 0, 0, 0, 0, 0, //
+    2, 1, 0, 0, 0, 0, 0, 0, 0, 1, 0, 0, 0, 1, 0, 0, //
+    0, 0, 0, 0, 0, 0, 0, 0, 0, 0, 0, 0, 0, 0, 0, 0, //
+    2, 1, 0, 0, 0, 0, 0, 0, 0, 1, 0, 0, 0, 1, 0, 0, //
+    0, 0, 0, 0, 0, 0, 0, 0, 0, 0, 0, 0, 0, 0, 0, 0, //
+    2, 0, 0, 0, 0, 0, 0, 0, 0, 0, 0, 0, 0, 0, 0, 0, //
+    0, 0, 0, 0, 0, 0, 0, 0, 0, 0, 0, 0, 0, 0, 0, 0, //
+    2, 1, 0, 0, 0, 0, 0, 0, 0, 1, 0, 0, 1, 1, 1, 0, //
+    0, 0, 0, 0, 0, 0, 0, 0, 0, 0, 0, 0, 0, 0, 0, 0, //
+    2, 1, 0, 0, 0, 0, 0, 0, 0, 1, 0, 0, 0, 1, 0, 0, //
+    0, 0, 0, 0, 0, 0, 0, 0, 0, 0, 0, 0, 0, 0, 0, 0, //
+    2, 1, 0, 0, 0, 0, 0, 0, 0, 1, 0, 0, 0, 1, 0, 0, //
 ];
 
 /// The cycles of an opcode if no page is crossed and no branch taken, from 2 to 7; 0 if the byte is no opcode.
@@ -132,12 +153,12 @@ fn taken_extra(next: &Regs, distance: u8) -> u8
     }
 }
 
-// The cycles that a branch adds: 0 to 2.
-fn branch_extra(mnemonic: Mnemonic, regs: &Regs, memory: &Memory) -> u8
-    ensures value { result ≡ branch_extra mnemonic regs.now (reading (at memory.now)) }
+// The cycles that a branch at PC adds, by whether it is taken: 0 to 2.
+fn branch_extra(taken: bool, regs: &Regs, memory: &Memory) -> u8
+    ensures value { result ≡ branch_by taken regs.now (reading (at memory.now)) }
     ensures few { result ≤ 2 }
 {
-    if !is_taken(mnemonic, regs.flags) {
+    if !taken {
         return 0;
     }
     match memory.read(regs.pc.wrapping_add(1)) {
@@ -152,19 +173,62 @@ fn branch_extra(mnemonic: Mnemonic, regs: &Regs, memory: &Memory) -> u8
     }
 }
 
-// The cycles that come on top of the base: 0 to 2.
+// The cycles that come on top of the base, by mnemonic and mode: 0 to 2.
 fn extra(mnemonic: Mnemonic, mode: Mode, regs: &Regs, memory: &Memory) -> u8
     ensures value { result ≡ extra_of mnemonic mode regs.now (reading (at memory.now)) }
     ensures few { result ≤ 2 }
 {
     match mode {
         Mode::AbsoluteX | Mode::AbsoluteY | Mode::IndirectY => index_extra(mnemonic, regs, memory),
-        Mode::Relative => branch_extra(mnemonic, regs, memory),
+        Mode::Relative => branch_extra(is_taken(mnemonic, regs.flags), regs, memory),
         _ => 0,
     }
 }
 
+// Whether nothing comes on top of an opcode's base, whatever registers and memory hold. If false, it says nothing.
+#[inline(always)]
+fn has_no_extra(opcode: u8) -> bool
+    ensures { result ≡ true → (r : Regs) (read : Reader) → extra_by (decoded opcode) r read ≡ 0 }
+{
+    MOST_EXTRA[opcode as usize] == 0
+}
+
+// The cycles that come on top of the base of an opcode at PC: 0 to 2.
+// Few opcodes take any, and most of those are branches, so that the rest alone is decoded.
+#[tactic(auto, unfolding(tb_opcodes::specs::Opcodes::decoded))]
+#[inline(always)]
+fn extra_at(opcode: u8, regs: &Regs, memory: &Memory) -> u8
+    ensures value { result ≡ extra_by (decoded opcode) regs.now (reading (at memory.now)) }
+    ensures few { result ≤ 2 }
+{
+    if has_no_extra(opcode) {
+        return 0;
+    }
+    match opcode {
+        0x10 => branch_extra(!regs.flags.n, regs, memory),
+        0x30 => branch_extra(regs.flags.n, regs, memory),
+        0x90 => branch_extra(!regs.flags.c, regs, memory),
+        0xb0 => branch_extra(regs.flags.c, regs, memory),
+        0xd0 => branch_extra(!regs.flags.z, regs, memory),
+        0xf0 => branch_extra(regs.flags.z, regs, memory),
+        _ => decoded_extra(opcode, regs, memory),
+    }
+}
+
+// The same by decoding.
+#[inline(never)]
+fn decoded_extra(opcode: u8, regs: &Regs, memory: &Memory) -> u8
+    ensures value { result ≡ extra_by (decoded opcode) regs.now (reading (at memory.now)) }
+    ensures few { result ≤ 2 }
+{
+    match decode(opcode) {
+        None => 0,
+        Some((mnemonic, mode)) => extra(mnemonic, mode, regs, memory),
+    }
+}
+
 /// The cycles of the instruction at PC, at most 9; 0 if there is none.
+#[inline(always)]
 pub fn cycles(regs: &Regs, memory: &Memory) -> u8
     ensures value { result ≡ cycles_at regs.now (reading (at memory.now)) }
     ensures few { result ≤ 9 }
@@ -172,8 +236,5 @@ pub fn cycles(regs: &Regs, memory: &Memory) -> u8
     let Ok(opcode) = memory.read(regs.pc) else {
         return 0;
     };
-    match decode(opcode) {
-        None => 0,
-        Some((mnemonic, mode)) => base(opcode) + extra(mnemonic, mode, regs, memory),
-    }
+    base(opcode) + extra_at(opcode, regs, memory)
 }

@@ -34,13 +34,15 @@ behind_by marks p q e begins happened left is counted moved told =
     told ∙ ap (λ x. if x then values_in p.state.mem else p.opened) is in
     λ i. record { state = happened i; rom = left i; begun = count i; last = place i; opened = values i }
 
--- values that are read where a line may begin, and kept if one does
-pub opened_where : (begins own marked : Bool) (here before : List ℤ) → begins ≡ (own && marked)
-    → (if begins then (if marked then here else before) else before) ≡ (if begins then here else before)
-opened_where false own marked here before e = refl
-opened_where true true true here before e = refl
-opened_where true true false here before e = cc
-opened_where true false marked here before e = cc
+-- no event begins a line where none is marked
+pub none_begins : (own marked : Bool) → marked ≡ false → false ≡ (own && marked)
+none_begins true marked h = sym h
+none_begins false marked h = refl
+
+-- where one is, each of the program's own does
+pub own_begins : (own marked : Bool) → marked ≡ true → own ≡ (own && marked)
+own_begins true marked h = sym h
+own_begins false marked h = refl
 
 -- one event more
 pub one_more : (marks : List Bool) (start p q : Point) (n m : ℕ) (e : Event) → p ≡ point_at marks start n → e ≡ event_at p.rom p.state.regs

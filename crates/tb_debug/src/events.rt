@@ -7,7 +7,6 @@ ghost use Rattle.tb_debug.specs.Events.{Took};
 
 use std::alloc::AllocError;
 use tb_kernal::{Event, Machine, Outside};
-use tb_watch::go_once;
 
 // Whether an event is the program's own.
 fn is_own(event: &Event) -> bool
@@ -39,6 +38,6 @@ pub fn take_quickly<O: Outside>(machine: &mut Machine, outside: &mut O) -> Resul
     if !outside.is_quiet() {
         return take_event(machine, outside);
     }
-    go_once(machine)?;
+    machine.go_once()?;
     Ok(true)
 }

@@ -27,6 +27,9 @@ pub enum Reached {
     Limit,
 }
 
+/// Where the first ROM begins.
+const FIRST_ROM: u16 = 0xa000;
+
 /// The most events that are counted.
 const MOST_EVENTS: u64 = u64::MAX;
 
@@ -116,14 +119,19 @@ impl Moment {
         }
     }
 
-    // The variables here if a line begins here, else as the last one began.
-    fn opened_by(&self, marked: bool) -> Variables
-        ensures { result ≡ (if marked then values_in (state_of self.now.machine).mem else self.now.opened) }
+    // Counts the line that begins at an address, with the variables there, if one does.
+    #[inline(always)]
+    fn begin_line(&mut self, begins: bool, pc: u16, here: &Variables)
+        requires { self.old.begun < 18446744073709551615 }
+        ensures begun { self.new.begun ≡ self.old.begun + (if begins then 1 else 0) }
+        ensures last { self.new.last ≡ (if begins then pc else self.old.last) }
+        ensures opened { self.new.opened ≡ (if begins then here.now else self.old.opened) }
+        ensures rest { self.new ≡ record self.old { begun = self.new.begun; last = self.new.last; opened = self.new.opened } }
     {
-        if marked {
-            variables_in(&self.machine)
-        } else {
-            self.opened
+        if begins {
+            self.begun += 1;
+            self.last = pc;
+            self.opened = *here;
         }
     }
 
@@ -140,14 +148,16 @@ impl Moment {
         ensures interrupted { IfOk result (λ own. own ≡ false → self.new.machine.regs.pc ≡ self.old.machine.regs.pc) }
     {
         let pc = self.machine.regs().pc;
-        let marked = starts.begins(pc);
-        let here = self.opened_by(marked);
+        if !starts.begins(pc) {
+            let own = take_quickly(&mut self.machine, &mut self.rom)?;
+            self.events += 1;
+            return Ok(own);
+        }
+        // The variables are read where a line begins alone.
+        let here = variables_in(&self.machine);
         let is_own = take_quickly(&mut self.machine, &mut self.rom)?;
-        let begins = both(is_own, marked);
         self.events += 1;
-        self.begun = counted(self.begun, begins);
-        self.last = begun_last(begins, pc, self.last);
-        self.opened = opened_last(begins, here, self.opened);
+        self.begin_line(is_own, pc, &here);
         Ok(is_own)
     }
 
@@ -163,6 +173,10 @@ impl Moment {
         ensures stays { self.new.events ≡ self.old.events → self.new.machine.regs.pc ≡ self.old.machine.regs.pc }
     {
         if self.rom != Rom::Quiet {
+            return false;
+        }
+        // A service of the ROM is no instruction that is gone over.
+        if FIRST_ROM <= self.machine.regs().pc {
             return false;
         }
         let went = self.machine.go_to_mark(starts.marks(), limit);
@@ -234,26 +248,4 @@ fn both(left: bool, right: bool) -> bool
     ensures { result ≡ (left && right) }
 {
     left && right
-}
-
-// A count, with one more.
-fn counted(count: u64, counts: bool) -> u64
-    requires { count < 18446744073709551615 }
-    ensures { result ≡ count + (if counts then 1 else 0) }
-{
-    if counts { count + 1 } else { count }
-}
-
-// Where the line that was begun last begins: here, or where it did before.
-fn begun_last(begins: bool, here: u16, before: u16) -> u16
-    ensures { result ≡ (if begins then here else before) }
-{
-    if begins { here } else { before }
-}
-
-// The variables as the line that was begun last began: here, or where it did before.
-fn opened_last(begins: bool, here: Variables, before: Variables) -> Variables
-    ensures { result ≡ (if begins then here else before) }
-{
-    if begins { here } else { before }
 }

@@ -1,17 +1,20 @@
 -- A tally of steps, one event later.
-use Rattle.std.proofs.Common.{◌≡◌, ℕ, ◌+◌, ◌<◌, ◌≤◌, Bool, true, false, List, [], ◌∷◌, ◌++◌, length, refl, sym, ap, ◌∙◌, arith, subst, slice_index, slice_index_or}
+use Rattle.std.proofs.Common.{◌≡◌, ℕ, ◌+◌, ◌<◌, ◌≤◌, false, List, [], ◌∷◌, ◌++◌, length, length-append, refl, sym, ap, ◌∙◌, arith, subst, slice_index, slice_index_or}
 use Rattle.std.specs.Prelude.{◌==◌, if◌then◌else◌}
 use Rattle.std.proofs.lemmas.List.{length-set, length_push}
 use Rattle.std.proofs.lemmas.List.Sums.{sum_by_push}
-use Rattle.tb_cpu.specs.Operands.{reading}
+use Rattle.tb_memmap.specs.Bytes.{at}
+use Rattle.tb_cpu.specs.declared.registers.Regs.{Regs}
+use Rattle.tb_cpu.specs.Operands.{Reader, reading}
+use Rattle.tb_cycles.specs.Cycles.{cycles_at}
 use Rattle.tb_kernal.specs.declared.events.Event.{Event}
 use Rattle.tb_kernal.specs.declared.events.Event.TheVariants.{Go, Interrupt}
 use Rattle.tb_kernal.specs.declared.events.Clobber.{Clobber}
-use Rattle.tb_kernal.specs.Machine.{State, Content, state_of, happens}
-use Rattle.tb_kernal.specs.Runs.{run, Gave, GivesQuiet, WentQuietly}
-use Rattle.tb_kernal.proofs.Giving.{gave_room}
-use Rattle.tb_profile.specs.Steps.{Step, begins_line, line_by, step_of, steps, cycles_of_go, times_of, instructions_of, cycles_of}
-use Rattle.tb_profile.specs.Tallies.{Counted, IsTally, last_line, with_step, after_step, CountsEvent, TookShortly}
+use Rattle.tb_kernal.specs.Machine.{State, Content, state_of, happens, is_no_service}
+use Rattle.tb_kernal.specs.Runs.{quiet as quiet_of, run, Gave, GivesQuiet, WentCounted}
+use Rattle.tb_kernal.proofs.Giving.{gave_more, gave_room, gave_run}
+use Rattle.tb_profile.specs.Steps.{Step, begins_line, line_by, step_of, steps, cycles_of_go, service_cycles, times_of, instructions_of, cycles_of}
+use Rattle.tb_profile.specs.Tallies.{Counted, IsTally, last_line, with_step, after_step, CountsEvent, TookAll}
 use Rattle.tb_profile.proofs.Marking.{more_at}
 
 -- a run has at most one step for each event
@@ -79,34 +82,46 @@ event_more starts es first now (Interrupt ws) t u same h e =
     subst (λ us. IsTally starts us u) (sym (steps_interrupt starts 0 es (Interrupt ws) ws first refl))
     (subst (λ v. IsTally starts (steps starts 0 es first) v) (sym e) h)
 
--- one quiet event that was counted
-pub took_one : {O : Type 0} (gives : O → Content → Event → O → Type 0) (o : O) (m : Content) (es : List Event) (n : Content) (t u : Counted)
-    → GivesQuiet gives o → length es ≡ 1 → WentQuietly [] m es n → m.regs.pc < 65536
-    → u ≡ after_step t m.regs.pc (cycles_of_go m.regs (reading (state_of m).mem)) → TookShortly gives o m t true n u
-took_one gives o m [] n t u quiet one w address counted = absurd (omega (arith, one))
-took_one gives o m (e ∷ []) n t u quiet one w address counted = (
-  w.0,
-  record {
-    event = e;
-    ready = m;
-    same = refl;
-    given = subst (λ x. gives o m x o) (sym w.2) (quiet m);
-    happened = w.3.2 ∙ w.3.1;
-    counted = subst (λ x. CountsEvent x (state_of m) t u) (sym w.2) (address, counted);
-  },
-)
-took_one gives o m (e ∷ f ∷ es) n t u quiet one w address counted = absurd (omega (arith, one))
+-- instructions of which the tally heard
+pub took_heard : {O : Type 0} (gives : O → Content → Event → O → Type 0) (o : O) (m : Content) (t : Counted) (es : List Event) (n : Content) (u : Counted)
+    → GivesQuiet gives o → WentCounted cycles_at (λ v pc cycles w. (pc < 65536) × (w ≡ after_step v pc cycles)) m t es n u
+    → TookAll gives o m t es n u
+took_heard gives o m t [] n u quiet w = w
+took_heard gives o m t (e ∷ es) n u quiet (runs, here, is, (after, heard, happened, counts, rest)) =
+    let r : Regs = m.regs in
+    let read : Reader = reading (at m.memory) in
+    let own : cycles_at r read ≡ cycles_of_go r read = ap (λ s. if is_no_service s then cycles_at r read else service_cycles) (sym here) in
+    let counted : CountsEvent (Go (quiet_of m)) (state_of m) t heard = (counts.0, counts.1 ∙ ap (after_step t r.pc) own) in (
+      runs,
+      (
+        after,
+        heard,
+        subst (λ x. gives o m x o) (sym is) (quiet m),
+        happened,
+        subst (λ x. CountsEvent x (state_of m) t heard) (sym is) counted,
+        took_heard gives o after heard es n u quiet rest,
+      ),
+    )
 
--- an event was taken by the short way
-pub took_shortly : {O : Type 0} (gives : O → Content → Event → O → Type 0) (o : O) (m n : Content) (t u : Counted) (b : Bool) → b ≡ true
-    → TookShortly gives o m t b n u → TookShortly gives o m t true n u
-took_shortly gives o m n t u b is w = subst (λ c. TookShortly gives o m t c n u) is w
+module _ {O : Type 0} (gives : O → Content → Event → O → Type 0) (first : O) (start : Content) (starts : List ℕ) where
+  -- so many events were given from the start, and their steps were counted
+  abbrev pub Counts : ℕ → O → Content → Counted → Type 0
+  Counts many o n t =
+      (es : List Event) × (length es ≡ many) × Gave gives first start es o n × IsTally starts (steps starts 0 es (state_of start)) t
 
--- none was: so what was given and counted before is all
-pub took_none : {O : Type 0} (gives : O → Content → Event → O → Type 0) (first o : O) (start m n : Content) (starts : List ℕ) (es : List Event)
-    (t u : Counted) (b : Bool) → b ≡ false → TookShortly gives o m t b n u → Gave gives first start es o m
-    → IsTally starts (steps starts 0 es (state_of start)) t
-    → Gave gives first start es o n × IsTally starts (steps starts 0 es (state_of start)) u
-took_none gives first o start m n starts es t u b isnt w gave tally =
-    let (same, kept) = subst (λ c. TookShortly gives o m t c n u) isnt w in
-    (gave_room gives es _ _ _ _ _ gave same, subst (IsTally starts (steps starts 0 es (state_of start))) (sym kept) tally)
+  -- no more steps than events
+  pub few_counted : (many : ℕ) (o : O) (n : Content) (t : Counted) → Counts many o n t → t.taken ≤ many
+  few_counted many o n t (es, count, gave, tally) = omega (arith, few_steps starts 0 es (state_of start), tally.taken, count)
+
+  -- more events
+  pub took_all : (many : ℕ) (o : O) (m n : Content) (t u : Counted) (es : List Event) → Counts many o m t → TookAll gives o m t es n u
+      → Counts (many + length es) o n u
+  took_all many o m n t u [] (before, count, gave, tally) (same, kept) =
+      (before, omega (arith, count), gave_room gives before _ _ _ _ _ gave same, subst (IsTally starts (steps starts 0 before (state_of start))) (sym kept) tally)
+  took_all many o m n t u (e ∷ es) (before, count, gave, tally) (runs, (after, v, given, happened, counted, rest)) =
+      let longer : length (before ++ e ∷ []) ≡ many + 1 = omega (arith, length-append before (e ∷ []), count) in
+      let more = gave_more gives before _ _ _ m e _ m after gave runs refl given happened in
+      let one = event_more starts before (state_of start) (state_of m) e t v (gave_run gives before _ _ _ _ gave) tally counted in
+      let all = took_all (many + 1) o after n v u es (before ++ e ∷ [], longer, more, one) rest in
+      let sum : many + 1 + length es ≡ many + length (e ∷ es) = omega arith in
+      subst (λ k. Counts k o n u) sum all

@@ -1,5 +1,5 @@
 -- Tallies: what was counted, by address.
-use Rattle.std.specs.Prelude.{ℕ, ◌≡◌, ◌<◌, ◌≤◌, ◌+◌, Bool, true, false, List, [], ◌∷◌, length, slice_index, slice_index_or, slice_set, sum_by}
+use Rattle.std.specs.Prelude.{ℕ, ◌≡◌, ◌<◌, ◌≤◌, ◌+◌, Bool, false, List, [], ◌∷◌, length, slice_index, slice_index_or, slice_set, sum_by}
 use Rattle.tb_cpu.specs.Operands.{reading}
 use Rattle.tb_kernal.specs.declared.events.Event.{Event}
 use Rattle.tb_kernal.specs.declared.events.Event.TheVariants.{Go, Interrupt}
@@ -76,7 +76,10 @@ pub record Took {O : Type 0} (gives : O → Content → Event → O → Type 0) 
   pub happened : state_of n ≡ happens (state_of ready) event
   pub counted : CountsEvent event (state_of ready) t u
 
--- the same of an outside that stays as it is and a machine that runs, where that is told; else all stays as it is
-abbrev pub TookShortly : {O : Type 0} → (O → Content → Event → O → Type 0) → O → Content → Counted → Bool → Content → Counted → Type 0
-TookShortly gives o m t true n u = (status (state_of m) ≡ Running) × Took gives o m t o n u
-TookShortly gives o m t false n u = (state_of n ≡ state_of m) × (u ≡ t)
+-- events that an outside, which stays as it is, gave a running machine in turn, each of which was counted
+abbrev pub TookAll : {O : Type 0} → (O → Content → Event → O → Type 0) → O → Content → Counted → List Event → Content → Counted → Type 0
+TookAll gives o m t [] n u = (state_of n ≡ state_of m) × (u ≡ t)
+TookAll gives o m t (e ∷ es) n u =
+    (status (state_of m) ≡ Running)
+    × ((after : Content) × (v : Counted) × gives o m e o × (state_of after ≡ happens (state_of m) e)
+    × CountsEvent e (state_of m) t v × TookAll gives o after v es n u)

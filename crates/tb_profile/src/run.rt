@@ -1,20 +1,21 @@
 //! Runs that are counted.
-ghost use Rattle.std.specs.Prelude.{◌≡◌, ◌<◌, ◌≤◌, ◌*◌, ◌^◌, OnOk, not};
+ghost use Rattle.std.specs.Prelude.{◌≡◌, ◌+◌, ◌<◌, ◌≤◌, ◌*◌, ◌^◌, List, OnOk, length, not};
 ghost use Rattle.tb_memmap.specs.Bytes.{at};
 ghost use Rattle.tb_cpu.specs.Operands.{reading};
 ghost use Rattle.tb_kernal.specs.Machine.{state_of, status, is_running, is_no_service};
 ghost use Rattle.tb_kernal.specs.Rom.{service_at};
 ghost use Rattle.tb_kernal.specs.Runs.{GivesQuiet};
+ghost use Rattle.tb_kernal.specs.declared.events.Event.{Event};
 ghost use Rattle.tb_kernal.specs.declared.status.Status.TheVariants.{Running};
 ghost use Rattle.tb_profile.specs.Steps.{cycles_of_go};
-ghost use Rattle.tb_profile.specs.Tallies.{CountsEvent, Took, TookShortly, most_cycles};
+ghost use Rattle.tb_profile.specs.Tallies.{CountsEvent, Took, TookAll, most_cycles};
 ghost use Rattle.tb_profile.specs.Profiles.{Profiled};
 
 use crate::tally::Tally;
 use std::alloc::{AllocError, Global};
 use tb_cycles::cycles;
 use tb_kernal::{CHRIN, CHROUT, Event, GETIN, Machine, Outside, Status};
-use tb_watch::{Watch, go_once};
+use tb_watch::Watch;
 
 /// The cycles of a service: those of its RTS, since its other time isn't the program's.
 const SERVICE_CYCLES: u8 = 6;
@@ -102,27 +103,28 @@ fn take_quietly<O: Outside>(
 {
     let pc = machine.regs().pc;
     let cycles = cycles_of_go(machine);
-    go_once(machine)?;
+    machine.go_once()?;
     tally.count(pc, cycles);
     Ok(())
 }
 
-// Lets an outside's next event happen and counts it, if it is a quiet one of a machine that runs, and has a short way. Else
-// nothing changes, and the answer is false.
-fn take_shortly<O: Outside>(machine: &mut Machine, outside: &O, tally: &mut Tally) -> bool
-    requires few { tally.old.taken < 2 ^ 32 }
-    ensures { TookShortly O.gives outside.now machine.old tally.old result machine.new tally.new }
+// Lets at most `limit` next events happen, as long as each is a quiet one with a short way, and counts them. Answers how many
+// happened.
+fn take_shortly<O: Outside>(
+    machine: &mut Machine,
+    outside: &O,
+    tally: &mut Tally,
+    limit: u32,
+) -> u32
+    requires room { tally.old.taken + limit ≤ 2 ^ 32 }
+    ensures took { (es : List Event) × (length es ≡ result)
+        × TookAll O.gives outside.now machine.old tally.old es machine.new tally.new }
+    ensures few { result ≤ limit }
 {
     if !outside.is_quiet() {
-        return false;
+        return 0;
     }
-    let pc = machine.regs().pc;
-    let cycles = cycles_of_go(machine);
-    if machine.go_shortly(1) == 0 {
-        return false;
-    }
-    tally.count(pc, cycles);
-    true
+    machine.go_counting(tally, u64::from(limit)) as u32
 }
 
 /// Lets the events of an outside happen as `run` does, and counts the program's own by the lines that begin at these
@@ -144,11 +146,14 @@ pub fn run_counted<O: Outside, W: Watch>(
     profile
 }
 
-// Tells a watch now and then how many events were taken.
-fn tell_watch<W: Watch>(watch: &mut W, taken: u32) {
-    if taken % STRETCH == 0 {
-        watch.took(u64::from(taken));
+// Tells a watch now and then how many events were taken, if it heard last when `told` of them were. Answers of how many it
+// has heard then.
+fn tell_watch<W: Watch>(watch: &mut W, told: u32, taken: u32) -> u32 {
+    if taken.saturating_sub(told) < STRETCH {
+        return told;
     }
+    watch.took(u64::from(taken));
+    taken
 }
 
 // The same, but that the watch doesn't hear of the end.
@@ -163,16 +168,18 @@ fn count_events<O: Outside, W: Watch>(
     ensures { Profiled O.gives outside.old machine.old starts.now limit result outside.new machine.new }
 {
     let mut tally = Tally::new(alloc, starts)?;
-    for taken in 0..limit {
-        tell_watch(watch, taken);
-        if take_shortly(machine, outside, &mut tally) {
-            continue;
-        }
+    let mut taken = 0;
+    let mut told = 0;
+    while taken < limit {
+        told = tell_watch(watch, told, taken);
+        let stretch = STRETCH.min(limit - taken);
+        taken += take_shortly(machine, outside, &mut tally, stretch);
         let status = machine.status();
-        if !is_running(status) {
+        if taken == limit || !is_running(status) {
             return Ok(Profile { status, tally });
         }
         take_event(machine, outside, &mut tally)?;
+        taken += 1;
     }
     Ok(Profile {
         status: machine.status(),

@@ -6,6 +6,9 @@ ghost use Rattle.tb_profile.specs.Tallies.{IsTally, with_more, after_step, most_
 
 use std::alloc::{AllocError, Global};
 use std::marker::Model;
+use tb_cpu::{Counter, Regs};
+use tb_cycles::cycles;
+use tb_memmap::Memory;
 
 /// The number of addresses.
 const ADDRESSES: usize = 65_536;
@@ -61,6 +64,7 @@ impl Tally {
     }
 
     /// Counts a step at an address.
+    #[inline(always)]
     pub(crate) fn count(&mut self, pc: u16, cycles: u8)
         requires few { cycles ≤ most_cycles }
         requires taken { self.old.taken < 2 ^ 32 }
@@ -112,6 +116,28 @@ impl Tally {
     }
 }
 
+impl Counter for Tally {
+    ghost use Rattle.std.specs.Prelude.{◌≡◌, ◌<◌, ◌-◌, ◌^◌};
+    ghost use Rattle.tb_cycles.specs.Cycles.{cycles_at};
+    ghost use Rattle.tb_profile.specs.Tallies.{after_step};
+
+    ghost cost_of = { cycles_at };
+
+    ghost counts = { λ t pc cycles u. (pc < 65536) × (u ≡ after_step t pc cycles) };
+
+    ghost room = { λ t. 2 ^ 32 - t.taken };
+
+    #[inline(always)]
+    fn look(&self, regs: &Regs, memory: &Memory) -> u8 {
+        cycles(regs, memory)
+    }
+
+    #[inline(always)]
+    fn hear(&mut self, pc: u16, cost: u8) {
+        self.count(pc, cost);
+    }
+}
+
 fn zeros(alloc: Global) -> Result<Vec<u64>, AllocError>
     ensures { IfOk result (λ v. v.items ≡ replicate 65536 0) }
 {
@@ -138,6 +164,7 @@ fn marks(alloc: Global, starts: &[u16]) -> Result<Vec<bool>, AllocError>
     Ok(begins)
 }
 
+#[inline(always)]
 fn add(counts: &mut Vec<u64>, address: u16, more: u64)
     requires length { vec_len counts.old ≡ 65536 }
     requires fits { slice_index counts.old.items address + more < 2 ^ 64 }

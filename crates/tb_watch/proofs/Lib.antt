@@ -1,4 +1,2 @@
--- one event of a quiet ROM
-pub mod Quietly
 -- stretches of events that make one run
 pub mod Stretches

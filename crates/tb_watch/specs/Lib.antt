@@ -1,2 +1,1 @@
-pub mod Quietly
 pub mod Stretches

@@ -1,8 +1,6 @@
-//! Long runs that tell how far they are, and single events that go as quickly.
+//! Long runs that tell how far they are.
 #![tactic(auto)]
 
-mod quiet;
 mod runs;
 
-pub use quiet::go_once;
 pub use runs::{Unwatched, Watch, run_watched};

@@ -1,28 +1,13 @@
 -- The table is held against the definition at each of the 256 bytes, by computing.
-use Rattle.std.proofs.Common.{◌≡◌, ℕ, zero, suc, ◌<◌, ◌≤◌, Bool, true, false, ◌&&◌, eqb, slice_index_or, refl, arith, inl, inr}
+use Rattle.std.proofs.Common.{◌≡◌, ℕ, ◌<◌, ◌≤◌, Bool, true, eqb, slice_index_or, refl, arith}
 use Rattle.std.specs.Prelude.{nat_le}
-use Rattle.std.proofs.lemmas.Bool.{eqb-true, cases_eq}
+use Rattle.std.proofs.lemmas.Bool.{eqb-true}
 use Rattle.std.proofs.lemmas.Bool.Decides.{nat_tests}
 use Rattle.tb_opcodes.specs.Opcodes.{decoded}
 use Rattle.tb_cycles.specs.declared.TheConstants.{BASE}
 use Rattle.tb_cycles.specs.Cycles.{base_by}
+use Rattle.tb_cycles.proofs.Bytes.{holds_below, holds_at}
 use Rattle.tb_cycles.proofs.base.Goals as goal
-
--- a test holds below n
-holds_below : (ℕ → Bool) → ℕ → Bool
-holds_below p zero = true
-holds_below p (suc n) = p n && holds_below p n
-
-both_of : (x y : Bool) → (x && y) ≡ true → (x ≡ true) × (y ≡ true)
-both_of true y h = (refl, h)
-both_of false y h = absurd (cc)
-
-holds_at : (p : ℕ → Bool) (n : ℕ) → holds_below p n ≡ true → (b : ℕ) → b < n → p b ≡ true
-unfolding holds_below
-holds_at p zero h b lt = absurd (omega arith)
-holds_at p (suc n) h b lt =
-    let both = both_of (p n) (holds_below p n) h in
-    elim (cases_eq b n) [ inl same ↦ rw same both.0 | inr other ↦ holds_at p n both.1 b (omega arith) ]
 
 agrees : ℕ → Bool
 agrees k = eqb (slice_index_or BASE k 0) (base_by (decoded k))
