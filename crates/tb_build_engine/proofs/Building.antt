@@ -1,7 +1,7 @@
 -- What becomes of files that are not written, and what is built of a source that was read.
 use Rattle.std.proofs.Common.{◌≡◌, ℕ, List, [], ◌∷◌, length, Option, Some, None, Ok, Err, refl, subst, sym, ap, ◌∙◌}
 use Rattle.std.specs.Io.KnownBytes.{Keeps}
-use Rattle.tb_streams.specs.Uses.{Use}
+use Rattle.tb_streams.specs.Uses.{NeverFails, Use}
 use Rattle.tb_streams.specs.declared.tracked.Tracked.{Tracked}
 use Rattle.tb_meaning.specs.declared.missing.Warning.{Warning}
 use Rattle.tb_codegen.specs.Compiled.{prg_of, warnings_of}
@@ -14,7 +14,7 @@ use Rattle.tb_driver.specs.declared.reading.CompiledSource.{CompiledSource}
 use Rattle.tb_listing.specs.Builds.{IsMade}
 use Rattle.tb_listing.specs.declared.build.Made.{Made}
 use Rattle.tb_monitor.specs.Files.{watch_text}
-use Rattle.tb_build_engine.specs.Builds.{AreTexts, Builds, Writes}
+use Rattle.tb_build_engine.specs.Builds.{AreTexts, Builds, ReadFaults, Writes}
 use Rattle.tb_build_engine.specs.Files.{AreLeft, IsLeft, texts_of}
 
 kept : (bytes : Option (List ℕ)) → Keeps bytes bytes
@@ -82,3 +82,12 @@ module _ {W : Type 0} (contents : W → Option (List ℕ)) (settings : CompileSe
   built (Refused why) olds news none = absurd none
   built ReadFault olds news none = absurd none
   built NoMemory olds news none = absurd none
+
+-- after a source was read whole, writing is no fault of its reader
+pub read_whole : {W : Type 0} (contents : W → Option (List ℕ)) (written_texts : List (List ℕ)) (outcome : Outcome) (reader : Use)
+    (olds news : List (Option (Tracked W))) → NeverFails reader → Writes contents written_texts outcome olds news → ReadFaults outcome reader
+read_whole contents written_texts (Ended end) reader olds news whole written = whole
+read_whole contents written_texts (Refused why) reader olds news whole written = whole
+read_whole contents written_texts WriteFault reader olds news whole written = whole
+read_whole contents written_texts NoMemory reader olds news whole written = whole
+read_whole contents written_texts ReadFault reader olds news whole none = absurd none

@@ -2,7 +2,8 @@
 use Rattle.std.proofs.Common.{◌∙◌, subst, sym}
 use Rattle.tb_streams.specs.Uses.{use_of}
 use Rattle.tb_listing.specs.Builds.{IsMade, IsProgramOf}
-use Rattle.tb_build_engine.proofs.Building.{built, memory_wanting, report_not_built}
+use Rattle.tb_build_engine.specs.Files.{each_of, texts_of}
+use Rattle.tb_build_engine.proofs.Building.{built, memory_wanting, read_whole, report_not_built}
 use Rattle.tb_build_engine.proofs.build.build_files.Goals as goal
 
 pub make-requires : goal.make-requires
@@ -25,3 +26,9 @@ returns-clause-answers g c =
     c.prg-prg.result.now c.as_slice-2.result.now c.into_warnings.result.items c.in-Ok.ensures.answers
     (subst (λ t. IsMade t c.in-Ok.source.program c.in-Ok-make.made) c.as_slice.ensures.value c.in-Ok-make.ensures) c.prg-prg.ensures (c.as_slice-2.ensures.value ∙ c.in-Ok-watch_file.ensures) c.into_warnings.ensures
     c.written.result _ _ c.written.ensures
+
+pub returns-clause-faults : goal.returns-clause-faults
+returns-clause-faults g c =
+    read_whole g.W.Write.contents (texts_of c.prg-prg.result.now c.in-Ok-make.made c.as_slice-2.result.now) c.written.result
+    (use_of g.R.Read.remaining c.args.reader.now c.read_source.new.reader) (each_of c.args.files.now) (each_of c.written.new.files)
+    c.in-Ok.ensures.answers.2 c.written.ensures
