@@ -5,4 +5,5 @@
 #![tactic(auto)]
 
 mod labels;
+mod programs;
 mod sources;

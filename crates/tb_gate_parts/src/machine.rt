@@ -4,14 +4,15 @@ ghost use Rattle.tb_memmap.specs.Bytes.{at};
 ghost use Rattle.tb_memmap.specs.Regions.{CODE_START};
 ghost use Rattle.tb_kernal.specs.Machine.{state_of, status, Happened, entry_refusal, entered};
 ghost use Rattle.tb_kernal.specs.declared.events.Event.{Event};
+ghost use Rattle.tb_kernal.specs.declared.status.Status.TheVariants.{Running};
 ghost use Rattle.tb_kernal.specs.Outsides.{turn};
-ghost use Rattle.tb_kernal.specs.Runs.{RanOver, WentQuietly};
+ghost use Rattle.tb_kernal.specs.Runs.{RanOver, WentCounted, WentOnce, WentQuietly};
 ghost use Rattle.tb_kernal.specs.Starts.{LieAt, HoldsBytes, IsStart};
 ghost use Rattle.tb_kernal.specs.Typing.{with_typed, with_more};
 ghost use Rattle.tb_kernal.specs.Undoing.{Undone, IsFormer, TakesBack};
 
 use std::alloc::{AllocError, Global};
-use tb_cpu::Regs;
+use tb_cpu::{Counter, Regs};
 use tb_kernal::{
     EnterError, Event, EventError, Keyboard, Machine, Outside, Recorded, Status, Undo, run,
 };
@@ -65,6 +66,24 @@ pub fn gone_to_mark(machine: &mut Machine, marks: &[bool], limit: u64) -> u64
     ensures few { result ≤ limit }
 {
     machine.go_to_mark(marks, limit)
+}
+
+/// Calls `Machine::go_counting`.
+pub fn gone_counting<C: Counter>(machine: &mut Machine, counter: &mut C, limit: u64) -> u64
+    requires room { limit ≤ C.room counter.old }
+    ensures went { (es : List Event) × (length es ≡ result)
+        × WentCounted C.cost_of C.counts machine.old counter.old es machine.new counter.new }
+    ensures few { result ≤ limit }
+{
+    machine.go_counting(counter, limit)
+}
+
+/// Calls `Machine::go_once`.
+pub fn gone_once(machine: &mut Machine) -> Result<(), AllocError>
+    requires running { status (state_of machine.old) ≡ Running }
+    ensures { OnOk result (WentOnce machine.old machine.new) }
+{
+    machine.go_once()
 }
 
 /// Calls `Machine::type_text`.
