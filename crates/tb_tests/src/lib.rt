@@ -4,11 +4,17 @@
 #![tactic(auto)]
 
 #[cfg(test)]
+mod counting;
+#[cfg(test)]
+mod edges;
+#[cfg(test)]
 mod fitting;
 #[cfg(test)]
 mod generated;
 #[cfg(test)]
 mod interrupts;
+#[cfg(test)]
+mod jumps;
 #[cfg(test)]
 mod limits;
 #[cfg(test)]

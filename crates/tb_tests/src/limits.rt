@@ -111,19 +111,21 @@ fn program_searches(alloc: Global, row: &Row<'_>, program: &Compiled) -> Result<
     Ok(passes(&mut machine, entry(Routine::Search))?)
 }
 
-// Whether a source's program does.
-fn row_searches(alloc: Global, row: &Row<'_>) -> Result<bool, Fail> {
+/// Whether the program of a row searches the table of lines.
+pub fn row_searches(alloc: Global, row: &Row<'_>) -> Result<bool, Fail> {
     let program = row.compiled(alloc)?;
     program_searches(alloc, row, &program)
 }
 
-// A jump to a number is direct; one to a variable searches the table.
+// A jump to a number is direct; one to a variable compares it with the numbers of few lines, and searches the table for
+// one that isn't there.
 #[test]
 fn a_direct_jump_searches_for_nothing(rt: HostRuntime) -> Result<(), Fail> {
-    let sources: [(&str, bool); 3] = [
+    let sources: [(&str, bool); 4] = [
         ("10 GOTO 20\n20 END", false),
         ("10 GOTO 5*4\n20 END", false),
-        ("10 A=20\n15 GOTO A\n20 END", true),
+        ("10 A=20\n15 GOTO A\n20 END", false),
+        ("10 A=21\n15 GOTO A\n20 END", true),
     ];
     for &(source, searches) in &sources {
         let row = Row { source, ..PLAIN };

@@ -1,4 +1,4 @@
-//! The grammar of what is generated. A letter in lower case, or `EDGE`, stands for one of the sixteen texts of its
+//! The grammar of what is generated. A letter in lower case, `EDGE` or `SPELT` stands for one of the sixteen texts of its
 //! rule, `AGAIN` for the divisor chosen last, and every other byte for itself. A text that should come up more often is
 //! in its rule more than once.
 
@@ -10,6 +10,9 @@ pub const DIVISOR: u8 = b'c';
 
 /// What stands for a word at an edge of the order of words.
 const EDGE: u8 = b'#';
+
+/// What stands for a number at which one digit more, or another way to them, begins.
+const SPELT: u8 = b'$';
 
 /// What a case is made of.
 pub struct Kind {
@@ -27,18 +30,20 @@ pub const ANY: Kind = Kind {
 
 /// A program of what has short code: the order of words and constants at the edges, whether a quotient leaves nothing,
 /// remainders, steps, halves and doubles in place and after a calculation, products with constants, comparisons with
-/// them. What may be a fault, the division by any word, comes last.
+/// them, numbers of each length, computed jumps. What may be a fault, the division by any word and a jump to it, comes
+/// last.
 pub const SHORT: Kind = Kind {
     source: b"10 A=b\n20 B=b\n30 C=b\n40 D=b\n\
         41 IF A r # GOTO 43\n42 PRINT 1;\n43 IF # r B GOTO 45\n44 PRINT 2;\n\
         45 IF C r # PRINT 3;\n46 IF # r D PRINT 4;\n47 IF A-B r # PRINT 5;\n48 IF # r # PRINT 6\n\
         50 IF A/c*@=A GOTO 70\n60 x\n70 IF B/c*@<>B h\n80 IF C=C/c*@ THEN PRINT A;q\n90 IF z GOSUB 300\n\
         100 A=A+g\n110 B=B-g\n120 C=g+C\n122 D=A+B+g\n124 A=v*u-g\n126 C=(A-B)/2\n128 B=(C+D)*2\n130 D=D/2\n\
-        140 PRINT q,A-A/c*@,v*n,n*v,v/u,v/c\n\
+        140 PRINT q,A-A/c*@,v*n,n*v,v/u,v/c\n145 PRINT $;-$,$+A;\n\
         150 IF v r n GOTO 170\n160 x\n170 IF v r n THEN h\n180 B=2*B\n190 IF A r n GOTO 210\n200 C=q\n\
-        210 GOSUB 300\n220 PRINT A,B,C,D\n230 Z=Z+1\n240 IF Z<3 GOTO 50\n\
-        250 IF A/D*D r A GOTO 270\n260 PRINT A-A/D*D\n270 IF B=B/C*C PRINT C\n280 B=B-B/C*C\n290 PRINT B\n295 END\n\
-        300 x\n310 IF z GOTO 330\n320 GOSUB 350\n330 GOSUB 350\n340 RETURN\n\
+        210 GOSUB 300+0*v\n220 PRINT A,B,C,D\n230 Z=Z+1\n240 IF Z<3 GOTO 50\n\
+        250 IF A/D*D r A GOTO 270\n260 PRINT A-A/D*D\n270 IF B=B/C*C PRINT C\n280 B=B-B/C*C\n290 PRINT B\n\
+        292 IF z GOTO 296+256*v\n294 GOTO #+0*v\n295 END\n296 PRINT 7\n297 END\n\
+        300 x\n310 IF z GOTO 330+0*v\n320 GOSUB 350\n330 GOSUB 350\n340 RETURN\n\
         350 h\n360 IF v r n RETURN\n370 PRINT v*u,u*v-v/u\n380 RETURN\n",
     answers: b"",
 };
@@ -275,6 +280,11 @@ const WORD_AT_EDGE: [&[u8]; 16] = [
     b"32767", b"32768", b"-32768",
 ];
 
+const NUMBER_AT_LENGTH: [&[u8]; 16] = [
+    b"0", b"9", b"10", b"99", b"100", b"255", b"256", b"767", b"768", b"999", b"1000", b"9999",
+    b"10000", b"25600", b"30000", b"32767",
+];
+
 const CONSTANT_DIVISOR: [&[u8]; 16] = [
     b"1", b"2", b"3", b"4", b"7", b"10", b"64", b"100", b"128", b"256", b"300", b"32767", b"32768",
     b"65535", b"(-1)", b"(-2)",
@@ -404,6 +414,7 @@ pub fn rule(letter: u8) -> Option<&'static [&'static [u8]; 16]> {
         b'b' => Some(&WORD),
         DIVISOR => Some(&CONSTANT_DIVISOR),
         EDGE => Some(&WORD_AT_EDGE),
+        SPELT => Some(&NUMBER_AT_LENGTH),
         b'z' => Some(&EXACT),
         b'q' => Some(&REMAINDER),
         b'x' => Some(&STEP),

@@ -156,8 +156,8 @@ pub fn file_agrees_twice(
     )
 }
 
-// Compiles a program, and runs it with a quiet ROM and with a rude one.
-fn both_agree(alloc: Global, case: &Case, run: &SourceRun) -> Result<bool, AllocError> {
+/// Compiles a program, and runs it with a quiet ROM and with a rude one.
+pub fn both_agree(alloc: Global, case: &Case, run: &SourceRun) -> Result<bool, AllocError> {
     let mut file = Tracked::new(Vec::new(alloc));
     let mut source = Tracked::new(case.source.as_slice());
     build(alloc, &mut source, &mut file, case.seed);

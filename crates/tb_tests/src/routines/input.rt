@@ -32,7 +32,7 @@ enum Want {
 // Keys, how many of them are left, and what comes of them.
 type Row = (&'static [u8], usize, Want);
 
-const ROWS: [Row; 31] = [
+const ROWS: [Row; 38] = [
     (b"5\r", 0, Want::Got(5, false)),
     (b"5,6\r", 2, Want::Got(5, true)),
     (b"5,", 0, Want::Got(5, true)),
@@ -42,6 +42,8 @@ const ROWS: [Row; 31] = [
     (b"-4\r", 0, Want::Got(65532, false)),
     (b" - 1 2 ,", 0, Want::Got(65524, true)),
     (b"  1 2  \r", 0, Want::Got(12, false)),
+    (b"255\r", 0, Want::Got(255, false)),
+    (b"256\r", 0, Want::Got(256, false)),
     (b"32767\r", 0, Want::Got(32767, false)),
     (b"-32768\r", 0, Want::Got(32768, false)),
     (b"65535\r", 0, Want::Got(65535, false)),
@@ -59,6 +61,11 @@ const ROWS: [Row; 31] = [
     (b"1+\r", 1, Want::Bad),
     (b"1/", 0, Want::Bad),
     (b"1:", 0, Want::Bad),
+    (b"\x00", 0, Want::Bad),
+    (b"\x0c", 0, Want::Bad),
+    (b"\x0e", 0, Want::Bad),
+    (b"1.", 0, Want::Bad),
+    (b"\xff", 0, Want::Bad),
     (b"\n", 0, Want::Bad),
     (b"1a\r", 1, Want::Bad),
     (b"", 0, Want::Dry),

@@ -31,10 +31,44 @@ fn sends_number(alloc: Global, rom: Option<u16>, word: u16, text: &[u8]) -> Resu
     Ok(is_sent(&called, column, text))
 }
 
+// Words at which one digit more, or another way to the digits, begins, and those before them.
+const LENGTHS: [(u16, &[u8]); 22] = [
+    (9, b"9"),
+    (10, b"10"),
+    (99, b"99"),
+    (100, b"100"),
+    (199, b"199"),
+    (200, b"200"),
+    (255, b"255"),
+    (256, b"256"),
+    (300, b"300"),
+    (500, b"500"),
+    (767, b"767"),
+    (768, b"768"),
+    (999, b"999"),
+    (1000, b"1000"),
+    (1009, b"1009"),
+    (9999, b"9999"),
+    (10000, b"10000"),
+    (25599, b"25599"),
+    (25600, b"25600"),
+    (30000, b"30000"),
+    (32767, b"32767"),
+    (32768, b"-32768"),
+];
+
 #[test]
 fn number_sends_the_digits(rt: HostRuntime) -> Result<(), Fail> {
     for rom in ROMS {
-        assert!(rt; sends_number(rt.alloc(), rom, 32768, b"-32768")?);
+        for (word, text) in LENGTHS {
+            assert!(rt; sends_number(rt.alloc(), rom, word, text)?, "{word}");
+            let opposite = word.wrapping_neg();
+            let negative = digits(opposite.cast_signed());
+            assert!(rt;
+                sends_number(rt.alloc(), rom, opposite, negative.as_slice())?,
+                "{opposite}"
+            );
+        }
         for word in EDGES {
             let text = digits(word.cast_signed());
             assert!(rt;

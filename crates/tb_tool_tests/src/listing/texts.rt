@@ -19,7 +19,7 @@ at0C10:
   STA $FC ; 0C16  85 FC  left+1
   LDA #$01 ; 0C18  A9 01
   STA $C06C ; 0C1A  8D 6C C0  length
-  JSR text ; 0C1D  20 D0 09
+  JSR text ; 0C1D  20 D9 09
   JMP at0C24 ; 0C20  4C 24 0C
 text0C23:
   .byte $48 ; 0C23  H

@@ -100,12 +100,12 @@ static PAGES: [Wanted; 2] = [
             ),
             (
                 1,
-                b"<tr><th scope=\"row\">instructions</th><td>525</td></tr>\n",
+                b"<tr><th scope=\"row\">instructions</th><td>415</td></tr>\n",
             ),
-            (1, b"<tr><th scope=\"row\">cycles</th><td>1,779</td></tr>\n"),
+            (1, b"<tr><th scope=\"row\">cycles</th><td>1,469</td></tr>\n"),
             (
                 1,
-                b"<tr><th scope=\"row\">seconds of a PAL machine</th><td>0.002</td></tr>\n",
+                b"<tr><th scope=\"row\">seconds of a PAL machine</th><td>0.001</td></tr>\n",
             ),
             (1, b"<tr><th scope=\"row\">seed</th><td>1</td></tr>\n"),
             (
@@ -130,13 +130,13 @@ static PAGES: [Wanted; 2] = [
             ),
             (
                 1,
-                b"<tr class=\"h8\"><th scope=\"row\">start</th><td>1</td><td>192</td><td>634</td><td>634</td>\
-<td>35.6%</td><td class=\"bar\"><span style=\"width: 7.9em\"></span></td><td class=\"source\"></td></tr>\n",
+                b"<tr class=\"h9\"><th scope=\"row\">start</th><td>1</td><td>192</td><td>634</td><td>634</td>\
+<td>43.2%</td><td class=\"bar\"><span style=\"width: 10.0em\"></span></td><td class=\"source\"></td></tr>\n",
             ),
             (
                 1,
-                b"<tr class=\"h9\"><th scope=\"row\">20</th><td>5</td><td>240</td><td>795</td><td>159</td>\
-<td>44.7%</td><td class=\"bar\"><span style=\"width: 10.0em\"></span></td><td class=\"source\">PRINT I</td></tr>\n",
+                b"<tr class=\"h7\"><th scope=\"row\">20</th><td>5</td><td>130</td><td>485</td><td>97</td>\
+<td>33.0%</td><td class=\"bar\"><span style=\"width: 7.6em\"></span></td><td class=\"source\">PRINT I</td></tr>\n",
             ),
             (0, b"never ran"),
         ],

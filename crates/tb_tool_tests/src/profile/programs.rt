@@ -54,13 +54,13 @@ pub const LOOP: Program = Program {
     limit: 100_000,
     status: 0,
     table: " line      times instructions        cycles   share  statement
-start          1          192           634   35.6%
-   10          1            8            29    1.6%  LET I=1
-   20          5          240           795   44.7%  PRINT I
-   30          5           30           130    7.3%  LET I=I+1
-   40          5           50           169    9.5%  IF I<6 GOTO 20
-   50          1            5            22    1.2%  END
-  sum         17          525          1779  100.0%
+start          1          192           634   43.2%
+   10          1            8            29    2.0%  LET I=1
+   20          5          130           485   33.0%  PRINT I
+   30          5           30           130    8.8%  LET I=I+1
+   40          5           50           169   11.5%  IF I<6 GOTO 20
+   50          1            5            22    1.5%  END
+  sum         17          415          1469  100.0%
 ",
 };
 
@@ -73,14 +73,14 @@ static PROGRAMS: [Program; 8] = [
         limit: 100_000,
         status: 0,
         table: " line      times instructions        cycles   share  statement
-start          1          192           634   32.3%
-   10          1            8            29    1.5%  LET A=7
-   20          1           14            52    2.6%  GOSUB 100
-   30          1           14            52    2.6%  GOSUB 100
-   40          1            5            22    1.1%  END
-  100          2          326          1064   54.2%  PRINT A*A
-  110          2           30           110    5.6%  RETURN
-  sum          8          589          1963  100.0%
+start          1          192           634   38.5%
+   10          1            8            29    1.8%  LET A=7
+   20          1           14            52    3.2%  GOSUB 100
+   30          1           14            52    3.2%  GOSUB 100
+   40          1            5            22    1.3%  END
+  100          2          230           748   45.4%  PRINT A*A
+  110          2           30           110    6.7%  RETURN
+  sum          8          493          1647  100.0%
 ",
     },
     Program {
@@ -90,11 +90,11 @@ start          1          192           634   32.3%
         limit: 100_000,
         status: 0,
         table: " line      times instructions        cycles   share  statement
-start          1          192           634   52.0%
-   10          1            8            29    2.4%  LET A=0
-   20          1          162           557   45.7%  PRINT 1/A
+start          1          192           634   56.8%
+   10          1            8            29    2.6%  LET A=0
+   20          1          130           453   40.6%  PRINT 1/A
    30          0            0             0    0.0%  PRINT 2
-  sum          2          362          1220  100.0%
+  sum          2          330          1116  100.0%
 ",
     },
     Program {
@@ -104,11 +104,11 @@ start          1          192           634   52.0%
         limit: 100_000,
         status: 6,
         table: " line      times instructions        cycles   share  statement
-start          1          192           634   37.6%
-   10          1          116           473   28.1%  PRINT \"HOW MANY\"
-   20          1          177           577   34.3%  INPUT A,B
+start          1          192           634   38.2%
+   10          1          116           473   28.5%  PRINT \"HOW MANY\"
+   20          1          173           551   33.2%  INPUT A,B
    30          0            0             0    0.0%  PRINT A+B
-  sum          2          485          1684  100.0%
+  sum          2          481          1658  100.0%
 ",
     },
     Program {
@@ -159,12 +159,12 @@ start          1          192           634    3.1%
         limit: 100_000,
         status: 0,
         table: " line      times instructions        cycles   share  statement
-start          1          192           634   40.1%
+start          1          192           634   41.7%
     5          1            4            17    1.1%  REM a b
-   10          1            8            29    1.8%  LET A = 1
-   20          1          225           880   55.6%  PRINT \"<A & 'B'>\",A
+   10          1            8            29    1.9%  LET A = 1
+   20          1          203           818   53.8%  PRINT \"<A & 'B'>\",A
    40          1            5            22    1.4%  END
-  sum          4          434          1582  100.0%
+  sum          4          412          1520  100.0%
 ",
     },
 ];
