@@ -3,17 +3,22 @@
 table that must-fail/EDIT.edit changes, and means the same as before. If it were refused too, the edit would show nothing.
 
 In a copy of each crate each control becomes a function next to the one that it changes, or is made in place if it changes
-no function. One check then proves the copy, so all its controls. Each edit of a crate with controls has one.
+no function. One check then proves these functions, or the whole copy if something was changed in place, over the
+libraries as `rt ci` or `rt all check` last proved them: nothing below is proved again. Each edit of a crate with controls
+has one.
 
     tools/controls.py [CRATE..]"""
+import os
 import re
 import shutil
 import subprocess
 import sys
 import tempfile
+from concurrent.futures import ThreadPoolExecutor
 from pathlib import Path
 
 ROOT = Path(__file__).resolve().parent.parent
+KIT = Path(shutil.which("rt")).resolve().parent.parent
 CHANGE = re.compile(r"^old: (.*)\nnew: ?(.*)$", re.M)
 
 
@@ -57,8 +62,9 @@ def sibling(crate, file, name, text, pairs):
 
 
 def add_controls(crate):
-    """Puts the crate's controls into this copy of it."""
-    added, in_place = {}, {}
+    """Puts the crate's controls into this copy of it, and returns the functions that came, or none if something
+    was changed in place."""
+    added, in_place, names = {}, {}, []
     for control in sorted((crate / "controls").glob("*.edit")):
         file, pairs = changes(control)
         text = (crate / file).read_text()
@@ -67,6 +73,7 @@ def add_controls(crate):
         found = sibling(crate, file, control.stem, text, pairs)
         if found:
             added.setdefault(file, []).append(found)
+            names.append(control.stem)
         else:  # (two edits of one table may have the same control)
             in_place.setdefault(file, {}).update(dict.fromkeys(pairs))
     for file in {*added, *in_place}:
@@ -74,6 +81,7 @@ def add_controls(crate):
         for at, body in sorted(added.get(file, []), reverse=True):
             text = text[:at] + body + text[at:]
         (crate / file).write_text(applied(text, in_place.get(file, [])))
+    return [] if in_place else names
 
 
 def block_of(text, line):
@@ -94,46 +102,60 @@ def check_pairs(crate):
     return len(edits)
 
 
-def with_below(crates):
-    """The lines of crates.txt for these crates and all below them: what a repository of them alone lists."""
-    lines = {it.split(":")[0]: it for it in (ROOT / "crates.txt").read_text().splitlines() if ":" in it}
-    wanted, left = set(), [*crates]
-    while left:
-        name = left.pop()
-        if name in lines and name not in wanted:
-            wanted.add(name)
-            left += lines[name].split(":")[1].split()
-    return [text for name, text in lines.items() if name in wanted]
+def libraries_of():
+    """The libraries that each crate names in crates.txt."""
+    lines = [it.partition("#")[0].split(":") for it in (ROOT / "crates.txt").read_text().splitlines()]
+    return {it[0].strip(): it[1].split() for it in lines if len(it) == 2}
 
 
-def prove(crates):
-    """Proves the crates with their controls, in a repository that has them and the crates below alone."""
+LIBRARIES = libraries_of()
+
+
+def below(crate):
+    """The crates of the repository below this one."""
+    found = {it for it in LIBRARIES[crate] if it in LIBRARIES}
+    return found.union(*map(below, found))
+
+
+def proved(name):
+    """Where the library of a crate lies that was proved, and that of one of the toolchain."""
+    return ROOT / "crates" / name / "out/rlib" / f"{name}.rlib" if name in LIBRARIES else KIT / "rlibs" / f"{name}.rlib"
+
+
+def check_of(crate):
+    """The words that check a crate over its libraries as they were proved, as rt has them."""
+    words = ["check", "--crate-name", crate, "src/lib.rt", "--jobs", "1", "--links", f"{crate}="]
+    for it in ["std", *LIBRARIES[crate]]:
+        words += ["--extern", f"{it}={proved(it)}"]
+    for folder in [KIT / "rlibs", *(proved(it).parent for it in sorted(below(crate)))]:
+        words += ["-L", f"dependency={folder}"]
+    return [*words, "--antt-project", f"{KIT}/rattle/logic/antt-project.json", "--logic-built", f"{KIT}/logic_built"]
+
+
+def prove(crate):
+    """Proves a copy of the crate with its controls, and returns whether that went well, and what to say."""
+    number = check_pairs(ROOT / "crates" / crate)
     with tempfile.TemporaryDirectory(prefix="controls-") as room:
-        copy = Path(room) / "repository"
-        listed = with_below(crates)
-        for name in [it.split(":")[0] for it in listed]:
-            shutil.copytree(ROOT / "crates" / name, copy / "crates" / name, ignore=shutil.ignore_patterns("out", "must-fail"))
-        shutil.copy(ROOT / "HANDLES", copy)
-        (copy / "crates.txt").write_text("".join(f"{it}\n" for it in listed))
-        counts = [(name, check_pairs(ROOT / "crates" / name)) for name in crates]
-        for name in crates:
-            add_controls(copy / "crates" / name)
-            subprocess.run(["rt", "fmt"], cwd=copy / "crates" / name, check=True, capture_output=True)
-        # (this takes what the gate has proved of the crates below)
-        ran = subprocess.run(["rt", "ci"], cwd=copy, capture_output=True, text=True)
-        if ran.returncode:
-            sys.exit(f"{ran.stdout}{ran.stderr}controls: not all are proved")
-        for name, count in counts:
-            print(f"controls: {name}: {count} proved", flush=True)
+        copy = Path(room) / crate
+        shutil.copytree(ROOT / "crates" / crate, copy, ignore=shutil.ignore_patterns("out", "must-fail"))
+        names = add_controls(copy)
+        words = [*check_of(crate), *(word for name in names for word in ("--only", name))]
+        how = {"stdout": subprocess.PIPE, "stderr": subprocess.STDOUT, "text": True, "errors": "replace"}
+        ran = subprocess.run([KIT / "bin/rattle", *words], cwd=copy, **how)
+    last = ran.stdout.rstrip("\n").rpartition("\n")[2]
+    if ran.returncode or not re.match(r"only=(\d+) proved=\1$" if names else "logic=proved ", last):
+        return False, f"{ran.stdout}controls: {crate}: not all are proved"
+    return True, f"controls: {crate}: {number} proved"
 
 
 def main():
     crates = sys.argv[1:] or sorted(it.parent.name for it in ROOT.glob("crates/*/controls"))
-    # A gate crate's controls are proved over the other crates as they are.
-    of_gate = [it for it in crates if it.startswith("tb_gate_")]
-    for part in (of_gate, [it for it in crates if it not in of_gate]):
-        if part:
-            prove(part)
+    with ThreadPoolExecutor(len(os.sched_getaffinity(0))) as pool:
+        is_well = True
+        for each, said in pool.map(prove, crates):
+            print(said, flush=True)
+            is_well = is_well and each
+    sys.exit(not is_well)
 
 
 main()

@@ -11,6 +11,10 @@ echo "$(cat crates/tb_golden/data/{machine,source,text,compiler}/*.txt | grep -v
 echo "$(grep -hc '^check' crates/tb_golden/data/check/*.txt | awk '{ n += $1 } END { print n }') worked checks of sources"
 echo "$(cat crates/*/src/*.rt crates/*/src/*/*.rt | grep -c '^#\[test\]$') tests in code"
 echo "$(in_file tb_tests/src/generated/trials.rt '^const PROGRAMS: u16 = \([0-9]*\);') generated programs of each of two kinds, compared with the interpreter"
+pieces=$(grep -c '^const [A-Z]*: Piece = Piece {' crates/tb_tests/src/generated/pieces.rt)
+echo "$(in_file tb_tests/src/generated/pieces.rt '^const PROGRAMS: u16 = \([0-9]*\);') generated programs of each of $pieces pieces of fast code, compared with it"
+echo "$(in_file tb_tests/src/generated/jumping.rt '^const PROGRAMS: u16 = \([0-9]*\);') generated programs with computed jumps, compared with it"
+echo "$(grep -c '^    (' crates/tb_tests/src/edges.rt) worked rows at the edges of the words of these pieces"
 echo "$(in_file tb_tests/src/generated/played.rt '^const PROGRAMS: usize = \([0-9]*\);') generated programs that are played, compared with it"
 short=$(in_file tb_tests/src/rows.rt '^static ROWS: .*; \([0-9]*\)\] = \[')
 long=$(in_file tb_tests/src/rows.rt '.*fn rows(&self) -> \[.*; \([0-9]*\)\].*')

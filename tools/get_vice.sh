@@ -19,7 +19,9 @@ debian() {
     apt-get indextargets --format '$(REPO_URI) $(RELEASE)' 'Created-By: Packages' 'Component: main' |
         awk '$1 ~ /\/debian\/?$/ { print; exit }'
 }
-read -r uri suite < <(debian) || fail "this system has no source of Debian"
+# (they are told once the lists of packages have been fetched)
+read -r uri suite < <(debian) || { $as apt-get update -qq >&2 && read -r uri suite < <(debian); } ||
+    fail "this system has no source of Debian"
 keys=/usr/share/keyrings/debian-archive-keyring.gpg
 [ ! -r "$keys" ] || signed="[signed-by=$keys]"
 echo "deb ${signed-} $uri $suite main contrib" >sources.list

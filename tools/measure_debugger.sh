@@ -4,7 +4,7 @@
 #   tools/measure_debugger.sh [EVENTS]        default: 100000000 events; needs the built program
 #   tools/measure_debugger.sh --instructions  how many instructions of this processor `debug` (going on) and `profile`
 #                                             take for an event, beside `run`; needs valgrind, and ends with status 1
-#                                             if they take more than 2.3 and 3 times as many as `run`
+#                                             if one of them takes more than 2.0 times as many as `run`
 . "$(dirname "${BASH_SOURCE[0]}")/setup.sh"
 needs_program
 events=${1:-100000000}
@@ -21,9 +21,8 @@ if [ "$events" = --instructions ]; then
     echo c >go_on
     run=$(each_event "$tbc" run count.bas)
     status=0
+    most=2.0
     for tool in debug profile; do
-        most=2.3
-        [ $tool = debug ] || most=3
         own=$(each_event "$tbc" "$tool" count.bas)
         awk -v tool="$tool" -v most="$most" -v own="$own" -v run="$run" 'BEGIN {
             printf "%s: %.1f instructions an event, run %.1f, %.2f times as many\n", tool, own, run, own / run

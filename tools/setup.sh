@@ -19,7 +19,10 @@ gets() { # PACKAGE..: installs packages of Debian
     local as=
     [ "$(id -u)" = 0 ] || as=sudo
     echo "installing $*" >&2
-    $as apt-get update -qq >/dev/null && $as env DEBIAN_FRONTEND=noninteractive apt-get install -qq -y --no-install-recommends "$@" >/dev/null
+    ( # (one at a time, since trials run side by side)
+        flock 9
+        $as apt-get update -qq >/dev/null && $as env DEBIAN_FRONTEND=noninteractive apt-get install -qq -y --no-install-recommends "$@" >/dev/null
+    ) 9>"${TMPDIR:-/tmp}/tbc-installs.lock"
 }
 
 installs() { # COMMAND PACKAGE: installs a package of Debian if the command is missing
