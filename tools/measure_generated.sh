@@ -3,15 +3,22 @@
 # program by hand is a floor: it keeps the same rules, a poll a line, and the variables and the number of notes in memory
 # at each line's beginning.
 #
-#   tools/measure_generated.sh [NAME ..]    default: all; needs cc65 and 64tass
+#   tools/measure_generated.sh [NAME ..]    default: all; cc65 and 64tass are installed if they are not there
+#   tools/measure_generated.sh --check      ends with status 1 if docs/PERFORMANCE.md has other figures
 #
 # For each it prints the bytes of the PRG file, the events that it takes on the test machine until it returns (quiet
 # ROM), and the cycles that sim65 counts for it, for the C program and for the floor; at the end the geometric means. In
 # sim65 CHROUT is an RTS and GETIN says that no key is down; in C a sent byte is a store. All must print the same.
 . "$(dirname "${BASH_SOURCE[0]}")/setup.sh"
 needs_program
-needs cl65 sim65 64tass
+installs cl65 cc65
+installs 64tass 64tass
 set -o pipefail
+is_check=
+if [ "${1-}" = --check ]; then
+    is_check=1
+    shift
+fi
 cp "$root"/tools/bench/*.* "$root"/tools/bench/floors/* .
 
 events() { # PRG: the lowest limit with which it returns
@@ -58,10 +65,26 @@ for name; do
     image "$name.floor" >"$name.lowest"
     "$tbc" run --prg "$name.floor" | cmp ours - || { echo "$name prints something else by hand" >&2; exit 1; }
     echo "$name $(wc -c <"$name.prg") $(events "$name.prg") $(cycles "$name.sim") $(cycles "$name.c65") $(cycles "$name.lowest")"
-done | awk '
+done | tee figures | awk '
     {
         printf "%s: %d bytes, %d events, %d cycles, cc65 %d, floor %d, ratios %.2f and %.2f\n", $1, $2, $3, $4, $5, $6, $4 / $5, $4 / $6
         cc65 += log($4 / $5)
         floor += log($4 / $6)
     }
-    END { printf "geometric means: %.3f of cc65, %.3f of the floor\n", exp(cc65 / NR), exp(floor / NR) }'
+    END { printf "geometric means: %.3f of cc65, %.3f of the floor\n", exp(cc65 / NR), exp(floor / NR) }' | tee said
+
+# The rows and the means as the document has them
+rows() {
+    awk 'function grouped(n,  rest) {
+            for (; length(n) > 3; n = substr(n, 1, length(n) - 3)) rest = "," substr(n, length(n) - 2) rest
+            return n rest
+        }
+        { printf "| %s bytes | %s | %s | %s | %s | %.2f | %.2f |\n", grouped($2), grouped($3), grouped($4), grouped($5), grouped($6), $4 / $5, $4 / $6 }' figures
+    awk '/^geometric means/ { printf "The geometric means are %.2f of cc65 and %.2f of the floor\n", $3, $6 }' said
+}
+
+if [ -n "$is_check" ]; then
+    rows | while read -r row; do
+        grep -qF -- "$row" "$root/docs/PERFORMANCE.md" || { echo "docs/PERFORMANCE.md does not say: $row" >&2; exit 1; }
+    done
+fi
