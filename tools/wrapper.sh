@@ -5,7 +5,7 @@
 . "$(dirname "${BASH_SOURCE[0]}")/setup.sh"
 needs_program
 needs rt python3
-slowest=24 # ./tbc may take this many times what the program takes to start: 6 on a quiet machine, 18 on a busy one
+slowest=16 # ./tbc may take this many times what the program takes to start; it is 20 ms if that is 1.25
 
 rows=0
 failed=0
@@ -265,7 +265,7 @@ is_so 'a build whose pipe is closed leaves a prover' test ! -d "/proc/$(<stub/pi
 
 # Two trial runs by the toolchain itself: the first answer of all, in so much processor time, and one with an option
 PATH=$real_path
-longest=100 # seconds: 40 on a quiet machine, 82 if all processors are busy
+longest=60 # seconds; 37 on a busy machine
 children_seconds() { awk 'NR == 2 { split($1, user, /[ms]/); split($2, kernel, /[ms]/); print (user[1] + kernel[1]) * 60 + user[2] + kernel[2] }' "$1"; }
 times >times_before
 row 0 "$trial" HELLO unbuilt/tbc run hello.bas
