@@ -1,7 +1,7 @@
 -- The goals of `mnemonic` in src/mnemonics.rt.
 use Rattle.std.proofs.Common.{sym, ap, ◌∙◌}
 use Rattle.tb_asm.specs.Mnemonics.{same_text}
-use Rattle.tb_asm.proofs.Mnemonic.{mnemonic_found, mnemonic_missed}
+use Rattle.tb_asm.proofs.Spelling.{mnemonic_found, mnemonic_missed}
 use Rattle.tb_asm.proofs.mnemonics.mnemonic.Goals as goal
 
 pub returns-then-eq : goal.returns-then-eq
