@@ -8,7 +8,7 @@ pub const SOURCE: &[u8] =
     b"10 LET A=1\n20 GOSUB 100\n30 PRINT A\n40 END\n100 LET A=A+1\n110 RETURN\n";
 
 /// Messages of a session that goes on and back.
-const MESSAGES: [&str; 16] = [
+pub const MESSAGES: [&str; 16] = [
     r#"{"seq":1,"type":"request","command":"initialize","arguments":{"adapterID":"tbc"}}"#,
     r#"{"seq":2,"type":"request","command":"launch","arguments":{"program":"/a/t.bas"}}"#,
     r#"{"seq":3,"type":"request","command":"setBreakpoints","arguments":{"source":{"path":"t.bas"},"breakpoints":[{"line":6}]}}"#,

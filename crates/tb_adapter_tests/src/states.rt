@@ -15,7 +15,7 @@ const TERMINATE: &str = r#"{"seq":4,"type":"request","command":"terminate"}"#;
 
 /// A command, and what it is refused for when the adapter is new, initialized, launched, started and terminated; nothing
 /// where it is done.
-const STATES: [(&str, [&str; 5]); 12] = [
+const STATES: [(&str, [&str; 5]); 24] = [
     (
         "initialize",
         [
@@ -111,6 +111,93 @@ const STATES: [(&str, [&str; 5]); 12] = [
             "unknown command",
         ],
     ),
+    (
+        "continue",
+        [
+            "not initialized",
+            "not launched",
+            "not started",
+            "",
+            "terminated",
+        ],
+    ),
+    (
+        "stepIn",
+        [
+            "not initialized",
+            "not launched",
+            "not started",
+            "",
+            "terminated",
+        ],
+    ),
+    (
+        "stepOut",
+        [
+            "not initialized",
+            "not launched",
+            "not started",
+            "",
+            "terminated",
+        ],
+    ),
+    (
+        "stepBack",
+        [
+            "not initialized",
+            "not launched",
+            "not started",
+            "",
+            "terminated",
+        ],
+    ),
+    ("pause", ["not initialized", "not launched", "", "", ""]),
+    ("scopes", ["not initialized", "not launched", "", "", ""]),
+    (
+        "setExceptionBreakpoints",
+        ["not initialized", "not launched", "", "", ""],
+    ),
+    ("terminate", ["not initialized", "not launched", "", "", ""]),
+    (
+        "evaluate",
+        [
+            "not initialized",
+            "not launched",
+            "bad arguments",
+            "bad arguments",
+            "bad arguments",
+        ],
+    ),
+    (
+        "readMemory",
+        [
+            "not initialized",
+            "not launched",
+            "bad arguments",
+            "bad arguments",
+            "bad arguments",
+        ],
+    ),
+    (
+        "disassemble",
+        [
+            "not initialized",
+            "not launched",
+            "bad arguments",
+            "bad arguments",
+            "bad arguments",
+        ],
+    ),
+    (
+        "writeMemory",
+        [
+            "not initialized",
+            "not launched",
+            "a run can't be changed: type other keys, or launch with another seed",
+            "a run can't be changed: type other keys, or launch with another seed",
+            "a run can't be changed: type other keys, or launch with another seed",
+        ],
+    ),
     ("disconnect", ["", "", "", "", ""]),
 ];
 
@@ -150,7 +237,7 @@ fn each_request_in_each_state(rt: HostRuntime) -> Result<(), Fail> {
 }
 
 /// Launches that are refused, and why.
-const LAUNCHES: [(&str, &str); 10] = [
+const LAUNCHES: [(&str, &str); 11] = [
     (r#"{}"#, "bad arguments"),
     (r#"{"program":7}"#, "bad arguments"),
     (r#"{"program":"-"}"#, "bad arguments"),
@@ -162,6 +249,7 @@ const LAUNCHES: [(&str, &str); 10] = [
     (r#"{"program":"/a/t.bas","seed":65536}"#, "bad arguments"),
     (r#"{"program":"/a/t.bas","rude":-1}"#, "bad arguments"),
     (r#"{"program":"/a/t.bas","noDebug":1}"#, "bad arguments"),
+    (r#"{"program":"/a/t.bas","fit":"yes"}"#, "bad arguments"),
     (r#"{"program":"/a/t.bas","keys":"3"}"#, "bad key list"),
     (r#"{"program":"/a/u.bas"}"#, "read fault"),
 ];
@@ -197,5 +285,16 @@ fn a_bad_source_is_reported(rt: HostRuntime) -> Result<(), Fail> {
     assert!(rt;
         told.contains("{\"error\":{\"format\":\"2:7: syntax\",\"id\":1,\"showUser\":true}}")
     );
+    Ok(())
+}
+
+#[test]
+fn a_bad_source_may_be_launched_again(rt: HostRuntime) -> Result<(), Fail> {
+    let alloc = rt.alloc();
+    let twice = answers(alloc, b"10 PRIMT\n", &[INITIALIZE, LAUNCH, LAUNCH, START])?;
+    let twice = shown(&twice);
+    assert!(rt; twice.contains("\"request_seq\":2,\"seq\":3,\"success\":false,"));
+    assert!(rt; twice.contains("\"request_seq\":2,\"seq\":5,\"success\":false,"));
+    assert!(rt; twice.contains("\"message\":\"not launched\",\"request_seq\":3,\"seq\":6,"));
     Ok(())
 }

@@ -1,9 +1,7 @@
 -- What is read and written while a client is served.
-use Rattle.std.specs.Prelude.{ℕ, ◌≡◌, ◌≢◌, ◌⊎◌, ◌+◌, Bool, true, false, List, [], ◌∷◌, codes, length, map, Option, Some, None, option_map, unwrap_or, Result, Ok, Err, string_bytes}
+use Rattle.std.specs.Prelude.{ℕ, ◌≡◌, ◌≢◌, ◌⊎◌, ◌+◌, Bool, true, false, List, [], ◌∷◌, codes, length, map, Option, Some, None, unwrap_or, Result, Ok, Err, string_bytes}
 use Rattle.std.specs.Io.KnownBytes.{Appends}
 use Rattle.std.specs.Str.{IsUtf8}
-use Rattle.std.specs.declared.alloc.Global.{Global}
-use Rattle.std.specs.declared.vec.Vec.{Vec}
 use Rattle.serde_json.specs.Data.{Data, null}
 use Rattle.serde_json.specs.Read.{read}
 use Rattle.serde_json.specs.View.{view}
@@ -251,13 +249,14 @@ pub record IsSession (at : List ℕ) (source : CompiledSource) (machine : Machin
 abbrev pub Opens : ℕ → Session → Result (Unit {0}) AdapterOutcome → Written → Written → Type 0
 Opens asked s result a b = Says asked (codes "launch") (opening s) result a b ⊎ RunsOut result a b
 
--- a program that is launched is debugged: it is opened, and then frames are answered
+-- A program that is launched is debugged: it is opened, and then frames are answered. If there is no memory for its session,
+-- nothing is read or written.
 abbrev pub Debugs : Launched → AdapterOutcome → (Session → Moment) → (Session → Moment) → Type 0
 Debugs l outcome first last =
     ((s : Session) × IsSession (string_bytes l.loaded.path) l.loaded.source l.loaded.machine l.loaded.rom l.loaded.plan s
     × (((w : Written) × Opens l.asked s (Ok (record {})) (first s).written w × ((z : Session) × TalksTo (moment s (first s).left (first s).read w) outcome (last z)))
     ⊎ (Opens l.asked s (Err outcome) (first s).written (last s).written × ((last s).left ≡ (first s).left))))
-    ⊎ (outcome ≡ NoMemory)
+    ⊎ ((outcome ≡ NoMemory) × ((s : Session) → last s ≡ first s))
 
 -- a whole dialogue: up to a launch, and then with the program
 abbrev pub Serves : {S : Type 0} → Reading S → Early S → AdapterOutcome → (Bool → ℕ → Early S) → Type 0

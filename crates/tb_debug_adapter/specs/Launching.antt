@@ -4,6 +4,9 @@ use Rattle.std.specs.Str.{bytes_eq}
 use Rattle.serde_json.specs.Data.{Data}
 use Rattle.serde_json.specs.Find.{as_number, as_u64, get}
 use Rattle.tb_adapter_values.specs.Arguments.{flag_in, number_in, optional_text, text_in}
+use Rattle.tb_codegen.specs.declared.settings.CompileSettings.{CompileSettings}
+use Rattle.tb_codegen.specs.declared.settings.SizeLimit.{SizeLimit}
+use Rattle.tb_codegen.specs.declared.settings.SizeLimit.TheVariants.{Cost, Memory}
 use Rattle.tb_debug.specs.declared.rom.Rom.{Rom}
 use Rattle.tb_debug.specs.declared.rom.Rom.TheVariants.{Quiet, Rude}
 use Rattle.tb_debug_adapter.specs.declared.launching.Launch.{Launch}
@@ -16,6 +19,17 @@ seed_by n = if nat_le n 65535 then Some n else None
 -- the first state of RND: 1, if nothing else is asked for
 abbrev pub seed_in : Data → Option ℕ
 seed_in d = option_and_then seed_by (number_in d (codes "seed") 1)
+
+-- when a program is too large: by what it costs, or only if it doesn't fit the memory
+abbrev pub size_by : Bool → SizeLimit
+size_by fit = if fit then Memory else Cost
+
+-- how the program is compiled
+abbrev pub settings_by : ℕ → Bool → CompileSettings
+settings_by seed fit = record { seed = seed; size = size_by fit }
+
+abbrev pub settings_in : Data → Option CompileSettings
+settings_in d = option_and_then (λ seed. option_map (λ fit. settings_by seed fit) (flag_in d (codes "fit") false)) (seed_in d)
 
 -- a rude ROM
 abbrev pub rude_by : ℕ → Option Rom
@@ -62,28 +76,29 @@ path_by path = if bytes_eq path (codes "-") then None else Some path
 abbrev pub path_in : Data → Option (List ℕ)
 path_in d = option_and_then path_by (text_in d (codes "program"))
 
--- what is launched: the program, the first state of RND, the ROM, what the keyboard gives in hexadecimal digits, and the plan
+-- what is launched: the program, how it is compiled, the ROM, what the keyboard gives in hexadecimal digits, and the plan
 pub record Asked : Type 0 where
   pub path : List ℕ
-  pub seed : ℕ
+  pub settings : CompileSettings
   pub rom : Rom
   pub keys : List ℕ
   pub answers : List ℕ
   pub plan : Plan
 
 -- the same by each
-abbrev pub asked : (path : List ℕ) (seed : ℕ) → Rom → (keys answers : List ℕ) → Plan → Asked
-asked path seed rom keys answers plan = record { path = path; seed = seed; rom = rom; keys = keys; answers = answers; plan = plan }
+abbrev pub asked : (path : List ℕ) → CompileSettings → Rom → (keys answers : List ℕ) → Plan → Asked
+asked path settings rom keys answers plan =
+    record { path = path; settings = settings; rom = rom; keys = keys; answers = answers; plan = plan }
 
 abbrev pub asked_of : Launch → Asked
-asked_of l = asked l.path.now l.seed l.rom l.keys.now l.answers.now l.plan
+asked_of l = asked l.path.now l.settings l.rom l.keys.now l.answers.now l.plan
 
 -- what arguments ask for
 abbrev pub launch_in : Data → Option Asked
 launch_in d =
-    option_and_then (λ path. option_and_then (λ seed. option_and_then (λ rom. option_and_then (λ keys. option_and_then (λ answers.
-    option_map (λ plan. asked path seed rom keys answers plan)
-    (plan_in d)) (digits_in d (codes "answers"))) (digits_in d (codes "keys"))) (rom_in d)) (seed_in d)) (path_in d)
+    option_and_then (λ path. option_and_then (λ settings. option_and_then (λ rom. option_and_then (λ keys. option_and_then (λ answers.
+    option_map (λ plan. asked path settings rom keys answers plan)
+    (plan_in d)) (digits_in d (codes "answers"))) (digits_in d (codes "keys"))) (rom_in d)) (settings_in d)) (path_in d)
 
 -- a flag has its usual value, which is true
 abbrev pub is_usual : Option Bool → Bool

@@ -7,11 +7,12 @@ use Rattle.hex.specs.Hex.{decode_of}
 use Rattle.tb_adapter_messages.specs.Refusals.{text_of}
 use Rattle.tb_adapter_messages.specs.declared.refusals.Refusal.{Refusal}
 use Rattle.tb_adapter_messages.specs.declared.refusals.Refusal.TheVariants.{BadKeys, ReadFault}
-use Rattle.tb_check_engine.specs.Checks.{bytes_of}
+use Rattle.tb_check.specs.Findings.{AreFindings}
+use Rattle.tb_check.specs.declared.examination.Findings.{Findings}
+use Rattle.tb_check_engine.specs.Reports.{report}
 use Rattle.tb_codegen.specs.Compiled.{prg_of}
-use Rattle.tb_codegen.specs.declared.compiled.Compiled.{Compiled as Program}
 use Rattle.tb_codegen.specs.declared.settings.CompileSettings.{CompileSettings}
-use Rattle.tb_codegen.specs.declared.settings.SizeLimit.TheVariants.{Cost}
+use Rattle.tb_codegen.specs.declared.settings.SizeLimit.{SizeLimit}
 use Rattle.tb_compile_errors.specs.declared.refusals.CompileError.{CompileError}
 use Rattle.tb_compile_errors.specs.declared.refusals.CompileError.TheVariants as compile_error
 use Rattle.tb_driver.specs.Sources.{Compiles}
@@ -21,8 +22,9 @@ use Rattle.tb_engines.specs.Texts as texts
 use Rattle.tb_engines.specs.declared.delivery.NoText.TheVariants.{Refused as Unstartable}
 use Rattle.tb_engines.specs.declared.outcome.Refusal.{Refusal as StartRefusal}
 use Rattle.tb_kernal.specs.declared.machine.Keyboard.{Keyboard}
-use Rattle.tb_kernal.specs.declared.machine.Machine.{Machine}
 use Rattle.tb_lower.specs.declared.lowering.LowerError.TheVariants.{TooDeep, NoMemory as NoLowerMemory}
+use Rattle.tb_navigation.specs.Remarks.{shown}
+use Rattle.tb_parser.specs.Lines.{lines_of_file}
 use Rattle.tb_parser.specs.declared.errors.SourceError.{SourceError}
 use Rattle.tb_streams.specs.declared.stream.InputError.{InputError}
 use Rattle.tb_streams.specs.declared.stream.InputError.TheVariants as input_error
@@ -59,14 +61,19 @@ error_text (compile_error.Lower NoLowerMemory) = codes "out of memory"
 error_text (compile_error.TooLarge cost) = texts.too_large_text cost
 error_text compile_error.NoMemory = codes "out of memory"
 
--- a report on a source, and then the refusal
-abbrev pub IsUnfit : CompileError → List Saying → Type 0
-IsUnfit e told = (report : List ℕ) × (told ≡ output_of (codes "stderr") report ∷ refused (error_text e) true ∷ [])
+-- what `check` says of a source under its path: of all that is found in it, where it is too large by this limit
+abbrev pub IsReport : SizeLimit → (path text said : List ℕ) → Type 0
+IsReport size path text said = (found : Findings) × AreFindings size text found × (said ≡ report path (lines_of_file text) found)
 
--- what comes of compiling a source
-abbrev pub CompilesTo : CompileSettings → List ℕ → Compiling → Type 0
-CompilesTo settings text (Fit s) = (s.text.items ≡ text) × Compiles settings text (Ok s.program)
-CompilesTo settings text (Unfit told) = (e : CompileError) × Compiles settings text (Err e) × IsUnfit e (map seen told.items)
+-- what `check` says of a source, and then the refusal
+abbrev pub IsUnfit : SizeLimit → (path text : List ℕ) → CompileError → List Saying → Type 0
+IsUnfit size path text e told =
+    (said : List ℕ) × IsReport size path text said × (told ≡ output_of (codes "stderr") (shown said) ∷ refused (error_text e) true ∷ [])
+
+-- what comes of compiling a source at a path
+abbrev pub CompilesTo : CompileSettings → (path text : List ℕ) → Compiling → Type 0
+CompilesTo settings path text (Fit s) = (s.text.items ≡ text) × Compiles settings text (Ok s.program)
+CompilesTo settings path text (Unfit told) = (e : CompileError) × Compiles settings text (Err e) × IsUnfit settings.size path text e (map seen told.items)
 
 -- ---- loading
 
@@ -94,15 +101,11 @@ Starts a text answers s (loading.Loaded l) = IsLoaded a text answers s l
 Starts a text answers s (loading.Unloaded told) =
     (why : StartRefusal) × StartsPrg text answers (prg_of s.program) (Err (Unstartable why)) × IsRefused ReadFault (loading.Unloaded told)
 
--- how a source is compiled that is launched
-abbrev pub settings_of : Asked → CompileSettings
-settings_of a = record { seed = a.seed; size = Cost }
-
 -- what comes of a source that was read
 abbrev pub Compiled : Asked → (text answers source : List ℕ) → Loading → Type 0
 Compiled a text answers source l =
-    ((s : CompiledSource) × CompilesTo (settings_of a) source (Fit s) × Starts a text answers s l)
-    ⊎ ((told : Vec _ Global) × CompilesTo (settings_of a) source (Unfit told) × (l ≡ loading.Unloaded told))
+    ((s : CompiledSource) × CompilesTo a.settings a.path source (Fit s) × Starts a text answers s l)
+    ⊎ ((told : Vec _ Global) × CompilesTo a.settings a.path source (Unfit told) × (l ≡ loading.Unloaded told))
 
 -- what comes of reading one
 abbrev pub ReadsTo : Asked → (text answers : List ℕ) → Result (List ℕ) InputError → Loading → Type 0

@@ -28,9 +28,9 @@ use tb_messages::{Unreadable, read_value};
 use tb_source_names::read_source;
 use tb_streams::{Tracked, write_output};
 
-// What a frame holds: a value, or why it is none.
+/// What a frame holds: a value, or why it is none.
 #[derive(Drop)]
-enum Heard {
+pub enum Heard {
     Value(Value),
     Unheard(Refusal),
 }

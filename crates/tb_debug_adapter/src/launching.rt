@@ -5,6 +5,7 @@ ghost use Rattle.tb_debug_adapter.specs.Launching as spec;
 
 use serde_json::Value;
 use tb_adapter_values::{flag_in, number_in, optional_text, text_in};
+use tb_codegen::{CompileSettings, SizeLimit};
 use tb_debug::Rom;
 
 /// How many events a movement takes at most, if nothing else is asked for.
@@ -34,8 +35,7 @@ pub struct Plan {
 #[derive(Clone, Copy, Debug, Drop)]
 pub struct Launch<'a> {
     pub path: &'a str,
-    /// The first state of RND.
-    pub seed: u16,
+    pub settings: CompileSettings,
     pub rom: Rom,
     /// What the keyboard gives, in hexadecimal digits.
     pub keys: &'a str,
@@ -59,6 +59,29 @@ fn seed_in(arguments: &Value) -> Option<u16>
     ensures { result ≡ spec.seed_in (view arguments.now) }
 {
     seed_by(number_in(arguments, "seed", USUAL_SEED)?)
+}
+
+// When a program is too large: by what it costs, or only if it doesn't fit the memory.
+fn size_by(fit: bool) -> SizeLimit
+    ensures { result ≡ spec.size_by fit }
+{
+    if fit {
+        SizeLimit::Memory
+    } else {
+        SizeLimit::Cost
+    }
+}
+
+// How the program is compiled.
+fn settings_in(arguments: &Value) -> Option<CompileSettings>
+    ensures { result ≡ spec.settings_in (view arguments.now) }
+{
+    let seed = seed_in(arguments)?;
+    let fit = flag_in(arguments, "fit", false)?;
+    Some(CompileSettings {
+        seed,
+        size: size_by(fit),
+    })
 }
 
 // A rude ROM, by its seed.
@@ -139,14 +162,14 @@ pub fn launch_in(arguments: &Value) -> Option<Launch<'_>>
     ensures { option_map spec.asked_of result ≡ spec.launch_in (view arguments.now) }
 {
     let path = path_in(arguments)?;
-    let seed = seed_in(arguments)?;
+    let settings = settings_in(arguments)?;
     let rom = rom_in(arguments)?;
     let keys = digits_in(arguments, "keys")?;
     let answers = digits_in(arguments, "answers")?;
     let plan = plan_in(arguments)?;
     Some(Launch {
         path,
-        seed,
+        settings,
         rom,
         keys,
         answers,

@@ -13,5 +13,9 @@ mod session;
 mod setting;
 mod stops;
 
-pub use dialogue::serve;
+pub use dialogue::{Heard, serve};
+pub use launching::Plan;
 pub use outcome::AdapterOutcome;
+pub use said::Said;
+pub use session::{Session, Stage};
+pub use stops::Stop;

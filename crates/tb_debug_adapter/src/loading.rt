@@ -3,7 +3,7 @@ ghost use Rattle.std.specs.Prelude.{◌≡◌, ◌∷◌, [], IfOk, codes, map, 
 ghost use Rattle.tb_codegen.specs.declared.settings.CompileSettings.{CompileSettings};
 ghost use Rattle.tb_debug_adapter.specs.Launching.{asked_of};
 ghost use Rattle.tb_debug_adapter.specs.Loading as spec;
-ghost use Rattle.tb_debug_adapter.specs.Loading.{CompilesTo, IsHeld, IsKeyboard, IsUnfit, Loads, Reads, Starts};
+ghost use Rattle.tb_debug_adapter.specs.Loading.{CompilesTo, IsHeld, IsKeyboard, IsReport, IsUnfit, Loads, Reads, Starts};
 ghost use Rattle.tb_debug_adapter.specs.Said.{seen};
 
 use crate::launching::{Launch, Plan};
@@ -66,12 +66,14 @@ impl Sources for Held<'_> {
 }
 
 // What `check` says of a source.
-fn report(alloc: Global, path: &str, text: &[u8]) -> Result<Vec<u8>, AllocError> {
+fn report(alloc: Global, path: &str, text: &[u8], size: SizeLimit) -> Result<Vec<u8>, AllocError>
+    ensures { IfOk result (λ said. IsReport size path.now text.now said.items) }
+{
     let mut names = Vec::new(alloc);
     names.push(String::from_str(alloc, path)?)?;
     let mut held = Held { text };
     let mut writer = Tracked::new(Vec::new(alloc));
-    let outcome = check_sources(alloc, &mut held, &names, &mut writer, SizeLimit::Cost);
+    let outcome = check_sources(alloc, &mut held, &names, &mut writer, size);
     match outcome {
         CheckOutcome::NoMemory | CheckOutcome::WriteFault => Err(AllocError),
         CheckOutcome::Accepted | CheckOutcome::Refused | CheckOutcome::ReadFault => {
@@ -120,11 +122,12 @@ fn unfit(
     alloc: Global,
     path: &str,
     text: &[u8],
+    size: SizeLimit,
     error: CompileError,
 ) -> Result<Vec<Said>, AllocError>
-    ensures { IfOk result (λ said. IsUnfit error (map seen said.items)) }
+    ensures { IfOk result (λ said. IsUnfit size path.now text.now error (map seen said.items)) }
 {
-    let report = report(alloc, path, text)?;
+    let report = report(alloc, path, text, size)?;
     let told = output(alloc, "stderr", shown(&report))?;
     let why = error_text(alloc, error)?;
     let mut said = Vec::new(alloc);
@@ -140,12 +143,12 @@ fn compiled(
     text: Vec<u8>,
     settings: CompileSettings,
 ) -> Result<Compiling, AllocError>
-    ensures { IfOk result (CompilesTo settings text.items) }
+    ensures { IfOk result (CompilesTo settings path.now text.items) }
 {
     match compile_within(alloc, &text, settings) {
         Ok(program) => Ok(Compiling::Fit(CompiledSource { text, program })),
         Err(CompileError::NoMemory) => Err(AllocError),
-        Err(error) => Ok(Compiling::Unfit(unfit(alloc, path, &text, error)?)),
+        Err(error) => Ok(Compiling::Unfit(unfit(alloc, path, &text, settings.size, error)?)),
     }
 }
 
@@ -206,11 +209,7 @@ fn compiled_and_started(
 ) -> Result<Loading, AllocError>
     ensures { IfOk result (spec.Compiled (asked_of launch.now) keyboard.text.items keyboard.answers.items text.items) }
 {
-    let settings = CompileSettings {
-        seed: launch.seed,
-        size: SizeLimit::Cost,
-    };
-    match compiled(alloc, launch.path, text, settings)? {
+    match compiled(alloc, launch.path, text, launch.settings)? {
         Compiling::Fit(source) => {
             let loading = started(alloc, launch, keyboard, source)?;
             Ok(loading)
