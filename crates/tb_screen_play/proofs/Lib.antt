@@ -1,0 +1,3 @@
+mod Talking
+mod Leaving
+mod Starting
