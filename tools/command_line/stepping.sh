@@ -319,3 +319,34 @@ server_rows() {
     row 2 'error: *' '' lsp WORD
 }
 server_rows
+
+adapter_rows() {
+    local end='{"seq":9,"type":"request","command":"disconnect"}' ended='"command":"disconnect","request_seq":9,"seq":'
+    from=messages
+    frames
+    row 0 '' '' dap
+    frames '{"seq":7,"type":"request","command":"threads"}' "$end"
+    row 0 '' '*"message":"not initialized","request_seq":7,"seq":1,"success":false,*'"$ended"'2,"success":true,"type":"response"}' dap
+    frames '{' '{"seq":1}' '{"seq":1,"type":"event"}'
+    row 0 '' '*"output":"tbc: no JSON*"seq":1,*"output":"tbc: no message*"seq":2,*' dap
+    file walk.bas '10 INPUT A\n20 PRINT A+1\n'
+    frames '{"seq":1,"type":"request","command":"initialize"}' \
+        '{"seq":2,"type":"request","command":"launch","arguments":{"program":"nowhere.bas"}}' \
+        '{"seq":3,"type":"request","command":"launch","arguments":{"program":"walk.bas"}}' \
+        '{"seq":4,"type":"request","command":"configurationDone"}' \
+        '{"seq":5,"type":"request","command":"evaluate","arguments":{"expression":">41","context":"repl"}}' "$end"
+    row 0 '' '*"message":"read fault","request_seq":2,*"event":"initialized",*"reason":"input",*"output":*42*"reason":"end",*'"$ended"'*' dap
+    frames '{"seq":1,"type":"request","command":"initialize"}' '{"seq":2,"type":"request","command":"launch","arguments":{"program":"-"}}'
+    row 0 '' '*"message":"bad arguments","request_seq":2,*' dap
+    file messages 'Content-Length: 9\r\n\r\n{}'
+    row 3 'tbc: bad frame' '' dap
+    to=/dev/full
+    frames "$end"
+    row 3 'tbc: write fault' '' dap
+    to=shown
+    from=/
+    row 3 'tbc: read fault' '' dap
+    from=/dev/null
+    row 2 'error: *' '' dap WORD
+}
+adapter_rows

@@ -40,6 +40,8 @@ pub enum Form {
     FileOption,
     /// An option that names a file, and excludes the argument of this name.
     FileInPlaceOf(&'static str),
+    /// An option that names a file, and takes the option of this name along.
+    FileWith(&'static str),
     /// An option of a text, and excludes the arguments of these names.
     TextInPlaceOf(&'static [&'static str]),
     /// An option of hexadecimal digits, none if it is missing.
@@ -244,6 +246,18 @@ pub const LABELS: Argument = Argument {
     form: Form::FileOption,
 };
 
+pub const PRG_LABELS: Argument = Argument {
+    name: "labels",
+    help: "Name the addresses of the PRG file by this label file",
+    form: Form::FileWith(PRG_NAME),
+};
+
+pub const LONG: Argument = Argument {
+    name: "long",
+    help: "Make branches long that don't reach",
+    form: Form::Flag,
+};
+
 pub const LIST: Argument = Argument {
     name: LIST_NAME,
     help: "Write a listing, which assembles to the same bytes",
@@ -278,6 +292,12 @@ pub const RECORD: Argument = Argument {
     name: "record",
     help: "Write all that was typed to this file at the end, for run --keys-file",
     form: Form::FileOption,
+};
+
+pub const SCREEN: Argument = Argument {
+    name: "screen",
+    help: "Show the machine's screen, at a terminal of at least 40 by 25",
+    form: Form::Flag,
 };
 
 pub const IN_PLACE: Argument = Argument {

@@ -4,9 +4,9 @@ ghost use Rattle.tb_command_line.specs.Table.{NamesEach, command_of};
 
 use crate::arguments::{
     ANSWERS, ASSEMBLY_OUT, AT, Argument, BUILD_OUT, DISK_OUT, DISK_OUTPUT, FIRST_LINE, FIT, FOR,
-    IN_PLACE, KEY_FILE, KEYS, LABELS, LIMIT, LINE_STEP, LIST, LIST_FOR, MAP, ONLY_CHECK, ORIGIN,
-    OUT, OUTPUT, PAGE, PLAY_LIMIT, PRG, PRG_FILE, PRG_FILES, RECORD, RUDE, SEED, SOURCE,
-    SOURCE_OR_PRG, SOURCES, TEXT, TYPE, WATCH,
+    IN_PLACE, KEY_FILE, KEYS, LABELS, LIMIT, LINE_STEP, LIST, LIST_FOR, LONG, MAP, ONLY_CHECK,
+    ORIGIN, OUT, OUTPUT, PAGE, PLAY_LIMIT, PRG, PRG_FILE, PRG_FILES, PRG_LABELS, RECORD, RUDE,
+    SCREEN, SEED, SOURCE, SOURCE_OR_PRG, SOURCES, TEXT, TYPE, WATCH,
 };
 
 /// A command of `tbc`.
@@ -26,6 +26,7 @@ pub enum CommandName {
     Format,
     Renumber,
     Lsp,
+    Dap,
     Version,
 }
 
@@ -49,7 +50,7 @@ pub fn rows() -> &'static [CommandRow]
     &COMMANDS
 }
 
-static COMMANDS: [CommandRow; 15] = [
+static COMMANDS: [CommandRow; 16] = [
     CommandRow {
         command: CommandName::Build,
         name: "build",
@@ -75,6 +76,7 @@ static COMMANDS: [CommandRow; 15] = [
             ANSWERS,
             LIMIT,
             RUDE,
+            PRG_LABELS,
         ],
     },
     CommandRow {
@@ -82,7 +84,7 @@ static COMMANDS: [CommandRow; 15] = [
         name: "play",
         help: "Play a source or a PRG file: what you type is its keyboard",
         usage: Some("tbc play [OPTIONS] <SOURCE>\n       tbc play [OPTIONS] --prg <FILE>"),
-        arguments: &[SOURCE_OR_PRG, PRG, SEED, FIT, PLAY_LIMIT, RECORD],
+        arguments: &[SOURCE_OR_PRG, PRG, SEED, FIT, PLAY_LIMIT, RECORD, SCREEN],
     },
     CommandRow {
         command: CommandName::Asm,
@@ -96,7 +98,7 @@ static COMMANDS: [CommandRow; 15] = [
         name: "assemble",
         help: "Assemble a text as people write it, or show everything that is wrong with it",
         usage: None,
-        arguments: &[TEXT, ASSEMBLY_OUT, OUTPUT, ORIGIN, LABELS, LIST],
+        arguments: &[TEXT, ASSEMBLY_OUT, OUTPUT, ORIGIN, LONG, LABELS, LIST],
     },
     CommandRow {
         command: CommandName::Dis,
@@ -138,6 +140,7 @@ static COMMANDS: [CommandRow; 15] = [
             ANSWERS,
             LIMIT,
             RUDE,
+            PRG_LABELS,
         ],
     },
     CommandRow {
@@ -191,6 +194,13 @@ static COMMANDS: [CommandRow; 15] = [
         command: CommandName::Lsp,
         name: "lsp",
         help: "Serve an editor as its language server, over standard input and output",
+        usage: None,
+        arguments: &[],
+    },
+    CommandRow {
+        command: CommandName::Dap,
+        name: "dap",
+        help: "Serve an editor as its debug adapter, over standard input and output",
         usage: None,
         arguments: &[],
     },

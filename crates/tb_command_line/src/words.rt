@@ -4,13 +4,14 @@ ghost use Rattle.tb_jobs.specs.Limits.{IsWithinLimit};
 
 use crate::arguments::{
     ASSEMBLY_OUT, AT, BUILD_OUT, DISK_OUT, DISK_OUTPUT, FIRST_LINE, LABELS, LINE_STEP, LIST,
-    ORIGIN, OUT, OUTPUT, PAGE, PLAY_LIMIT, PRG_FILE, PRG_FILES, RECORD, SOURCE, SOURCES, TEXT,
+    ORIGIN, OUT, OUTPUT, PAGE, PLAY_LIMIT, PRG_FILE, PRG_FILES, PRG_LABELS, RECORD, SOURCE,
+    SOURCES, TEXT,
 };
 use crate::commands::{CommandName, command_named, rows};
 use crate::parser::{VERSION, parser};
 use crate::values::{
-    dialect_of, extras_of, first_text, fit_of, in_place_of, limit_of, line_number_of,
-    optional_text, rude_of, runnable_of, seed_of, settings_of, target_of, text, texts,
+    dialect_of, extras_of, first_text, fit_of, in_place_of, limit_of, line_number_of, long_of,
+    optional_text, rude_of, runnable_of, screen_of, seed_of, settings_of, target_of, text, texts,
 };
 use clap::ArgMatches;
 use clap::error::ErrorKind;
@@ -78,6 +79,7 @@ fn job_of(alloc: Global, command: CommandName, found: &ArgMatches<'_>) -> Result
         CommandName::Format => format_job(alloc, found),
         CommandName::Renumber => renumber_job(alloc, found),
         CommandName::Lsp => Ok(Job::Lsp),
+        CommandName::Dap => Ok(Job::Dap),
         CommandName::Version => version_job(alloc),
     }
 }
@@ -106,6 +108,7 @@ fn run_job(alloc: Global, found: &ArgMatches<'_>) -> Result<Job, AllocError>
         what: runnable_of(alloc, found)?,
         settings: settings_of(alloc, found)?,
         rude: rude_of(found),
+        labels: optional_text(alloc, found, &PRG_LABELS)?,
     })
 }
 
@@ -118,6 +121,7 @@ fn play_job(alloc: Global, found: &ArgMatches<'_>) -> Result<Job, AllocError>
         fit: fit_of(found),
         limit: limit_of(found, &PLAY_LIMIT, Limit::most()),
         record: optional_text(alloc, found, &RECORD)?,
+        screen: screen_of(found),
     })
 }
 
@@ -148,6 +152,7 @@ fn assemble_job(alloc: Global, found: &ArgMatches<'_>) -> Result<Job, AllocError
         text,
         out,
         at: optional_text(alloc, found, &ORIGIN)?,
+        long: long_of(found),
         labels: optional_text(alloc, found, &LABELS)?,
         listing: optional_text(alloc, found, &LIST)?,
     })
@@ -178,6 +183,7 @@ fn debug_job(alloc: Global, found: &ArgMatches<'_>) -> Result<Job, AllocError>
         what: runnable_of(alloc, found)?,
         settings: settings_of(alloc, found)?,
         rude: rude_of(found),
+        labels: optional_text(alloc, found, &PRG_LABELS)?,
     })
 }
 

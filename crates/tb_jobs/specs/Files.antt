@@ -7,7 +7,7 @@ use Rattle.tb_jobs.specs.declared.jobs.Typed.TheVariants.{Digits, File, Text}
 use Rattle.tb_jobs.specs.declared.jobs.Runnable.{Runnable}
 use Rattle.tb_jobs.specs.declared.jobs.Runnable.TheVariants.{Source, Prg}
 use Rattle.tb_jobs.specs.declared.jobs.Job.{Job}
-use Rattle.tb_jobs.specs.declared.jobs.Job.TheVariants.{Build, Run, Play, Asm, Assemble, Dis, Step, Debug, Profile, Disk, Check, Format, Renumber, Lsp, Show}
+use Rattle.tb_jobs.specs.declared.jobs.Job.TheVariants.{Build, Run, Play, Asm, Assemble, Dis, Step, Debug, Profile, Disk, Check, Format, Renumber, Lsp, Dap, Show}
 
 -- where standard input is found as a file
 abbrev pub standard_input : List ℕ
@@ -44,19 +44,20 @@ path_of (Prg program) = string_bytes program
 -- what a job that writes files reads, and the standard streams that it uses
 abbrev pub kept_of : Job → List (List ℕ)
 kept_of (Build source out seed fit beside) = input_path (string_bytes source) ∷ []
-kept_of (Play what seed fit limit made) = input_path (path_of what) ∷ standard_input ∷ standard_output ∷ []
+kept_of (Play what seed fit limit made screen) = input_path (path_of what) ∷ standard_input ∷ standard_output ∷ []
 kept_of (Asm text out at) = input_path (string_bytes text) ∷ []
-kept_of (Assemble text out at labels listing) = input_path (string_bytes text) ∷ []
+kept_of (Assemble text out at long labels listing) = input_path (string_bytes text) ∷ []
 kept_of (Profile what settings rude html) = input_path (path_of what) ∷ standard_output ∷ keys_of settings.keys
 kept_of (Disk out files) = map (λ f. input_path (string_bytes f)) files.items
-kept_of (Run what settings rude) = []
+kept_of (Run what settings rude labels) = []
 kept_of (Dis prg dialect) = []
 kept_of (Step what settings) = []
-kept_of (Debug what settings rude) = []
+kept_of (Debug what settings rude labels) = []
 kept_of (Check sources fit) = []
 kept_of (Format source target) = []
 kept_of (Renumber source first step in_place) = []
 kept_of Lsp = []
+kept_of Dap = []
 kept_of (Show text) = []
 
 -- The files that a job writes, in the order in which it writes them. A source that is made tidy or renumbered is none of
@@ -64,17 +65,18 @@ kept_of (Show text) = []
 abbrev pub written_of : Job → List (List ℕ)
 written_of (Build source out seed fit beside) =
     output_path (string_bytes out) ∷ wanted beside.labels ++ wanted beside.listing ++ wanted beside.map ++ wanted beside.watch
-written_of (Play what seed fit limit made) = wanted made
+written_of (Play what seed fit limit made screen) = wanted made
 written_of (Asm text out at) = output_path (string_bytes out) ∷ []
-written_of (Assemble text out at labels listing) = output_path (string_bytes out) ∷ wanted labels ++ wanted listing
+written_of (Assemble text out at long labels listing) = output_path (string_bytes out) ∷ wanted labels ++ wanted listing
 written_of (Profile what settings rude html) = wanted html
 written_of (Disk out files) = output_path (string_bytes out) ∷ []
-written_of (Run what settings rude) = []
+written_of (Run what settings rude labels) = []
 written_of (Dis prg dialect) = []
 written_of (Step what settings) = []
-written_of (Debug what settings rude) = []
+written_of (Debug what settings rude labels) = []
 written_of (Check sources fit) = []
 written_of (Format source target) = []
 written_of (Renumber source first step in_place) = []
 written_of Lsp = []
+written_of Dap = []
 written_of (Show text) = []

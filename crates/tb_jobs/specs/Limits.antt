@@ -3,7 +3,7 @@ use Rattle.std.specs.Prelude.{◌≤◌, ⊤}
 use Rattle.tb_jobs.specs.declared.jobs.TheConstants.{MOST_EVENTS}
 use Rattle.tb_jobs.specs.declared.jobs.Limit.{Limit}
 use Rattle.tb_jobs.specs.declared.jobs.Job.{Job}
-use Rattle.tb_jobs.specs.declared.jobs.Job.TheVariants.{Build, Run, Play, Asm, Assemble, Dis, Step, Debug, Profile, Disk, Check, Format, Renumber, Lsp, Show}
+use Rattle.tb_jobs.specs.declared.jobs.Job.TheVariants.{Build, Run, Play, Asm, Assemble, Dis, Step, Debug, Profile, Disk, Check, Format, Renumber, Lsp, Dap, Show}
 
 -- a limit of 1 to MOST_EVENTS events
 abbrev pub IsWithin : Limit → Type 0
@@ -12,17 +12,18 @@ IsWithin limit = (1 ≤ limit.events) × (limit.events ≤ MOST_EVENTS)
 -- a run takes 1 to MOST_EVENTS events
 abbrev pub IsWithinLimit : Job → Type 0
 IsWithinLimit (Build source out seed fit beside) = ⊤
-IsWithinLimit (Run what settings rude) = IsWithin settings.limit
-IsWithinLimit (Play what seed fit limit made) = IsWithin limit
+IsWithinLimit (Run what settings rude labels) = IsWithin settings.limit
+IsWithinLimit (Play what seed fit limit made screen) = IsWithin limit
 IsWithinLimit (Asm text out at) = ⊤
-IsWithinLimit (Assemble text out at labels listing) = ⊤
+IsWithinLimit (Assemble text out at long labels listing) = ⊤
 IsWithinLimit (Dis prg dialect) = ⊤
 IsWithinLimit (Step what settings) = IsWithin settings.limit
-IsWithinLimit (Debug what settings rude) = IsWithin settings.limit
+IsWithinLimit (Debug what settings rude labels) = IsWithin settings.limit
 IsWithinLimit (Profile what settings rude html) = IsWithin settings.limit
 IsWithinLimit (Disk out files) = ⊤
 IsWithinLimit (Check sources fit) = ⊤
 IsWithinLimit (Format source target) = ⊤
 IsWithinLimit (Renumber source first step in_place) = ⊤
 IsWithinLimit Lsp = ⊤
+IsWithinLimit Dap = ⊤
 IsWithinLimit (Show text) = ⊤

@@ -22,7 +22,13 @@ pub enum Failure {
     SameFile,
     /// A source that is there would be written, at this path.
     IsSource(String),
-    /// A key file can't be read.
+    /// This line of a label file is no label, counted from 1.
+    BadLabels(usize),
+    /// The machine's screen would be shown where no terminal is.
+    NoTerminal,
+    /// It would be shown at a terminal that is too small for it.
+    SmallTerminal,
+    /// A key file or a label file can't be read.
     ReadFault,
     /// A growth was refused.
     NoMemory,
@@ -39,7 +45,10 @@ impl Failure {
             | Failure::BadKeys
             | Failure::BadAddress
             | Failure::SameFile
-            | Failure::IsSource(_) => status::BAD_WORDS,
+            | Failure::IsSource(_)
+            | Failure::NoTerminal
+            | Failure::SmallTerminal => status::BAD_WORDS,
+            Failure::BadLabels(_) => status::REFUSED,
             Failure::ReadFault => status::FAULT,
             Failure::NoMemory => status::NO_MEMORY,
         }
@@ -56,6 +65,9 @@ impl fmt::Display for Failure {
             Failure::BadAddress => f.write_str("tbc: bad address\n"),
             Failure::SameFile => f.write_str("tbc: same file twice\n"),
             Failure::IsSource(path) => writeln!(f, "tbc: {path} is a source"),
+            Failure::BadLabels(_) => f.write_str("tbc: bad labels\n"),
+            Failure::NoTerminal => f.write_str("tbc: not a terminal\n"),
+            Failure::SmallTerminal => f.write_str("tbc: terminal smaller than 40 by 25\n"),
             Failure::ReadFault => f.write_str("tbc: read fault\n"),
             Failure::NoMemory => f.write_str("tbc: out of memory\n"),
         }

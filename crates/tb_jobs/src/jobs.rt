@@ -139,6 +139,8 @@ pub enum Job {
         settings: Settings,
         /// The seed of rude events, where they are wanted.
         rude: Option<u16>,
+        /// The label file that names addresses of a PRG file, if there is one.
+        labels: Option<String>,
     },
     /// Plays a program: standard input is its keyboard.
     Play {
@@ -151,6 +153,8 @@ pub enum Job {
         limit: Limit,
         /// The key file that is written of all that was typed, if it is wanted.
         record: Option<String>,
+        /// Whether the machine's screen is shown, in place of the host form of what is sent.
+        screen: bool,
     },
     /// Assembles a text, and writes a PRG file.
     Asm {
@@ -165,6 +169,8 @@ pub enum Job {
         out: String,
         /// The address of the first byte, if the words say it.
         at: Option<String>,
+        /// Whether branches that don't reach are made long.
+        long: bool,
         /// The label file.
         labels: Option<String>,
         /// The listing.
@@ -187,6 +193,8 @@ pub enum Job {
         settings: Settings,
         /// The seed of rude events, where they are wanted.
         rude: Option<u16>,
+        /// The label file that names addresses of a PRG file, if there is one.
+        labels: Option<String>,
     },
     /// Runs a program, and shows what its lines took, or the instructions of a PRG file.
     Profile {
@@ -227,6 +235,8 @@ pub enum Job {
     },
     /// Serves an editor as its language server.
     Lsp,
+    /// Serves an editor as its debug adapter.
+    Dap,
     /// A help text or the version, to be shown.
     Show {
         text: String,

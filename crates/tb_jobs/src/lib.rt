@@ -4,6 +4,7 @@
 mod failure;
 mod files;
 mod jobs;
+mod terminals;
 mod typing;
 
 pub use failure::Failure;
@@ -12,4 +13,5 @@ pub use jobs::{
     Typed, USUAL_EVENTS, USUAL_SEED, USUAL_STEP,
 };
 pub use tb_dialects::Dialect;
+pub use terminals::room_for_screen;
 pub use typing::typed_keys;

@@ -2,6 +2,7 @@
 use std::fmt;
 use tb_assembly_engine::{MOST_FILES, TextFailure};
 use tb_check_engine::CheckOutcome;
+use tb_debug_adapter::AdapterOutcome;
 use tb_disk_engine::DiskOutcome;
 use tb_driver::{End, Outcome, Refusal, Report};
 use tb_format_engine::FormatOutcome;
@@ -16,6 +17,8 @@ pub enum Ending {
     Report(Report),
     /// A run, with what its machine told at the end.
     Run(NotedRun),
+    /// The run of a PRG file, and the name of the place where it stopped, if it has one.
+    Prg(Report, Option<String>),
     /// The making of a disk.
     Disk(DiskOutcome),
     /// A check of sources.
@@ -26,8 +29,10 @@ pub enum Ending {
     Renumber(RenumberOutcome),
     /// The assembling of a text, and why it failed, if it did.
     Text(Option<TextFailure>),
-    /// The serving of an editor.
+    /// The serving of an editor by a language server.
     Server(ServerOutcome),
+    /// The serving of an editor by a debug adapter.
+    Adapter(AdapterOutcome),
 }
 
 impl Ending {
@@ -35,6 +40,7 @@ impl Ending {
     pub fn status(&self) -> u8 {
         match self {
             Ending::Report(report) | Ending::Run(NotedRun { report, .. }) => report.status(),
+            Ending::Prg(report, _) => report.status(),
             Ending::Disk(outcome) => outcome.status(),
             Ending::Check(outcome) => outcome.status(),
             Ending::Format(outcome) => outcome.status(),
@@ -42,6 +48,7 @@ impl Ending {
             Ending::Text(None) => Outcome::Ended(End::Done).status(),
             Ending::Text(Some(failure)) => failure.status(),
             Ending::Server(outcome) => outcome.status(),
+            Ending::Adapter(outcome) => outcome.status(),
         }
     }
 }
@@ -66,6 +73,7 @@ impl fmt::Display for Ending {
     fn fmt<W: fmt::Write>(&self, f: &mut fmt::Formatter<W>) -> fmt::Result {
         match self {
             Ending::Report(report) | Ending::Run(NotedRun { report, .. }) => report.fmt(f),
+            Ending::Prg(report, _) => report.fmt(f),
             Ending::Disk(DiskOutcome::Done) => Ok(()),
             Ending::Disk(outcome) => writeln!(f, "tbc: {outcome}"),
             Ending::Check(CheckOutcome::Accepted | CheckOutcome::Refused) => Ok(()),
@@ -78,6 +86,8 @@ impl fmt::Display for Ending {
             Ending::Text(Some(failure)) => write_failure(failure, f),
             Ending::Server(ServerOutcome::Ended | ServerOutcome::NotShutDown) => Ok(()),
             Ending::Server(outcome) => writeln!(f, "tbc: {outcome}"),
+            Ending::Adapter(AdapterOutcome::Ended) => Ok(()),
+            Ending::Adapter(outcome) => writeln!(f, "tbc: {outcome}"),
         }
     }
 }

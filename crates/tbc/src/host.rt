@@ -21,6 +21,8 @@ pub struct Host<'a, R> {
     pub rt: &'a R,
     /// Whether a person at a terminal is told more than scripts are.
     pub notes: bool,
+    /// Whether standard output is a terminal.
+    pub shows: bool,
     /// How many were opened for reading.
     pub opened: usize,
     /// None as well if memory didn't suffice for its path.
@@ -82,12 +84,22 @@ impl<W: Write> Write for Ended<W> {
 }
 
 impl<'a, R> Host<'a, R> {
-    pub fn new(rt: &'a R, notes: bool) -> Host<'a, R> {
+    pub fn new(rt: &'a R, notes: bool, shows: bool) -> Host<'a, R> {
         Host {
             rt,
             notes,
+            shows,
             opened: 0,
             last: None,
+        }
+    }
+}
+
+impl<R> Host<'_, R> {
+    /// The file that was asked for last is one of what is typed.
+    pub fn asked_for_keys(&mut self) {
+        if let Some(asked) = &mut self.last {
+            asked.purpose = Purpose::Keys;
         }
     }
 }

@@ -8,6 +8,7 @@ mod ending;
 mod formatting;
 mod hinting;
 mod host;
+mod labelling;
 mod noting;
 mod places;
 mod playing;
@@ -43,18 +44,26 @@ fn job_of_words<R: Env + AllocGlobal>(rt: &R) -> Result<Job, Failure> {
     Ok(job(rt.alloc(), words(rt)?.as_slice())?)
 }
 
+// Which of the standard streams are terminals.
+#[derive(Clone, Copy)]
+struct Terminals {
+    input: bool,
+    output: bool,
+    errors: bool,
+}
+
 // Does what the words ask for, and says how it ended: the exit status.
 fn start<R: Files + Env + Clock + Print + Eprint + Input + AllocGlobal>(
     rt: &R,
-    prompts: bool,
-    notes: bool,
+    terminals: Terminals,
 ) -> u8 {
+    let notes = terminals.errors;
     let job = match job_of_words(rt) {
         Ok(job) => job,
         Err(failure) => return refused(rt, failure, notes),
     };
-    let mut host = Host::new(rt, notes);
-    let done = tasks::perform(&mut host, &job, prompts);
+    let mut host = Host::new(rt, notes, terminals.output);
+    let done = tasks::perform(&mut host, &job, terminals.input && terminals.output);
     let status = told(rt, &done);
     if notes {
         note(&mut host, &job, &done);
@@ -86,7 +95,10 @@ fn told<R: Eprint>(rt: &R, done: &Result<Ending, Failure>) -> u8 {
 }
 
 fn main(rt: HostRuntime) -> ExitCode {
-    let prompts = rt.stdin().is_terminal() && rt.stdout().is_terminal();
-    let notes = rt.stderr().is_terminal();
-    ExitCode::from(start(&rt, prompts, notes))
+    let terminals = Terminals {
+        input: rt.stdin().is_terminal(),
+        output: rt.stdout().is_terminal(),
+        errors: rt.stderr().is_terminal(),
+    };
+    ExitCode::from(start(&rt, terminals))
 }

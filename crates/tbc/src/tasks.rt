@@ -5,15 +5,16 @@ use crate::debugging::{debug_file, debug_source, setting_of};
 use crate::ending::Ending;
 use crate::formatting::format_file;
 use crate::host::Host;
-use crate::playing::play;
+use crate::labelling::{labels_in, named_place};
+use crate::playing::{Playing, play};
 use crate::profiling::profile;
 use crate::reading::{settings_of, size_limit};
 use crate::renumbering::renumber_file;
-use crate::serving::serve_editor;
+use crate::serving::{serve_debugger, serve_editor};
 use crate::waiting::Progress;
 use std::alloc::Global;
 use std::io;
-use std::rt::Files;
+use std::rt::{Env, Files};
 use std::time::Clock;
 use tb_assembly_engine::TextNames;
 use tb_command_line::{BuildExtras, Dialect, Failure, Job, Runnable, Settings, Typed, typed_keys};
@@ -25,12 +26,13 @@ use tb_driver::{
 use tb_file_engine::{BuildNames, assemble_file, build_file, disk_file, opened};
 use tb_files::{Barred, may_write};
 use tb_kernal::{Keyboard, Outside, Quiet, Rude};
+use tb_labels::Label;
 use tb_renumber_engine::Numbering;
-use tb_run_notes::{NotedRun, run_noted, run_prg_watched};
+use tb_run_notes::{PrgRun, run_noted, run_prg_watched};
 
 /// Does what the words ask for, if the files that are to be written may be. A prompt is shown before a debugger's command
 /// where that is wanted.
-pub fn perform<R: Files + Clock + Print + Eprint + Input + AllocGlobal>(
+pub fn perform<R: Files + Env + Clock + Print + Eprint + Input + AllocGlobal>(
     host: &mut Host<'_, R>,
     job: &Job,
     prompts: bool,
@@ -43,7 +45,7 @@ pub fn perform<R: Files + Clock + Print + Eprint + Input + AllocGlobal>(
 }
 
 // Does a job that runs a program; None for any other job.
-fn run_job<R: Files + Clock + Print + Eprint + Input + AllocGlobal>(
+fn run_job<R: Files + Env + Clock + Print + Eprint + Input + AllocGlobal>(
     host: &mut Host<'_, R>,
     job: &Job,
     prompts: bool,
@@ -53,22 +55,23 @@ fn run_job<R: Files + Clock + Print + Eprint + Input + AllocGlobal>(
             what,
             settings,
             rude,
-        } => Ending::Run(run_beside(host, what, settings, *rude)?),
+            labels,
+        } => run_beside(host, what, settings, *rude, name_of(labels))?,
         Job::Play {
             what,
             seed,
             fit,
             limit,
             record,
+            screen,
         } => {
-            let settings = settings_of(*seed, *fit);
-            let outcome = play(
-                host,
-                what,
-                settings,
-                u64::from(limit.events),
-                name_of(record),
-            );
+            let playing = Playing {
+                settings: settings_of(*seed, *fit),
+                limit: u64::from(limit.events),
+                record: name_of(record),
+                screen: *screen,
+            };
+            let outcome = play(host, what, playing)?;
             plain_ending(host.rt, outcome)
         }
         Job::Profile {
@@ -81,7 +84,8 @@ fn run_job<R: Files + Clock + Print + Eprint + Input + AllocGlobal>(
             what,
             settings,
             rude,
-        } => debug_beside(host, what, settings, *rude, prompts)?,
+            labels,
+        } => debug_beside(host, what, settings, *rude, name_of(labels), prompts)?,
         Job::Step { what, settings } => Ending::Report(step_file(host, what, settings)?),
         Job::Build { .. }
         | Job::Asm { .. }
@@ -92,6 +96,7 @@ fn run_job<R: Files + Clock + Print + Eprint + Input + AllocGlobal>(
         | Job::Format { .. }
         | Job::Renumber { .. }
         | Job::Lsp
+        | Job::Dap
         | Job::Show { .. } => return Ok(None),
     }))
 }
@@ -115,6 +120,7 @@ fn other_job<R: Files + Print + Input + AllocGlobal>(
             text,
             out,
             at,
+            long,
             labels,
             listing,
         } => {
@@ -123,7 +129,7 @@ fn other_job<R: Files + Print + Input + AllocGlobal>(
                 labels: name_of(labels),
                 listing: name_of(listing),
             };
-            assemble(host, text, name_of(at), names)
+            assemble(host, text, name_of(at), *long, names)
         }
         Job::Dis { prg, dialect } => Ok(plain_ending(rt, list_file(host, prg, *dialect))),
         Job::Disk { out, files } => {
@@ -147,6 +153,7 @@ fn other_job<R: Files + Print + Input + AllocGlobal>(
             Ok(Ending::Renumber(renumber_file(host, source, numbering, *in_place)))
         }
         Job::Lsp => Ok(Ending::Server(serve_editor(rt))),
+        Job::Dap => Ok(Ending::Adapter(serve_debugger(host))),
         Job::Show { text } => Ok(plain_ending(rt, show(rt, text))),
         Job::Run { .. }
         | Job::Play { .. }
@@ -219,11 +226,14 @@ fn run_beside<R: Files + Clock + Print + Eprint + Input + AllocGlobal>(
     what: &Runnable,
     settings: &Settings,
     rude: Option<u16>,
-) -> Result<NotedRun, Failure> {
+    labels: Option<&str>,
+) -> Result<Ending, Failure> {
     let keyboard = keyboard(host, settings)?;
+    let labels = labels_in(host, labels)?;
+    let labels = labels.as_slice();
     Ok(match rude {
-        Some(rude) => run_file(host, what, settings, keyboard, &mut Rude::new(rude)),
-        None => run_file(host, what, settings, keyboard, &mut Quiet),
+        Some(rude) => run_file(host, what, settings, keyboard, &mut Rude::new(rude), labels),
+        None => run_file(host, what, settings, keyboard, &mut Quiet, labels),
     })
 }
 
@@ -250,9 +260,11 @@ fn debug_beside<R: Files + Clock + Print + Eprint + Input + AllocGlobal>(
     what: &Runnable,
     settings: &Settings,
     rude: Option<u16>,
+    labels: Option<&str>,
     prompts: bool,
 ) -> Result<Ending, Failure> {
     let keyboard = keyboard(host, settings)?;
+    let labels = labels_in(host, labels)?;
     let setting = setting_of(settings, rude, prompts);
     let outcome = match what {
         Runnable::Source(source) => debug_source(
@@ -262,7 +274,7 @@ fn debug_beside<R: Files + Clock + Print + Eprint + Input + AllocGlobal>(
             keyboard,
             setting,
         ),
-        Runnable::Prg(prg) => debug_file(host, prg.as_str(), keyboard, setting),
+        Runnable::Prg(prg) => debug_file(host, prg.as_str(), labels.as_slice(), keyboard, setting),
     };
     Ok(plain_ending(host.rt, outcome))
 }
@@ -295,7 +307,9 @@ fn keys_in<R: Files + Print + Input + AllocGlobal>(
     host: &mut Host<'_, R>,
     path: &str,
 ) -> Result<Vec<u8>, Failure> {
-    let mut file = opened(host, path).map_err(of_file)?;
+    let opened = opened(host, path);
+    host.asked_for_keys();
+    let mut file = opened.map_err(of_file)?;
     read_key_file(host.rt.alloc(), &mut file).map_err(of_key_file)
 }
 
@@ -314,8 +328,8 @@ fn of_key_file(error: KeyFileError) -> Failure {
     }
 }
 
-// Why a key file was not opened.
-fn of_file(outcome: Outcome) -> Failure {
+/// Why a key file or a label file was not opened.
+pub fn of_file(outcome: Outcome) -> Failure {
     match outcome {
         Outcome::NoMemory => Failure::NoMemory,
         _ => Failure::ReadFault,
@@ -329,30 +343,26 @@ fn show<R: Print>(rt: &R, text: &str) -> Outcome {
     }
 }
 
-// A run of which nothing more is told.
-fn untold(report: Report) -> NotedRun {
-    NotedRun { report, note: None }
-}
-
 fn run_file<R: Files + Clock + Print + Eprint + Input + AllocGlobal, O: Outside>(
     host: &mut Host<'_, R>,
     what: &Runnable,
     settings: &Settings,
     keyboard: Keyboard,
     outside: &mut O,
-) -> NotedRun {
+    labels: &[Label],
+) -> Ending {
     let (Runnable::Source(path) | Runnable::Prg(path)) = what;
     let rt = host.rt;
     let mut file = match opened(host, path.as_str()) {
         Ok(file) => file,
-        Err(outcome) => return untold(plain(rt, outcome)),
+        Err(outcome) => return plain_ending(rt, outcome),
     };
     let mut screen = Tracked::new(io::writer(rt));
     let alloc = rt.alloc();
     let limit = u64::from(settings.limit.events);
     match what {
         Runnable::Source(_) => {
-            run_noted(
+            Ending::Run(run_noted(
                 alloc,
                 &mut file,
                 &mut screen,
@@ -361,10 +371,10 @@ fn run_file<R: Files + Clock + Print + Eprint + Input + AllocGlobal, O: Outside>
                 limit,
                 outside,
                 &mut Progress::new(rt, limit, host.notes),
-            )
+            ))
         }
         Runnable::Prg(_) => {
-            let outcome = run_prg_watched(
+            let PrgRun { outcome, place } = run_prg_watched(
                 alloc,
                 &mut file,
                 &mut screen,
@@ -373,7 +383,11 @@ fn run_file<R: Files + Clock + Print + Eprint + Input + AllocGlobal, O: Outside>
                 outside,
                 &mut Progress::new(rt, limit, host.notes),
             );
-            untold(plain(rt, outcome))
+            let place = match place {
+                Some(address) => named_place(rt, labels, address),
+                None => None,
+            };
+            Ending::Prg(plain(rt, outcome), place)
         }
     }
 }
