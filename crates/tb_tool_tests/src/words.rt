@@ -4,7 +4,7 @@ use std::test::Fail;
 use tb_command_line::{Failure, job, room_for_screen};
 
 /// Words, and the job that they become.
-static JOBS: [(&[&str], &str); 54] = [
+static JOBS: [(&[&str], &str); 50] = [
     (
         &["build", "a", "b"],
         "Ok(Build { source: \"a\", out: \"b\", seed: 1, fit: false, beside: BuildExtras { labels: None, listing: None, dialect: None, map: None, watch: None } })",
@@ -49,7 +49,7 @@ static JOBS: [(&[&str], &str); 54] = [
     ),
     (
         &["run", "a"],
-        "Ok(Run { what: Source(\"a\"), settings: Settings { seed: 1, fit: false, keys: Digits(\"\"), answers: \"\", limit: Limit { events: 10000000 } }, rude: None, labels: None })",
+        "Ok(Run { what: Source(\"a\"), settings: Settings { seed: 1, fit: false, keys: Digits(\"\"), answers: \"\", limit: Limit { events: 10000000 } }, rude: None })",
     ),
     (
         &[
@@ -63,19 +63,15 @@ static JOBS: [(&[&str], &str); 54] = [
             "--rude",
             "65535",
         ],
-        "Ok(Run { what: Source(\"a\"), settings: Settings { seed: 1, fit: false, keys: Digits(\"330d\"), answers: \"00\", limit: Limit { events: 1000000000 } }, rude: Some(65535), labels: None })",
+        "Ok(Run { what: Source(\"a\"), settings: Settings { seed: 1, fit: false, keys: Digits(\"330d\"), answers: \"00\", limit: Limit { events: 1000000000 } }, rude: Some(65535) })",
     ),
     (
         &["run", "--prg", "p", "--seed", "0", "--limit", "1"],
-        "Ok(Run { what: Prg(\"p\"), settings: Settings { seed: 0, fit: false, keys: Digits(\"\"), answers: \"\", limit: Limit { events: 1 } }, rude: None, labels: None })",
-    ),
-    (
-        &["run", "--prg", "p", "--labels", "v"],
-        "Ok(Run { what: Prg(\"p\"), settings: Settings { seed: 1, fit: false, keys: Digits(\"\"), answers: \"\", limit: Limit { events: 10000000 } }, rude: None, labels: Some(\"v\") })",
+        "Ok(Run { what: Prg(\"p\"), settings: Settings { seed: 0, fit: false, keys: Digits(\"\"), answers: \"\", limit: Limit { events: 1 } }, rude: None })",
     ),
     (
         &["run", "a", "--keys-file", "k", "--answers", "03"],
-        "Ok(Run { what: Source(\"a\"), settings: Settings { seed: 1, fit: false, keys: File(\"k\"), answers: \"03\", limit: Limit { events: 10000000 } }, rude: None, labels: None })",
+        "Ok(Run { what: Source(\"a\"), settings: Settings { seed: 1, fit: false, keys: File(\"k\"), answers: \"03\", limit: Limit { events: 10000000 } }, rude: None })",
     ),
     (
         &["play", "a"],
@@ -105,19 +101,15 @@ static JOBS: [(&[&str], &str); 54] = [
     ),
     (
         &["assemble", "a.asm"],
-        "Ok(Assemble { text: \"a.asm\", out: \"a.prg\", at: None, long: false, labels: None, listing: None })",
+        "Ok(Assemble { text: \"a.asm\", out: \"a.prg\", at: None, labels: None, listing: None })",
     ),
     (
         &["assemble", "a", "b", "--at", "c00", "--labels", "v"],
-        "Ok(Assemble { text: \"a\", out: \"b\", at: Some(\"c00\"), long: false, labels: Some(\"v\"), listing: None })",
-    ),
-    (
-        &["assemble", "--long", "a"],
-        "Ok(Assemble { text: \"a\", out: \"a.prg\", at: None, long: true, labels: None, listing: None })",
+        "Ok(Assemble { text: \"a\", out: \"b\", at: Some(\"c00\"), labels: Some(\"v\"), listing: None })",
     ),
     (
         &["assemble", "-", "--list=s"],
-        "Ok(Assemble { text: \"-\", out: \"-\", at: None, long: false, labels: None, listing: Some(\"s\") })",
+        "Ok(Assemble { text: \"-\", out: \"-\", at: None, labels: None, listing: Some(\"s\") })",
     ),
     (&["dis", "a"], "Ok(Dis { prg: \"a\", dialect: None })"),
     (
@@ -138,7 +130,7 @@ static JOBS: [(&[&str], &str); 54] = [
     ),
     (
         &["debug", "a"],
-        "Ok(Debug { what: Source(\"a\"), settings: Settings { seed: 1, fit: false, keys: Digits(\"\"), answers: \"\", limit: Limit { events: 10000000 } }, rude: None, labels: None })",
+        "Ok(Debug { what: Source(\"a\"), settings: Settings { seed: 1, fit: false, keys: Digits(\"\"), answers: \"\", limit: Limit { events: 10000000 } }, rude: None })",
     ),
     (
         &[
@@ -151,15 +143,11 @@ static JOBS: [(&[&str], &str); 54] = [
             "--limit",
             "9",
         ],
-        "Ok(Debug { what: Source(\"a\"), settings: Settings { seed: 1, fit: false, keys: File(\"k\"), answers: \"\", limit: Limit { events: 9 } }, rude: Some(7), labels: None })",
+        "Ok(Debug { what: Source(\"a\"), settings: Settings { seed: 1, fit: false, keys: File(\"k\"), answers: \"\", limit: Limit { events: 9 } }, rude: Some(7) })",
     ),
     (
         &["debug", "--prg", "a", "--type", "b"],
-        "Ok(Debug { what: Prg(\"a\"), settings: Settings { seed: 1, fit: false, keys: Text(\"b\"), answers: \"\", limit: Limit { events: 10000000 } }, rude: None, labels: None })",
-    ),
-    (
-        &["debug", "--labels=v", "--prg=a"],
-        "Ok(Debug { what: Prg(\"a\"), settings: Settings { seed: 1, fit: false, keys: Digits(\"\"), answers: \"\", limit: Limit { events: 10000000 } }, rude: None, labels: Some(\"v\") })",
+        "Ok(Debug { what: Prg(\"a\"), settings: Settings { seed: 1, fit: false, keys: Text(\"b\"), answers: \"\", limit: Limit { events: 10000000 } }, rude: None })",
     ),
     (
         &["profile", "a"],
@@ -267,7 +255,7 @@ static JOBS: [(&[&str], &str); 54] = [
 ];
 
 /// Words that are refused.
-static REFUSED: [&[&str]; 53] = [
+static REFUSED: [&[&str]; 42] = [
     &["renumber", "a", "--from", "0"],
     &["renumber", "a", "--step", "32768"],
     &["renumber", "--in-place"],
@@ -283,11 +271,6 @@ static REFUSED: [&[&str]; 53] = [
     &["run"],
     &["run", "a", "--prg", "b"],
     &["run", "a", "b"],
-    &["run", "a", "--labels", "v"],
-    &["run", "--prg", "p", "--labels"],
-    &["debug", "a", "--labels", "v"],
-    &["step", "--prg", "p", "--labels", "v"],
-    &["profile", "--prg", "p", "--labels", "v"],
     &["run", "a", "--limit", "0"],
     &["run", "a", "--limit", "1000000001"],
     &["run", "a", "--seed", "65536"],
@@ -297,8 +280,6 @@ static REFUSED: [&[&str]; 53] = [
     &["asm", "a", "--at", "c000"],
     &["assemble"],
     &["assemble", "a", "b", "-o", "c"],
-    &["assemble", "a", "--long=yes"],
-    &["asm", "a", "b", "--at", "c000", "--long"],
     &["dis"],
     &["build"],
     &["build", "a", "b", "c"],
@@ -315,10 +296,6 @@ static REFUSED: [&[&str]; 53] = [
     &["play", "a", "--answers", "03"],
     &["play", "a", "--limit", "1000000001"],
     &["play", "a", "--record"],
-    &["play", "a", "--screen=yes"],
-    &["run", "a", "--screen"],
-    &["dap", "a"],
-    &["lsp", "a"],
     &["check"],
     &["check", "a", "--seed", "1"],
 ];
@@ -391,14 +368,13 @@ fn help_is_shown(rt: HostRuntime) -> Result<(), Fail> {
 fn failures_have_their_texts(rt: HostRuntime) -> Result<(), Fail> {
     let text = String::from_str(rt.alloc(), "error: no\n")?;
     let path = String::from_str(rt.alloc(), "b.bas")?;
-    let rows: [(Failure, u8, &[u8]); 11] = [
+    let rows: [(Failure, u8, &[u8]); 10] = [
         (Failure::Words(text), 2, b"error: no\n"),
         (Failure::NotUtf8, 2, b"tbc: an argument is not UTF-8\n"),
         (Failure::BadKeys, 2, b"tbc: bad key list\n"),
         (Failure::BadAddress, 2, b"tbc: bad address\n"),
         (Failure::SameFile, 2, b"tbc: same file twice\n"),
         (Failure::IsSource(path), 2, b"tbc: b.bas is a source\n"),
-        (Failure::BadLabels(7), 1, b"tbc: bad labels\n"),
         (Failure::NoTerminal, 2, b"tbc: not a terminal\n"),
         (
             Failure::SmallTerminal,
