@@ -12,8 +12,7 @@ use Rattle.tb_check.specs.Verdicts.{Judges}
 use Rattle.tb_check.specs.Warnings.{warnings_on}
 use Rattle.tb_check.specs.declared.judging.Verdict.{Verdict}
 use Rattle.tb_check.specs.declared.judging.Verdict.TheVariants as verdict
-use Rattle.tb_parser.specs.declared.notation.Notation.{Notation}
-use Rattle.tb_check.specs.declared.settings.CheckSettings.{CheckSettings}
+use Rattle.tb_codegen.specs.declared.settings.SizeLimit.{SizeLimit}
 use Rattle.tb_check.specs.declared.examination.BadLine.{BadLine}
 use Rattle.tb_check.specs.declared.examination.Findings.{Findings}
 use Rattle.tb_check.specs.declared.examination.Findings.TheVariants.{BadLines, Empty, Refused, Accepted}
@@ -34,11 +33,10 @@ Tells lines AreDeep AreWarnings (verdict.Accepted p) (Accepted warnings) = AreWa
 Tells _ _ _ _ _ = ⊥
 
 -- the warnings on a source and its program
-abbrev pub WarningsAre : Notation → List ℕ → Program → List LineWarning → Type 0
-WarningsAre notation source p found = (es : List Entry) × EntriesAre notation 1 (lines_of_file source) es × (found ≡ warnings_on p (map numbered_of es))
+abbrev pub WarningsAre : List ℕ → Program → List LineWarning → Type 0
+WarningsAre source p found = (es : List Entry) × EntriesAre 1 (lines_of_file source) es × (found ≡ warnings_on p (map numbered_of es))
 
--- findings of a source
-abbrev pub AreFindings : CheckSettings → List ℕ → Findings → Type 0
-AreFindings settings source f =
-    (v : Verdict) × Judges settings source v
-    × Tells (lines_of_file source) (λ numbers deep. DeepLinesAre settings.notation source deep) (WarningsAre settings.notation source) v f
+-- findings of a source, by when its program is too large
+abbrev pub AreFindings : SizeLimit → List ℕ → Findings → Type 0
+AreFindings size source f =
+    (v : Verdict) × Judges size source v × Tells (lines_of_file source) (λ numbers deep. DeepLinesAre source deep) (WarningsAre source) v f

@@ -9,9 +9,9 @@ use crate::judging::{Verdict, verdict_on};
 use crate::lines::{NumberedLine, read_lines};
 use crate::notes::{Note, note_of};
 use crate::remaining::remaining_lines;
-use crate::settings::CheckSettings;
 use crate::warnings::{LineWarning, warnings};
 use std::alloc::{AllocError, Global};
+use tb_codegen::SizeLimit;
 use tb_parser::SourceError;
 
 /// A bad line's first fault, with a note if there is one.
@@ -47,17 +47,13 @@ pub struct Examined<'a> {
     pub findings: Findings,
 }
 
-/// Looks at a source. Fails only if memory runs out.
-pub fn examine(
-    alloc: Global,
-    source: &[u8],
-    settings: CheckSettings,
-) -> Result<Examined<'_>, AllocError>
+/// Looks at a source, whose program is too large by this limit. Fails only if memory runs out.
+pub fn examine(alloc: Global, source: &[u8], size: SizeLimit) -> Result<Examined<'_>, AllocError>
     ensures lines { IfOk result (λ seen. map (λ t. t.now) seen.lines.items ≡ lines_of_file source.now) }
-    ensures findings { IfOk result (λ seen. AreFindings settings source.now seen.findings) }
+    ensures findings { IfOk result (λ seen. AreFindings size source.now seen.findings) }
 {
-    let lines = read_lines(alloc, source, settings.notation)?;
-    let verdict = verdict_on(alloc, source, lines.bad, lines.program, settings)?;
+    let lines = read_lines(alloc, source)?;
+    let verdict = verdict_on(alloc, source, lines.bad, lines.program, size)?;
     let findings = findings_by(alloc, &lines.texts, &lines.numbered, &verdict)?;
     Ok(Examined {
         lines: lines.texts,

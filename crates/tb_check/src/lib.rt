@@ -11,7 +11,6 @@ mod notes;
 mod patterns;
 mod remaining;
 mod rules;
-mod settings;
 mod surroundings;
 mod warnings;
 
@@ -21,6 +20,5 @@ pub use judging::{ProgramFaults, Verdict, judge};
 pub use lines::bad_lines;
 pub use near_words::StatementWord;
 pub use notes::Note;
-pub use settings::CheckSettings;
 pub use tb_parser::{SourceError, SourceErrorKind};
 pub use warnings::{LineWarning, Warning};

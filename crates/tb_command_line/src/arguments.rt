@@ -40,6 +40,8 @@ pub enum Form {
     FileOption,
     /// An option that names a file, and excludes the argument of this name.
     FileInPlaceOf(&'static str),
+    /// An option that names a file, and takes the option of this name along.
+    FileWith(&'static str),
     /// An option of a text, and excludes the arguments of these names.
     TextInPlaceOf(&'static [&'static str]),
     /// An option of hexadecimal digits, none if it is missing.
@@ -242,6 +244,18 @@ pub const LABELS: Argument = Argument {
     name: "labels",
     help: "Write a label file for VICE's monitor",
     form: Form::FileOption,
+};
+
+pub const PRG_LABELS: Argument = Argument {
+    name: "labels",
+    help: "Name the addresses of the PRG file by this label file",
+    form: Form::FileWith(PRG_NAME),
+};
+
+pub const LONG: Argument = Argument {
+    name: "long",
+    help: "Make branches long that don't reach",
+    form: Form::Flag,
 };
 
 pub const LIST: Argument = Argument {

@@ -4,9 +4,9 @@ ghost use Rattle.tb_command_line.specs.Table.{NamesEach, command_of};
 
 use crate::arguments::{
     ANSWERS, ASSEMBLY_OUT, AT, Argument, BUILD_OUT, DISK_OUT, DISK_OUTPUT, FIRST_LINE, FIT, FOR,
-    IN_PLACE, KEY_FILE, KEYS, LABELS, LIMIT, LINE_STEP, LIST, LIST_FOR, MAP, ONLY_CHECK, ORIGIN,
-    OUT, OUTPUT, PAGE, PLAY_LIMIT, PRG, PRG_FILE, PRG_FILES, RECORD, RUDE, SCREEN, SEED, SOURCE,
-    SOURCE_OR_PRG, SOURCES, TEXT, TYPE, WATCH,
+    IN_PLACE, KEY_FILE, KEYS, LABELS, LIMIT, LINE_STEP, LIST, LIST_FOR, LONG, MAP, ONLY_CHECK,
+    ORIGIN, OUT, OUTPUT, PAGE, PLAY_LIMIT, PRG, PRG_FILE, PRG_FILES, PRG_LABELS, RECORD, RUDE,
+    SCREEN, SEED, SOURCE, SOURCE_OR_PRG, SOURCES, TEXT, TYPE, WATCH,
 };
 
 /// A command of `tbc`.
@@ -76,6 +76,7 @@ static COMMANDS: [CommandRow; 16] = [
             ANSWERS,
             LIMIT,
             RUDE,
+            PRG_LABELS,
         ],
     },
     CommandRow {
@@ -97,7 +98,7 @@ static COMMANDS: [CommandRow; 16] = [
         name: "assemble",
         help: "Assemble a text as people write it, or show everything that is wrong with it",
         usage: None,
-        arguments: &[TEXT, ASSEMBLY_OUT, OUTPUT, ORIGIN, LABELS, LIST],
+        arguments: &[TEXT, ASSEMBLY_OUT, OUTPUT, ORIGIN, LONG, LABELS, LIST],
     },
     CommandRow {
         command: CommandName::Dis,
@@ -139,6 +140,7 @@ static COMMANDS: [CommandRow; 16] = [
             ANSWERS,
             LIMIT,
             RUDE,
+            PRG_LABELS,
         ],
     },
     CommandRow {

@@ -100,6 +100,7 @@ fn clap_argument<'a>(alloc: Global, argument: &Argument) -> Result<Arg<'a>, Allo
             choice_option(plain, argument, names).requires_arg(other)
         }
         Form::FileOption => Ok(option(plain, argument, "FILE")),
+        Form::FileWith(other) => option(plain, argument, "FILE").requires_arg(other),
         Form::Digits => Ok(digits_option(plain, argument)),
         Form::Address => Ok(option(plain, argument, "HEX").required(true)),
         Form::AddressIfNamed => Ok(option(plain, argument, "HEX")),

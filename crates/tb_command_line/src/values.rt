@@ -1,7 +1,7 @@
 //! The values of arguments that the parser found.
 use crate::arguments::{
-    ANSWERS, Argument, FIT, FOR, IN_PLACE, KEY_FILE, KEYS, LABELS, LIMIT, LIST, MAP, ONLY_CHECK,
-    PRG, RUDE, SCREEN, SEED, SOURCE_OR_PRG, TYPE, WATCH,
+    ANSWERS, Argument, FIT, FOR, IN_PLACE, KEY_FILE, KEYS, LABELS, LIMIT, LIST, LONG, MAP,
+    ONLY_CHECK, PRG, RUDE, SCREEN, SEED, SOURCE_OR_PRG, TYPE, WATCH,
 };
 use clap::ArgMatches;
 use std::alloc::{AllocError, Global};
@@ -101,6 +101,11 @@ pub fn line_number_of(found: &ArgMatches<'_>, argument: &Argument) -> u16 {
 /// The seed of rude events, if they are wanted.
 pub fn rude_of(found: &ArgMatches<'_>) -> Option<u16> {
     found.get_one::<u16>(RUDE.name)
+}
+
+/// Whether branches that don't reach are made long.
+pub fn long_of(found: &ArgMatches<'_>) -> bool {
+    found.get_flag(LONG.name)
 }
 
 /// Whether the machine's screen is shown.

@@ -4,12 +4,13 @@ ghost use Rattle.tb_jobs.specs.Limits.{IsWithinLimit};
 
 use crate::arguments::{
     ASSEMBLY_OUT, AT, BUILD_OUT, DISK_OUT, DISK_OUTPUT, FIRST_LINE, LABELS, LINE_STEP, LIST,
-    ORIGIN, OUT, OUTPUT, PAGE, PLAY_LIMIT, PRG_FILE, PRG_FILES, RECORD, SOURCE, SOURCES, TEXT,
+    ORIGIN, OUT, OUTPUT, PAGE, PLAY_LIMIT, PRG_FILE, PRG_FILES, PRG_LABELS, RECORD, SOURCE,
+    SOURCES, TEXT,
 };
 use crate::commands::{CommandName, command_named, rows};
 use crate::parser::{VERSION, parser};
 use crate::values::{
-    dialect_of, extras_of, first_text, fit_of, in_place_of, limit_of, line_number_of,
+    dialect_of, extras_of, first_text, fit_of, in_place_of, limit_of, line_number_of, long_of,
     optional_text, rude_of, runnable_of, screen_of, seed_of, settings_of, target_of, text, texts,
 };
 use clap::ArgMatches;
@@ -107,6 +108,7 @@ fn run_job(alloc: Global, found: &ArgMatches<'_>) -> Result<Job, AllocError>
         what: runnable_of(alloc, found)?,
         settings: settings_of(alloc, found)?,
         rude: rude_of(found),
+        labels: optional_text(alloc, found, &PRG_LABELS)?,
     })
 }
 
@@ -150,6 +152,7 @@ fn assemble_job(alloc: Global, found: &ArgMatches<'_>) -> Result<Job, AllocError
         text,
         out,
         at: optional_text(alloc, found, &ORIGIN)?,
+        long: long_of(found),
         labels: optional_text(alloc, found, &LABELS)?,
         listing: optional_text(alloc, found, &LIST)?,
     })
@@ -180,6 +183,7 @@ fn debug_job(alloc: Global, found: &ArgMatches<'_>) -> Result<Job, AllocError>
         what: runnable_of(alloc, found)?,
         settings: settings_of(alloc, found)?,
         rude: rude_of(found),
+        labels: optional_text(alloc, found, &PRG_LABELS)?,
     })
 }
 

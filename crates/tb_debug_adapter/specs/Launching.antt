@@ -6,7 +6,6 @@ use Rattle.serde_json.specs.Find.{as_number, as_u64, get}
 use Rattle.tb_adapter_values.specs.Arguments.{flag_in, number_in, optional_text, text_in}
 use Rattle.tb_codegen.specs.declared.settings.CompileSettings.{CompileSettings}
 use Rattle.tb_codegen.specs.declared.settings.SizeLimit.{SizeLimit}
-use Rattle.tb_parser.specs.declared.notation.Notation.TheVariants.{Plain}
 use Rattle.tb_codegen.specs.declared.settings.SizeLimit.TheVariants.{Cost, Memory}
 use Rattle.tb_debug.specs.declared.rom.Rom.{Rom}
 use Rattle.tb_debug.specs.declared.rom.Rom.TheVariants.{Quiet, Rude}
@@ -27,7 +26,7 @@ size_by fit = if fit then Memory else Cost
 
 -- how the program is compiled
 abbrev pub settings_by : ℕ → Bool → CompileSettings
-settings_by seed fit = record { seed = seed; size = size_by fit; notation = Plain }
+settings_by seed fit = record { seed = seed; size = size_by fit }
 
 abbrev pub settings_in : Data → Option CompileSettings
 settings_in d = option_and_then (λ seed. option_map (λ fit. settings_by seed fit) (flag_in d (codes "fit") false)) (seed_in d)

@@ -5,7 +5,7 @@ ghost use Rattle.tb_debug_adapter.specs.Launching as spec;
 
 use serde_json::Value;
 use tb_adapter_values::{flag_in, number_in, optional_text, text_in};
-use tb_codegen::{CompileSettings, Notation, SizeLimit};
+use tb_codegen::{CompileSettings, SizeLimit};
 use tb_debug::Rom;
 
 /// How many events a movement takes at most, if nothing else is asked for.
@@ -81,7 +81,6 @@ fn settings_in(arguments: &Value) -> Option<CompileSettings>
     Some(CompileSettings {
         seed,
         size: size_by(fit),
-        notation: Notation::Plain,
     })
 }
 

@@ -10,9 +10,8 @@ use crate::launching::{Launch, Plan};
 use crate::said::{Said, output};
 use std::alloc::{AllocError, Global};
 use tb_adapter_messages::Refusal;
-use tb_check::CheckSettings;
 use tb_check_engine::{CheckOutcome, Sources, check_sources};
-use tb_codegen::{CompileError, CompileSettings, compile_within};
+use tb_codegen::{CompileError, CompileSettings, SizeLimit, compile_within};
 use tb_debug::Rom;
 use tb_driver::{CompiledSource, start_program};
 use tb_engines::{NoText, TOO_DEEP, TooLarge, source_text};
@@ -67,19 +66,14 @@ impl Sources for Held<'_> {
 }
 
 // What `check` says of a source.
-fn report(
-    alloc: Global,
-    path: &str,
-    text: &[u8],
-    settings: CheckSettings,
-) -> Result<Vec<u8>, AllocError>
-    ensures { IfOk result (λ said. IsReport settings path.now text.now said.items) }
+fn report(alloc: Global, path: &str, text: &[u8], size: SizeLimit) -> Result<Vec<u8>, AllocError>
+    ensures { IfOk result (λ said. IsReport size path.now text.now said.items) }
 {
     let mut names = Vec::new(alloc);
     names.push(String::from_str(alloc, path)?)?;
     let mut held = Held { text };
     let mut writer = Tracked::new(Vec::new(alloc));
-    let outcome = check_sources(alloc, &mut held, &names, &mut writer, settings);
+    let outcome = check_sources(alloc, &mut held, &names, &mut writer, size);
     match outcome {
         CheckOutcome::NoMemory | CheckOutcome::WriteFault => Err(AllocError),
         CheckOutcome::Accepted | CheckOutcome::Refused | CheckOutcome::ReadFault => {
@@ -128,12 +122,12 @@ fn unfit(
     alloc: Global,
     path: &str,
     text: &[u8],
-    settings: CheckSettings,
+    size: SizeLimit,
     error: CompileError,
 ) -> Result<Vec<Said>, AllocError>
-    ensures { IfOk result (λ said. IsUnfit settings path.now text.now error (map seen said.items)) }
+    ensures { IfOk result (λ said. IsUnfit size path.now text.now error (map seen said.items)) }
 {
-    let report = report(alloc, path, text, settings)?;
+    let report = report(alloc, path, text, size)?;
     let told = output(alloc, "stderr", shown(&report))?;
     let why = error_text(alloc, error)?;
     let mut said = Vec::new(alloc);
@@ -154,13 +148,7 @@ fn compiled(
     match compile_within(alloc, &text, settings) {
         Ok(program) => Ok(Compiling::Fit(CompiledSource { text, program })),
         Err(CompileError::NoMemory) => Err(AllocError),
-        Err(error) => {
-            let checked = CheckSettings {
-                size: settings.size,
-                notation: settings.notation,
-            };
-            Ok(Compiling::Unfit(unfit(alloc, path, &text, checked, error)?))
-        }
+        Err(error) => Ok(Compiling::Unfit(unfit(alloc, path, &text, settings.size, error)?)),
     }
 }
 

@@ -5,8 +5,7 @@ use Rattle.serde_json.specs.Find.{of_integer}
 use Rattle.serde_json.specs.View.{items_of}
 use Rattle.tb_streams.specs.Streams.{most_input}
 use Rattle.tb_parser.specs.Lines.{lines_of_file}
-use Rattle.tb_parser.specs.declared.notation.Notation.TheVariants.{Plain}
-use Rattle.tb_check.specs.Settings.{by_cost}
+use Rattle.tb_codegen.specs.declared.settings.SizeLimit.TheVariants.{Cost}
 use Rattle.tb_check.specs.Findings.{AreFindings}
 use Rattle.tb_check.specs.declared.examination.Findings.{Findings}
 use Rattle.tb_messages.specs.Messages.{Says}
@@ -27,7 +26,7 @@ published_of uri version found =
 -- diagnostics of a source: those of its findings, which are what `check` says of it; or that it has too many bytes
 abbrev pub Diagnoses : List ℕ → List ℕ → List Data → Type 0
 Diagnoses uri source found =
-    (length source ≤ most_input → (f : Findings) × AreFindings (by_cost Plain) source f × (found ≡ diagnostics_of uri (lines_of_file source) f))
+    (length source ≤ most_input → (f : Findings) × AreFindings Cost source f × (found ≡ diagnostics_of uri (lines_of_file source) f))
     × (most_input < length source → found ≡ too_long ∷ [])
 
 -- a content that publishes diagnostics of a source

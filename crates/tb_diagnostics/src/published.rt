@@ -7,8 +7,8 @@ ghost use Rattle.tb_diagnostics.specs.Published.{Diagnoses, Publishes, published
 use crate::findings::{Lines, diagnostics, too_long};
 use serde_json::{Value, json};
 use std::alloc::{AllocError, Global};
-use tb_check::{CheckSettings, examine};
-use tb_codegen::{Notation, SizeLimit};
+use tb_check::examine;
+use tb_codegen::SizeLimit;
 use tb_streams::MOST_INPUT;
 
 /// The diagnostics of a source.
@@ -18,11 +18,7 @@ pub fn diagnose(alloc: Global, uri: &str, source: &[u8]) -> Result<Vec<Value>, A
     if source.len() > MOST_INPUT {
         return too_long(alloc);
     }
-    let settings = CheckSettings {
-        size: SizeLimit::Cost,
-        notation: Notation::Plain,
-    };
-    let examined = examine(alloc, source, settings)?;
+    let examined = examine(alloc, source, SizeLimit::Cost)?;
     let text = Lines {
         uri,
         lines: examined.lines.as_slice(),

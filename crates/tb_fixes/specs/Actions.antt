@@ -3,8 +3,7 @@ use Rattle.std.specs.Prelude.{ℕ, ◌≡◌, ◌-◌, nat_le, Bool, true, false
 use Rattle.serde_json.specs.Data.{Data, array, boolean, item, member, no_items, no_members, object, string}
 use Rattle.serde_json.specs.View.{items_of}
 use Rattle.tb_parser.specs.Lines.{lines_of_file}
-use Rattle.tb_parser.specs.declared.notation.Notation.TheVariants.{Plain}
-use Rattle.tb_check.specs.Settings.{by_cost}
+use Rattle.tb_codegen.specs.declared.settings.SizeLimit.TheVariants.{Cost}
 use Rattle.tb_check.specs.Findings.{AreFindings}
 use Rattle.tb_check.specs.declared.examination.BadLine.{BadLine}
 use Rattle.tb_check.specs.declared.examination.Findings.{Findings}
@@ -68,5 +67,5 @@ ends_its_line source = is_end (slice_get source (length source - 1))
 -- the fixes of the findings of a source, which are what `check` says of it
 abbrev pub AreActions : List ℕ → List ℕ → LineRange → Data → Type 0
 AreActions uri source range v =
-    (f : Findings) × (all : List SourceLine) × AreFindings (by_cost Plain) source f × AreLinesOf source all
+    (f : Findings) × (all : List SourceLine) × AreFindings Cost source f × AreLinesOf source all
     × (v ≡ array (items_of (of_findings uri (lines_of_file source) all (ends_its_line source) range f)))

@@ -7,22 +7,18 @@ ghost use Rattle.tb_grammar.specs.Statements.{States};
 ghost use Rattle.tb_grammar.specs.ReadValues as shown;
 ghost use Rattle.tb_grammar.specs.StatementReading.{spelled};
 ghost use Rattle.tb_parser.specs.declared.errors.SourceErrorKind.TheVariants.{NoMemory};
-ghost use Rattle.tb_parser.specs.Answers.{edit_of, Answers, InLineOne, Says};
-ghost use Rattle.tb_parser.specs.Files.{AreStated, FileRefusal, LinesAre, LinesIn, Outcome, edited};
+ghost use Rattle.tb_parser.specs.Answers.{edit_of, Answers, InLineOne};
+ghost use Rattle.tb_parser.specs.Files.{AreStated, FileRefusal, LinesAre, Outcome, edited};
 ghost use Rattle.tb_parser.specs.Lines.{lines_of_file};
-ghost use Rattle.tb_parser.specs.Readings.{ExpressionIs, LineIn};
+ghost use Rattle.tb_parser.specs.Readings.{ExpressionIs};
 ghost use Rattle.tb_parser.specs.Refusals.{out_of_memory};
-ghost use Rattle.tb_parser.specs.Signed.{LackSigns};
 ghost use Rattle.tb_parser.specs.Tokens.{AreTokens};
 
 use std::alloc::{AllocError, Global};
 use tb_grammar::{
     Keyword, ReadError, ReadExpression, ReadStatement, read_expression, read_statement,
 };
-use tb_parser::{
-    Expr, LineEdit, LineFault, Notation, Program, SourceError, Token, apply, parse, parse_expr,
-    parse_in, read_line_in, tokens,
-};
+use tb_parser::{Expr, LineEdit, Program, SourceError, Token, apply, parse, parse_expr, tokens};
 
 /// Calls `Keyword::spelling`.
 pub fn spelling_of(keyword: Keyword) -> &'static str
@@ -75,26 +71,6 @@ pub fn parsed(alloc: Global, source: &[u8]) -> Result<Program, SourceError>
     ensures memory { IfErr result (λ e. e.kind ≡ NoMemory → e ≡ out_of_memory) }
 {
     parse(alloc, source)
-}
-
-/// Calls `parse_in`.
-pub fn parsed_in(alloc: Global, notation: Notation, source: &[u8]) -> Result<Program, SourceError>
-    ensures found { Answers lines_of result (LinesIn notation 1 [] (lines_of_file source.now)) }
-    ensures rising { IfOk result (λ p. Rises 1 32768 (numbers (lines_of p))) }
-    ensures stated { IfOk result (λ p. AreStated (lines_of p)) }
-    ensures only { (outcome : Outcome) → LinesIn notation 1 [] (lines_of_file source.now) outcome
-        → Answers lines_of result (λ said. said ≡ outcome) }
-    ensures plain { LackSigns (lines_of_file source.now) → Answers lines_of result (LinesAre 1 [] (lines_of_file source.now)) }
-    ensures memory { IfErr result (λ e. e.kind ≡ NoMemory → e ≡ out_of_memory) }
-{
-    parse_in(alloc, notation, source)
-}
-
-/// Calls `read_line_in`.
-pub fn line_read_in(alloc: Global, notation: Notation, line: &[u8]) -> Result<LineEdit, LineFault>
-    ensures { Says edit_of result (LineIn notation line.now) }
-{
-    read_line_in(alloc, notation, line)
 }
 
 /// Calls `parse_expr`.

@@ -12,41 +12,33 @@ ghost use Rattle.tb_check_engine.specs.Rows.{caret_row};
 
 use std::alloc::{AllocError, Global};
 use std::io::Write;
-use tb_check::{CheckSettings, Examined, SourceError, Verdict, bad_lines, examine, judge};
+use tb_check::{Examined, SourceError, Verdict, bad_lines, examine, judge};
 use tb_check_engine::{CheckOutcome, Sources, check_sources, push_caret};
-use tb_codegen::Notation;
+use tb_codegen::SizeLimit;
 use tb_streams::Tracked;
 
 /// Calls `bad_lines`.
-pub fn lines_that_are_bad(
-    alloc: Global,
-    source: &[u8],
-    notation: Notation,
-) -> Result<Vec<SourceError>, AllocError>
-    ensures lines { IfOk result (λ found. BadLinesAre notation 1 (lines_of_file source.now) found.items) }
-    ensures first { IfOk result (λ found. FirstIs notation source.now found.items) }
+pub fn lines_that_are_bad(alloc: Global, source: &[u8]) -> Result<Vec<SourceError>, AllocError>
+    ensures lines { IfOk result (λ found. BadLinesAre 1 (lines_of_file source.now) found.items) }
+    ensures first { IfOk result (λ found. FirstIs source.now found.items) }
 {
-    bad_lines(alloc, source, notation)
+    bad_lines(alloc, source)
 }
 
 /// Calls `judge`.
-pub fn judged(alloc: Global, source: &[u8], settings: CheckSettings) -> Result<Verdict, AllocError>
-    ensures judged { IfOk result (Judges settings source.now) }
-    ensures agrees { IfOk result (Agrees settings source.now) }
+pub fn judged(alloc: Global, source: &[u8], size: SizeLimit) -> Result<Verdict, AllocError>
+    ensures judged { IfOk result (Judges size source.now) }
+    ensures agrees { IfOk result (Agrees size source.now) }
 {
-    judge(alloc, source, settings)
+    judge(alloc, source, size)
 }
 
 /// Calls `examine`.
-pub fn examined(
-    alloc: Global,
-    source: &[u8],
-    settings: CheckSettings,
-) -> Result<Examined<'_>, AllocError>
+pub fn examined(alloc: Global, source: &[u8], size: SizeLimit) -> Result<Examined<'_>, AllocError>
     ensures lines { IfOk result (λ seen. map (λ t. t.now) seen.lines.items ≡ lines_of_file source.now) }
-    ensures findings { IfOk result (λ seen. AreFindings settings source.now seen.findings) }
+    ensures findings { IfOk result (λ seen. AreFindings size source.now seen.findings) }
 {
-    examine(alloc, source, settings)
+    examine(alloc, source, size)
 }
 
 /// Calls `check_sources`.
@@ -55,13 +47,13 @@ pub fn checked<S: Sources, W: Write>(
     sources: &mut S,
     names: &[String],
     writer: &mut Tracked<W>,
-    settings: CheckSettings,
+    size: SizeLimit,
 ) -> CheckOutcome
-    ensures checks { Checks S.reads settings sources.old (map string_bytes names.now) (W.contents writer.old.stream)
+    ensures checks { Checks S.reads size sources.old (map string_bytes names.now) (W.contents writer.old.stream)
         result sources.new (W.contents writer.new.stream) }
     ensures faults { WriteFaults result (failures_of writer.old) (failures_of writer.new) }
 {
-    check_sources(alloc, sources, names, writer, settings)
+    check_sources(alloc, sources, names, writer, size)
 }
 
 /// Calls `push_caret`.

@@ -20,7 +20,7 @@ ghost use Rattle.tb_streams.specs.Uses.{use_of, TakesInput};
 use std::alloc::{AllocError, Global};
 use std::io::{Read, Write};
 use tb_build_engine::{BuildFiles, build_files, map_source};
-use tb_codegen::{CompileSettings, Compiled, LineStart, Notation};
+use tb_codegen::{CompileSettings, Compiled, LineStart};
 use tb_engines::Report;
 use tb_listing::{Made, chart, labels, list, make};
 use tb_streams::Tracked;
@@ -56,16 +56,11 @@ pub fn map_of(alloc: Global, compiled: &Compiled, program: &Program) -> Result<V
 }
 
 /// Calls `make`.
-pub fn made_of(
-    alloc: Global,
-    source: &[u8],
-    notation: Notation,
-    compiled: &Compiled,
-) -> Result<Made, AllocError>
-    requires { IsProgramOf notation source.now compiled.now }
-    ensures { IfOk result (IsMade notation source.now compiled.now) }
+pub fn made_of(alloc: Global, source: &[u8], compiled: &Compiled) -> Result<Made, AllocError>
+    requires { IsProgramOf source.now compiled.now }
+    ensures { IfOk result (IsMade source.now compiled.now) }
 {
-    make(alloc, source, notation, compiled)
+    make(alloc, source, compiled)
 }
 
 /// Calls `build_files`.

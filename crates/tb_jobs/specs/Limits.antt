@@ -12,13 +12,13 @@ IsWithin limit = (1 ≤ limit.events) × (limit.events ≤ MOST_EVENTS)
 -- a run takes 1 to MOST_EVENTS events
 abbrev pub IsWithinLimit : Job → Type 0
 IsWithinLimit (Build source out seed fit beside) = ⊤
-IsWithinLimit (Run what settings rude) = IsWithin settings.limit
+IsWithinLimit (Run what settings rude labels) = IsWithin settings.limit
 IsWithinLimit (Play what seed fit limit made screen) = IsWithin limit
 IsWithinLimit (Asm text out at) = ⊤
-IsWithinLimit (Assemble text out at labels listing) = ⊤
+IsWithinLimit (Assemble text out at long labels listing) = ⊤
 IsWithinLimit (Dis prg dialect) = ⊤
 IsWithinLimit (Step what settings) = IsWithin settings.limit
-IsWithinLimit (Debug what settings rude) = IsWithin settings.limit
+IsWithinLimit (Debug what settings rude labels) = IsWithin settings.limit
 IsWithinLimit (Profile what settings rude html) = IsWithin settings.limit
 IsWithinLimit (Disk out files) = ⊤
 IsWithinLimit (Check sources fit) = ⊤

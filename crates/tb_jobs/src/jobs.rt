@@ -139,6 +139,8 @@ pub enum Job {
         settings: Settings,
         /// The seed of rude events, where they are wanted.
         rude: Option<u16>,
+        /// The label file that names addresses of a PRG file, if there is one.
+        labels: Option<String>,
     },
     /// Plays a program: standard input is its keyboard.
     Play {
@@ -167,6 +169,8 @@ pub enum Job {
         out: String,
         /// The address of the first byte, if the words say it.
         at: Option<String>,
+        /// Whether branches that don't reach are made long.
+        long: bool,
         /// The label file.
         labels: Option<String>,
         /// The listing.
@@ -189,6 +193,8 @@ pub enum Job {
         settings: Settings,
         /// The seed of rude events, where they are wanted.
         rude: Option<u16>,
+        /// The label file that names addresses of a PRG file, if there is one.
+        labels: Option<String>,
     },
     /// Runs a program, and shows what its lines took, or the instructions of a PRG file.
     Profile {

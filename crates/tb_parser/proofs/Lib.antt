@@ -3,8 +3,6 @@
 pub mod FirstLine
 -- the walks over a line, byte by byte
 pub mod Steps
--- the same of a line with signs
-pub mod SignSteps
 -- digits at the front
 pub mod Numbers
 -- what the readers' answers say of a text
@@ -23,5 +21,3 @@ pub mod Rising
 pub mod Texts
 -- no text, line or file has two meanings
 pub mod Unique
--- a line without signs is read alike in each notation
-pub mod Alike

@@ -1,10 +1,8 @@
 pub mod Answers
 pub mod Files
 pub mod Lines
-pub mod Notations
 pub mod Readings
 pub mod Refusals
 pub mod Scans
-pub mod Signed
 pub mod Squeezed
 pub mod Tokens

@@ -22,8 +22,7 @@ pub(crate) fn written(line: &[u8]) -> Option<usize>
     None
 }
 
-/// Whether a byte is not allowed in its place.
-pub(crate) fn is_bad_byte(mode: Mode, byte: u8) -> bool
+fn is_bad_byte(mode: Mode, byte: u8) -> bool
     ensures { result ≡ is_bad mode byte }
 {
     match mode {

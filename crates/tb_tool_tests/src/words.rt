@@ -4,7 +4,7 @@ use std::test::Fail;
 use tb_command_line::{Failure, job, room_for_screen};
 
 /// Words, and the job that they become.
-static JOBS: [(&[&str], &str); 50] = [
+static JOBS: [(&[&str], &str); 54] = [
     (
         &["build", "a", "b"],
         "Ok(Build { source: \"a\", out: \"b\", seed: 1, fit: false, beside: BuildExtras { labels: None, listing: None, dialect: None, map: None, watch: None } })",
@@ -49,7 +49,7 @@ static JOBS: [(&[&str], &str); 50] = [
     ),
     (
         &["run", "a"],
-        "Ok(Run { what: Source(\"a\"), settings: Settings { seed: 1, fit: false, keys: Digits(\"\"), answers: \"\", limit: Limit { events: 10000000 } }, rude: None })",
+        "Ok(Run { what: Source(\"a\"), settings: Settings { seed: 1, fit: false, keys: Digits(\"\"), answers: \"\", limit: Limit { events: 10000000 } }, rude: None, labels: None })",
     ),
     (
         &[
@@ -63,15 +63,19 @@ static JOBS: [(&[&str], &str); 50] = [
             "--rude",
             "65535",
         ],
-        "Ok(Run { what: Source(\"a\"), settings: Settings { seed: 1, fit: false, keys: Digits(\"330d\"), answers: \"00\", limit: Limit { events: 1000000000 } }, rude: Some(65535) })",
+        "Ok(Run { what: Source(\"a\"), settings: Settings { seed: 1, fit: false, keys: Digits(\"330d\"), answers: \"00\", limit: Limit { events: 1000000000 } }, rude: Some(65535), labels: None })",
     ),
     (
         &["run", "--prg", "p", "--seed", "0", "--limit", "1"],
-        "Ok(Run { what: Prg(\"p\"), settings: Settings { seed: 0, fit: false, keys: Digits(\"\"), answers: \"\", limit: Limit { events: 1 } }, rude: None })",
+        "Ok(Run { what: Prg(\"p\"), settings: Settings { seed: 0, fit: false, keys: Digits(\"\"), answers: \"\", limit: Limit { events: 1 } }, rude: None, labels: None })",
+    ),
+    (
+        &["run", "--prg", "p", "--labels", "v"],
+        "Ok(Run { what: Prg(\"p\"), settings: Settings { seed: 1, fit: false, keys: Digits(\"\"), answers: \"\", limit: Limit { events: 10000000 } }, rude: None, labels: Some(\"v\") })",
     ),
     (
         &["run", "a", "--keys-file", "k", "--answers", "03"],
-        "Ok(Run { what: Source(\"a\"), settings: Settings { seed: 1, fit: false, keys: File(\"k\"), answers: \"03\", limit: Limit { events: 10000000 } }, rude: None })",
+        "Ok(Run { what: Source(\"a\"), settings: Settings { seed: 1, fit: false, keys: File(\"k\"), answers: \"03\", limit: Limit { events: 10000000 } }, rude: None, labels: None })",
     ),
     (
         &["play", "a"],
@@ -101,15 +105,19 @@ static JOBS: [(&[&str], &str); 50] = [
     ),
     (
         &["assemble", "a.asm"],
-        "Ok(Assemble { text: \"a.asm\", out: \"a.prg\", at: None, labels: None, listing: None })",
+        "Ok(Assemble { text: \"a.asm\", out: \"a.prg\", at: None, long: false, labels: None, listing: None })",
     ),
     (
         &["assemble", "a", "b", "--at", "c00", "--labels", "v"],
-        "Ok(Assemble { text: \"a\", out: \"b\", at: Some(\"c00\"), labels: Some(\"v\"), listing: None })",
+        "Ok(Assemble { text: \"a\", out: \"b\", at: Some(\"c00\"), long: false, labels: Some(\"v\"), listing: None })",
+    ),
+    (
+        &["assemble", "--long", "a"],
+        "Ok(Assemble { text: \"a\", out: \"a.prg\", at: None, long: true, labels: None, listing: None })",
     ),
     (
         &["assemble", "-", "--list=s"],
-        "Ok(Assemble { text: \"-\", out: \"-\", at: None, labels: None, listing: Some(\"s\") })",
+        "Ok(Assemble { text: \"-\", out: \"-\", at: None, long: false, labels: None, listing: Some(\"s\") })",
     ),
     (&["dis", "a"], "Ok(Dis { prg: \"a\", dialect: None })"),
     (
@@ -130,7 +138,7 @@ static JOBS: [(&[&str], &str); 50] = [
     ),
     (
         &["debug", "a"],
-        "Ok(Debug { what: Source(\"a\"), settings: Settings { seed: 1, fit: false, keys: Digits(\"\"), answers: \"\", limit: Limit { events: 10000000 } }, rude: None })",
+        "Ok(Debug { what: Source(\"a\"), settings: Settings { seed: 1, fit: false, keys: Digits(\"\"), answers: \"\", limit: Limit { events: 10000000 } }, rude: None, labels: None })",
     ),
     (
         &[
@@ -143,11 +151,15 @@ static JOBS: [(&[&str], &str); 50] = [
             "--limit",
             "9",
         ],
-        "Ok(Debug { what: Source(\"a\"), settings: Settings { seed: 1, fit: false, keys: File(\"k\"), answers: \"\", limit: Limit { events: 9 } }, rude: Some(7) })",
+        "Ok(Debug { what: Source(\"a\"), settings: Settings { seed: 1, fit: false, keys: File(\"k\"), answers: \"\", limit: Limit { events: 9 } }, rude: Some(7), labels: None })",
     ),
     (
         &["debug", "--prg", "a", "--type", "b"],
-        "Ok(Debug { what: Prg(\"a\"), settings: Settings { seed: 1, fit: false, keys: Text(\"b\"), answers: \"\", limit: Limit { events: 10000000 } }, rude: None })",
+        "Ok(Debug { what: Prg(\"a\"), settings: Settings { seed: 1, fit: false, keys: Text(\"b\"), answers: \"\", limit: Limit { events: 10000000 } }, rude: None, labels: None })",
+    ),
+    (
+        &["debug", "--labels=v", "--prg=a"],
+        "Ok(Debug { what: Prg(\"a\"), settings: Settings { seed: 1, fit: false, keys: Digits(\"\"), answers: \"\", limit: Limit { events: 10000000 } }, rude: None, labels: Some(\"v\") })",
     ),
     (
         &["profile", "a"],
@@ -255,7 +267,7 @@ static JOBS: [(&[&str], &str); 50] = [
 ];
 
 /// Words that are refused.
-static REFUSED: [&[&str]; 42] = [
+static REFUSED: [&[&str]; 53] = [
     &["renumber", "a", "--from", "0"],
     &["renumber", "a", "--step", "32768"],
     &["renumber", "--in-place"],
@@ -271,6 +283,11 @@ static REFUSED: [&[&str]; 42] = [
     &["run"],
     &["run", "a", "--prg", "b"],
     &["run", "a", "b"],
+    &["run", "a", "--labels", "v"],
+    &["run", "--prg", "p", "--labels"],
+    &["debug", "a", "--labels", "v"],
+    &["step", "--prg", "p", "--labels", "v"],
+    &["profile", "--prg", "p", "--labels", "v"],
     &["run", "a", "--limit", "0"],
     &["run", "a", "--limit", "1000000001"],
     &["run", "a", "--seed", "65536"],
@@ -280,6 +297,8 @@ static REFUSED: [&[&str]; 42] = [
     &["asm", "a", "--at", "c000"],
     &["assemble"],
     &["assemble", "a", "b", "-o", "c"],
+    &["assemble", "a", "--long=yes"],
+    &["asm", "a", "b", "--at", "c000", "--long"],
     &["dis"],
     &["build"],
     &["build", "a", "b", "c"],
@@ -296,6 +315,10 @@ static REFUSED: [&[&str]; 42] = [
     &["play", "a", "--answers", "03"],
     &["play", "a", "--limit", "1000000001"],
     &["play", "a", "--record"],
+    &["play", "a", "--screen=yes"],
+    &["run", "a", "--screen"],
+    &["dap", "a"],
+    &["lsp", "a"],
     &["check"],
     &["check", "a", "--seed", "1"],
 ];
@@ -368,13 +391,14 @@ fn help_is_shown(rt: HostRuntime) -> Result<(), Fail> {
 fn failures_have_their_texts(rt: HostRuntime) -> Result<(), Fail> {
     let text = String::from_str(rt.alloc(), "error: no\n")?;
     let path = String::from_str(rt.alloc(), "b.bas")?;
-    let rows: [(Failure, u8, &[u8]); 10] = [
+    let rows: [(Failure, u8, &[u8]); 11] = [
         (Failure::Words(text), 2, b"error: no\n"),
         (Failure::NotUtf8, 2, b"tbc: an argument is not UTF-8\n"),
         (Failure::BadKeys, 2, b"tbc: bad key list\n"),
         (Failure::BadAddress, 2, b"tbc: bad address\n"),
         (Failure::SameFile, 2, b"tbc: same file twice\n"),
         (Failure::IsSource(path), 2, b"tbc: b.bas is a source\n"),
+        (Failure::BadLabels(7), 1, b"tbc: bad labels\n"),
         (Failure::NoTerminal, 2, b"tbc: not a terminal\n"),
         (
             Failure::SmallTerminal,

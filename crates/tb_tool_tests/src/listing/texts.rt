@@ -1,6 +1,6 @@
 //! A listing, labels and a map, byte for byte.
 use std::test::Fail;
-use tb_codegen::{Notation, Options, compile};
+use tb_codegen::{Options, compile};
 use tb_listing::make;
 
 /// Of two lines with one number the last counts. A line's number may be an address of the code.
@@ -92,7 +92,7 @@ fn contains(text: &[u8], part: &[u8]) -> bool {
 fn listings_labels_and_maps_have_their_names(rt: HostRuntime) -> Result<(), Fail> {
     let source = SOURCE.as_bytes();
     let program = compile(rt.alloc(), source, Options { seed: 1 })?;
-    let made = make(rt.alloc(), source, Notation::Plain, &program)?;
+    let made = make(rt.alloc(), source, &program)?;
     assert!(rt; contains(&made.listing, PRINTED.as_bytes()));
     assert!(rt; made.listing.ends_with(AFTER_LINES.as_bytes()));
     assert!(rt; contains(&made.labels, LABELS.as_bytes()));
