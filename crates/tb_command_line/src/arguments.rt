@@ -254,7 +254,7 @@ pub const PRG_LABELS: Argument = Argument {
 
 pub const LONG: Argument = Argument {
     name: "long",
-    help: "Make branches long that don't reach",
+    help: "Make branches long that do not reach",
     form: Form::Flag,
 };
 

@@ -1,5 +1,4 @@
 pub mod Dialogue
-pub mod Labels
 pub mod Lists
 pub mod Sources
 pub mod Streams

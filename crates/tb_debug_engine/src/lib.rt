@@ -2,7 +2,6 @@
 #![tactic(auto)]
 
 mod dialogue;
-mod labels;
 mod lists;
 mod sources;
 mod texts;

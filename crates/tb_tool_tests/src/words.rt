@@ -288,6 +288,8 @@ static REFUSED: [&[&str]; 53] = [
     &["debug", "a", "--labels", "v"],
     &["step", "--prg", "p", "--labels", "v"],
     &["profile", "--prg", "p", "--labels", "v"],
+    &["assemble", "a", "--long=yes"],
+    &["asm", "a", "b", "--at", "c000", "--long"],
     &["run", "a", "--limit", "0"],
     &["run", "a", "--limit", "1000000001"],
     &["run", "a", "--seed", "65536"],
@@ -297,8 +299,6 @@ static REFUSED: [&[&str]; 53] = [
     &["asm", "a", "--at", "c000"],
     &["assemble"],
     &["assemble", "a", "b", "-o", "c"],
-    &["assemble", "a", "--long=yes"],
-    &["asm", "a", "b", "--at", "c000", "--long"],
     &["dis"],
     &["build"],
     &["build", "a", "b", "c"],
@@ -391,14 +391,13 @@ fn help_is_shown(rt: HostRuntime) -> Result<(), Fail> {
 fn failures_have_their_texts(rt: HostRuntime) -> Result<(), Fail> {
     let text = String::from_str(rt.alloc(), "error: no\n")?;
     let path = String::from_str(rt.alloc(), "b.bas")?;
-    let rows: [(Failure, u8, &[u8]); 11] = [
+    let rows: [(Failure, u8, &[u8]); 10] = [
         (Failure::Words(text), 2, b"error: no\n"),
         (Failure::NotUtf8, 2, b"tbc: an argument is not UTF-8\n"),
         (Failure::BadKeys, 2, b"tbc: bad key list\n"),
         (Failure::BadAddress, 2, b"tbc: bad address\n"),
         (Failure::SameFile, 2, b"tbc: same file twice\n"),
         (Failure::IsSource(path), 2, b"tbc: b.bas is a source\n"),
-        (Failure::BadLabels(7), 1, b"tbc: bad labels\n"),
         (Failure::NoTerminal, 2, b"tbc: not a terminal\n"),
         (
             Failure::SmallTerminal,

@@ -8,7 +8,6 @@ mod ending;
 mod formatting;
 mod hinting;
 mod host;
-mod labelling;
 mod noting;
 mod places;
 mod playing;

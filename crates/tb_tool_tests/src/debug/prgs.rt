@@ -115,7 +115,6 @@ fn debugged<R: Read, W: Write>(
     debug_prg(
         alloc,
         file,
-        &[],
         no_keys(alloc),
         setting,
         reader,

@@ -1,2 +1,0 @@
--- names are text
-pub mod Names
