@@ -100,6 +100,21 @@ row 2 'tbc: bad address' '' assemble a.asm --at c00
 row 2 'error:*' '' assemble
 row 2 'error:*' '' assemble a.asm b.prg c.prg
 
+# long branches
+zeros=$(printf '\\x00%.0s' {1..130})
+file far.asm ' bne far\n .fill 130\nfar rts\n'
+row 1 '' $'far.asm:1:6: error: a branch reaches from -128 to 127 bytes\n    1 |  bne far\n      |      ^\nfar.asm:1:6: note: branch the other way, over a JMP' assemble far.asm
+is_absent far.prg
+row 0 '' '' assemble far.asm --long --labels far.lab --list far.lst
+holds far.prg '\x00\xc0\xf0\x03\x4c\x87\xc0'"$zeros"'\x60'
+holds far.lab 'al C:c087 .far\n'
+head -n 3 far.lst >far.head
+holds far.head ';  bne far\n  BEQ $C005 ; C000  F0 03\n  JMP $C087 ; C002  4C 87 C0\n'
+row 0 '' '' asm far.lst back.prg --at c000
+is_same back.prg far.prg
+row 0 '' '' assemble a.asm near.prg --long
+holds near.prg "$prg"
+
 # nothing that is read is written
 row 2 'tbc: same file twice' '' assemble a.asm a.asm
 row 2 'tbc: same file twice' '' assemble a.asm ./a.asm

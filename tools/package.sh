@@ -38,7 +38,7 @@ chmod 755 tree/usr/bin/tbc
 "$root/tools/completions.py" zsh | text $share/zsh/vendor-completions/_tbc
 "$root/tools/completions.py" fish | text $share/fish/vendor_completions.d/tbc.fish
 for part in syntax ftdetect; do put "$root/editors/vim/$part/tinybasic.vim" $share/vim/vimfiles/$part/tinybasic.vim; done
-put "$root/editors/emacs/tinybasic-mode.el" $share/emacs/site-lisp/tinybasic-mode.el
+for it in mode dap; do put "$root/editors/emacs/tinybasic-$it.el" $share/emacs/site-lisp/tinybasic-$it.el; done
 put "$root/editors/kate/tinybasic.xml" $share/org.kde.syntax-highlighting/syntax/tinybasic.xml
 for version_of in 4 5; do put "$root/editors/gtksourceview/tinybasic.lang" $share/gtksourceview-$version_of/language-specs/tinybasic.lang; done
 put "$root/editors/bat/tinybasic.sublime-syntax" $share/tbc/editors/bat/tinybasic.sublime-syntax

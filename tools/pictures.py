@@ -2,13 +2,15 @@
 """Draws the pictures of docs/pictures from what the program and the documents say, except speed.svg (speed_bars.py):
 
   debugger.svg   a session of `tbc debug` at a terminal, which goes on and back
+  backwards.svg  a bug that is found backwards in an editor, by what `tbc dap` tells it
   memory.svg     the machine's memory by the table of docs/MACHINE.md, with a program by its map
   promises.svg   the ladder of promises of docs/THEOREMS.md
   profile.png    the page that `tbc profile --html` writes, as Chromium shows it
 
     tools/pictures.py            draws all; the last one only if chromium is there
-    tools/pictures.py --check    says which drawn ones (the first three) are not what would be drawn, and ends with 1"""
+    tools/pictures.py --check    says which drawn ones (all but the last) are not what would be drawn, and ends with 1"""
 import html
+import json
 import re
 import shutil
 import subprocess
@@ -22,6 +24,15 @@ TO = ROOT / "docs/pictures"
 PROGRAM = ROOT / "crates/tbc/out/tbc"
 DARK = "@media(prefers-color-scheme:dark){text{fill:#ddd} .dark{fill:#222}}"
 SESSION = ["b 90", "c", "v", "p 2", "n", "w N", "rc", "e N*N", "q"]
+PAGES = ROOT / "tools/clients/pages.bas"
+CLICKS = [
+    ("Start", "it stops at its end: line 50 divides by 0", [("configurationDone", {})]),
+    ("Step Back", "D is 0, so line 50 faults", [("stepBack", {})]),
+    ("Break on Value Change, at D", "who made it 0?", [("setDataBreakpoints", {"breakpoints": [{"dataId": "D"}]})]),
+    ("Reverse", "line 120 will: W is 6, too many", [("reverseContinue", {})]),
+    ("Step Back", "line 110 made W: a week has 7 days", [("stepBack", {})]),
+    ("Restart, with the line mended", "24 pages", [("configurationDone", {})]),
+]
 REGIONS = {"Port": "#c9ced4", "RomWork": "#e3c08d", "Free": "#8fbf6f", "Stack": "#d79a8a", "Program": "#7fb0d3", "HighRam": "#a9d18e", "Closed": "#c9ced4"}
 
 
@@ -55,6 +66,60 @@ def debugger():
         parts.append(f'<text x="16" y="{y}" xml:space="preserve" class="shown">{row}</text>')
     style = ".shown{font-family:monospace;fill:#d7dde8 !important} "
     return svg(620, height, "A session of tbc debug: on to a breakpoint, back by two lines, back to where N changed", parts, style)
+
+
+def talked(room, requests):
+    """The messages that `tbc dap` writes to these requests, each a command with its arguments."""
+    asked = [json.dumps({"seq": at, "type": "request", "command": it, "arguments": more}).encode() for at, (it, more) in enumerate(requests, 1)]
+    frames = b"".join(b"Content-Length: %d\r\n\r\n%s" % (len(it), it) for it in asked)
+    said = subprocess.run([PROGRAM, "dap"], input=frames, capture_output=True, check=True, cwd=room).stdout
+    return [json.loads(it) for it in re.findall(rb"Content-Length: \d+\r\n\r\n(.*?)(?=Content-Length: |\Z)", said, re.S)]
+
+
+def shown_after(room, source, clicks):
+    """What an editor shows of a source after each click: the lines that are begun and called from, variables, output."""
+    (room / PAGES.name).write_text(source)
+    looks = [("stackTrace", {"threadId": 1}), ("variables", {"variablesReference": 1})]
+    requests = [("initialize", {}), ("launch", {"program": PAGES.name}), *(it for _, _, asked in clicks for it in (*asked, *looks))]
+    found, told, lines = [], "", []
+    for message in talked(room, requests):
+        body = message.get("body")
+        if message.get("event") == "output":
+            told += body["output"]
+        elif message.get("command") == "stackTrace":
+            lines = [it["line"] for it in body["stackFrames"]]
+        elif message.get("command") == "variables":
+            found.append((source.splitlines(), lines, {it["name"]: it["value"] for it in body["variables"]}, told))
+    return found
+
+
+def panel(left, top, head, words, shown):
+    """A click, and an editor after it."""
+    source, lines, variables, told = shown
+    parts = [text(left, top + 14, head, ' font-weight="bold"'), text(left, top + 31, words, ' class="small"')]
+    parts.append(box(left, top + 38, 345, 196, "#1e2430", ' rx="5"'))
+    for at, line in enumerate(source, 1):
+        y = top + 38 + 15 * at
+        if at in lines:
+            parts.append(box(left + 4, y - 11, 232, 15, "#6a5a1e" if at == lines[0] else "#3a4254", ' rx="2"'))
+        parts.append(text(left + 8, y, line, ' class="shown"'))
+    for at, name in enumerate("DPW", 1):
+        parts.append(text(left + 256, top + 38 + 15 * at, f"{name} {variables[name]:>6}", ' class="shown" xml:space="preserve"'))
+    parts.append(box(left + 246, top + 44, 1, 150, "#3a4254"))
+    parts.append(box(left + 4, top + 196, 337, 1, "#3a4254"))
+    parts += [text(left + 8, top + 211 + 15 * at, row, ' class="shown told"') for at, row in enumerate(told.strip().split("\n"))]
+    return parts
+
+
+def backwards(room):
+    """A bug that is found by going back, click by click; the last click runs the source once more without it."""
+    source = PAGES.read_text()
+    found = shown_after(room, source, CLICKS[:-1]) + shown_after(room, source.replace("W=D/2", "W=D/7"), CLICKS[-1:])
+    parts = []
+    for at, ((head, words, _), shown) in enumerate(zip(CLICKS, found, strict=True)):
+        parts += panel(10 + at % 2 * 365, 6 + at // 2 * 250, f"{at + 1}  {head}", words, shown)
+    style = ".small{font-size:12px} .shown{font-family:monospace;fill:#d7dde8 !important} .told{fill:#ffd479 !important} "
+    return svg(730, 756, "A bug is found backwards in an editor, in six clicks", parts, style)
 
 
 def regions():
@@ -135,7 +200,7 @@ def main(words):
         sys.exit("build the program first: ./tbc --build")
     with tempfile.TemporaryDirectory() as folder:
         room = Path(folder)
-        drawn = {"debugger.svg": debugger(), "memory.svg": memory(room), "promises.svg": promises()}
+        drawn = {"debugger.svg": debugger(), "backwards.svg": backwards(room), "memory.svg": memory(room), "promises.svg": promises()}
         if words == ["--check"]:
             bad = [name for name, picture in drawn.items() if (TO / name).read_text() != picture]
             print("\n".join([*(f"docs/pictures/{it} is not what is drawn now: tools/pictures.py" for it in bad), f"{len(drawn)} pictures, {len(bad)} others"]))

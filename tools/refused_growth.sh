@@ -14,7 +14,8 @@ needs cc
 with_step=yes
 
 cc -shared -fPIC -O1 -fno-builtin -o refuse.so -x c - <<'C'
-/* Refuses the growth whose number REFUSE gives, counted from 1, and notes on descriptor 9 that it came. */
+/* Refuses the growth whose number REFUSE gives, counted from 1, and notes on descriptor 9 that it came. Standard output
+   counts as a terminal if TERMINAL says so. */
 extern void *__libc_malloc(unsigned long);
 extern void *__libc_calloc(unsigned long, unsigned long);
 extern void *__libc_realloc(void *, unsigned long);
@@ -34,6 +35,7 @@ static int refuses(void) {
     return write(9, "refused\n", 8) > 0;
 }
 
+int isatty(int descriptor) { return descriptor == 1 && getenv("TERMINAL"); }
 void *malloc(unsigned long n) { return refuses() ? 0 : __libc_malloc(n); }
 void *calloc(unsigned long n, unsigned long m) { return refuses() ? 0 : __libc_calloc(n, m); }
 void *realloc(void *p, unsigned long n) { return refuses() ? 0 : __libc_realloc(p, n); }
@@ -58,6 +60,9 @@ same_made() {
 
 nothing_made() { [ ! -e out.prg ] && ! compgen -G 'beside.*' >/dev/null; }
 
+# Takes away what leaves a terminal at the end of what was shown, if that is there.
+without_closing() { sed -z -i 's/\x1b\[0m\x1b\[25;1H\r\n$//' shown; }
+
 begins() { cmp -s -n "$(stat -c %s "$1")" "$1" "$2"; } # FILE OTHER: whether it is a prefix of the other
 
 # Whether a run that ran out of memory said so and wrote nothing. A program that is played or debugged has warned and
@@ -65,6 +70,7 @@ begins() { cmp -s -n "$(stat -c %s "$1")" "$1" "$2"; } # FILE OTHER: whether it 
 is_out_of_memory() { # NAME WORD..
     [ "$(tail -n 1 said)" = "$1: out of memory" ] && nothing_made || return
     head -n -1 said >before
+    [ -z "${TERMINAL-}" ] || without_closing
     case ${2-} in
         play | debug | profile | check | lsp | dap) begins before said.wanted && begins shown shown.wanted ;;
         *) [ ! -s before ] && [ ! -s shown ] ;;
@@ -109,6 +115,10 @@ refuse_each() { # PROGRAM WORD..: what it answers, with each growth refused in t
 }
 
 check() { refuse_each "$tbc" "$@"; } # WORD..: a command of the program
+
+check_shown() { # WORD..: the same, at a terminal
+    TERMINAL=yes COLUMNS=80 LINES=25 check "$@"
+}
 
 check_call() { # NAME: a call, whose answer is a text
     refuse_each "$trials" call "$1"
@@ -173,6 +183,9 @@ check run --prg echo.prg --keys 3132330d
 check run --prg nowhere.prg
 check run --prg hello.prg --keys 0
 check run --prg hello.prg --limit 0
+printf 'al C:0801 .first\nal c000 .text\n' >some.labels
+check run --prg wrong.prg --labels some.labels
+check run --prg hello.prg --labels bad.s
 check dis hello.prg
 check dis wrong.prg
 check dis mixed.prg
@@ -199,6 +212,8 @@ check assemble people.asm more.asm
 check assemble people.asm text.s
 printf ' .bite 1\n' >directive.asm
 check assemble directive.asm out.prg
+printf ' bne far\n .fill 130\nfar rts\n' >far.asm
+check assemble far.asm out.prg --long
 printf '310d3\n' >bad.keys
 printf '332c350d\r\n' >some.keys
 check run all.bas --keys-file some.keys
@@ -214,6 +229,10 @@ check play bad.bas
 check play nowhere.bas
 printf '123\nabc\n\nz' >commands
 check play --prg echo.prg --record out.prg
+check play --screen --prg echo.prg
+check_shown play --screen --prg echo.prg --record out.prg
+check_shown play --screen all.bas
+check_shown play --screen --prg wrong.prg
 check play --prg wrong.prg
 check play --prg nowhere.prg
 : >commands
@@ -277,6 +296,7 @@ printf 'f\nc\nv\nc\nf\nq\n' >commands
 check debug fault.bas
 printf 'n 3\np\nb $C002\nb\nc\nrc\nt 2\nv\no\nk A\ns 9\nx\ni\nq\n' >commands
 check debug --prg hello.prg
+check debug --prg hello.prg --labels some.labels
 check debug --prg nowhere.prg
 : >commands
 check --version

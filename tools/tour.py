@@ -1,17 +1,16 @@
 #!/usr/bin/env python3
 """Takes the tour of README.md: runs each of its commands, once with `./tbc` of this repository, once with the `tbc` that
 tools/package.sh packs, in the folder of the packed documents. Each must end with status 0, or wait for a key (status 6).
+What shows the machine's screen has a pseudo-terminal.
 The emulator is a stand-in; the packed program has no command of that name, and leaves it out. Prints what differs."""
 import re
-import shutil
+import shlex
 import subprocess
 import sys
 import tempfile
 from pathlib import Path
 
-ROOT = Path(__file__).resolve().parent.parent
-PROGRAM = ROOT / "crates/tbc/out/tbc"
-WAITS = 6
+from built_copy import PROGRAM, ROOT, built_copy
 
 
 def tour(readme):
@@ -19,29 +18,23 @@ def tour(readme):
     return block.splitlines()
 
 
+def at_terminal(command):
+    """What runs a command: at a pseudo-terminal, with its errors beside that, if it shows the machine's screen."""
+    if "--screen" not in command:
+        return command
+    within = f"{{ {command}\n}} 2>\"$said\""
+    return f"said=said.$$ script -qec {shlex.quote(within)} /dev/null"
+
+
 def taken(commands, where, path):
     """The commands that end in another way, with what they say."""
-    lines = [f"{{ {it}\n}} </dev/null >shown.$$ 2>said.$$; tell $? {at}" for at, it in enumerate(commands)]
+    lines = [f"{{ {at_terminal(it)}\n}} </dev/null >shown.$$ 2>said.$$; tell $? {at}" for at, it in enumerate(commands)]
     tell = 'tell() { case $1:$(<said.$$) in 0:* | 6:*"waits for a key") ;; *) echo "$2 $1 $(head -c 300 said.$$)" ;; esac; }'
     script = "\n".join([tell, *lines, 'rm -rf "$T" shown.$$ said.$$'])
     ran = subprocess.run(["bash", "-c", script], cwd=where, env={"PATH": path, "HOME": str(where), "LANG": "C.UTF-8"}, capture_output=True, text=True)
     rows = [it.split(" ", 2) for it in ran.stdout.splitlines()]
     bad = [f"{commands[int(at)]}: status {status} {said}" for at, status, said in rows]
     return bad + ([ran.stderr] if ran.stderr or ran.returncode else [])
-
-
-def repository(room):
-    """A copy of what the tour needs of the repository, with the program built."""
-    shutil.copytree(ROOT / "examples", room / "examples")
-    shutil.copytree(ROOT / "crates", room / "crates", ignore=shutil.ignore_patterns("out", "proofs", "must-fail", "controls", "data"))
-    (room / "tools").mkdir()
-    for name in ("tbc", "crates.txt", "README.md", "tools/help.txt"):
-        shutil.copy(ROOT / name, room / name)
-    rt = room / "bin/rt"
-    rt.write_text(f'#!/bin/sh\n[ "$1" != run ] || cp "{PROGRAM}" out/tbc\n')
-    rt.chmod(0o755)
-    subprocess.run([room / "tbc", "--build"], env={"PATH": f"{room}/bin:/usr/bin:/bin"}, check=True, capture_output=True)
-    return room
 
 
 def package(room):
@@ -62,7 +55,7 @@ def main():
         emulator.write_text("#!/bin/sh\n")
         emulator.chmod(0o755)
         system = "/usr/bin:/bin"
-        commands = tour(repository(first) / "README.md")
+        commands = tour(built_copy(first) / "README.md")
         bad += [f"in the repository: {it}" for it in taken(commands, first, f"{first}/bin:{system}")]
         count += len(commands)
         where = package(second)

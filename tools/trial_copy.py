@@ -40,6 +40,7 @@ RUN_FILE = """fn job_of_words<R: Env + AllocGlobal>(rt: &R) -> Result<Job, Failu
         what: Runnable::Source(source),
         settings,
         rude: None,
+        labels: None,
     })
 }
 """

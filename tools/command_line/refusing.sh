@@ -128,6 +128,17 @@ row 5 '' $'tbc: step limit\ntbc: note: --limit N allows more events' run forever
 row 5 '' $'*tbc: * of 1000 million events*\e[KA\ntbc: step limit\n*' run forever.bas --limit 1000000000
 file loop.prg '\x00\xc0\x4c\x00\xc0'
 row 5 '' $'*tbc: * of 1000 million events*\e[Ktbc: step limit*' run --prg loop.prg --limit 1000000000
+file some.labels 'al C:c000 .start\nal C:c005 .end\n'
+file bad.labels 'al C:c000 .start\n\nRTS\n'
+file brk.prg '\x00\xc0\xea\x00'
+row 5 '' $'tbc: step limit\ntbc: note: --limit N allows more events\ntbc: note: at start' run --prg loop.prg --limit 9 --labels some.labels
+row 7 '' $'tbc: wrong: brk at C001\ntbc: note: at start+1' run --prg brk.prg --labels some.labels
+row 0 '' H run --prg routine.prg --labels some.labels
+noted 1 'bad labels' 'bad.labels, line 3' run --prg routine.prg --labels bad.labels
+noted 1 'bad labels' 'bad.labels, line 3' debug --prg routine.prg --labels bad.labels
+noted 3 'read fault' 'nowhere.labels: no such file' run --prg routine.prg --labels nowhere.labels
+noted 3 'read fault' 'huge.bas: longer than 1,048,576 bytes' debug --prg routine.prg --labels huge.bas
+noted 3 'read fault' 'folder: is a folder' run hello.bas --keys-file folder
 row 5 '' $'*tbc: * of 400 million events*\e[K line *tbc: step limit*' profile forever.bas --limit 400000000
 row 5 '' $'*tbc: * of 400 million events*\e[K addr *tbc: step limit*' profile --prg loop.prg --limit 400000000
 row 6 '' $'A\n\\? tbc: waits for a key\ntbc: note: line 20 waits; tbc play takes keys from the keyboard' run wait.bas

@@ -83,6 +83,24 @@ rest 'HELLO\nall\n' 'all\n' hello.bas
 row 2 'tbc: not a terminal' '' play --screen hello.bas
 row 2 'tbc: not a terminal' '' play nowhere.bas --screen --record nowhere/out.keys
 
+# Labels of a PRG file are read before it is; without a terminal they show nothing
+file some.labels 'al C:c000 .start\nal C:c005 .end\n'
+row 0 '' H run --prg routine.prg --labels some.labels
+row 5 'tbc: step limit' H run --labels=some.labels --prg routine.prg --limit 3
+row 0 '' '*' debug --prg routine.prg --labels some.labels
+row 3 'tbc: read fault' '' run --prg nowhere.prg --labels some.labels
+for words in 'run --prg nowhere.prg' 'debug --prg nowhere.prg'; do
+    row 3 'tbc: read fault' '' $words --labels nowhere.labels
+    each 1 bad.labels $words --labels bad.labels <<'END'
+bad labels|al C:c000 .start\nRTS\n
+bad labels|al C:c00 .start
+END
+done
+row 2 'tbc: bad key list' '' run --prg routine.prg --labels nowhere.labels --keys 0
+for words in 'run hello.bas' 'debug hello.bas' 'step --prg routine.prg' 'profile --prg routine.prg' 'play --prg routine.prg'; do
+    row 2 'error: *' '' $words --labels some.labels
+done
+
 # The limit is that of one line
 yes 1 | head -n 40 >typed
 from=typed

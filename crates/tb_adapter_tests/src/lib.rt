@@ -1,5 +1,5 @@
 //! The tests of the debug adapter: each request in each state of its life, whole sessions, streams that fail or are cut
-//! off. There is nothing else in this crate.
+//! off, a machine that goes wrong. There is nothing else in this crate.
 #![tactic(auto)]
 
 #[cfg(test)]
@@ -14,3 +14,5 @@ mod states;
 mod support;
 #[cfg(test)]
 mod typing;
+#[cfg(test)]
+mod wrong;

@@ -82,8 +82,10 @@ fn a_writer_that_fails_has_a_prefix(rt: HostRuntime) -> Result<(), Fail> {
     let alloc = rt.alloc();
     let messages = frames(alloc, &MESSAGES)?;
     let whole = answers(alloc, SOURCE, &MESSAGES)?;
-    for step in 0..whole.len() / 61 {
-        let length = step.saturating_mul(61);
+    for length in 0..whole.len() {
+        if length % 61 != 0 {
+            continue;
+        }
         let mut sources = One { text: SOURCE };
         let mut reader = Tracked::new(FailingReader::new(messages.as_slice(), usize::MAX, 4096));
         let mut writer = Tracked::new(FailingWriter::new(alloc, length, 7));

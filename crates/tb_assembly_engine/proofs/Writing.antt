@@ -1,5 +1,5 @@
 -- Files that are written one after the other.
-use Rattle.std.proofs.Common.{◌≡◌, List, [], ◌∷◌, ℕ, suc, refl, subst, sym, map, Bor, Vec, Result, Ok, Err}
+use Rattle.std.proofs.Common.{◌≡◌, List, ◌∷◌, ℕ, suc, refl, subst, sym, map, Bor, Vec, Result, Ok, Err}
 use Rattle.std.specs.declared.alloc.Global.{Global}
 use Rattle.tb_files.specs.Deeds.{Deed, Saves}
 use Rattle.tb_files.specs.declared.system.Trouble.{Trouble}

@@ -10,6 +10,7 @@ use Rattle.tb_files.specs.declared.places.Place.{Place}
 use Rattle.tb_assembly_files.specs.Libraries.{Source}
 use Rattle.tb_assembly_output.specs.Assembled.{Answers}
 use Rattle.tb_assembly_output.specs.declared.assembling.Assembly.{Assembly}
+use Rattle.tb_assembly_output.specs.declared.assembling.Manner.{Manner}
 use Rattle.tb_assembly_output.specs.declared.assembling.Assembled.TheVariants as answer
 use Rattle.tb_assembly_output.specs.declared.assembling.AssemblyError.TheVariants as error
 use Rattle.tb_assembly_engine.specs.Names.{is_text_name}
@@ -56,23 +57,23 @@ abbrev pub Notes : {F : Type 0} → (F → Deed → F → Type 0) → F → List
 Notes does f old g new = (paths : List (List ℕ)) × Did does f (opened paths) g × (new ≡ old ++ paths)
 
 -- this is made of files that were read
-abbrev pub IsMade : ℕ → Assembly → Type 0
-IsMade at a = (lib : List Source) × Answers at lib (Ok (answer.Made a))
+abbrev pub IsMade : Manner → Assembly → Type 0
+IsMade manner a = (lib : List Source) × Answers manner lib (Ok (answer.Made a))
 
 -- why nothing is made of files that were read
-abbrev pub Fails : ℕ → List Source → TextFailure → Type 0
-Fails at lib (Refused text) = Answers at lib (Ok (answer.Refused text))
-Fails at lib (Item e) = Answers at lib (Err (error.Item e))
-Fails at lib TooManyFiles = ⊤
-Fails at lib SameFile = ⊥
-Fails at lib (IsSource path) = ⊥
-Fails at lib ReadFault = Answers at lib (Ok answer.Unread)
-Fails at lib WriteFault = ⊥
-Fails at lib NoMemory = ⊤
+abbrev pub Fails : Manner → List Source → TextFailure → Type 0
+Fails manner lib (Refused text) = Answers manner lib (Ok (answer.Refused text))
+Fails manner lib (Item e) = Answers manner lib (Err (error.Item e))
+Fails manner lib TooManyFiles = ⊤
+Fails manner lib SameFile = ⊥
+Fails manner lib (IsSource path) = ⊥
+Fails manner lib ReadFault = Answers manner lib (Ok answer.Unread)
+Fails manner lib WriteFault = ⊥
+Fails manner lib NoMemory = ⊤
 
 -- why nothing is made
-abbrev pub Stops : ℕ → TextFailure → Type 0
-Stops at e = (lib : List Source) × Fails at lib e
+abbrev pub Stops : Manner → TextFailure → Type 0
+Stops manner e = (lib : List Source) × Fails manner lib e
 
 -- Whether files may be written, where others must be kept: it is not allowed to write one of those, one twice, or a source that is there.
 abbrev pub Permits : {F : Type 0} → (F → List ℕ → Place → Type 0) → F → List (List ℕ) → List (List ℕ) → Result Unit TextFailure → Type 0
@@ -114,7 +115,7 @@ Writes leads does f read names a result g =
 
 -- What assembling did with files, by how it ended: some were opened for reading, and nothing is made of them; or it is, and
 -- then all of it is written, if it may be.
-abbrev pub Assembles : {F : Type 0} → (F → List ℕ → Place → Type 0) → (F → Deed → F → Type 0) → F → ℕ → TextNames → Result Unit TextFailure → F → Type 0
-Assembles leads does f at names result g =
-    ((why : TextFailure) × (result ≡ Err why) × OnlyOpens does f g × Stops at why)
-    ⊎ ((read : List (List ℕ)) × (h : _) × (a : Assembly) × Did does f (opened read) h × IsMade at a × Writes leads does h read names a result g)
+abbrev pub Assembles : {F : Type 0} → (F → List ℕ → Place → Type 0) → (F → Deed → F → Type 0) → F → Manner → TextNames → Result Unit TextFailure → F → Type 0
+Assembles leads does f manner names result g =
+    ((why : TextFailure) × (result ≡ Err why) × OnlyOpens does f g × Stops manner why)
+    ⊎ ((read : List (List ℕ)) × (h : _) × (a : Assembly) × Did does f (opened read) h × IsMade manner a × Writes leads does h read names a result g)

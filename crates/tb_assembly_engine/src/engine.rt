@@ -7,7 +7,7 @@ use crate::names::is_text_name;
 use crate::outcome::TextFailure;
 use crate::saving::{TextNames, paths_of, save_all};
 use std::alloc::{AllocError, Global};
-use tb_assembly_output::Assembly;
+use tb_assembly_output::{Assembly, Manner};
 use tb_files::{Barred, FileSystem, Place, STANDARD, may_write};
 
 // The paths of files that were opened, but for standard input.
@@ -68,23 +68,22 @@ fn check<F: FileSystem>(
 }
 
 /// Assembles the text of a file with all that it includes, and writes the PRG file, and the label file and the listing
-/// where they are wanted. The image begins at `at`, if the text names no other address. No file that was read is written,
-/// and no text that is there for the PRG file.
+/// where they are wanted. No file that was read is written, and no text that is there for the PRG file.
 pub fn assemble_source<F: FileSystem>(
     alloc: Global,
     files: &mut F,
     text: &str,
-    at: u16,
+    manner: Manner,
     names: TextNames<'_>,
 ) -> Result<(), TextFailure>
-    ensures { Assembles F.leads F.does files.old at names.entry result files.new }
+    ensures { Assembles F.leads F.does files.old manner names.entry result files.new }
 {
     let mut texts = Texts {
         library: Vec::new(alloc),
         opened: Vec::new(alloc),
     };
     let path = Vec::from_slice(alloc, text.as_bytes())?;
-    let made = read_and_assemble(alloc, files, path, &mut texts, at)?;
+    let made = read_and_assemble(alloc, files, path, &mut texts, manner)?;
     write(alloc, files, &texts.opened, names, made)
 }
 
@@ -95,13 +94,13 @@ fn read_and_assemble<F: FileSystem>(
     files: &mut F,
     path: Vec<u8>,
     texts: &mut Texts,
-    at: u16,
+    manner: Manner,
 ) -> Result<Assembly, TextFailure>
     ensures opens { Notes F.does files.old (noted texts.old) files.new (noted texts.new) }
-    ensures made { MatchResult result (IsMade at) (Stops at) }
+    ensures made { MatchResult result (IsMade manner) (Stops manner) }
 {
     take_file(alloc, files, path, texts)?;
-    gather(alloc, files, texts, at)
+    gather(alloc, files, texts, manner)
 }
 
 // Writes what was made of files that were opened, if it may.

@@ -7,7 +7,7 @@ ghost use Rattle.tb_assembly_engine.specs.Deeds.{noted, Fails, IsMade, Notes, St
 
 use crate::outcome::TextFailure;
 use std::alloc::{AllocError, Global};
-use tb_assembly_output::{Assembled, Assembly, AssemblyError, SourceFile, assemble_texts};
+use tb_assembly_output::{Assembled, Assembly, AssemblyError, Manner, SourceFile, assemble_texts};
 use tb_files::{FileSystem, Trouble};
 use tb_streams::{InputError, read_input};
 
@@ -85,10 +85,10 @@ pub fn take_file<F: FileSystem>(
 }
 
 // What is made of the files that were read, or the path of one more.
-fn answer(alloc: Global, library: &[SourceFile], at: u16) -> Result<Assembled, TextFailure>
-    ensures { MatchResult result (λ a. Answers at (map source_of library.now) (Ok a)) (Fails at (map source_of library.now)) }
+fn answer(alloc: Global, library: &[SourceFile], manner: Manner) -> Result<Assembled, TextFailure>
+    ensures { MatchResult result (λ a. Answers manner (map source_of library.now) (Ok a)) (Fails manner (map source_of library.now)) }
 {
-    match assemble_texts(alloc, library, at) {
+    match assemble_texts(alloc, library, manner) {
         Ok(assembled) => Ok(assembled),
         Err(AssemblyError::Item(error)) => Err(TextFailure::Item(error)),
         Err(AssemblyError::NoMemory) => Err(TextFailure::NoMemory),
@@ -101,13 +101,13 @@ pub fn gather<F: FileSystem>(
     alloc: Global,
     files: &mut F,
     texts: &mut Texts,
-    at: u16,
+    manner: Manner,
 ) -> Result<Assembly, TextFailure>
     ensures opens { Notes F.does files.old (noted texts.old) files.new (noted texts.new) }
-    ensures made { MatchResult result (IsMade at) (Stops at) }
+    ensures made { MatchResult result (IsMade manner) (Stops manner) }
 {
     'reading: for _ in 0..MOST_FILES {
-        match answer(alloc, &texts.library, at) {
+        match answer(alloc, &texts.library, manner) {
             Ok(Assembled::Made(made)) => return Ok(made),
             Ok(Assembled::Wants(path)) => take_file(alloc, files, path, texts)?,
             Ok(Assembled::Refused(said)) => return Err(TextFailure::Refused(said)),

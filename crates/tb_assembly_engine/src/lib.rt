@@ -12,3 +12,4 @@ pub use engine::assemble_source;
 pub use gathering::MOST_FILES;
 pub use outcome::TextFailure;
 pub use saving::TextNames;
+pub use tb_assembly_output::Manner;

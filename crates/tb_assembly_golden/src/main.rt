@@ -7,9 +7,16 @@ use std::alloc::{AllocError, Global};
 use std::fs;
 use std::process::ExitCode;
 use std::rt::Files;
-use tb_assembly_output::{Assembled, AssemblyError, SourceFile, assemble_texts};
+use tb_assembly_output::{Assembled, AssemblyError, Manner, SourceFile, assemble_texts};
 
-const FILES: [&str; 4] = ["lines.txt", "meanings.txt", "includes.txt", "images.txt"];
+// The files of rows, and whether branches become long there that do not reach.
+const FILES: [(&str, bool); 5] = [
+    ("lines.txt", false),
+    ("meanings.txt", false),
+    ("includes.txt", false),
+    ("images.txt", false),
+    ("long.txt", true),
+];
 
 // The bytes of a PRG file: the address, and the others.
 fn push_image(text: &mut String, prg: &[u8]) -> Result<(), AllocError> {
@@ -27,8 +34,14 @@ fn push_image(text: &mut String, prg: &[u8]) -> Result<(), AllocError> {
     text.push_str("\n")
 }
 
-fn push_answer(alloc: Global, text: &mut String, library: &[SourceFile]) -> Result<(), AllocError> {
-    match assemble_texts(alloc, library, 0xc000) {
+fn push_answer(
+    alloc: Global,
+    text: &mut String,
+    library: &[SourceFile],
+    long: bool,
+) -> Result<(), AllocError> {
+    let manner = Manner { at: 0xc000, long };
+    match assemble_texts(alloc, library, manner) {
         Ok(Assembled::Made(made)) => push_image(text, &made.prg),
         Ok(Assembled::Refused(said)) => { text.push_str(&String::from_utf8_lossy(alloc, &said)?) }
         Ok(Assembled::Wants(path)) => {
@@ -79,12 +92,12 @@ fn push_section(
 }
 
 // Appends the answers of rows.
-fn push_rows(alloc: Global, text: &mut String, rows: &str) -> Result<(), AllocError> {
+fn push_rows(alloc: Global, text: &mut String, rows: &str, long: bool) -> Result<(), AllocError> {
     let mut library: Vec<SourceFile> = Vec::new(alloc);
     for line in rows.lines() {
         if line.starts_with("== ") {
             if !library.is_empty() {
-                push_answer(alloc, text, &library)?;
+                push_answer(alloc, text, &library, long)?;
             }
             text.push_str(line)?;
             text.push_str("\n")?;
@@ -96,15 +109,15 @@ fn push_rows(alloc: Global, text: &mut String, rows: &str) -> Result<(), AllocEr
             push_line(&mut library, line)?;
         }
     }
-    push_answer(alloc, text, &library)
+    push_answer(alloc, text, &library, long)
 }
 
 fn answers<R: Files + AllocGlobal>(rt: &R) -> Option<String> {
     let alloc = rt.alloc();
     let mut text = String::new(alloc);
-    for path in FILES {
+    for (path, long) in FILES {
         let rows = fs::read_to_string(rt, path).ok()?;
-        push_rows(alloc, &mut text, &rows).ok()?;
+        push_rows(alloc, &mut text, &rows, long).ok()?;
     }
     Some(text)
 }

@@ -1,12 +1,12 @@
 -- A name more among names.
-use Rattle.std.proofs.Common.{◌≡◌, ℕ, Bool, true, false, List, [], ◌∷◌, refl, sym, ap, ◌∙◌, Option, Some, None, cond}
+use Rattle.std.proofs.Common.{◌≡◌, ℕ, Bool, true, false, List, [], ◌∷◌, refl, sym, ap, ◌∙◌, Option, Some, cond}
 use Rattle.std.specs.Prelude.{ℤ}
 use Rattle.std.specs.List.{AllZip}
 use Rattle.std.specs.Cmp.Lexicographic.{same_text as texts_same}
 use Rattle.indexmap.specs.IndexMap.{insert_entry}
 use Rattle.tb_asm.specs.Mnemonics.{same_text}
 use Rattle.tb_assembly_text.specs.declared.names.Name.{Name}
-use Rattle.tb_assembly_meaning.specs.Names.{Env, named, with_name}
+use Rattle.tb_assembly_meaning.specs.Names.{named, with_name}
 
 -- two texts that agree byte by byte are the same
 pub all_same : (xs ys : List ℕ) → AllZip (λ x y. y ≡ x) xs ys → ys ≡ xs

@@ -1,5 +1,5 @@
 -- What is answered.
-use Rattle.std.specs.Prelude.{◌≡◌, Result, Ok, Err, List}
+use Rattle.std.specs.Prelude.{◌≡◌, Result, Ok, Err}
 use Rattle.tb_assembly_meaning.specs.declared.faults.MeaningFault.{MeaningFault}
 use Rattle.tb_assembly_meaning.specs.declared.faults.MeaningError.{MeaningError}
 use Rattle.tb_assembly_meaning.specs.declared.faults.MeaningError.TheVariants.{Bad, NoMemory}

@@ -1,5 +1,5 @@
 -- Bytes, words and addresses.
-use Rattle.std.specs.Prelude.{ℕ, suc, ◌-◌, ◌%◌, ◌&&◌, ℤ, pos, negsuc, Result, Ok, Err, eqb, nat_lt, nat_le, if◌then◌else◌}
+use Rattle.std.specs.Prelude.{ℕ, ◌-◌, ◌%◌, ◌&&◌, ℤ, pos, negsuc, Result, Ok, Err, eqb, nat_lt, nat_le, if◌then◌else◌}
 use Rattle.tb_assembly_meaning.specs.declared.faults.Wrong.{Wrong}
 use Rattle.tb_assembly_meaning.specs.declared.faults.Wrong.TheVariants.{NoByte, NoWord, NoAddress, NoZeroPage, NoCount, NoMultiple}
 

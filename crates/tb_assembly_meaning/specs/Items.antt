@@ -1,10 +1,13 @@
 -- The items of statements.
-use Rattle.std.specs.Prelude.{◌≡◌, ℕ, ◌+◌, ◌-◌, ◌%◌, ◌||◌, ℤ, Bool, Option, Some, None, Result, Ok, Err, List, [], ◌∷◌, ◌++◌, replicate, nat_lt, nat_le, eqb, if◌then◌else◌}
+use Rattle.std.specs.Prelude.{◌≡◌, ℕ, ◌%◌, ℤ, Bool, Option, Some, None, Result, Ok, Err, List, [], ◌∷◌, ◌++◌, replicate, eqb, if◌then◌else◌}
 use Rattle.tb_asm.specs.declared.items.Operand.{Operand}
 use Rattle.tb_asm.specs.declared.items.Operand.TheVariants.{Nothing, Byte, Word}
-use Rattle.tb_asm.specs.Layout.{Entry, instr, bytes, distance, is_near, word_bytes}
+use Rattle.tb_asm.specs.Layout.{Entry, instr, bytes, distance, is_near, opcode_of, word_bytes}
+use Rattle.tb_asm.specs.Settle.{inverse}
+use Rattle.tb_opcodes.specs.declared.Mnemonic.{Mnemonic}
+use Rattle.tb_opcodes.specs.declared.Mnemonic.TheVariants.{Jmp}
 use Rattle.tb_opcodes.specs.declared.Mode.{Mode}
-use Rattle.tb_opcodes.specs.declared.Mode.TheVariants.{Immediate, ZeroPage, ZeroPageX, ZeroPageY, IndirectX, IndirectY, Relative, Indirect}
+use Rattle.tb_opcodes.specs.declared.Mode.TheVariants.{Immediate, ZeroPage, ZeroPageX, ZeroPageY, IndirectX, IndirectY, Relative, Indirect, Absolute}
 use Rattle.tb_assembly_text.specs.Expressions.{Sum}
 use Rattle.tb_assembly_text.specs.Operands.{Form, nothing, accumulator, immediate, direct_by, indirect, by_x, by_y}
 use Rattle.tb_assembly_text.specs.Lists.{Content, amount, letters}
@@ -17,6 +20,7 @@ use Rattle.tb_assembly_meaning.specs.declared.faults.MeaningError.TheVariants.{B
 use Rattle.tb_assembly_meaning.specs.declared.spots.Spot.{Spot}
 use Rattle.tb_assembly_meaning.specs.Names.{Env}
 use Rattle.tb_assembly_meaning.specs.Values.{value}
+use Rattle.tb_assembly_meaning.specs.Modes.{long_target}
 use Rattle.tb_assembly_meaning.specs.Bytes.{address_of, byte_of, word_of, zero_page_of}
 use Rattle.tb_assembly_meaning.specs.Places.{and_then, capped, here_at, located}
 
@@ -99,9 +103,22 @@ abbrev pub fill_bytes : Env → Spot → Option Sum → Result (List ℕ) Meanin
 fill_bytes env p None = Ok (replicate p.size 0)
 fill_bytes env p (Some e) = and_then (byte_value env p.at e) (λ b. Ok (replicate p.size b))
 
+-- the bytes of a long branch: the inverse branch, which leads over the jump behind it, and the jump to the target
+abbrev pub long_bytes : Mnemonic → ℕ → List ℕ
+long_bytes m target = opcode_of (inverse m) Relative ∷ 3 ∷ opcode_of Jmp Absolute ∷ word_bytes target
+
+-- those to the value of an expression at an address
+abbrev pub long_content : Env → ℕ → Mnemonic → Sum → Result (List ℕ) MeaningFault
+long_content env at m e = and_then (value env (here_at at) e) (λ z. and_then (located e.0 (address_of z)) (λ w. Ok (long_bytes m w)))
+
 -- an item of bytes
 abbrev pub as_bytes : Result (List ℕ) MeaningFault → Result (Option Entry) MeaningFault
 as_bytes r = and_then r (λ bs. Ok (Some (bytes bs)))
+
+-- the item of an instruction, which may be a long branch to a target
+abbrev pub instruction_item : Env → Spot → Mnemonic → Form → Option Sum → Result (Option Entry) MeaningFault
+instruction_item env p m form None = and_then (form_operand env p form) (λ o. Ok (Some (instr m p.mode o)))
+instruction_item env p m form (Some e) = as_bytes (long_content env p.at m e)
 
 -- the item of a statement that lies somewhere, if it is one; a name is none, but its value must be known
 abbrev pub item_of : Env → Spot → Meant → Result (Option Entry) MeaningFault
@@ -110,7 +127,7 @@ item_of env p (includes f) = Ok None
 item_of env p (assigns n e) = and_then (value env (here_at p.at) e) (λ z. Ok None)
 item_of env p (begins e) = Ok (Some (bytes (replicate p.size 0)))
 item_of env p (aligns e) = Ok (Some (bytes (replicate p.size 0)))
-item_of env p (instructs m form) = and_then (form_operand env p form) (λ o. Ok (Some (instr m p.mode o)))
+item_of env p (instructs m form) = instruction_item env p m form (long_target form p.mode)
 item_of env p (lays cs) = as_bytes (data_bytes env p.at cs)
 item_of env p (lays_words es) = as_bytes (words_bytes env p.at es)
 item_of env p (fills n v) = as_bytes (fill_bytes env p v)

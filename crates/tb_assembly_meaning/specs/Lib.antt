@@ -12,5 +12,7 @@ pub mod Places
 pub mod Items
 -- what statements mean
 pub mod Meaning
+-- branches that do not reach
+pub mod Settling
 -- what is answered
 pub mod Answers

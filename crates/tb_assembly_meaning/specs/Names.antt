@@ -1,5 +1,5 @@
 -- What names stand for.
-use Rattle.std.specs.Prelude.{ℕ, ℤ, Bool, Option, Some, None, List, if◌then◌else◌}
+use Rattle.std.specs.Prelude.{ℕ, ℤ, Option, Some, List, if◌then◌else◌}
 use Rattle.std.specs.Map.{lookup}
 use Rattle.tb_asm.specs.Mnemonics.{same_text}
 use Rattle.tb_assembly_text.specs.declared.names.Name.{Name}

@@ -1,13 +1,12 @@
 -- Where statements lie, and what names stand for.
-use Rattle.std.specs.Prelude.{◌≡◌, ℕ, ◌+◌, ◌-◌, ◌*◌, ◌≤◌, ℤ, pos, min, Bool, true, false, ◌&&◌, Option, Some, None, Result, Ok, Err, List, [], ◌∷◌, length, nat_lt, eqb, if◌then◌else◌, IfOk}
-use Rattle.tb_opcodes.specs.Opcodes.{length_of}
+use Rattle.std.specs.Prelude.{ℕ, ◌+◌, ◌-◌, ◌*◌, ℤ, pos, min, Bool, true, ◌&&◌, Option, Some, None, Result, Ok, Err, List, [], ◌∷◌, length, nat_lt, eqb, if◌then◌else◌}
 use Rattle.tb_opcodes.specs.declared.Mnemonic.{Mnemonic}
 use Rattle.tb_opcodes.specs.declared.Mode.{Mode}
 use Rattle.tb_opcodes.specs.declared.Mode.TheVariants.{Implied}
 use Rattle.tb_assembly_text.specs.Expressions.{Sum}
 use Rattle.tb_assembly_text.specs.Operands.{Form}
 use Rattle.tb_assembly_text.specs.Lists.{Content, amount, letters}
-use Rattle.tb_assembly_text.specs.Statements.{Meant, labels, assigns, begins, instructs, lays, lays_words, fills, aligns, includes, Said, said_of}
+use Rattle.tb_assembly_text.specs.Statements.{labels, assigns, begins, instructs, lays, lays_words, fills, aligns, includes, Said, said_of}
 use Rattle.tb_assembly_meaning.specs.declared.faults.Wrong.{Wrong}
 use Rattle.tb_assembly_meaning.specs.declared.faults.Wrong.TheVariants.{UnknownName, NotYetKnown, NameTwice, Backward, NoSuchMode, PastEnd, NotRead}
 use Rattle.tb_assembly_meaning.specs.declared.faults.MeaningFault.{MeaningFault}
@@ -17,7 +16,7 @@ use Rattle.tb_assembly_meaning.specs.declared.layout.Laid.{Laid}
 use Rattle.tb_assembly_meaning.specs.Names.{Env, named, with_name}
 use Rattle.tb_assembly_meaning.specs.Values.{value}
 use Rattle.tb_assembly_meaning.specs.Bytes.{address_of, count_of, multiple_of, padding}
-use Rattle.tb_assembly_meaning.specs.Modes.{has, mode_of}
+use Rattle.tb_assembly_meaning.specs.Modes.{has, mode_of, size_in}
 
 -- what is known where a statement is read: what names stand for, where the image begins, the address that is reached, and
 -- whether no byte is laid so far
@@ -101,12 +100,12 @@ abbrev pub origin_spot : Reached → Sum → Result Spot MeaningFault
 origin_spot r e = and_then (value_at r e) (λ z. and_then (located e.0 (address_of z)) (moved_to r e.0))
 
 -- an instruction with its mode, if there is one
-abbrev pub mode_spot : Reached → ℕ → Mnemonic → Mode → Result Spot MeaningFault
-mode_spot r c m mode = if has m mode then ended c r.at (length_of mode) mode else Err (record { column = c; wrong = NoSuchMode })
+abbrev pub mode_spot : Reached → ℕ → Mnemonic → Form → Mode → Result Spot MeaningFault
+mode_spot r c m form mode = if has m mode then ended c r.at (size_in form mode) mode else Err (record { column = c; wrong = NoSuchMode })
 
 -- an instruction
 abbrev pub instruction_spot : Reached → ℕ → Mnemonic → Form → Result Spot MeaningFault
-instruction_spot r c m form = mode_spot r c m (mode_of r.env (here_at r.at) m form)
+instruction_spot r c m form = mode_spot r c m form (mode_of r.env (here_at r.at) m form)
 
 -- n bytes
 abbrev pub fill_spot : Reached → ℕ → Sum → Result Spot MeaningFault

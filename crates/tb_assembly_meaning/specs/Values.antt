@@ -1,11 +1,11 @@
 -- The value of an expression: each step puts a value on a stack, or replaces the last one or two by what an operator makes of them.
-use Rattle.std.specs.Prelude.{◌≡◌, ℕ, suc, ◌+◌, ◌*◌, ◌/◌, ◌^◌, ℤ, pos, negsuc, ◌+ℤ◌, ◌-ℤ◌, ◌*ℤ◌, neg_ℤ, int_div, Bool, true, false, Option, Some, None, Result, Ok, Err}
+use Rattle.std.specs.Prelude.{ℕ, ◌*◌, ◌/◌, ◌^◌, ℤ, pos, negsuc, ◌+ℤ◌, ◌-ℤ◌, ◌*ℤ◌, neg_ℤ, int_div, Bool, false, Option, Some, None, Result, Ok, Err}
 use Rattle.std.specs.Prelude.{List, [], ◌∷◌, nat_lt, eqb, bit_and, bit_or, bit_xor, if◌then◌else◌}
 use Rattle.std.specs.Int.{int_div_euclid, int_rem_euclid}
 use Rattle.tb_assembly_text.specs.declared.expressions.Unary.{Unary}
 use Rattle.tb_assembly_text.specs.declared.expressions.Unary.TheVariants.{Negative as NegativeOf, Low, High}
 use Rattle.tb_assembly_text.specs.declared.expressions.Binary.{Binary}
-use Rattle.tb_assembly_text.specs.declared.expressions.Binary.TheVariants.{Add, Subtract, Multiply, Divide, And, Or, Xor, ShiftLeft, ShiftRight}
+use Rattle.tb_assembly_text.specs.declared.expressions.Binary.TheVariants.{Add, Subtract, Multiply, Divide, And, Or, Xor, ShiftLeft}
 use Rattle.tb_assembly_text.specs.Expressions.{Mark, Sum, value as number, named as called, here as place, unary, binary}
 use Rattle.tb_assembly_meaning.specs.declared.faults.Wrong.{Wrong}
 use Rattle.tb_assembly_meaning.specs.declared.faults.Wrong.TheVariants.{UnknownName, NotYetKnown, Overflow, DivisionByZero, Negative, ShiftTooFar}

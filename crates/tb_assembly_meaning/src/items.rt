@@ -1,12 +1,15 @@
 //! The items of statements.
-ghost use Rattle.std.specs.Prelude.{◌≡◌, ◌≤◌, Ok, map, option_map, replicate};
-ghost use Rattle.tb_asm.specs.Layout.{entry_of};
+ghost use Rattle.std.specs.Prelude.{◌≡◌, ◌≤◌, Ok, Some, map, option_map, replicate};
+ghost use Rattle.tb_asm.specs.Layout.{entry_of, opcode_of};
+ghost use Rattle.tb_asm.specs.Settle.{inverse};
 ghost use Rattle.tb_assembly_text.specs.Expressions.{sum_of};
 ghost use Rattle.tb_assembly_text.specs.Lists.{content_of};
 ghost use Rattle.tb_assembly_text.specs.Operands.{form_of};
 ghost use Rattle.tb_assembly_text.specs.Statements.{clause_of};
 ghost use Rattle.tb_assembly_meaning.specs.Names.{named};
-ghost use Rattle.tb_assembly_meaning.specs.Items.{branch_operand, byte_value, content_bytes, data_bytes, fill_bytes, form_operand, indirect_operand, item_of};
+ghost use Rattle.tb_assembly_meaning.specs.Items.{branch_operand, byte_value, content_bytes, data_bytes, fill_bytes, form_operand, indirect_operand, instruction_item, item_of};
+ghost use Rattle.tb_assembly_meaning.specs.Items.{long_bytes, long_content};
+ghost use Rattle.tb_assembly_meaning.specs.Modes.{long_target};
 ghost use Rattle.tb_assembly_meaning.specs.Items.{operand_value, reaches, value_operand, word_content, word_value, words_bytes, Lays};
 ghost use Rattle.tb_assembly_meaning.specs.Answers.{Answers, AnswersBy};
 
@@ -14,13 +17,41 @@ use crate::bytes::{
     address_of, byte_of, push_byte, push_bytes, push_times, push_word, word_of, zero_page_of,
 };
 use crate::faults::{MeaningError, Wrong};
+use crate::modes::long_target;
 use crate::spots::{Spot, capped, here_of, located};
 use crate::symbols::Symbols;
 use crate::values::value;
 use std::alloc::Global;
 use tb_asm::{Item, Operand};
 use tb_assembly_text::{Clause, Datum, Expression, Shape};
-use tb_opcodes::Mode;
+use tb_opcodes::{Mnemonic, Mode, encode};
+
+/// The size of a jump: how far the inverse branch before it leads.
+const JUMP_SIZE: u8 = 3;
+
+// The branch on the other value of the flag.
+fn inverse(mnemonic: Mnemonic) -> Mnemonic
+    ensures { result ≡ inverse mnemonic }
+{
+    match mnemonic {
+        Mnemonic::Bpl => Mnemonic::Bmi,
+        Mnemonic::Bmi => Mnemonic::Bpl,
+        Mnemonic::Bvc => Mnemonic::Bvs,
+        Mnemonic::Bvs => Mnemonic::Bvc,
+        Mnemonic::Bcc => Mnemonic::Bcs,
+        Mnemonic::Bcs => Mnemonic::Bcc,
+        Mnemonic::Bne => Mnemonic::Beq,
+        Mnemonic::Beq => Mnemonic::Bne,
+        other => other,
+    }
+}
+
+// The opcode of a mnemonic in a mode; 0 if there is no such instruction.
+fn opcode(mnemonic: Mnemonic, mode: Mode) -> u8
+    ensures { result ≡ opcode_of mnemonic mode }
+{
+    encode(mnemonic, mode).unwrap_or(0)
+}
 
 // The distance from the address behind a branch, as it is written in one byte, if it reaches.
 fn reaches(at: usize, target: u16) -> bool
@@ -223,6 +254,56 @@ fn fill_bytes(
     }
 }
 
+// The bytes of a long branch: the inverse branch, which leads over the jump behind it, and the jump to the target.
+fn long_bytes(alloc: Global, mnemonic: Mnemonic, target: u16) -> Result<Vec<u8>, MeaningError>
+    ensures { AnswersBy (λ v. v.items) (Ok (long_bytes mnemonic target)) result }
+{
+    let mut bytes = Vec::new(alloc);
+    push_byte(&mut bytes, opcode(inverse(mnemonic), Mode::Relative))?;
+    push_byte(&mut bytes, JUMP_SIZE)?;
+    push_byte(&mut bytes, opcode(Mnemonic::Jmp, Mode::Absolute))?;
+    push_word(&mut bytes, target)?;
+    Ok(bytes)
+}
+
+// The bytes of a long branch to the value of an expression.
+fn long_content(
+    alloc: Global,
+    symbols: &Symbols,
+    at: usize,
+    mnemonic: Mnemonic,
+    target: &Expression,
+) -> Result<Vec<u8>, MeaningError>
+    ensures { AnswersBy (λ v. v.items) (long_content (named symbols.now.entries) at mnemonic (sum_of target.now)) result }
+{
+    let number = value(alloc, symbols, here_of(at), target)?;
+    let address = located(target.column, address_of(number))?;
+    long_bytes(alloc, mnemonic, address)
+}
+
+// The item of an instruction.
+fn instruction(
+    alloc: Global,
+    symbols: &Symbols,
+    spot: Spot,
+    mnemonic: Mnemonic,
+    shape: &Shape,
+) -> Result<Item, MeaningError>
+    ensures { AnswersBy (λ i. Some (entry_of i)) (instruction_item (named symbols.now.entries) spot mnemonic (form_of shape.now)
+        (long_target (form_of shape.now) spot.mode)) result }
+{
+    match long_target(shape, spot.mode) {
+        None => {
+            let operand = operand(alloc, symbols, spot, shape)?;
+            Ok(Item::Instr(mnemonic, spot.mode, operand))
+        }
+        Some(target) => {
+            let bytes = long_content(alloc, symbols, spot.at, mnemonic, target)?;
+            Ok(Item::Bytes(bytes))
+        }
+    }
+}
+
 /// The item of a statement that lies somewhere, if it is one.
 pub fn item_of(
     alloc: Global,
@@ -240,8 +321,7 @@ pub fn item_of(
         }
         Clause::Origin(_) | Clause::Align(_) => Some(Item::Bytes(times(alloc, spot.size, 0)?)),
         Clause::Instruction(mnemonic, shape) => {
-            let operand = operand(alloc, symbols, spot, shape)?;
-            Some(Item::Instr(*mnemonic, spot.mode, operand))
+            Some(instruction(alloc, symbols, spot, *mnemonic, shape)?)
         }
         Clause::Bytes(data) => Some(Item::Bytes(data_bytes(alloc, symbols, spot.at, data)?)),
         Clause::Words(words) => Some(Item::Bytes(words_bytes(alloc, symbols, spot.at, words)?)),

@@ -34,8 +34,12 @@ pub struct Meaning<'s> {
     pub faults: Vec<StatementFault>,
 }
 
-// The item of a statement, if it is one, or what is wrong with it.
-fn outcome(alloc: Global, symbols: &Symbols, laid: &Laid<'_>) -> Result<Option<Item>, MeaningError>
+/// The item of a statement, if it is one, or what is wrong with it.
+pub fn outcome(
+    alloc: Global,
+    symbols: &Symbols,
+    laid: &Laid<'_>,
+) -> Result<Option<Item>, MeaningError>
     ensures { AnswersBy (option_map entry_of) (outcome (named symbols.now.entries) (laid_of laid.now)) result }
 {
     match laid.spot {

@@ -1,9 +1,9 @@
 //! Addressing modes.
-ghost use Rattle.std.specs.Prelude.{◌≡◌};
+ghost use Rattle.std.specs.Prelude.{◌≡◌, option_map};
 ghost use Rattle.tb_assembly_text.specs.Operands.{form_of};
 ghost use Rattle.tb_assembly_text.specs.Expressions.{sum_of};
 ghost use Rattle.tb_assembly_meaning.specs.Names.{named};
-ghost use Rattle.tb_assembly_meaning.specs.Modes.{direct_mode, has, is_short, mode_of, pick, without_operand};
+ghost use Rattle.tb_assembly_meaning.specs.Modes.{direct_mode, has, is_short, long_target, mode_of, pick, size_in, without_operand};
 ghost use Rattle.tb_assembly_meaning.specs.Answers.{Finds};
 
 use crate::faults::MeaningError;
@@ -11,7 +11,10 @@ use crate::symbols::Symbols;
 use crate::values::value;
 use std::alloc::Global;
 use tb_assembly_text::{Expression, Index, Shape, Width};
-use tb_opcodes::{Mnemonic, Mode, encode};
+use tb_opcodes::{Mnemonic, Mode, encode, length};
+
+/// The size of a long branch: the inverse branch and a jump.
+const LONG: usize = 5;
 
 /// Whether there is an instruction with a mode.
 pub fn has(mnemonic: Mnemonic, mode: Mode) -> bool
@@ -53,7 +56,7 @@ fn pick(mnemonic: Mnemonic, width: Width, short: bool, one: Mode, two: Mode) -> 
 {
     match width {
         Width::ZeroPage => one,
-        Width::Absolute => two,
+        Width::Absolute | Width::Long => two,
         Width::Free => if short && has(mnemonic, one) {
             one
         } else {
@@ -74,6 +77,26 @@ fn direct_mode(mnemonic: Mnemonic, width: Width, short: bool, index: Index) -> M
         } else {
             pick(mnemonic, width, short, Mode::ZeroPage, Mode::Absolute)
         },
+    }
+}
+
+/// The target of a long branch, if an instruction in a mode is one.
+pub fn long_target(shape: &Shape, mode: Mode) -> Option<&Expression>
+    ensures { option_map (λ e. sum_of e.now) result ≡ long_target (form_of shape.now) mode }
+{
+    match (shape, mode) {
+        (Shape::Direct(Width::Long, target, Index::Without), Mode::Relative) => Some(target),
+        _ => None,
+    }
+}
+
+/// How many bytes an instruction in a mode takes.
+pub fn size_in(shape: &Shape, mode: Mode) -> usize
+    ensures { result ≡ size_in (form_of shape.now) mode }
+{
+    match long_target(shape, mode) {
+        Some(_) => LONG,
+        None => usize::from(length(mode)),
     }
 }
 

@@ -10,12 +10,12 @@ ghost use Rattle.tb_assembly_meaning.specs.Answers.{Answers, Finds};
 
 use crate::bytes::{address_of, count_of, multiple_of, padding};
 use crate::faults::{MeaningError, Wrong, bad};
-use crate::modes::{has, mode_of};
+use crate::modes::{has, mode_of, size_in};
 use crate::symbols::{Symbols, symbol};
 use crate::values::value;
 use std::alloc::Global;
 use tb_assembly_text::{Clause, Datum, Expression, Name, Shape, Statement};
-use tb_opcodes::{Mnemonic, Mode, length};
+use tb_opcodes::{Mnemonic, Mode};
 
 /// One past the last address.
 pub const END: usize = 0x1_0000;
@@ -185,7 +185,7 @@ fn instruction_spot(
 {
     let mode = mode_of(alloc, &layout.symbols, here_of(layout.at), mnemonic, shape)?;
     if has(mnemonic, mode) {
-        ended(column, layout.at, usize::from(length(mode)), mode)
+        ended(column, layout.at, size_in(shape, mode), mode)
     } else {
         Err(bad(column, Wrong::NoSuchMode))
     }

@@ -1,20 +1,20 @@
 -- What is answered of what was read.
-use Rattle.std.proofs.Common.{◌≡◌, ℕ, Bool, true, false, List, [], ◌∷◌, map, refl, sym, ap, subst, ◌∙◌, inl, inr, Result, Ok, Err, if◌then◌else◌}
+use Rattle.std.proofs.Common.{◌≡◌, ℕ, true, false, List, [], ◌∷◌, map, refl, sym, ap, subst, ◌∙◌, Result, Ok, Err, if◌then◌else◌}
 use Rattle.std.specs.Prelude.{IfOk, IfErr}
-use Rattle.tb_asm.specs.Layout.{Entry, image_of}
-use Rattle.tb_asm.specs.Assembled.{refusal}
+use Rattle.tb_asm.specs.Layout.{Entry}
 use Rattle.tb_assembly_files.specs.Libraries.{Source}
 use Rattle.tb_assembly_files.specs.Expansion.{Read}
 use Rattle.tb_assembly_meaning.specs.declared.meaning.StatementFault.{StatementFault}
 use Rattle.tb_assembly_meaning.specs.Places.{Lying}
 use Rattle.tb_assembly_meaning.specs.Meaning.{base_of, faults_of, items_of, spots_of}
 use Rattle.tb_assembly_report.specs.declared.causes.Finding.{Finding}
+use Rattle.tb_assembly_output.specs.declared.assembling.Manner.{Manner}
 use Rattle.tb_assembly_output.specs.declared.assembling.Assembled.{Assembled}
 use Rattle.tb_assembly_output.specs.declared.assembling.Assembled.TheVariants.{Unread, Wants, Refused, Made}
 use Rattle.tb_assembly_output.specs.declared.assembling.AssemblyError.{AssemblyError}
 use Rattle.tb_assembly_output.specs.declared.assembling.AssemblyError.TheVariants.{Item, NoMemory}
 use Rattle.tb_assembly_output.specs.Findings.{bad_finding, fault_finding, findings, is_nil}
-use Rattle.tb_assembly_output.specs.Assembled.{AnswersRead, IsRefusal, Makes}
+use Rattle.tb_assembly_output.specs.Assembled.{AnswersBy, AnswersRead, IsReadAs, IsRefusal, Makes}
 
 -- what is made of each of a list is nothing only of nothing
 nil_map : {A B : Type 0} (f : A → B) (xs : List A) → is_nil (map f xs) ≡ is_nil xs
@@ -70,3 +70,10 @@ module _ (at : ℕ) (lib : List Source) (r : Read) (base : ℕ) (es : List Entry
   pub statements_made : (res : Result Assembled AssemblyError) → base ≡ base_of at r.said → es ≡ items_of at r.said → ls ≡ spots_of at r.said → Makes base es ls res
       → AnswersRead at lib r res
   statements_made res b e l m = as_read res (subst (λ b. Makes b (items_of at r.said) (spots_of at r.said) res) b (subst (λ e. Makes base e (spots_of at r.said) res) e (subst (λ l. Makes base es l res) l m)))
+
+-- what is answered of what was read as it is assembled
+pub by_reading : (m : Manner) (lib : List Source) (r s : Read) (res : Result Assembled AssemblyError) → IsReadAs m.long m.at r s → AnswersRead m.at lib s res
+    → AnswersBy m lib r res
+by_reading m lib r s (Ok a) is answers = (s, is, answers)
+by_reading m lib r s (Err (Item e)) is answers = (s, is, answers)
+by_reading m lib r s (Err NoMemory) is answers = tt

@@ -1,5 +1,5 @@
 -- What is made of a text.
-use Rattle.std.specs.Prelude.{◌≡◌, ◌⊎◌, ◌≤◌, ℕ, ◌/◌, ◌%◌, Bool, true, false, Option, Some, None, Result, Ok, Err, List, [], ◌∷◌, map}
+use Rattle.std.specs.Prelude.{◌≡◌, ◌⊎◌, ◌≤◌, ℕ, ◌/◌, ◌%◌, Bool, true, false, Some, None, Result, Ok, Err, List, ◌∷◌, map}
 use Rattle.tb_asm.specs.Layout.{Entry, entry_of, image_of}
 use Rattle.tb_asm.specs.Assembled.{refusal, RefusesAt}
 use Rattle.tb_asm.specs.declared.assembler.Image.{Image}
@@ -11,11 +11,13 @@ use Rattle.tb_assembly_files.specs.Expansion.{Read, expansion}
 use Rattle.tb_assembly_meaning.specs.declared.meaning.Meaning.{Meaning}
 use Rattle.tb_assembly_meaning.specs.Places.{Lying, laid_of}
 use Rattle.tb_assembly_meaning.specs.Meaning.{base_of, faults_of, items_of, spots_of}
+use Rattle.tb_assembly_meaning.specs.Settling.{Settles}
 use Rattle.tb_assembly_report.specs.Reports.{report}
 use Rattle.tb_assembly_output.specs.Names.{names_in}
 use Rattle.tb_assembly_output.specs.Findings.{findings, is_nil}
 use Rattle.tb_assembly_output.specs.Labels.{labels_text}
 use Rattle.tb_assembly_output.specs.declared.assembling.Assembly.{Assembly}
+use Rattle.tb_assembly_output.specs.declared.assembling.Manner.{Manner}
 use Rattle.tb_assembly_output.specs.declared.assembling.Assembled.{Assembled}
 use Rattle.tb_assembly_output.specs.declared.assembling.Assembled.TheVariants.{Unread, Wants, Refused, Made}
 use Rattle.tb_assembly_output.specs.declared.assembling.AssemblyError.{AssemblyError}
@@ -73,12 +75,27 @@ AnswersRead at lib r (Err (Item e)) =
     (is_nil (findings at r) ≡ true) × ((65536 ≤ base_of at r.said) ⊎ RefusesAt (refusal (base_of at r.said) (items_of at r.said)) e.kind e.item)
 AnswersRead at lib r (Err NoMemory) = Unit {0}
 
+-- what was read, with its statements as they are assembled: as they are, or with branches that are long so that each reaches
+abbrev pub IsReadAs : Bool → ℕ → Read → Read → Type 0
+IsReadAs false at r s = s ≡ r
+IsReadAs true at r s = (ss : List Said) × Settles at r.said ss × (s ≡ record r { said = ss })
+
+-- what is answered of what was read, by the manner
+abbrev pub IsAnswered : Manner → List Source → Read → Result Assembled AssemblyError → Type 0
+IsAnswered m lib r answer = (s : Read) × IsReadAs m.long m.at r s × AnswersRead m.at lib s answer
+
+-- the same, or memory ran out
+abbrev pub AnswersBy : Manner → List Source → Read → Result Assembled AssemblyError → Type 0
+AnswersBy m lib r (Ok a) = IsAnswered m lib r (Ok a)
+AnswersBy m lib r (Err (Item e)) = IsAnswered m lib r (Err (Item e))
+AnswersBy m lib r (Err NoMemory) = Unit {0}
+
 -- what is answered of the files of a library: the first one could not be read, a file is wanted, or what is answered of
 -- all that was read
-abbrev pub Answers : ℕ → List Source → Result Assembled AssemblyError → Type 0
-Answers at lib (Ok Unread) = expansion lib ≡ None
-Answers at lib (Ok (Wants p)) = expansion lib ≡ Some (Err p.items)
-Answers at lib (Err NoMemory) = Unit {0}
-Answers at lib (Ok (Refused text)) = (r : Read) × (expansion lib ≡ Some (Ok r)) × AnswersRead at lib r (Ok (Refused text))
-Answers at lib (Ok (Made a)) = (r : Read) × (expansion lib ≡ Some (Ok r)) × AnswersRead at lib r (Ok (Made a))
-Answers at lib (Err (Item e)) = (r : Read) × (expansion lib ≡ Some (Ok r)) × AnswersRead at lib r (Err (Item e))
+abbrev pub Answers : Manner → List Source → Result Assembled AssemblyError → Type 0
+Answers m lib (Ok Unread) = expansion lib ≡ None
+Answers m lib (Ok (Wants p)) = expansion lib ≡ Some (Err p.items)
+Answers m lib (Err NoMemory) = Unit {0}
+Answers m lib (Ok (Refused text)) = (r : Read) × (expansion lib ≡ Some (Ok r)) × IsAnswered m lib r (Ok (Refused text))
+Answers m lib (Ok (Made a)) = (r : Read) × (expansion lib ≡ Some (Ok r)) × IsAnswered m lib r (Ok (Made a))
+Answers m lib (Err (Item e)) = (r : Read) × (expansion lib ≡ Some (Ok r)) × IsAnswered m lib r (Err (Item e))

@@ -1,5 +1,5 @@
 -- All that is wrong with a text.
-use Rattle.std.specs.Prelude.{ℕ, Bool, true, false, if◌then◌else◌, Option, Some, None, List, [], ◌∷◌, map, unwrap_or}
+use Rattle.std.specs.Prelude.{ℕ, Bool, true, false, if◌then◌else◌, List, [], ◌∷◌, map, unwrap_or}
 use Rattle.std.specs.List.{slice_get}
 use Rattle.tb_assembly_files.specs.declared.faults.Place.{Place}
 use Rattle.tb_assembly_files.specs.declared.faults.Problem.{Problem}

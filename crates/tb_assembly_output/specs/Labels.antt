@@ -1,5 +1,5 @@
 -- Labels for a debugger, as VICE's monitor reads them.
-use Rattle.std.specs.Prelude.{ℕ, ◌/◌, ◌%◌, ◌||◌, Bool, Option, Some, None, Result, Ok, Err, List, [], ◌∷◌, ◌++◌, codes, map, flat_map, nat_lt, if◌then◌else◌}
+use Rattle.std.specs.Prelude.{ℕ, ◌/◌, ◌%◌, Ok, List, [], ◌∷◌, ◌++◌, codes, map, flat_map, nat_lt, if◌then◌else◌}
 use Rattle.std.specs.Char.{to_ascii_lowercase}
 use Rattle.hex.specs.Hex.{encode_lower}
 use Rattle.tb_assembly_text.specs.Tokens.{is_name_byte}

@@ -4,7 +4,7 @@ ghost use Rattle.tb_asm.specs.Layout.{entry_of};
 ghost use Rattle.tb_assembly_files.specs.Libraries.{source_of};
 ghost use Rattle.tb_assembly_files.specs.Expansion.{read_of};
 ghost use Rattle.tb_assembly_meaning.specs.Places.{laid_of};
-ghost use Rattle.tb_assembly_output.specs.Assembled.{prg_of, Answers, AnswersRead, Images, IsMeaning, IsRefusal, IsWritten, Makes};
+ghost use Rattle.tb_assembly_output.specs.Assembled.{prg_of, Answers, AnswersBy, AnswersRead, Images, IsMeaning, IsRefusal, IsWritten, Makes};
 ghost use Rattle.tb_assembly_output.specs.Findings.{is_nil};
 
 use crate::findings::{bad_lines, bad_statements, is_good, is_right};
@@ -14,8 +14,17 @@ use crate::names::names_in;
 use std::alloc::{AllocError, Global};
 use tb_asm::{AsmError, AsmErrorKind, Image, assemble};
 use tb_assembly_files::{Reading, SourceFile, Stop, expand};
-use tb_assembly_meaning::{Meaning, mean};
+use tb_assembly_meaning::{Meaning, mean, settle};
 use tb_assembly_report::{Finding, report};
+
+/// How a text is assembled.
+#[derive(Clone, Copy, PartialEq, Eq, Debug, Drop)]
+pub struct Manner {
+    /// Where the image begins, if the text names no other address.
+    pub at: u16,
+    /// Whether a branch that does not reach becomes long: the inverse branch over a jump.
+    pub long: bool,
+}
 
 /// What is made of a text: the PRG file, the label file and the listing.
 #[derive(Drop, Debug)]
@@ -56,21 +65,35 @@ impl From<AllocError> for AssemblyError {
     }
 }
 
-/// What is made of the first file of a library with all that it includes. Its image begins at `at`, if it names no other
-/// address.
+/// What is made of the first file of a library with all that it includes.
 pub fn assemble_texts(
     alloc: Global,
     library: &[SourceFile],
-    at: u16,
+    manner: Manner,
 ) -> Result<Assembled, AssemblyError>
-    ensures { Answers at (map source_of library.now) result }
+    ensures { Answers manner (map source_of library.now) result }
 {
     match expand(alloc, library) {
         Ok(None) => Ok(Assembled::Unread),
-        Ok(Some(reading)) => assemble_reading(alloc, library, &reading, at),
+        Ok(Some(reading)) => assemble_manner(alloc, library, reading, manner),
         Err(Stop::Wants(path)) => Ok(Assembled::Wants(path)),
         Err(Stop::NoMemory) => Err(AssemblyError::NoMemory),
     }
+}
+
+// What is made of what was read, where branches may become long.
+fn assemble_manner(
+    alloc: Global,
+    library: &[SourceFile],
+    mut reading: Reading,
+    manner: Manner,
+) -> Result<Assembled, AssemblyError>
+    ensures { AnswersBy manner (map source_of library.now) (read_of reading) result }
+{
+    if manner.long {
+        settle(alloc, manner.at, &mut reading.statements)?;
+    }
+    assemble_reading(alloc, library, &reading, manner.at)
 }
 
 fn assemble_reading(

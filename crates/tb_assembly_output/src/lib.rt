@@ -7,5 +7,5 @@ mod labels;
 mod listing;
 mod names;
 
-pub use assembling::{Assembled, Assembly, AssemblyError, assemble_texts};
+pub use assembling::{Assembled, Assembly, AssemblyError, Manner, assemble_texts};
 pub use tb_assembly_files::SourceFile;

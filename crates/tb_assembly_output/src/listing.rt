@@ -16,6 +16,12 @@ use tb_source_text::{cut, push_shown};
 // How many bytes of data are in a row.
 const ROW: usize = 16;
 
+// The size of a branch.
+const BRANCH: usize = 2;
+
+// The size of a long branch: a branch and a jump.
+const LONG: usize = 5;
+
 /// What a listing shows: the files, where each statement stands, where it lies, and the image.
 #[derive(Clone, Copy, Drop)]
 pub struct View<'a> {
@@ -161,7 +167,17 @@ fn shown_address(at: usize) -> u16 {
     (at % 0x1_0000) as u16
 }
 
+// The rows of an instruction: a long branch has two.
 fn push_code(text: &mut Vec<u8>, at: usize, bytes: &[u8]) -> Result<(), AllocError> {
+    if bytes.len() == LONG {
+        push_instruction(text, at, &bytes[..BRANCH])?;
+        push_instruction(text, at.saturating_add(BRANCH), &bytes[BRANCH..])
+    } else {
+        push_instruction(text, at, bytes)
+    }
+}
+
+fn push_instruction(text: &mut Vec<u8>, at: usize, bytes: &[u8]) -> Result<(), AllocError> {
     if bytes.is_empty() {
         return Ok(());
     }

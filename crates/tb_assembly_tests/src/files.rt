@@ -3,7 +3,7 @@ ghost use Rattle.std.specs.Prelude.{⊤};
 
 use std::alloc::{AllocError, Global};
 use std::test::Fail;
-use tb_assembly_engine::{TextFailure, TextNames, assemble_source};
+use tb_assembly_engine::{Manner, TextFailure, TextNames, assemble_source};
 use tb_files::{FileSystem, Node, Place, Trouble};
 use tb_streams::Tracked;
 use tb_test_support::FailingReader;
@@ -13,6 +13,11 @@ const TEXT: &[u8] = b" .include \"more.asm\"\n jmp start\n";
 const MORE: &[u8] = b"start rts\n";
 
 const PRG: &[u8] = b"\x00\x10\x60\x4c\x00\x10";
+
+const MANNER: Manner = Manner {
+    at: 0x1000,
+    long: false,
+};
 
 const NAMES: TextNames<'static> = TextNames {
     out: "out.prg",
@@ -81,7 +86,7 @@ impl FileSystem for Shelf {
 }
 
 fn assembled(alloc: Global, shelf: &mut Shelf, path: &str) -> Result<(), TextFailure> {
-    assemble_source(alloc, shelf, path, 0x1000, NAMES)
+    assemble_source(alloc, shelf, path, MANNER, NAMES)
 }
 
 #[test]
@@ -149,7 +154,7 @@ fn no_text_is_overwritten(rt: HostRuntime) -> Result<(), Fail> {
             labels: None,
             listing: Some("x/old.lst"),
         };
-        let done = assemble_source(alloc, &mut shelf, "x/text.asm", 0x1000, names);
+        let done = assemble_source(alloc, &mut shelf, "x/text.asm", MANNER, names);
         assert_eq!(rt; matches!(done, Err(TextFailure::IsSource(_))), is_source);
         assert_eq!(rt; matches!(done, Err(TextFailure::SameFile)), !is_source);
         assert!(rt; shelf.saved.is_empty());

@@ -1,7 +1,7 @@
 //! A line as long as a file may be.
 use std::alloc::{AllocError, Global};
 use std::test::Fail;
-use tb_assembly_output::{Assembled, SourceFile, assemble_texts};
+use tb_assembly_output::{Assembled, Manner, SourceFile, assemble_texts};
 
 /// The most bytes of a file.
 const MOST: usize = 1_048_576;
@@ -18,7 +18,11 @@ fn library(alloc: Global, text: Vec<u8>) -> Result<Vec<SourceFile>, AllocError> 
 // What is written of a text of one file: the PRG file, or all that is wrong.
 fn answer(alloc: Global, text: Vec<u8>) -> Result<Vec<u8>, Fail> {
     let library = library(alloc, text)?;
-    match assemble_texts(alloc, &library, 0xc000) {
+    let manner = Manner {
+        at: 0xc000,
+        long: false,
+    };
+    match assemble_texts(alloc, &library, manner) {
         Ok(Assembled::Refused(said)) => Ok(said),
         Ok(Assembled::Made(made)) => Ok(made.prg),
         _ => Err(Fail::new("no answer")),

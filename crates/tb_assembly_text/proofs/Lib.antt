@@ -1,9 +1,9 @@
+-- a mnemonic has three letters
+pub mod Named
 -- tokens read one after the other
 pub mod Passing
 -- what stands between commas
 pub mod Segments
--- the search for a mnemonic by its name
-pub mod Named
 -- expressions read token by token
 pub mod Reading
 -- lists that are read part by part

@@ -1,5 +1,5 @@
 -- Expressions read token by token.
-use Rattle.std.proofs.Common.{◌≡◌, ℕ, ◌+◌, ◌<◌, Bool, List, ◌∷◌, length, drop, map, get_or, sym, ap, ◌∙◌, add-one, drop-cons, Option, Some, None, Result, Ok, refl}
+use Rattle.std.proofs.Common.{◌≡◌, ℕ, ◌+◌, ◌<◌, Bool, List, ◌∷◌, length, drop, map, get_or, sym, ap, ◌∙◌, add-one, drop-cons, Option, Some, None, Result, Ok}
 use Rattle.std.proofs.lemmas.List.{drop-map}
 use Rattle.tb_assembly_text.specs.declared.faults.Fault.{Fault}
 use Rattle.tb_assembly_text.specs.declared.tokens.Token.{Token}

@@ -1,5 +1,5 @@
 -- What stands between commas.
-use Rattle.std.proofs.Common.{◌≡◌, ℕ, ◌+◌, ◌<◌, true, false, List, [], ◌∷◌, ◌++◌, length, take, drop, map, get_or, refl, sym, ap, ◌∙◌, add-one, drop-cons, append_assoc, Option, Some, None, if◌then◌else◌}
+use Rattle.std.proofs.Common.{◌≡◌, ℕ, ◌+◌, ◌<◌, true, false, List, [], ◌∷◌, ◌++◌, length, take, drop, map, get_or, refl, sym, ap, ◌∙◌, add-one, drop-cons, append_assoc, Some, if◌then◌else◌}
 use Rattle.std.proofs.lemmas.List.{append-nil, map_more, take-map, drop-map}
 use Rattle.tb_assembly_text.specs.declared.tokens.Token.{Token}
 use Rattle.tb_assembly_text.specs.Tokens.{Placed, token_of}

@@ -1,10 +1,9 @@
 -- Expressions, read from the left: operators wait until those that bind more tightly have their right sides.
-use Rattle.std.specs.Prelude.{◌≡◌, ℕ, Bool, true, false, Option, Some, None, Result, Ok, Err, List, [], ◌∷◌, ◌++◌, map, nat_le, if◌then◌else◌, MatchOption}
+use Rattle.std.specs.Prelude.{◌≡◌, ℕ, Bool, true, false, Option, Some, None, Result, Ok, Err, List, [], ◌∷◌, ◌++◌, map, nat_le, if◌then◌else◌}
 use Rattle.tb_assembly_text.specs.declared.faults.Fault.{Fault}
 use Rattle.tb_assembly_text.specs.declared.faults.FaultKind.TheVariants.{WantsValue, WantsRight, Extra}
 use Rattle.tb_assembly_text.specs.declared.faults.LineError.{LineError}
-use Rattle.tb_assembly_text.specs.declared.faults.LineError.TheVariants.{Bad, NoMemory}
-use Rattle.tb_assembly_text.specs.declared.names.Name.{Name}
+use Rattle.tb_assembly_text.specs.declared.faults.LineError.TheVariants.{NoMemory}
 use Rattle.tb_assembly_text.specs.declared.tokens.Sign.{Sign}
 use Rattle.tb_assembly_text.specs.declared.tokens.Sign.TheVariants.{Plus, Minus, Star, Slash, And as AndSign, Or as OrSign, Xor as XorSign, ShiftLeft as LeftSign, ShiftRight as RightSign, Less, Greater, Left, Right}
 use Rattle.tb_assembly_text.specs.declared.expressions.Unary.{Unary}
@@ -20,7 +19,7 @@ use Rattle.tb_assembly_text.specs.declared.expressions.Waiting.TheVariants.{Open
 use Rattle.tb_assembly_text.specs.declared.expressions.Pending.{Pending}
 use Rattle.tb_assembly_text.specs.declared.expressions.Reading.{Reading}
 use Rattle.tb_assembly_text.specs.Names.{full_name}
-use Rattle.tb_assembly_text.specs.Tokens.{Lexed, Placed, word, number, text, sign}
+use Rattle.tb_assembly_text.specs.Tokens.{Placed, word, number, sign}
 
 -- what a step does: it puts a value on a stack of values, or replaces the last one or two of them by what an operator makes of them
 pub data Deed : Type 0 where

@@ -10,7 +10,7 @@ use Rattle.tb_assembly_text.specs.declared.tokens.Sign.TheVariants.{Star, Equals
 use Rattle.tb_assembly_text.specs.Names.{full_name, scope_after, spells}
 use Rattle.tb_assembly_text.specs.Tokens.{Placed, tokens_of}
 use Rattle.tb_assembly_text.specs.Words.{is_item}
-use Rattle.tb_assembly_text.specs.Expressions.{Sum, column_at, whole}
+use Rattle.tb_assembly_text.specs.Expressions.{column_at, whole}
 use Rattle.tb_assembly_text.specs.Operands.{is_none, sign_at, word_at}
 use Rattle.tb_assembly_text.specs.Statements.{Meant, labels, assigns, begins, Said, reading, and_then, word_item}
 

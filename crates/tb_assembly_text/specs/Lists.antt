@@ -2,12 +2,11 @@
 use Rattle.std.specs.Prelude.{◌≡◌, ℕ, ◌+◌, ◌≤◌, Bool, true, false, Option, Some, None, Result, Ok, Err, List, [], ◌∷◌, map, length, take, drop, if◌then◌else◌}
 use Rattle.tb_asm.specs.Names.{fold_byte}
 use Rattle.tb_assembly_text.specs.declared.faults.Fault.{Fault}
-use Rattle.tb_assembly_text.specs.declared.tokens.Sign.{Sign}
 use Rattle.tb_assembly_text.specs.declared.tokens.Sign.TheVariants.{Comma}
 use Rattle.tb_assembly_text.specs.declared.lists.Segment.{Segment as FirstOf}
 use Rattle.tb_assembly_text.specs.declared.lists.Datum.{Datum}
 use Rattle.tb_assembly_text.specs.declared.lists.Datum.TheVariants.{Value, Text}
-use Rattle.tb_assembly_text.specs.Tokens.{Lexed, Placed, word, number, text, sign}
+use Rattle.tb_assembly_text.specs.Tokens.{Placed, text, sign}
 use Rattle.tb_assembly_text.specs.Expressions.{Sum, sum_of, whole}
 
 -- a value or a text among data

@@ -1,5 +1,5 @@
 -- Names of labels and of values, and words in either case.
-use Rattle.std.specs.Prelude.{ℕ, Bool, false, ◌||◌, not, List, [], ◌∷◌, ◌++◌, map, eqb, if◌then◌else◌}
+use Rattle.std.specs.Prelude.{ℕ, Bool, false, ◌||◌, List, [], ◌∷◌, ◌++◌, map, eqb, if◌then◌else◌}
 use Rattle.tb_asm.specs.Names.{fold_byte}
 use Rattle.tb_asm.specs.Mnemonics.{same_text}
 

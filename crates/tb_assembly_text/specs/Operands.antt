@@ -13,7 +13,7 @@ use Rattle.tb_assembly_text.specs.declared.operands.Shape.TheVariants.{Nothing, 
 use Rattle.tb_assembly_text.specs.declared.operands.Ending.{Ending}
 use Rattle.tb_assembly_text.specs.declared.operands.Ending.TheVariants.{Plain, X as XEnding, Y as YEnding, GoesOn, Wrong}
 use Rattle.tb_assembly_text.specs.Names.{spells}
-use Rattle.tb_assembly_text.specs.Tokens.{Lexed, Placed, word, number, text, sign}
+use Rattle.tb_assembly_text.specs.Tokens.{Placed, word, sign}
 use Rattle.tb_assembly_text.specs.Expressions.{Sum, sum_of, column_at, expression, whole}
 
 -- the form of an operand: nothing, `A`, `#e`, an address with a register, `(e)`, `(e,X)`, `(e),Y`

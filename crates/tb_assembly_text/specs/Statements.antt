@@ -1,11 +1,9 @@
 -- The statements of a line.
-use Rattle.std.specs.Prelude.{ℕ, Bool, true, false, ◌||◌, Option, Some, None, option_map, Result, Ok, Err, List, [], ◌∷◌, map, eqb, if◌then◌else◌}
+use Rattle.std.specs.Prelude.{ℕ, true, false, ◌||◌, Option, Some, None, option_map, Result, Ok, Err, List, [], ◌∷◌, map, eqb, if◌then◌else◌}
 use Rattle.tb_opcodes.specs.declared.Mnemonic.{Mnemonic}
 use Rattle.tb_assembly_text.specs.declared.faults.Fault.{Fault}
 use Rattle.tb_assembly_text.specs.declared.faults.FaultKind.{FaultKind}
 use Rattle.tb_assembly_text.specs.declared.faults.FaultKind.TheVariants.{WantsText, UnknownDirective, UnknownMnemonic}
-use Rattle.tb_assembly_text.specs.declared.names.Name.{Name}
-use Rattle.tb_assembly_text.specs.declared.expressions.Expression.{Expression}
 use Rattle.tb_assembly_text.specs.declared.statements.Clause.{Clause}
 use Rattle.tb_assembly_text.specs.declared.statements.Clause.TheVariants.{Label, Assign, Origin, Instruction, Bytes, Words, Fill, Align, Include}
 use Rattle.tb_assembly_text.specs.declared.statements.Statement.{Statement}

@@ -1,6 +1,6 @@
 -- The tokens of a line.
-use Rattle.std.specs.Prelude.{◌≡◌, ℕ, zero, suc, ◌+◌, ◌-◌, ◌*◌, ◌<◌, ◌≤◌, ◌&&◌, ◌||◌, Bool, true, false, not, Option, Some, None, option_and_then, Result, Ok, Err}
-use Rattle.std.specs.Prelude.{List, [], ◌∷◌, ◌++◌, length, drop, take, eqb, nat_lt, nat_le, if◌then◌else◌}
+use Rattle.std.specs.Prelude.{ℕ, zero, suc, ◌+◌, ◌-◌, ◌*◌, ◌<◌, ◌≤◌, ◌&&◌, ◌||◌, Bool, false, not, Option, Some, None, option_and_then, Result, Ok, Err}
+use Rattle.std.specs.Prelude.{List, [], ◌∷◌, length, drop, take, eqb, nat_lt, if◌then◌else◌}
 use Rattle.tb_asm.specs.Names.{is_between}
 use Rattle.tb_assembly_text.specs.declared.faults.Fault.{Fault}
 use Rattle.tb_assembly_text.specs.declared.faults.FaultKind.{FaultKind}

@@ -1,23 +1,15 @@
 -- The words of instructions and directives.
-use Rattle.std.specs.Prelude.{ℕ, Bool, ◌||◌, Option, Some, None, is_some, List, [], ◌∷◌, codes, if◌then◌else◌}
+use Rattle.std.specs.Prelude.{ℕ, Bool, ◌||◌, Option, Some, None, is_some, List, map, codes, if◌then◌else◌}
 use Rattle.tb_opcodes.specs.declared.Mnemonic.{Mnemonic}
-use Rattle.tb_asm.specs.Mnemonics.{all_mnemonics, name_of}
+use Rattle.tb_asm.specs.Names.{fold_byte}
+use Rattle.tb_asm.specs.Mnemonics.{mnemonic_of}
 use Rattle.tb_assembly_text.specs.declared.words.Directive.{Directive}
 use Rattle.tb_assembly_text.specs.declared.words.Directive.TheVariants.{Byte, Word, Text, Fill, Align, Origin, Include}
 use Rattle.tb_assembly_text.specs.Names.{spells}
 
--- whether a word in either case is a mnemonic's name
-abbrev pub names : List ℕ → Mnemonic → Bool
-names w m = spells w (name_of m)
-
--- the first of some mnemonics that a word names
-abbrev pub first_named : List ℕ → List Mnemonic → Option Mnemonic
-first_named w [] = None
-first_named w (m ∷ ms) = if names w m then Some m else first_named w ms
-
--- the mnemonic that a word names
+-- the mnemonic that a word in either case names
 abbrev pub mnemonic_named : List ℕ → Option Mnemonic
-mnemonic_named w = first_named w all_mnemonics
+mnemonic_named w = mnemonic_of (map fold_byte w)
 
 -- the directive that a word names, in each assembler's spelling
 abbrev pub directive_of : List ℕ → Option Directive

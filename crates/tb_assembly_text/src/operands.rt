@@ -18,6 +18,8 @@ pub enum Width {
     Free,
     ZeroPage,
     Absolute,
+    /// A branch to it is a jump behind the inverse branch. No line says so.
+    Long,
 }
 
 /// A register behind an address.

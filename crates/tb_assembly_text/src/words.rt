@@ -1,9 +1,8 @@
 //! The words of instructions and directives.
 ghost use Rattle.std.specs.Prelude.{◌≡◌};
-ghost use Rattle.tb_assembly_text.specs.Words.{directive_of, is_item, mnemonic_named, names};
+ghost use Rattle.tb_assembly_text.specs.Words.{directive_of, is_item, mnemonic_named};
 
-use crate::names::spells;
-use tb_asm::name;
+use crate::names::{fold_byte, spells};
 use tb_opcodes::Mnemonic;
 
 /// A directive.
@@ -18,83 +17,14 @@ pub enum Directive {
     Include,
 }
 
-// Each mnemonic once.
-const MNEMONICS: [Mnemonic; 56] = [
-    Mnemonic::Adc,
-    Mnemonic::And,
-    Mnemonic::Asl,
-    Mnemonic::Bcc,
-    Mnemonic::Bcs,
-    Mnemonic::Beq,
-    Mnemonic::Bit,
-    Mnemonic::Bmi,
-    Mnemonic::Bne,
-    Mnemonic::Bpl,
-    Mnemonic::Brk,
-    Mnemonic::Bvc,
-    Mnemonic::Bvs,
-    Mnemonic::Clc,
-    Mnemonic::Cld,
-    Mnemonic::Cli,
-    Mnemonic::Clv,
-    Mnemonic::Cmp,
-    Mnemonic::Cpx,
-    Mnemonic::Cpy,
-    Mnemonic::Dec,
-    Mnemonic::Dex,
-    Mnemonic::Dey,
-    Mnemonic::Eor,
-    Mnemonic::Inc,
-    Mnemonic::Inx,
-    Mnemonic::Iny,
-    Mnemonic::Jmp,
-    Mnemonic::Jsr,
-    Mnemonic::Lda,
-    Mnemonic::Ldx,
-    Mnemonic::Ldy,
-    Mnemonic::Lsr,
-    Mnemonic::Nop,
-    Mnemonic::Ora,
-    Mnemonic::Pha,
-    Mnemonic::Php,
-    Mnemonic::Pla,
-    Mnemonic::Plp,
-    Mnemonic::Rol,
-    Mnemonic::Ror,
-    Mnemonic::Rti,
-    Mnemonic::Rts,
-    Mnemonic::Sbc,
-    Mnemonic::Sec,
-    Mnemonic::Sed,
-    Mnemonic::Sei,
-    Mnemonic::Sta,
-    Mnemonic::Stx,
-    Mnemonic::Sty,
-    Mnemonic::Tax,
-    Mnemonic::Tay,
-    Mnemonic::Tsx,
-    Mnemonic::Txa,
-    Mnemonic::Txs,
-    Mnemonic::Tya,
-];
-
-// Whether a word names a mnemonic.
-fn names(word: &[u8], mnemonic: Mnemonic) -> bool
-    ensures { result ≡ names word.now mnemonic }
-{
-    spells(word, &name(mnemonic))
-}
-
 /// The mnemonic that a word names, in either case.
 pub fn mnemonic(word: &[u8]) -> Option<Mnemonic>
     ensures { result ≡ mnemonic_named word.now }
 {
-    for mnemonic in MNEMONICS {
-        if names(word, mnemonic) {
-            return Some(mnemonic);
-        }
-    }
-    None
+    let [first, second, third] = word else {
+        return None;
+    };
+    tb_asm::mnemonic(&[fold_byte(*first), fold_byte(*second), fold_byte(*third)])
 }
 
 /// The directive that a word names, in either case.

@@ -1,8 +1,7 @@
 -- Trees are read as their steps.
-use Rattle.std.proofs.Common.{◌≡◌, ◌<◌, ◌≤◌, ℕ, true, false, List, [], ◌∷◌, ◌++◌, refl, sym, ap, subst, ◌∙◌, append_assoc, Result, Ok, Err, arith, if◌then◌else◌}
+use Rattle.std.proofs.Common.{◌≡◌, ◌<◌, ◌≤◌, ℕ, true, false, List, [], ◌∷◌, ◌++◌, refl, sym, ap, subst, ◌∙◌, append_assoc, Result, Ok, arith, if◌then◌else◌}
 use Rattle.std.proofs.lemmas.List.{append-nil}
 use Rattle.std.proofs.lemmas.Bool.{le-leb, lt-leb}
-use Rattle.tb_assembly_text.specs.declared.tokens.Sign.{Sign}
 use Rattle.tb_assembly_text.specs.declared.tokens.Sign.TheVariants.{Right}
 use Rattle.tb_assembly_text.specs.declared.expressions.Unary.{Unary}
 use Rattle.tb_assembly_text.specs.declared.expressions.Unary.TheVariants.{Negative, Low, High}

@@ -1,5 +1,5 @@
 -- The values of texts.
-use Rattle.std.proofs.Common.{◌≡◌, ℕ, ℤ, List, [], ◌∷◌, refl, ap, ◌∙◌, Result, Ok, Err}
+use Rattle.std.proofs.Common.{◌≡◌, ℤ, [], refl, ap, ◌∙◌, Result, Ok, Err}
 use Rattle.tb_assembly_text.specs.Expressions.{column_at}
 use Rattle.tb_assembly_meaning.specs.declared.faults.MeaningFault.{MeaningFault}
 use Rattle.tb_assembly_meaning.specs.Values.{top_of}

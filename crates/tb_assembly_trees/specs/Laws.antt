@@ -1,5 +1,5 @@
 -- What trees say of reading and of values.
-use Rattle.std.specs.Prelude.{◌≡◌, ℕ, ℤ, Result, Ok, Err, List, [], ◌∷◌}
+use Rattle.std.specs.Prelude.{◌≡◌, ℕ, ℤ, Result, Ok, Err, List, ◌∷◌}
 use Rattle.tb_assembly_text.specs.Expressions.{column_at, whole}
 use Rattle.tb_assembly_meaning.specs.declared.faults.MeaningFault.{MeaningFault}
 use Rattle.tb_assembly_meaning.specs.Names.{Env}

@@ -5,8 +5,8 @@ ghost use Rattle.tb_command_line.specs.Table.{NamesEach, command_of};
 use crate::arguments::{
     ANSWERS, ASSEMBLY_OUT, AT, Argument, BUILD_OUT, DISK_OUT, DISK_OUTPUT, FIRST_LINE, FIT, FOR,
     IN_PLACE, KEY_FILE, KEYS, LABELS, LIMIT, LINE_STEP, LIST, LIST_FOR, LONG, MAP, ONLY_CHECK,
-    ORIGIN, OUT, OUTPUT, PAGE, PETSCII, PLAY_LIMIT, PRG, PRG_FILE, PRG_FILES, PRG_LABELS, RECORD,
-    RUDE, SCREEN, SEED, SOURCE, SOURCE_OR_PRG, SOURCES, TEXT, TYPE, WATCH,
+    ORIGIN, OUT, OUTPUT, PAGE, PLAY_LIMIT, PRG, PRG_FILE, PRG_FILES, PRG_LABELS, RECORD, RUDE,
+    SCREEN, SEED, SOURCE, SOURCE_OR_PRG, SOURCES, TEXT, TYPE, WATCH,
 };
 
 /// A command of `tbc`.
@@ -57,7 +57,7 @@ static COMMANDS: [CommandRow; 16] = [
         help: "Compile a Tiny BASIC source to a PRG file",
         usage: None,
         arguments: &[
-            SOURCE, BUILD_OUT, OUTPUT, SEED, FIT, PETSCII, LABELS, LIST, LIST_FOR, MAP, WATCH,
+            SOURCE, BUILD_OUT, OUTPUT, SEED, FIT, LABELS, LIST, LIST_FOR, MAP, WATCH,
         ],
     },
     CommandRow {
@@ -70,7 +70,6 @@ static COMMANDS: [CommandRow; 16] = [
             PRG,
             SEED,
             FIT,
-            PETSCII,
             KEYS,
             KEY_FILE,
             TYPE,
@@ -85,16 +84,7 @@ static COMMANDS: [CommandRow; 16] = [
         name: "play",
         help: "Play a source or a PRG file: what you type is its keyboard",
         usage: Some("tbc play [OPTIONS] <SOURCE>\n       tbc play [OPTIONS] --prg <FILE>"),
-        arguments: &[
-            SOURCE_OR_PRG,
-            PRG,
-            SEED,
-            FIT,
-            PETSCII,
-            PLAY_LIMIT,
-            RECORD,
-            SCREEN,
-        ],
+        arguments: &[SOURCE_OR_PRG, PRG, SEED, FIT, PLAY_LIMIT, RECORD, SCREEN],
     },
     CommandRow {
         command: CommandName::Asm,
@@ -127,7 +117,6 @@ static COMMANDS: [CommandRow; 16] = [
             PRG,
             SEED,
             FIT,
-            PETSCII,
             KEYS,
             KEY_FILE,
             TYPE,
@@ -145,7 +134,6 @@ static COMMANDS: [CommandRow; 16] = [
             PRG,
             SEED,
             FIT,
-            PETSCII,
             KEYS,
             KEY_FILE,
             TYPE,
@@ -165,7 +153,6 @@ static COMMANDS: [CommandRow; 16] = [
             PRG,
             SEED,
             FIT,
-            PETSCII,
             KEYS,
             KEY_FILE,
             TYPE,
@@ -187,7 +174,7 @@ static COMMANDS: [CommandRow; 16] = [
         name: "check",
         help: "Show everything that is wrong with sources, and what helps",
         usage: None,
-        arguments: &[SOURCES, FIT, PETSCII],
+        arguments: &[SOURCES, FIT],
     },
     CommandRow {
         command: CommandName::Format,
@@ -208,14 +195,14 @@ static COMMANDS: [CommandRow; 16] = [
         name: "lsp",
         help: "Serve an editor as its language server, over standard input and output",
         usage: None,
-        arguments: &[PETSCII],
+        arguments: &[],
     },
     CommandRow {
         command: CommandName::Dap,
         name: "dap",
         help: "Serve an editor as its debug adapter, over standard input and output",
         usage: None,
-        arguments: &[PETSCII],
+        arguments: &[],
     },
     CommandRow {
         command: CommandName::Version,

@@ -3,7 +3,7 @@ use Rattle.std.proofs.Common.{◌≡◌, ℕ, List, [], ◌∷◌, map, Option, 
 use Rattle.serde_json.specs.Data.{Data}
 use Rattle.serde_json.specs.View.{items_of}
 use Rattle.tb_adapter_values.specs.Arguments.{list_in}
-use Rattle.tb_debug_adapter.specs.Setting.{Asked, all_wanted, asked, asked_by, breakpoints_in, path_in, values_in, watch_in, watches_in}
+use Rattle.tb_debug_adapter.specs.Setting.{all_wanted, asked, asked_by, breakpoints_in, path_in, values_in, watch_in, watches_in}
 use Rattle.tb_debug_adapter.specs.declared.setting.Wanted.{Wanted}
 
 -- the values of a list of values are these

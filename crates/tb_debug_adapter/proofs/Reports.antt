@@ -1,8 +1,10 @@
 -- What `check` says of one source that is held.
-use Rattle.std.proofs.Common.{◌≡◌, ℕ, List, [], ◌∷◌, ◌++◌, map, flat_map, Some, Result, Ok, Err, sym, ap, subst, ◌∙◌, append-nil}
+use Rattle.std.proofs.Common.{◌≡◌, ◌⊎◌, inl, inr, ℕ, List, [], ◌∷◌, ◌++◌, map, flat_map, Some, Result, Ok, Err, sym, ap, subst, ◌∙◌, append-nil}
 use Rattle.tb_check.specs.Findings.{AreFindings}
-use Rattle.tb_check_engine.specs.Checks.{IsLook, Look, Looks, Missed, Saw, Told, Turn, said}
+use Rattle.tb_check_engine.specs.Checks.{Checks, IsLook, Look, Looks, Missed, Saw, Told, Turn, said}
 use Rattle.tb_check_engine.specs.Reports.{report}
+use Rattle.tb_check_engine.specs.declared.outcome.CheckOutcome.{CheckOutcome}
+use Rattle.tb_check_engine.specs.declared.outcome.CheckOutcome.TheVariants as outcome
 use Rattle.tb_codegen.specs.declared.settings.SizeLimit.{SizeLimit}
 use Rattle.tb_parser.specs.Lines.{lines_of_file}
 use Rattle.tb_streams.specs.declared.stream.InputError.{InputError}
@@ -31,3 +33,17 @@ module _ {S : Type 0} (reads : S → List ℕ → Result (List ℕ) InputError �
       → IsReport size path text new
   is_report names t old new named unwritten told =
       turns_said told.turns t new (told.named ∙ named) told.looks (told.wrote ∙ ap (λ xs. xs ++ flat_map said told.turns) unwritten)
+
+  -- the same of a check that neither a writer nor want of memory ended
+  pub is_report_of : (how : CheckOutcome) (names : List (List ℕ)) (t : S) (old new : List ℕ)
+      → (how ≡ outcome.Accepted) ⊎ ((how ≡ outcome.Refused) ⊎ (how ≡ outcome.ReadFault)) → names ≡ path ∷ [] → old ≡ []
+      → Checks reads size s names (Some old) how t (Some new) → IsReport size path text new
+  is_report_of outcome.Accepted names t old new ended named unwritten (told, is) = is_report names t old new named unwritten told
+  is_report_of outcome.Refused names t old new ended named unwritten (told, is) = is_report names t old new named unwritten told
+  is_report_of outcome.ReadFault names t old new ended named unwritten (told, is) = is_report names t old new named unwritten told
+  is_report_of outcome.WriteFault names t old new (inl never) named unwritten checks = absurd (cc)
+  is_report_of outcome.WriteFault names t old new (inr (inl never)) named unwritten checks = absurd (cc)
+  is_report_of outcome.WriteFault names t old new (inr (inr never)) named unwritten checks = absurd (cc)
+  is_report_of outcome.NoMemory names t old new (inl never) named unwritten checks = absurd (cc)
+  is_report_of outcome.NoMemory names t old new (inr (inl never)) named unwritten checks = absurd (cc)
+  is_report_of outcome.NoMemory names t old new (inr (inr never)) named unwritten checks = absurd (cc)

@@ -11,7 +11,6 @@ use Rattle.tb_check.specs.Findings.{AreFindings}
 use Rattle.tb_check.specs.declared.examination.Findings.{Findings}
 use Rattle.tb_check_engine.specs.Reports.{report}
 use Rattle.tb_codegen.specs.Compiled.{prg_of}
-use Rattle.tb_codegen.specs.declared.compiled.Compiled.{Compiled as Program}
 use Rattle.tb_codegen.specs.declared.settings.CompileSettings.{CompileSettings}
 use Rattle.tb_codegen.specs.declared.settings.SizeLimit.{SizeLimit}
 use Rattle.tb_compile_errors.specs.declared.refusals.CompileError.{CompileError}
@@ -23,7 +22,6 @@ use Rattle.tb_engines.specs.Texts as texts
 use Rattle.tb_engines.specs.declared.delivery.NoText.TheVariants.{Refused as Unstartable}
 use Rattle.tb_engines.specs.declared.outcome.Refusal.{Refusal as StartRefusal}
 use Rattle.tb_kernal.specs.declared.machine.Keyboard.{Keyboard}
-use Rattle.tb_kernal.specs.declared.machine.Machine.{Machine}
 use Rattle.tb_lower.specs.declared.lowering.LowerError.TheVariants.{TooDeep, NoMemory as NoLowerMemory}
 use Rattle.tb_navigation.specs.Remarks.{shown}
 use Rattle.tb_parser.specs.Lines.{lines_of_file}

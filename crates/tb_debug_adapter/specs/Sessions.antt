@@ -1,9 +1,8 @@
 -- What is said to requests while a program is debugged, and what becomes of its session.
-use Rattle.std.specs.Prelude.{ℕ, ◌≡◌, ◌⊎◌, ◌+◌, ◌-◌, ◌==◌, ◌&&◌, nat_lt, max, Bool, true, false, List, [], ◌∷◌, ◌++◌, codes, drop, length, map, Option, Some, None, Result, Ok, Err, if◌then◌else◌}
+use Rattle.std.specs.Prelude.{ℕ, ◌≡◌, ◌+◌, ◌-◌, ◌==◌, ◌&&◌, nat_lt, max, Bool, true, false, List, [], ◌∷◌, ◌++◌, codes, drop, length, map, Option, Some, None, Result, Ok, Err, if◌then◌else◌}
 use Rattle.std.specs.Fmt.{decimal, signed_decimal}
 use Rattle.std.specs.Str.{bytes_eq}
 use Rattle.serde_json.specs.Data.{Data}
-use Rattle.serde_json.specs.View.{view}
 use Rattle.tb_adapter_messages.specs.Refusals.{text_of}
 use Rattle.tb_adapter_messages.specs.declared.refusals.Refusal.{Refusal}
 use Rattle.tb_adapter_messages.specs.declared.refusals.Refusal.TheVariants as refusal
@@ -27,7 +26,6 @@ use Rattle.tb_debug.specs.Telling.{variables_here}
 use Rattle.tb_debug.specs.declared.causes.Cause.{Cause}
 use Rattle.tb_debug.specs.declared.causes.Cause.TheVariants as cause
 use Rattle.tb_debug.specs.declared.debugger.Debugger.{Debugger}
-use Rattle.tb_debug.specs.declared.moment.Moment.{Moment}
 use Rattle.tb_debug.specs.declared.moment.Reached.{Reached}
 use Rattle.tb_kernal.specs.Machine.{state_of, status}
 use Rattle.tb_kernal.specs.declared.status.Status.{Status}

@@ -1,5 +1,5 @@
 -- Breakpoints and watches that are set, and what is answered.
-use Rattle.std.specs.Prelude.{ℕ, zero, suc, ◌+◌, ◌-◌, ◌^◌, ◌||◌, ◌&&◌, min, Bool, true, false, not, nat_le, List, [], ◌∷◌, ◌++◌, codes, length, map, replicate}
+use Rattle.std.specs.Prelude.{ℕ, ◌+◌, ◌-◌, ◌^◌, ◌||◌, ◌&&◌, min, Bool, true, false, not, nat_le, List, [], ◌∷◌, codes, length, map, replicate}
 use Rattle.std.specs.Prelude.{Option, Some, None, option_and_then, option_map, if◌then◌else◌}
 use Rattle.std.specs.Option.{is_some}
 use Rattle.std.specs.Str.{bytes_eq}

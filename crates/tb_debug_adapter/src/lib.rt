@@ -16,5 +16,6 @@ mod stops;
 pub use dialogue::{Heard, serve};
 pub use launching::Plan;
 pub use outcome::AdapterOutcome;
+pub use said::Said;
 pub use session::{Session, Stage};
 pub use stops::Stop;

@@ -19,7 +19,8 @@ use Rattle.tb_debug.specs.declared.answer.Answer.{Answer}
 use Rattle.tb_debug_engine.specs.Dialogue.{Answers, Exchanges, Says, prompt, repeated, spelled_by}
 use Rattle.tb_debug_engine.specs.Streams.{Streams, Stream, Takes, Writes}
 use Rattle.tb_inspection.specs.Texts.{value_text}
-use Rattle.tb_debug_engine.specs.Sources.{shown_of}
+use Rattle.tb_debug_engine.specs.Labels.{translated}
+use Rattle.tb_debug_engine.specs.Sources.{labels_of, shown_of}
 use Rattle.tb_debug_engine.specs.declared.dialogue.Dialogue.{Dialogue}
 use Rattle.tb_debug_engine.specs.declared.dialogue.Setting.{Setting}
 use Rattle.tb_debug_engine.specs.Texts.{line, variable_text}
@@ -36,16 +37,16 @@ taken_in_part had left taken (is_line, inl whole) = (is_line, inr whole)
 taken_in_part had left taken (is_line, inr (some, whole, end)) = (is_line, inl whole)
 
 -- a line that spells a command is answered as the debugger responds to it
-pub answered : (limit : ℕ) (d e : Dialogue) (command : Command) (taken : List ℕ) (told : Option Answer)
-    → asked_of command ≡ spelled_by (has_no_source d.debugger.debuggee) (repeated d) (without_return taken) → Responds command d.debugger e.debugger
+pub answered : (w : Written) (limit : ℕ) (d e : Dialogue) (command : Command) (taken : List ℕ) (told : Option Answer)
+    → asked_of command ≡ spelled_by (has_no_source d.debugger.debuggee) (repeated d) (translated (labels_of w) (without_return taken)) → Responds command d.debugger e.debugger
     → Tells limit command d.debugger e.debugger told → (¬ (IsWalk command d.debugger) → e.debugger.shown ≡ d.debugger.shown)
-    → Leaves command d.debugger e.debugger → repeated e ≡ last_move (repeated d) (asked_of command) → Answers limit d taken told e
-answered limit d e command taken told spelled run tells shown leaves moved =
+    → Leaves command d.debugger e.debugger → repeated e ≡ last_move (repeated d) (asked_of command) → Answers w limit d taken told e
+answered w limit d e command taken told spelled run tells shown leaves moved =
     record { command = command; spelled = spelled; run = run; tells = tells; shown = shown; leaves = leaves; moved = moved }
 
 -- an answer that can't be told
 pub said_wrong : (w : Written) (setting : Setting) (d e : Dialogue) (outcome : Outcome) (taken : List ℕ) (told : Answer) (old new : Streams) (mid : Stream)
-    → Takes taken old.commands new.commands → Answers setting.limit d taken (Some told) e → Writes (prompt setting.prompts) old.answers mid
+    → Takes taken old.commands new.commands → Answers w setting.limit d taken (Some told) e → Writes (prompt setting.prompts) old.answers mid
     → Says (shown_of setting.prompts w told) (Err outcome) mid new.answers → Exchanges w setting d (Err outcome) e old new
 said_wrong w setting d e WriteFault taken told old new mid took answers (before, same) (part, other) =
     inr (

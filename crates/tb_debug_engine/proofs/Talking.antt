@@ -14,11 +14,11 @@ use Rattle.tb_debug_engine.specs.declared.dialogue.Setting.{Setting}
 use Rattle.tb_debug_engine.specs.declared.sources.Written.{Written}
 
 talked_more : (w : Written) (setting : Setting) (lines : List (List ℕ)) (d m e : Dialogue) (line : List ℕ) (told : Answer) (text : List ℕ)
-    → Talked w setting d lines text m → Answers setting.limit m line (Some told) e
+    → Talked w setting d lines text m → Answers w setting.limit m line (Some told) e
     → Talked w setting d (lines ++ line ∷ []) (text ++ answer_text w setting told) e
 talked_more w setting [] d m e line told text (none, same) answers =
     let shown = answer_text w setting told in
-    (told, e, [], subst (λ x. Answers setting.limit x line (Some told) e) same answers, (refl, refl), ap (λ t. t ++ shown) none ∙ sym (append-nil shown))
+    (told, e, [], subst (λ x. Answers w setting.limit x line (Some told) e) same answers, (refl, refl), ap (λ t. t ++ shown) none ∙ sym (append-nil shown))
 talked_more w setting (l ∷ lines) d m e line told text (first, b, more, one, rest, whole) answers =
     let shown = answer_text w setting told in
     let before = answer_text w setting first in
@@ -26,7 +26,7 @@ talked_more w setting (l ∷ lines) d m e line told text (first, b, more, one, r
 
 -- a line more is taken and answered
 pub answered_more : (w : Written) (setting : Setting) (d m e : Dialogue) (lines : List (List ℕ)) (line : List ℕ) (told : Answer) (old mid new : Streams)
-    → HasAnswered w setting d lines m old mid → Takes line mid.commands new.commands → Answers setting.limit m line (Some told) e
+    → HasAnswered w setting d lines m old mid → Takes line mid.commands new.commands → Answers w setting.limit m line (Some told) e
     → Writes (answer_text w setting told) mid.answers new.answers → HasAnswered w setting d (lines ++ line ∷ []) e old new
 answered_more w setting d m e lines line told old mid new answered (took, sound) answers (since, same) =
     record {

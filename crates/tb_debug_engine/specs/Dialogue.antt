@@ -31,8 +31,10 @@ use Rattle.tb_debug.specs.Kinds.{IsWalk}
 use Rattle.tb_debug.specs.Leaving.{Leaves}
 use Rattle.tb_debug_engine.specs.declared.dialogue.Dialogue.{Dialogue}
 use Rattle.tb_debug_engine.specs.declared.dialogue.Setting.{Setting}
-use Rattle.tb_debug_engine.specs.Sources.{AreWritten, IsUnwritten, shown_of}
+use Rattle.tb_debug_engine.specs.Labels.{translated}
+use Rattle.tb_debug_engine.specs.Sources.{AreWritten, IsUnwritten, labels_of, shown_of}
 use Rattle.tb_debug_engine.specs.Streams.{Stream, Streams, Takes, TakesNone, TakesSome, FailsToTake, Writes, WritesNone, FailsToWrite}
+use Rattle.tb_labels.specs.declared.labels.Label.{Label}
 use Rattle.tb_driver.specs.declared.reading.CompiledSource.{CompiledSource}
 use Rattle.tb_debug_engine.specs.declared.sources.Written.{Written}
 
@@ -47,12 +49,13 @@ abbrev pub spelled_by : Bool → Option Asked → List ℕ → Asked
 spelled_by true last line = asked_without_source last line
 spelled_by false last line = asked_after last line
 
--- a line is answered: what it asks for after the last move is done, by at most `limit` events if it goes on, and this is told,
+-- a line is answered: what it asks for after the last move, with addresses in place of labels' names, is done, by at most
+-- `limit` events if it goes on, and this is told,
 -- or nothing if it ends the dialogue; what is sent since a stop is told with the next one, and what it doesn't ask for stays;
 -- if it moves the run, it is the last move then
-pub record Answers (limit : ℕ) (d : Dialogue) (line : List ℕ) (told : Option Answer) (e : Dialogue) : Type 0 where
+pub record Answers (w : Written) (limit : ℕ) (d : Dialogue) (line : List ℕ) (told : Option Answer) (e : Dialogue) : Type 0 where
   pub command : Command
-  pub spelled : asked_of command ≡ spelled_by (has_no_source d.debugger.debuggee) (repeated d) (without_return line)
+  pub spelled : asked_of command ≡ spelled_by (has_no_source d.debugger.debuggee) (repeated d) (translated (labels_of w) (without_return line))
   pub run : Responds command d.debugger e.debugger
   pub tells : Tells limit command d.debugger e.debugger told
   pub shown : ¬ (IsWalk command d.debugger) → e.debugger.shown ≡ d.debugger.shown
@@ -79,24 +82,24 @@ abbrev pub answer_text : Written → Setting → Answer → List ℕ
 answer_text w setting told = prompt setting.prompts ++ shown_of setting.prompts w told
 
 -- a line is taken, and answered
-abbrev pub Exchanged : Setting → Dialogue → Answer → Dialogue → Stream → Stream → Type 0
-Exchanged setting d told e old new = (line : List ℕ) × Takes line old new × Answers setting.limit d line (Some told) e
+abbrev pub Exchanged : Written → Setting → Dialogue → Answer → Dialogue → Stream → Stream → Type 0
+Exchanged w setting d told e old new = (line : List ℕ) × Takes line old new × Answers w setting.limit d line (Some told) e
 
 -- no line is left, or one is taken that ends the dialogue
-abbrev pub Closes : Setting → Dialogue → Stream → Stream → Type 0
-Closes setting d old new = TakesNone old new ⊎ ((line : List ℕ) × (e : Dialogue) × Takes line old new × Answers setting.limit d line None e)
+abbrev pub Closes : Written → Setting → Dialogue → Stream → Stream → Type 0
+Closes w setting d old new = TakesNone old new ⊎ ((line : List ℕ) × (e : Dialogue) × Takes line old new × Answers w setting.limit d line None e)
 
 -- what the next line comes to: whether the dialogue goes on; the answer is written after the prompt
 abbrev pub Exchanges : Written → Setting → Dialogue → Result Bool Outcome → Dialogue → Streams → Streams → Type 0
 Exchanges w setting d (Ok true) e old new =
-    (told : Answer) × Exchanged setting d told e old.commands new.commands × Writes (answer_text w setting told) old.answers new.answers
+    (told : Answer) × Exchanged w setting d told e old.commands new.commands × Writes (answer_text w setting told) old.answers new.answers
 Exchanges w setting d (Ok false) e old new =
-    Closes setting d old.commands new.commands × Writes (prompt setting.prompts) old.answers new.answers
+    Closes w setting d old.commands new.commands × Writes (prompt setting.prompts) old.answers new.answers
 Exchanges w setting d (Err ReadFault) e old new =
     FailsToTake old.commands new.commands × Writes (prompt setting.prompts) old.answers new.answers
 Exchanges w setting d (Err WriteFault) e old new =
     ((new.commands ≡ old.commands) × FailsToWrite (prompt setting.prompts) old.answers new.answers)
-    ⊎ ((told : Answer) × Exchanged setting d told e old.commands new.commands
+    ⊎ ((told : Answer) × Exchanged w setting d told e old.commands new.commands
     × FailsToWrite (answer_text w setting told) old.answers new.answers)
 Exchanges w setting d (Err NoMemory) e old new =
     TakesSome old.commands new.commands × Writes (prompt setting.prompts) old.answers new.answers
@@ -109,7 +112,7 @@ Exchanges w setting d (Err (Refused why)) e old new = ⊥
 abbrev pub Talked : Written → Setting → Dialogue → List (List ℕ) → List ℕ → Dialogue → Type 0
 Talked w setting d [] text e = (text ≡ []) × (e ≡ d)
 Talked w setting d (line ∷ lines) text e =
-    (told : Answer) × (b : Dialogue) × (more : List ℕ) × Answers setting.limit d line (Some told) b × Talked w setting b lines more e
+    (told : Answer) × (b : Dialogue) × (more : List ℕ) × Answers w setting.limit d line (Some told) b × Talked w setting b lines more e
     × (text ≡ answer_text w setting told ++ more)
 
 -- lines were answered, each before the next one was taken: the text of their answers is written, and what was
@@ -257,11 +260,11 @@ abbrev pub LeavesPrg : List ℕ → Keyboard → Outcome → Streams → Streams
 LeavesPrg file keyboard outcome old new =
     ((outcome ≡ NoMemory) ⊎ ((why : Refusal) × (outcome ≡ Refused why) × IsUnloadable file keyboard why)) × (new ≡ old)
 
--- what debugging a PRG file comes to: its answers tell of no source
-abbrev pub DebugsPrg : List ℕ → Keyboard → Setting → Outcome → Streams → Streams → Type 0
-DebugsPrg file keyboard setting outcome old new =
+-- what debugging a PRG file comes to: its answers tell of no source, and its addresses have the names of labels
+abbrev pub DebugsPrg : List ℕ → List Label → Keyboard → Setting → Outcome → Streams → Streams → Type 0
+DebugsPrg file labels keyboard setting outcome old new =
     LeavesPrg file keyboard outcome old new
-    ⊎ ((w : Written) × (d : Debugger) × IsUnwritten w × IsBegunPrg file keyboard setting.rom d × Converses w setting d outcome old new)
+    ⊎ ((w : Written) × (d : Debugger) × IsUnwritten labels w × IsBegunPrg file keyboard setting.rom d × Converses w setting d outcome old new)
 
 -- what writing a text answers
 abbrev pub Says : List ℕ → Result (Unit {0}) Outcome → Stream → Stream → Type 0

@@ -1,4 +1,5 @@
 pub mod Dialogue
+pub mod Labels
 pub mod Lists
 pub mod Sources
 pub mod Streams

@@ -9,6 +9,7 @@ ghost use Rattle.tb_debug_commands.specs.Commands.{asked_of};
 ghost use Rattle.tb_debug_engine.specs.Sources.{shown_of};
 ghost use Rattle.tb_debug_engine.specs.Streams.{stream_of, streams_of};
 
+use crate::labels::translated;
 use crate::sources::Written;
 use crate::texts::push_answer;
 use std::alloc::Global;
@@ -17,6 +18,7 @@ use tb_debug::{Answer, Command, Debugger, Rom, last_move, read_after, read_witho
 use tb_driver::{CompiledSource, are_bytes, start_program};
 use tb_engines::{End, Outcome, start_file, without_input, without_text};
 use tb_kernal::Keyboard;
+use tb_labels::Label;
 use tb_streams::{MOST_INPUT, StreamFailure, Tracked, read_line, without_return, write_output};
 use tb_watch::Watch;
 
@@ -122,10 +124,13 @@ fn answer_line<R: Read, W: Write, V: Watch>(
         Ok(None) => return Ok(false),
         Err(outcome) => return Err(outcome),
     };
+    let Ok(spelled) = translated(alloc, source.labels, without_return(line.as_slice())) else {
+        return Err(Outcome::NoMemory);
+    };
     let command = read_spelled(
         dialogue.debugger.has_no_source(),
         dialogue.last,
-        without_return(line.as_slice()),
+        spelled.as_slice(),
     );
     dialogue.last = last_move(dialogue.last, command);
     match dialogue
@@ -276,17 +281,19 @@ fn debugger_of_prg<'a>(
 }
 
 /// Debugs a PRG file, of which there is no source, by the same commands: each address is a line, whose number is the
-/// address. What only a source answers is `no source`.
+/// address. What only a source answers is `no source`. A command takes a label's name in place of an address, and an answer
+/// tells after an instruction at which place it is.
 pub fn debug_prg<R: Read, W: Write, V: Watch>(
     alloc: Global,
     prg: &[u8],
+    labels: &[Label],
     keyboard: Keyboard,
     setting: Setting,
     commands: &mut Tracked<R>,
     writer: &mut Tracked<W>,
     watch: &mut V,
 ) -> Outcome
-    ensures { DebugsPrg prg.now keyboard setting result
+    ensures { DebugsPrg prg.now labels.now keyboard setting result
         (streams_of R.remaining commands.old W.contents writer.old) (streams_of R.remaining commands.new W.contents writer.new) }
 {
     match debugger_of_prg(alloc, prg, keyboard, setting.rom) {
@@ -294,7 +301,7 @@ pub fn debug_prg<R: Read, W: Write, V: Watch>(
             converse(
                 alloc,
                 debugger,
-                &Written::none(alloc),
+                &Written::none(alloc, labels),
                 setting,
                 commands,
                 writer,

@@ -2,6 +2,7 @@
 #![tactic(auto)]
 
 mod dialogue;
+mod labels;
 mod lists;
 mod sources;
 mod texts;

@@ -6,6 +6,7 @@ ghost use Rattle.tb_debug_engine.specs.Sources.{AreWritten, IsUnwritten};
 use std::alloc::{AllocError, Global};
 use tb_codegen::LineStart;
 use tb_driver::CompiledSource;
+use tb_labels::Label;
 use tb_source_text::{Numbered, numbered_lines};
 
 /// The lines of a source as they are written.
@@ -15,6 +16,8 @@ pub struct Written<'a> {
     pub lines: Vec<Numbered<'a>>,
     /// The numbers of its program's lines, in rising order.
     pub numbers: Vec<u16>,
+    /// The labels of a PRG file; a source has none.
+    pub labels: &'a [Label],
 }
 
 impl<'a> Written<'a> {
@@ -25,16 +28,18 @@ impl<'a> Written<'a> {
         Ok(Written {
             lines: numbered_lines(alloc, source.text.as_slice())?,
             numbers: numbers_of(alloc, source.program.starts())?,
+            labels: &[],
         })
     }
 
-    /// Those of no source.
-    pub fn none(alloc: Global) -> Written<'a>
-        ensures { IsUnwritten result }
+    /// Those of no source, with the labels of a PRG file.
+    pub fn none(alloc: Global, labels: &'a [Label]) -> Written<'a>
+        ensures { IsUnwritten labels.entry.now result }
     {
         Written {
             lines: Vec::new(alloc),
             numbers: Vec::new(alloc),
+            labels,
         }
     }
 }

@@ -10,6 +10,7 @@ ghost use Rattle.tb_debug_engine.specs.Texts.{address_line, barred_from, byte_te
 ghost use Rattle.tb_debug_engine.specs.Texts.{return_text, row_text, sent_text, stand_text, standing_text, unless_zero};
 ghost use Rattle.tb_debug_engine.specs.Texts.{variable_text, variables_from, what_text};
 
+use crate::labels::{push_place, standing};
 use crate::lists::{push_list, push_written};
 use crate::sources::Written;
 use hex::encode_upper;
@@ -399,7 +400,8 @@ fn push_what(text: &mut Vec<u8>, hints: bool) -> Result<(), AllocError>
     }
 }
 
-/// Appends the text of an answer: lines, each ended by 10. With `hints`, `what?` is followed by what helps.
+/// Appends the text of an answer: lines, each ended by 10. With `hints`, `what?` is followed by what helps. A place by a
+/// label comes last.
 pub fn push_answer(
     alloc: Global,
     text: &mut Vec<u8>,
@@ -408,6 +410,21 @@ pub fn push_answer(
     answer: Answer,
 ) -> Result<(), AllocError>
     ensures { AppendsBytes result text.old text.new (shown_of hints source.now answer) }
+{
+    let at = standing(&answer);
+    push_text(alloc, text, source, hints, answer)?;
+    push_place(alloc, text, source.labels, at)
+}
+
+// Appends the text of an answer without a place.
+fn push_text(
+    alloc: Global,
+    text: &mut Vec<u8>,
+    source: &Written<'_>,
+    hints: bool,
+    answer: Answer,
+) -> Result<(), AllocError>
+    ensures { AppendsBytes result text.old text.new (texts.text_of hints (map pair_of source.now.lines.items) source.now.numbers.items answer) }
 {
     let lines = source.lines.as_slice();
     match answer {

@@ -8,6 +8,7 @@ use tb_debug_engine::{Setting, debug, debug_prg};
 use tb_driver::CompiledSource;
 use tb_engines::Outcome;
 use tb_kernal::Keyboard;
+use tb_labels::Label;
 use tb_streams::Tracked;
 use tb_watch::Watch;
 
@@ -31,14 +32,17 @@ pub fn debugged<R: Read, W: Write, V: Watch>(
 pub fn prg_debugged<R: Read, W: Write, V: Watch>(
     alloc: Global,
     prg: &[u8],
+    labels: &[Label],
     keyboard: Keyboard,
     setting: Setting,
     commands: &mut Tracked<R>,
     writer: &mut Tracked<W>,
     watch: &mut V,
 ) -> Outcome
-    ensures { DebugsPrg prg.now keyboard setting result
+    ensures { DebugsPrg prg.now labels.now keyboard setting result
         (streams_of R.remaining commands.old W.contents writer.old) (streams_of R.remaining commands.new W.contents writer.new) }
 {
-    debug_prg(alloc, prg, keyboard, setting, commands, writer, watch)
+    debug_prg(
+        alloc, prg, labels, keyboard, setting, commands, writer, watch,
+    )
 }

@@ -22,11 +22,13 @@ pub enum Failure {
     SameFile,
     /// A source that is there would be written, at this path.
     IsSource(String),
+    /// This line of a label file is no label, counted from 1.
+    BadLabels(usize),
     /// The machine's screen would be shown where no terminal is.
     NoTerminal,
     /// It would be shown at a terminal that is too small for it.
     SmallTerminal,
-    /// A key file can't be read.
+    /// A key file or a label file can't be read.
     ReadFault,
     /// A growth was refused.
     NoMemory,
@@ -46,6 +48,7 @@ impl Failure {
             | Failure::IsSource(_)
             | Failure::NoTerminal
             | Failure::SmallTerminal => status::BAD_WORDS,
+            Failure::BadLabels(_) => status::REFUSED,
             Failure::ReadFault => status::FAULT,
             Failure::NoMemory => status::NO_MEMORY,
         }
@@ -62,6 +65,7 @@ impl fmt::Display for Failure {
             Failure::BadAddress => f.write_str("tbc: bad address\n"),
             Failure::SameFile => f.write_str("tbc: same file twice\n"),
             Failure::IsSource(path) => writeln!(f, "tbc: {path} is a source"),
+            Failure::BadLabels(_) => f.write_str("tbc: bad labels\n"),
             Failure::NoTerminal => f.write_str("tbc: not a terminal\n"),
             Failure::SmallTerminal => f.write_str("tbc: terminal smaller than 40 by 25\n"),
             Failure::ReadFault => f.write_str("tbc: read fault\n"),

@@ -80,15 +80,6 @@ pub enum Typed {
     Text(String),
 }
 
-/// How a source is written.
-#[derive(Clone, Copy, Debug, PartialEq, Eq)]
-pub enum Notation {
-    /// Each byte of a text stands for itself.
-    Plain,
-    /// Signs in a text, as `{clr}`, stand for the bytes that no key types.
-    Petscii,
-}
-
 /// How a program is run.
 #[derive(Debug, Drop)]
 pub struct Settings {
@@ -96,8 +87,6 @@ pub struct Settings {
     pub seed: u16,
     /// Whether a source is refused as too large only if it doesn't fit the memory.
     pub fit: bool,
-    /// How the source is written.
-    pub notation: Notation,
     pub keys: Typed,
     /// The answers for GETIN.
     pub answers: String,
@@ -141,8 +130,6 @@ pub enum Job {
         seed: u16,
         /// Whether a source is refused as too large only if it doesn't fit the memory.
         fit: bool,
-        /// How the source is written.
-        notation: Notation,
         /// The files of the texts that tell of it.
         beside: BuildExtras,
     },
@@ -162,8 +149,6 @@ pub enum Job {
         seed: u16,
         /// Whether a source is refused as too large only if it doesn't fit the memory.
         fit: bool,
-        /// How the source is written.
-        notation: Notation,
         /// How many events it may take between two lines.
         limit: Limit,
         /// The key file that is written of all that was typed, if it is wanted.
@@ -232,8 +217,6 @@ pub enum Job {
         sources: Vec<String>,
         /// Whether a source is refused as too large only if it doesn't fit the memory.
         fit: bool,
-        /// How sources are written.
-        notation: Notation,
     },
     /// Writes the tidy text of a source.
     Format {
@@ -251,15 +234,9 @@ pub enum Job {
         in_place: bool,
     },
     /// Serves an editor as its language server.
-    Lsp {
-        /// How sources are written.
-        notation: Notation,
-    },
+    Lsp,
     /// Serves an editor as its debug adapter.
-    Dap {
-        /// How sources are written.
-        notation: Notation,
-    },
+    Dap,
     /// A help text or the version, to be shown.
     Show {
         text: String,

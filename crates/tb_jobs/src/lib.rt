@@ -9,8 +9,8 @@ mod typing;
 
 pub use failure::Failure;
 pub use jobs::{
-    BuildExtras, FormatTarget, HIGHEST_LINE, Job, JobError, Limit, MOST_EVENTS, Notation, Runnable,
-    Settings, Typed, USUAL_EVENTS, USUAL_SEED, USUAL_STEP,
+    BuildExtras, FormatTarget, HIGHEST_LINE, Job, JobError, Limit, MOST_EVENTS, Runnable, Settings,
+    Typed, USUAL_EVENTS, USUAL_SEED, USUAL_STEP,
 };
 pub use tb_dialects::Dialect;
 pub use terminals::room_for_screen;

@@ -9,5 +9,5 @@ mod runs;
 
 pub use faults::Fault;
 pub use notes::{EndNote, end_note};
-pub use runs::{NotedRun, run_noted, run_prg_watched};
+pub use runs::{NotedRun, PrgRun, run_noted, run_prg_watched};
 pub use tb_faults::FaultKind;

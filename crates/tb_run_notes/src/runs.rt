@@ -11,7 +11,7 @@ ghost use Rattle.tb_codegen.specs.declared.settings.CompileSettings.{CompileSett
 ghost use Rattle.tb_driver.specs.Sources.{RunsText, WarnsOfRead};
 ghost use Rattle.tb_driver.specs.Output.{KeepsSource, RunsSource};
 ghost use Rattle.tb_run_notes.specs.Notes.{end_note};
-ghost use Rattle.tb_run_notes.specs.Runs.{NotesEnd, NotesRun};
+ghost use Rattle.tb_run_notes.specs.Runs.{NotesEnd, NotesRun, PlacesEnd, PlacesRun, end_place};
 
 use crate::notes::{EndNote, end_note};
 use std::alloc::Global;
@@ -19,7 +19,7 @@ use std::io::{Read, Write};
 use tb_codegen::{CompileSettings, Compiled};
 use tb_driver::{are_bytes, read_source, start_program};
 use tb_engines::{NoText, Outcome, Report, Text, deliver, end_of, start_file, without_input};
-use tb_kernal::{Keyboard, Machine, Outside};
+use tb_kernal::{Keyboard, Machine, Outside, Status};
 use tb_streams::{Tracked, host_form, read_input};
 use tb_watch::{Watch, run_watched};
 
@@ -28,6 +28,13 @@ use tb_watch::{Watch, run_watched};
 pub struct NotedRun {
     pub report: Report,
     pub note: Option<EndNote>,
+}
+
+/// A run of a PRG file: how it ended, and where the program counter was then, unless the program returned.
+#[derive(Debug, Drop)]
+pub struct PrgRun {
+    pub outcome: Outcome,
+    pub place: Option<u16>,
 }
 
 // What was made by a run, and what the machine told at its end.
@@ -156,6 +163,24 @@ pub fn run_noted<R: Read, W: Write, O: Outside, V: Watch>(
     }
 }
 
+// What was made by a run of a PRG file, and where its machine was at the end.
+#[derive(Drop)]
+struct RanPrg {
+    made: Result<Text, NoText>,
+    place: Option<u16>,
+}
+
+// Where a machine is after its run, unless its program returned or memory ran out.
+fn place_after(made: &Result<Text, NoText>, machine: &Machine) -> Option<u16>
+    ensures { IfSome result (λ at. MatchResult made.now
+        (λ _. end_place (status (state_of machine.now)) machine.now.regs.pc ≡ Some at) (λ _. ⊥)) }
+{
+    match (made, machine.status()) {
+        (Ok(_), Status::Running | Status::Waits | Status::Wrong(_)) => Some(machine.regs().pc),
+        (Ok(_), Status::Returned) | (Err(_), _) => None,
+    }
+}
+
 // Runs a PRG file, and shows what it sent.
 fn run_file<O: Outside, W: Watch>(
     alloc: Global,
@@ -164,14 +189,24 @@ fn run_file<O: Outside, W: Watch>(
     limit: u64,
     outside: &mut O,
     watch: &mut W,
-) -> Result<Text, NoText>
-    ensures { Makes (RunsPrg (settings_of O.gives outside.old keyboard limit) file.now) result }
+) -> RanPrg
+    ensures machine { Makes (RunsPrg (settings_of O.gives outside.old keyboard limit) file.now) result.made }
+    ensures place { PlacesEnd (settings_of O.gives outside.old keyboard limit) file.now result.place }
 {
-    let mut machine = start_file(alloc, file, keyboard)?;
-    run_machine(alloc, &mut machine, limit, outside, watch)
+    let mut machine = match start_file(alloc, file, keyboard) {
+        Ok(machine) => machine,
+        Err(stop) => return RanPrg {
+            made: Err(stop),
+            place: None,
+        },
+    };
+    let made = run_machine(alloc, &mut machine, limit, outside, watch);
+    let place = place_after(&made, &machine);
+    RanPrg { made, place }
 }
 
-/// Runs a PRG file as `run_prg` does. A watch hears meanwhile how many events were taken, which changes nothing.
+/// Runs a PRG file as `run_prg` does, and tells where the program counter was at the end, unless the program returned. A
+/// watch hears meanwhile how many events were taken, which changes nothing.
 pub fn run_prg_watched<R: Read, W: Write, O: Outside, V: Watch>(
     alloc: Global,
     reader: &mut Tracked<R>,
@@ -180,17 +215,23 @@ pub fn run_prg_watched<R: Read, W: Write, O: Outside, V: Watch>(
     limit: u64,
     outside: &mut O,
     watch: &mut V,
-) -> Outcome
-    ensures answers { AnswersInput (RunsPrg (settings_of O.gives outside.old keyboard limit)) result
+) -> PrgRun
+    ensures answers { AnswersInput (RunsPrg (settings_of O.gives outside.old keyboard limit)) result.outcome
         (use_of R.remaining reader.old reader.new) (use_of W.contents writer.old writer.new) }
-    ensures faults { Faults result (use_of R.remaining reader.old reader.new) (use_of W.contents writer.old writer.new) }
+    ensures place { PlacesRun (settings_of O.gives outside.old keyboard limit) (use_of R.remaining reader.old reader.new) result.place }
+    ensures faults { Faults result.outcome (use_of R.remaining reader.old reader.new) (use_of W.contents writer.old writer.new) }
     ensures taken { TakesInput (use_of R.remaining reader.old reader.new) }
 {
-    match read_input(alloc, reader) {
-        Ok(file) => deliver(
-            writer,
-            run_file(alloc, file.as_slice(), keyboard, limit, outside, watch),
-        ),
-        Err(error) => without_input(error),
+    let file = match read_input(alloc, reader) {
+        Ok(file) => file,
+        Err(error) => return PrgRun {
+            outcome: without_input(error),
+            place: None,
+        },
+    };
+    let ran = run_file(alloc, file.as_slice(), keyboard, limit, outside, watch);
+    PrgRun {
+        outcome: deliver(writer, ran.made),
+        place: ran.place,
     }
 }

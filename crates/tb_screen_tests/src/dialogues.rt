@@ -27,7 +27,7 @@ const LIMIT: u64 = 1_000_000;
 const TYPED: &[u8] = b"ab\nC1\r\n\nx";
 
 /// What the echo sends before each wait, and what is typed there, without its return.
-const TURNS: [(&[u8], &[u8]); 5] = [
+static TURNS: [(&[u8], &[u8]); 5] = [
     (b"?", b"AB"),
     (b"AB\r", b"C1"),
     (b"C1\r", b""),
@@ -48,7 +48,12 @@ fn plays<R: Read, W: Write>(
     (outcome.status(), typed)
 }
 
-// The frames of the first turns, and then the text that leaves the terminal.
+// The first turns.
+fn first(turns: usize) -> &'static [(&'static [u8], &'static [u8])] {
+    TURNS.get(..turns).unwrap_or(&TURNS)
+}
+
+// The frames of these turns, and then the text that leaves the terminal.
 fn frames(alloc: Global, turns: &[(&[u8], &[u8])]) -> Result<Vec<u8>, Fail> {
     let mut screen = Screen::new();
     let mut text = Vec::new(alloc);
@@ -98,7 +103,7 @@ fn a_reader_that_fails(rt: HostRuntime) -> Result<(), Fail> {
             .iter()
             .filter(|byte| **byte == b'\n')
             .count();
-        let wanted = frames(rt.alloc(), &TURNS[..lines + 1])?;
+        let wanted = frames(rt.alloc(), first(lines + 1))?;
         assert_eq!(rt; status, 3);
         assert_eq!(rt; writer.stream.as_slice(), wanted.as_slice());
     }
@@ -107,8 +112,8 @@ fn a_reader_that_fails(rt: HostRuntime) -> Result<(), Fail> {
 
 #[test]
 fn a_writer_that_fails(rt: HostRuntime) -> Result<(), Fail> {
-    let wanted = frames(rt.alloc(), &TURNS[..1])?;
-    for until_fault in [0, 1, 500, wanted.len() - 1] {
+    let wanted = frames(rt.alloc(), first(1))?;
+    for until_fault in [0, 1, 500, wanted.len().saturating_sub(1)] {
         let writer = FailingWriter::new(rt.alloc(), until_fault, 3);
         let mut writer = Tracked::new(writer);
         let (status, _) = plays(
@@ -118,7 +123,9 @@ fn a_writer_that_fails(rt: HostRuntime) -> Result<(), Fail> {
             &mut writer,
         );
         assert_eq!(rt; status, 3);
-        assert_eq!(rt; writer.stream.taken.as_slice(), &wanted[..until_fault]);
+        let taken = writer.stream.taken.as_slice();
+        assert_eq!(rt; taken.len(), until_fault);
+        assert!(rt; wanted.as_slice().starts_with(taken));
     }
     Ok(())
 }
@@ -130,7 +137,11 @@ fn each_frame_is_flushed_once(rt: HostRuntime) -> Result<(), Fail> {
     let mut wanted = Vec::new(rt.alloc());
     let leave = closing(rt.alloc())?.len();
     for turns in 1..=TURNS.len() {
-        wanted.push(frames(rt.alloc(), &TURNS[..turns])?.len() - leave)?;
+        wanted.push(
+            frames(rt.alloc(), first(turns))?
+                .len()
+                .saturating_sub(leave),
+        )?;
     }
     wanted.push(frames(rt.alloc(), &TURNS)?.len())?;
     assert_eq!(rt; status, 6);

@@ -1,5 +1,5 @@
 -- What a frame leads to: the keys that are typed, the stops that are told, and what is told of the program's output.
-use Rattle.std.proofs.Common.{◌≡◌, ◌⊎◌, ℕ, ◌+◌, Bool, true, false, ◌||◌, ◌==◌, max, List, [], ◌∷◌, ◌++◌, drop, length, refl, sym, ap, subst, ◌∙◌, if◌then◌else◌, append-nil, append_assoc}
+use Rattle.std.proofs.Common.{◌≡◌, ◌⊎◌, ℕ, Bool, true, false, ◌||◌, ◌==◌, max, List, [], ◌∷◌, ◌++◌, drop, length, refl, sym, ap, subst, ◌∙◌, if◌then◌else◌, append-nil, append_assoc}
 use Rattle.std.proofs.lemmas.List.{nil_from_length}
 use Rattle.std.proofs.lemmas.Bool.{eqb-true}
 use Rattle.tb_adapter_values.specs.declared.requests.Movement.{Movement}
@@ -12,7 +12,6 @@ use Rattle.tb_streams.specs.HostForm.{host_form_of}
 use Rattle.tb_debug_adapter.specs.Said.{Saying}
 use Rattle.tb_debug_adapter.specs.Sessions.{GoesBack, GoesOn, Settles, all_told, end_of, ends_at_once, fresh_output, noted, output_by as output_of_bytes, sent_output, settled, settled_told, status_of, stop_told}
 use Rattle.tb_debug_adapter.specs.declared.session.Session.{Session}
-use Rattle.tb_debug_adapter.specs.declared.session.Stage.{Stage}
 use Rattle.tb_debug_adapter.specs.declared.session.Stage.TheVariants.{Started, Terminated}
 use Rattle.tb_debug_adapter.specs.declared.stops.Stop.{Stop}
 use Rattle.tb_debug_adapter.specs.Stops.{stop_of}
@@ -51,13 +50,14 @@ pub output_append : (xs ys : List Saying) → output_in (xs ++ ys) ≡ output_in
 output_append [] ys = refl
 output_append (x ∷ xs) ys = ap (λ rest. output_by x ++ rest) (output_append xs ys) ∙ sym (append_assoc (output_by x) (output_in xs) (output_in ys))
 
+-- what holds of the rest holds of all, if nothing holds here
+after_none : (here rest more wanted : Bool) → (here || rest) ≡ false → (rest ≡ false → more ≡ wanted) → (here || more) ≡ wanted
+after_none true rest more wanted never later = absurd (cc)
+after_none false rest more wanted none later = later none
+
 pub rest_append : (xs ys : List Saying) → has_rest xs ≡ false → has_rest (xs ++ ys) ≡ has_rest ys
 rest_append [] ys none = refl
-rest_append (x ∷ xs) ys none = go (is_rest x) refl none
-  where
-    go : (here : Bool) → is_rest x ≡ here → (here || has_rest xs) ≡ false → (is_rest x || has_rest (xs ++ ys)) ≡ has_rest ys
-    go true e never = cc
-    go false e later = rw e (rest_append xs ys later)
+rest_append (x ∷ xs) ys none = after_none (is_rest x) (has_rest xs) (has_rest (xs ++ ys)) (has_rest ys) none (rest_append xs ys)
 
 pub stops_append : (d : Debugger) (xs ys : List Saying) → AreStopsOf d xs → AreStopsOf d ys → AreStopsOf d (xs ++ ys)
 stops_append d [] ys h g = g

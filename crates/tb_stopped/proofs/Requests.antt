@@ -1,9 +1,10 @@
 -- What each request leads to.
-use Rattle.std.proofs.Common.{◌≡◌, ℕ, ◌+◌, Bool, max, drop, true, false, ◌&&◌, List, [], ◌∷◌, ◌++◌, length, Some, None, Option, Result, Ok, Err, inl, inr, refl, sym, ap, subst, ◌∙◌}
+use Rattle.std.proofs.Common.{codes, ◌≡◌, ℕ, Bool, max, drop, true, false, ◌&&◌, List, [], ◌∷◌, ◌++◌, length, Some, None, Option, Result, Ok, Err, inl, inr, refl, sym, ap, subst, ◌∙◌}
 use Rattle.serde_json.specs.Data.{Data}
 use Rattle.tb_adapter_messages.specs.Refusals.{text_of}
 use Rattle.tb_adapter_messages.specs.declared.refusals.Refusal.{Refusal}
 use Rattle.tb_adapter_messages.specs.declared.refusals.Refusal.TheVariants as refusal
+use Rattle.tb_adapter_values.specs.Arguments.{number_in, text_in}
 use Rattle.tb_adapter_values.specs.declared.requests.Command.{Command}
 use Rattle.tb_adapter_values.specs.declared.requests.Command.TheVariants as command
 use Rattle.tb_adapter_values.specs.declared.requests.Movement.{Movement}
@@ -20,7 +21,7 @@ use Rattle.tb_debug.specs.declared.debugger.Debugger.{Debugger}
 use Rattle.tb_play.specs.Lines.{keys_of_text}
 use Rattle.tb_streams.specs.HostForm.{host_form_of}
 use Rattle.tb_words.specs.declared.Letter.{Letter}
-use Rattle.tb_debug_adapter.specs.Asking.{Evaluation, bad, code_by, expression, memory_by, question_in, stack_by, typed, variables_by, watchable_by, with_body}
+use Rattle.tb_debug_adapter.specs.Asking.{Evaluation, bad, code_by, expression, memory_by, needed, place_in, question_in, range_in, stack_by, typed, variables_by, watchable_by, with_body}
 use Rattle.tb_debug_adapter.specs.Said.{Saying, done, refused}
 use Rattle.tb_debug_adapter.specs.Sessions.{Begins, BeginsAt, BeginsBy, EndsForGood, Evaluates, GoesOnOrEnds, Moves, MovesTo, PlacesAsked, PlacesIn, Resumes, Stays, TakesBy, TakesKeys, Takes, TypesLine, WatchesAsked, Breaks, Terminates, Watches, barred_move, barred_start, begun, by_instruction, cause_here, end_of, has_events, is_over, look, movement_answer, resumed, status_of, typed_and_continued, valued, waits}
 use Rattle.tb_debug_adapter.specs.Setting.{Asked, breakpoints_in, watches_in}
@@ -96,12 +97,12 @@ watchable_answers None None = with_refusal _ false
 
 looks : (c : Command) (a : Data) (s : Session) → IsAnswer (look c a s)
 looks command.Threads a s = with_value _
-looks command.StackTrace a s = stack_answers s.file s.debugger _ _
+looks command.StackTrace a s = stack_answers s.file s.debugger (number_in a (codes "startFrame") 0) (number_in a (codes "levels") 0)
 looks command.Scopes a s = with_value _
-looks command.Variables a s = variables_answer s.debugger _
-looks command.ReadMemory a s = memory_answers s.debugger _ _
-looks command.Disassemble a s = code_answers s.file s.debugger _
-looks command.DataBreakpointInfo a s = watchable_answers _ _
+looks command.Variables a s = variables_answer s.debugger (number_in a (codes "variablesReference") 0)
+looks command.ReadMemory a s = memory_answers s.debugger (place_in a) (needed a (codes "count"))
+looks command.Disassemble a s = code_answers s.file s.debugger (range_in a)
+looks command.DataBreakpointInfo a s = watchable_answers (text_in a (codes "name")) (number_in a (codes "variablesReference") 0)
 looks command.Initialize a s = with_value None
 looks command.Launch a s = with_value None
 looks command.ConfigurationDone a s = with_value None

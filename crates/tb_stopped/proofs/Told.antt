@@ -1,5 +1,5 @@
 -- What was told up to a moment of a dialogue.
-use Rattle.std.proofs.Common.{◌≡◌, ◌⊎◌, ℕ, ◌+◌, ◌≤◌, Bool, true, false, max, List, [], ◌∷◌, ◌++◌, take, drop, length, Some, None, Option, Result, Ok, Err, inl, inr, refl, sym, ap, subst, ◌∙◌, if◌then◌else◌, append-nil, append_assoc, arith}
+use Rattle.std.proofs.Common.{◌≡◌, ◌⊎◌, ℕ, ◌≤◌, Bool, true, false, max, List, [], ◌∷◌, ◌++◌, take, drop, length, Some, None, Option, Result, Ok, Err, inl, inr, refl, sym, ap, subst, ◌∙◌, if◌then◌else◌, append-nil, append_assoc, arith}
 use Rattle.std.proofs.lemmas.List.{drop_all, length-take, take-append-drop}
 use Rattle.std.proofs.lemmas.Bool.Decides.{nat_tests}
 use Rattle.std.specs.Io.KnownBytes.{Appends}
@@ -13,7 +13,6 @@ use Rattle.tb_codegen.specs.Compiled.{prg_of}
 use Rattle.tb_debug.specs.Debuggees.{program_of}
 use Rattle.tb_debug.specs.Debuggers.{OnRun}
 use Rattle.tb_debug.specs.Runs.{Point, RunsUpTo, first_point, point_at, typed as typed_to}
-use Rattle.tb_debug.specs.Sources.{Debugs}
 use Rattle.tb_debug.specs.declared.rom.Rom.{Rom}
 use Rattle.tb_debug.proofs.Running.{at_start, sent_before}
 use Rattle.tb_debug.proofs.Sources.{shows_some}
@@ -35,9 +34,8 @@ use Rattle.tb_debug_adapter.specs.declared.dialogue.Heard.TheVariants as heard
 use Rattle.tb_debug_adapter.specs.declared.launching.Plan.{Plan}
 use Rattle.tb_debug_adapter.specs.declared.outcome.AdapterOutcome.{AdapterOutcome}
 use Rattle.tb_debug_adapter.specs.declared.session.Session.{Session}
-use Rattle.tb_debug_adapter.specs.declared.session.Stage.{Stage}
 use Rattle.tb_debug_adapter.specs.declared.session.Stage.TheVariants.{Loaded, Started}
-use Rattle.tb_stopped.specs.Told.{IsOnRun, SaysAsked, SaysTo, Tells, WhatIsToldIsOfTheRun, command_asked, has_rest, keys_asked, keys_of, more, name_of, none, number_asked, number_of, output_in, rests_after, run_of, start_of}
+use Rattle.tb_stopped.specs.Told.{SaysAsked, SaysTo, Tells, WhatIsToldIsOfTheRun, command_asked, has_rest, keys_asked, keys_of, more as tells_more, name_of, none, number_asked, number_of, output_in, rests_after, run_of, start_of}
 use Rattle.tb_stopped.proofs.Effects.{IsPlain, Keeps, Leads, Rests, output_append}
 use Rattle.tb_stopped.proofs.Requests.{stays, takes}
 use Rattle.tb_stopped.proofs.Shown.{form_append}
@@ -260,7 +258,7 @@ module _ (source : CompiledSource) (machine : Machine) (rom : Rom) (marks : List
         keys ++ keys_of h b.session,
         told ++ one,
         max farthest (rests_after one c.session),
-        more a b c keys told one farthest h end tells hears says wrote leads.stops,
+        tells_more a b c keys told one farthest h end tells hears says wrote leads.stops,
         goes keys (keys_of h b.session) told one farthest b.session c.session stands leads leads.output,
       )
   one_more a b c end told (inr (e, hears, never, same, unwritten)) = absurd (cc)

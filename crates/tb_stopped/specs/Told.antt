@@ -1,5 +1,5 @@
 -- What a debug adapter tells of a run while a program is debugged.
-use Rattle.std.specs.Prelude.{ℕ, ◌≡◌, ◌-◌, ◌≤◌, ◌||◌, Bool, true, false, nat_lt, max, List, [], ◌∷◌, ◌++◌, codes, length, Option, Some, None, IfSome, Result, Ok, unwrap_or, if◌then◌else◌}
+use Rattle.std.specs.Prelude.{ℕ, ◌≡◌, ◌-◌, ◌≤◌, ◌||◌, Bool, true, false, nat_lt, max, List, [], ◌∷◌, ◌++◌, codes, length, Option, Some, None, IfSome, Ok, unwrap_or, if◌then◌else◌}
 use Rattle.std.specs.Str.{bytes_eq}
 use Rattle.serde_json.specs.Data.{Data}
 use Rattle.serde_json.specs.View.{view}
@@ -36,7 +36,6 @@ use Rattle.tb_debug_adapter.specs.declared.dialogue.Heard.{Heard}
 use Rattle.tb_debug_adapter.specs.declared.dialogue.Heard.TheVariants as heard
 use Rattle.tb_debug_adapter.specs.declared.launching.Plan.{Plan}
 use Rattle.tb_debug_adapter.specs.declared.session.Session.{Session}
-use Rattle.tb_debug_adapter.specs.declared.session.Stage.{Stage}
 use Rattle.tb_debug_adapter.specs.declared.session.Stage.TheVariants.{Started}
 use Rattle.tb_debug_adapter.specs.declared.stops.Stop.{Stop}
 

@@ -4,52 +4,52 @@ use std::test::Fail;
 use tb_command_line::{Failure, job, room_for_screen};
 
 /// Words, and the job that they become.
-static JOBS: [(&[&str], &str); 63] = [
+static JOBS: [(&[&str], &str); 54] = [
     (
         &["build", "a", "b"],
-        "Ok(Build { source: \"a\", out: \"b\", seed: 1, fit: false, notation: Plain, beside: BuildExtras { labels: None, listing: None, dialect: None, map: None, watch: None } })",
+        "Ok(Build { source: \"a\", out: \"b\", seed: 1, fit: false, beside: BuildExtras { labels: None, listing: None, dialect: None, map: None, watch: None } })",
     ),
     (
         &["build", "f.d/a.bas"],
-        "Ok(Build { source: \"f.d/a.bas\", out: \"f.d/a.prg\", seed: 1, fit: false, notation: Plain, beside: BuildExtras { labels: None, listing: None, dialect: None, map: None, watch: None } })",
+        "Ok(Build { source: \"f.d/a.bas\", out: \"f.d/a.prg\", seed: 1, fit: false, beside: BuildExtras { labels: None, listing: None, dialect: None, map: None, watch: None } })",
     ),
     (
         &["build", "a.BAS"],
-        "Ok(Build { source: \"a.BAS\", out: \"a.BAS.prg\", seed: 1, fit: false, notation: Plain, beside: BuildExtras { labels: None, listing: None, dialect: None, map: None, watch: None } })",
+        "Ok(Build { source: \"a.BAS\", out: \"a.BAS.prg\", seed: 1, fit: false, beside: BuildExtras { labels: None, listing: None, dialect: None, map: None, watch: None } })",
     ),
     (
         &["build", "a"],
-        "Ok(Build { source: \"a\", out: \"a.prg\", seed: 1, fit: false, notation: Plain, beside: BuildExtras { labels: None, listing: None, dialect: None, map: None, watch: None } })",
+        "Ok(Build { source: \"a\", out: \"a.prg\", seed: 1, fit: false, beside: BuildExtras { labels: None, listing: None, dialect: None, map: None, watch: None } })",
     ),
     (
         &["build", "-"],
-        "Ok(Build { source: \"-\", out: \"-\", seed: 1, fit: false, notation: Plain, beside: BuildExtras { labels: None, listing: None, dialect: None, map: None, watch: None } })",
+        "Ok(Build { source: \"-\", out: \"-\", seed: 1, fit: false, beside: BuildExtras { labels: None, listing: None, dialect: None, map: None, watch: None } })",
     ),
     (
         &["build", "a", "-o", "b"],
-        "Ok(Build { source: \"a\", out: \"b\", seed: 1, fit: false, notation: Plain, beside: BuildExtras { labels: None, listing: None, dialect: None, map: None, watch: None } })",
+        "Ok(Build { source: \"a\", out: \"b\", seed: 1, fit: false, beside: BuildExtras { labels: None, listing: None, dialect: None, map: None, watch: None } })",
     ),
     (
         &["build", "-ob", "-"],
-        "Ok(Build { source: \"-\", out: \"b\", seed: 1, fit: false, notation: Plain, beside: BuildExtras { labels: None, listing: None, dialect: None, map: None, watch: None } })",
+        "Ok(Build { source: \"-\", out: \"b\", seed: 1, fit: false, beside: BuildExtras { labels: None, listing: None, dialect: None, map: None, watch: None } })",
     ),
     (
         &["build", "--seed", "65535", "a", "b"],
-        "Ok(Build { source: \"a\", out: \"b\", seed: 65535, fit: false, notation: Plain, beside: BuildExtras { labels: None, listing: None, dialect: None, map: None, watch: None } })",
+        "Ok(Build { source: \"a\", out: \"b\", seed: 65535, fit: false, beside: BuildExtras { labels: None, listing: None, dialect: None, map: None, watch: None } })",
     ),
     (
         &[
             "build", "a", "b", "--map=m", "--labels", "v", "--watch", "w", "--list", "s",
         ],
-        "Ok(Build { source: \"a\", out: \"b\", seed: 1, fit: false, notation: Plain, beside: BuildExtras { labels: Some(\"v\"), listing: Some(\"s\"), dialect: None, map: Some(\"m\"), watch: Some(\"w\") } })",
+        "Ok(Build { source: \"a\", out: \"b\", seed: 1, fit: false, beside: BuildExtras { labels: Some(\"v\"), listing: Some(\"s\"), dialect: None, map: Some(\"m\"), watch: Some(\"w\") } })",
     ),
     (
         &["build", "--fit", "a", "b"],
-        "Ok(Build { source: \"a\", out: \"b\", seed: 1, fit: true, notation: Plain, beside: BuildExtras { labels: None, listing: None, dialect: None, map: None, watch: None } })",
+        "Ok(Build { source: \"a\", out: \"b\", seed: 1, fit: true, beside: BuildExtras { labels: None, listing: None, dialect: None, map: None, watch: None } })",
     ),
     (
         &["run", "a"],
-        "Ok(Run { what: Source(\"a\"), settings: Settings { seed: 1, fit: false, notation: Plain, keys: Digits(\"\"), answers: \"\", limit: Limit { events: 10000000 } }, rude: None, labels: None })",
+        "Ok(Run { what: Source(\"a\"), settings: Settings { seed: 1, fit: false, keys: Digits(\"\"), answers: \"\", limit: Limit { events: 10000000 } }, rude: None, labels: None })",
     ),
     (
         &[
@@ -63,37 +63,37 @@ static JOBS: [(&[&str], &str); 63] = [
             "--rude",
             "65535",
         ],
-        "Ok(Run { what: Source(\"a\"), settings: Settings { seed: 1, fit: false, notation: Plain, keys: Digits(\"330d\"), answers: \"00\", limit: Limit { events: 1000000000 } }, rude: Some(65535), labels: None })",
+        "Ok(Run { what: Source(\"a\"), settings: Settings { seed: 1, fit: false, keys: Digits(\"330d\"), answers: \"00\", limit: Limit { events: 1000000000 } }, rude: Some(65535), labels: None })",
     ),
     (
         &["run", "--prg", "p", "--seed", "0", "--limit", "1"],
-        "Ok(Run { what: Prg(\"p\"), settings: Settings { seed: 0, fit: false, notation: Plain, keys: Digits(\"\"), answers: \"\", limit: Limit { events: 1 } }, rude: None, labels: None })",
+        "Ok(Run { what: Prg(\"p\"), settings: Settings { seed: 0, fit: false, keys: Digits(\"\"), answers: \"\", limit: Limit { events: 1 } }, rude: None, labels: None })",
     ),
     (
         &["run", "--prg", "p", "--labels", "v"],
-        "Ok(Run { what: Prg(\"p\"), settings: Settings { seed: 1, fit: false, notation: Plain, keys: Digits(\"\"), answers: \"\", limit: Limit { events: 10000000 } }, rude: None, labels: Some(\"v\") })",
+        "Ok(Run { what: Prg(\"p\"), settings: Settings { seed: 1, fit: false, keys: Digits(\"\"), answers: \"\", limit: Limit { events: 10000000 } }, rude: None, labels: Some(\"v\") })",
     ),
     (
         &["run", "a", "--keys-file", "k", "--answers", "03"],
-        "Ok(Run { what: Source(\"a\"), settings: Settings { seed: 1, fit: false, notation: Plain, keys: File(\"k\"), answers: \"03\", limit: Limit { events: 10000000 } }, rude: None, labels: None })",
+        "Ok(Run { what: Source(\"a\"), settings: Settings { seed: 1, fit: false, keys: File(\"k\"), answers: \"03\", limit: Limit { events: 10000000 } }, rude: None, labels: None })",
     ),
     (
         &["play", "a"],
-        "Ok(Play { what: Source(\"a\"), seed: 1, fit: false, notation: Plain, limit: Limit { events: 1000000000 }, record: None, screen: false })",
+        "Ok(Play { what: Source(\"a\"), seed: 1, fit: false, limit: Limit { events: 1000000000 }, record: None, screen: false })",
     ),
     (
         &[
             "play", "--prg=p", "--seed", "9", "--limit", "5", "--record", "r",
         ],
-        "Ok(Play { what: Prg(\"p\"), seed: 9, fit: false, notation: Plain, limit: Limit { events: 5 }, record: Some(\"r\"), screen: false })",
+        "Ok(Play { what: Prg(\"p\"), seed: 9, fit: false, limit: Limit { events: 5 }, record: Some(\"r\"), screen: false })",
     ),
     (
         &["play", "a", "--fit"],
-        "Ok(Play { what: Source(\"a\"), seed: 1, fit: true, notation: Plain, limit: Limit { events: 1000000000 }, record: None, screen: false })",
+        "Ok(Play { what: Source(\"a\"), seed: 1, fit: true, limit: Limit { events: 1000000000 }, record: None, screen: false })",
     ),
     (
         &["play", "--screen", "a"],
-        "Ok(Play { what: Source(\"a\"), seed: 1, fit: false, notation: Plain, limit: Limit { events: 1000000000 }, record: None, screen: true })",
+        "Ok(Play { what: Source(\"a\"), seed: 1, fit: false, limit: Limit { events: 1000000000 }, record: None, screen: true })",
     ),
     (
         &["asm", "a", "b", "--at", "c00"],
@@ -134,11 +134,11 @@ static JOBS: [(&[&str], &str); 63] = [
     ),
     (
         &["build", "a", "b", "--list", "s", "--for", "xa"],
-        "Ok(Build { source: \"a\", out: \"b\", seed: 1, fit: false, notation: Plain, beside: BuildExtras { labels: None, listing: Some(\"s\"), dialect: Some(Xa), map: None, watch: None } })",
+        "Ok(Build { source: \"a\", out: \"b\", seed: 1, fit: false, beside: BuildExtras { labels: None, listing: Some(\"s\"), dialect: Some(Xa), map: None, watch: None } })",
     ),
     (
         &["debug", "a"],
-        "Ok(Debug { what: Source(\"a\"), settings: Settings { seed: 1, fit: false, notation: Plain, keys: Digits(\"\"), answers: \"\", limit: Limit { events: 10000000 } }, rude: None, labels: None })",
+        "Ok(Debug { what: Source(\"a\"), settings: Settings { seed: 1, fit: false, keys: Digits(\"\"), answers: \"\", limit: Limit { events: 10000000 } }, rude: None, labels: None })",
     ),
     (
         &[
@@ -151,19 +151,19 @@ static JOBS: [(&[&str], &str); 63] = [
             "--limit",
             "9",
         ],
-        "Ok(Debug { what: Source(\"a\"), settings: Settings { seed: 1, fit: false, notation: Plain, keys: File(\"k\"), answers: \"\", limit: Limit { events: 9 } }, rude: Some(7), labels: None })",
+        "Ok(Debug { what: Source(\"a\"), settings: Settings { seed: 1, fit: false, keys: File(\"k\"), answers: \"\", limit: Limit { events: 9 } }, rude: Some(7), labels: None })",
     ),
     (
         &["debug", "--prg", "a", "--type", "b"],
-        "Ok(Debug { what: Prg(\"a\"), settings: Settings { seed: 1, fit: false, notation: Plain, keys: Text(\"b\"), answers: \"\", limit: Limit { events: 10000000 } }, rude: None, labels: None })",
+        "Ok(Debug { what: Prg(\"a\"), settings: Settings { seed: 1, fit: false, keys: Text(\"b\"), answers: \"\", limit: Limit { events: 10000000 } }, rude: None, labels: None })",
     ),
     (
         &["debug", "--labels=v", "--prg=a"],
-        "Ok(Debug { what: Prg(\"a\"), settings: Settings { seed: 1, fit: false, notation: Plain, keys: Digits(\"\"), answers: \"\", limit: Limit { events: 10000000 } }, rude: None, labels: Some(\"v\") })",
+        "Ok(Debug { what: Prg(\"a\"), settings: Settings { seed: 1, fit: false, keys: Digits(\"\"), answers: \"\", limit: Limit { events: 10000000 } }, rude: None, labels: Some(\"v\") })",
     ),
     (
         &["profile", "a"],
-        "Ok(Profile { what: Source(\"a\"), settings: Settings { seed: 1, fit: false, notation: Plain, keys: Digits(\"\"), answers: \"\", limit: Limit { events: 10000000 } }, rude: None, html: None })",
+        "Ok(Profile { what: Source(\"a\"), settings: Settings { seed: 1, fit: false, keys: Digits(\"\"), answers: \"\", limit: Limit { events: 10000000 } }, rude: None, html: None })",
     ),
     (
         &[
@@ -177,11 +177,11 @@ static JOBS: [(&[&str], &str); 63] = [
             "--limit",
             "9",
         ],
-        "Ok(Profile { what: Source(\"a\"), settings: Settings { seed: 1, fit: false, notation: Plain, keys: File(\"k\"), answers: \"\", limit: Limit { events: 9 } }, rude: Some(7), html: Some(\"p\") })",
+        "Ok(Profile { what: Source(\"a\"), settings: Settings { seed: 1, fit: false, keys: File(\"k\"), answers: \"\", limit: Limit { events: 9 } }, rude: Some(7), html: Some(\"p\") })",
     ),
     (
         &["profile", "--prg=a", "--rude", "7"],
-        "Ok(Profile { what: Prg(\"a\"), settings: Settings { seed: 1, fit: false, notation: Plain, keys: Digits(\"\"), answers: \"\", limit: Limit { events: 10000000 } }, rude: Some(7), html: None })",
+        "Ok(Profile { what: Prg(\"a\"), settings: Settings { seed: 1, fit: false, keys: Digits(\"\"), answers: \"\", limit: Limit { events: 10000000 } }, rude: Some(7), html: None })",
     ),
     (
         &["disk", "o", "a"],
@@ -197,7 +197,7 @@ static JOBS: [(&[&str], &str); 63] = [
     ),
     (
         &["check", "a"],
-        "Ok(Check { sources: [\"a\"], fit: false, notation: Plain })",
+        "Ok(Check { sources: [\"a\"], fit: false })",
     ),
     (
         &["format", "a"],
@@ -227,57 +227,27 @@ static JOBS: [(&[&str], &str); 63] = [
         ],
         "Ok(Renumber { source: \"a\", first: 1, step: 32767, in_place: true })",
     ),
-    (
-        &["build", "--petscii", "a"],
-        "Ok(Build { source: \"a\", out: \"a.prg\", seed: 1, fit: false, notation: Petscii, beside: BuildExtras { labels: None, listing: None, dialect: None, map: None, watch: None } })",
-    ),
-    (
-        &["run", "a", "--petscii", "--fit"],
-        "Ok(Run { what: Source(\"a\"), settings: Settings { seed: 1, fit: true, notation: Petscii, keys: Digits(\"\"), answers: \"\", limit: Limit { events: 10000000 } }, rude: None, labels: None })",
-    ),
-    (
-        &["play", "a", "--petscii", "--screen"],
-        "Ok(Play { what: Source(\"a\"), seed: 1, fit: false, notation: Petscii, limit: Limit { events: 1000000000 }, record: None, screen: true })",
-    ),
-    (
-        &["step", "--petscii", "a"],
-        "Ok(Step { what: Source(\"a\"), settings: Settings { seed: 1, fit: false, notation: Petscii, keys: Digits(\"\"), answers: \"\", limit: Limit { events: 10000000 } } })",
-    ),
-    (
-        &["debug", "a", "--petscii"],
-        "Ok(Debug { what: Source(\"a\"), settings: Settings { seed: 1, fit: false, notation: Petscii, keys: Digits(\"\"), answers: \"\", limit: Limit { events: 10000000 } }, rude: None, labels: None })",
-    ),
-    (
-        &["profile", "a", "--petscii"],
-        "Ok(Profile { what: Source(\"a\"), settings: Settings { seed: 1, fit: false, notation: Petscii, keys: Digits(\"\"), answers: \"\", limit: Limit { events: 10000000 } }, rude: None, html: None })",
-    ),
-    (
-        &["check", "--petscii", "a"],
-        "Ok(Check { sources: [\"a\"], fit: false, notation: Petscii })",
-    ),
-    (&["lsp", "--petscii"], "Ok(Lsp { notation: Petscii })"),
-    (&["dap", "--petscii"], "Ok(Dap { notation: Petscii })"),
-    (&["lsp"], "Ok(Lsp { notation: Plain })"),
-    (&["dap"], "Ok(Dap { notation: Plain })"),
+    (&["lsp"], "Ok(Lsp)"),
+    (&["dap"], "Ok(Dap)"),
     (
         &["check", "a", "b", "--", "-c"],
-        "Ok(Check { sources: [\"a\", \"b\", \"-c\"], fit: false, notation: Plain })",
+        "Ok(Check { sources: [\"a\", \"b\", \"-c\"], fit: false })",
     ),
     (
         &["step", "a", "--fit", "--seed", "2"],
-        "Ok(Step { what: Source(\"a\"), settings: Settings { seed: 2, fit: true, notation: Plain, keys: Digits(\"\"), answers: \"\", limit: Limit { events: 10000000 } } })",
+        "Ok(Step { what: Source(\"a\"), settings: Settings { seed: 2, fit: true, keys: Digits(\"\"), answers: \"\", limit: Limit { events: 10000000 } } })",
     ),
     (
         &["step", "--prg", "a", "--seed", "2", "--fit", "--type", "b"],
-        "Ok(Step { what: Prg(\"a\"), settings: Settings { seed: 2, fit: true, notation: Plain, keys: Text(\"b\"), answers: \"\", limit: Limit { events: 10000000 } } })",
+        "Ok(Step { what: Prg(\"a\"), settings: Settings { seed: 2, fit: true, keys: Text(\"b\"), answers: \"\", limit: Limit { events: 10000000 } } })",
     ),
     (
         &["step", "a"],
-        "Ok(Step { what: Source(\"a\"), settings: Settings { seed: 1, fit: false, notation: Plain, keys: Digits(\"\"), answers: \"\", limit: Limit { events: 10000000 } } })",
+        "Ok(Step { what: Source(\"a\"), settings: Settings { seed: 1, fit: false, keys: Digits(\"\"), answers: \"\", limit: Limit { events: 10000000 } } })",
     ),
     (
         &["step", "--keys-file=k", "a"],
-        "Ok(Step { what: Source(\"a\"), settings: Settings { seed: 1, fit: false, notation: Plain, keys: File(\"k\"), answers: \"\", limit: Limit { events: 10000000 } } })",
+        "Ok(Step { what: Source(\"a\"), settings: Settings { seed: 1, fit: false, keys: File(\"k\"), answers: \"\", limit: Limit { events: 10000000 } } })",
     ),
     (
         &[
@@ -292,18 +262,16 @@ static JOBS: [(&[&str], &str); 63] = [
             "--seed",
             "7",
         ],
-        "Ok(Step { what: Source(\"a\"), settings: Settings { seed: 7, fit: false, notation: Plain, keys: Digits(\"31\"), answers: \"03\", limit: Limit { events: 5 } } })",
+        "Ok(Step { what: Source(\"a\"), settings: Settings { seed: 7, fit: false, keys: Digits(\"31\"), answers: \"03\", limit: Limit { events: 5 } } })",
     ),
 ];
 
 /// Words that are refused.
-static REFUSED: [&[&str]; 55] = [
+static REFUSED: [&[&str]; 53] = [
     &["renumber", "a", "--from", "0"],
     &["renumber", "a", "--step", "32768"],
     &["renumber", "--in-place"],
     &["format"],
-    &["format", "a", "--petscii"],
-    &["run", "a", "--petscii=yes"],
     &["format", "a", "--check", "--in-place"],
     &[],
     &["run", "a", "--fit=yes"],
@@ -320,8 +288,6 @@ static REFUSED: [&[&str]; 55] = [
     &["debug", "a", "--labels", "v"],
     &["step", "--prg", "p", "--labels", "v"],
     &["profile", "--prg", "p", "--labels", "v"],
-    &["assemble", "a", "--long=yes"],
-    &["asm", "a", "b", "--at", "c000", "--long"],
     &["run", "a", "--limit", "0"],
     &["run", "a", "--limit", "1000000001"],
     &["run", "a", "--seed", "65536"],
@@ -331,6 +297,8 @@ static REFUSED: [&[&str]; 55] = [
     &["asm", "a", "--at", "c000"],
     &["assemble"],
     &["assemble", "a", "b", "-o", "c"],
+    &["assemble", "a", "--long=yes"],
+    &["asm", "a", "b", "--at", "c000", "--long"],
     &["dis"],
     &["build"],
     &["build", "a", "b", "c"],
@@ -423,13 +391,14 @@ fn help_is_shown(rt: HostRuntime) -> Result<(), Fail> {
 fn failures_have_their_texts(rt: HostRuntime) -> Result<(), Fail> {
     let text = String::from_str(rt.alloc(), "error: no\n")?;
     let path = String::from_str(rt.alloc(), "b.bas")?;
-    let rows: [(Failure, u8, &[u8]); 10] = [
+    let rows: [(Failure, u8, &[u8]); 11] = [
         (Failure::Words(text), 2, b"error: no\n"),
         (Failure::NotUtf8, 2, b"tbc: an argument is not UTF-8\n"),
         (Failure::BadKeys, 2, b"tbc: bad key list\n"),
         (Failure::BadAddress, 2, b"tbc: bad address\n"),
         (Failure::SameFile, 2, b"tbc: same file twice\n"),
         (Failure::IsSource(path), 2, b"tbc: b.bas is a source\n"),
+        (Failure::BadLabels(7), 1, b"tbc: bad labels\n"),
         (Failure::NoTerminal, 2, b"tbc: not a terminal\n"),
         (
             Failure::SmallTerminal,

@@ -3,25 +3,26 @@ use crate::ending::Ending;
 use crate::host::Host;
 use std::io;
 use std::rt::Files;
-use tb_assembly_engine::{TextFailure, TextNames, assemble_source};
+use tb_assembly_engine::{Manner, TextFailure, TextNames, assemble_source};
 use tb_command_line::Failure;
 use tb_driver::{Tracked, address, write_output};
 
 /// The address of the first byte, if neither the words nor the text say it.
 const USUAL_ADDRESS: u16 = 0xc000;
 
-/// Assembles a text's file.
+/// Assembles a text's file, with long branches where they are wanted.
 pub fn assemble<R: Files + Print + Input + AllocGlobal>(
     host: &mut Host<'_, R>,
     text: &str,
     at: Option<&str>,
+    long: bool,
     names: TextNames<'_>,
 ) -> Result<Ending, Failure> {
     let at = match at {
         Some(at) => address(at).ok_or(Failure::BadAddress)?,
         None => USUAL_ADDRESS,
     };
-    match assemble_source(host.rt.alloc(), host, text, at, names) {
+    match assemble_source(host.rt.alloc(), host, text, Manner { at, long }, names) {
         Ok(()) => Ok(Ending::Text(None)),
         Err(TextFailure::SameFile) => Err(Failure::SameFile),
         Err(TextFailure::IsSource(path)) => Err(Failure::IsSource(path)),

@@ -10,6 +10,7 @@ use tb_debug_engine::{Rom, Setting, debug, debug_prg};
 use tb_driver::{Outcome, Tracked, read_input, without_input};
 use tb_file_engine::opened;
 use tb_kernal::Keyboard;
+use tb_labels::Label;
 
 /// How a program is debugged.
 pub fn setting_of(settings: &Settings, rude: Option<u16>, prompts: bool) -> Setting {
@@ -46,10 +47,11 @@ pub fn debug_source<R: Files + Clock + Print + Eprint + Input + AllocGlobal>(
     }
 }
 
-/// Debugs a PRG file.
+/// Debugs a PRG file, with these labels.
 pub fn debug_file<R: Files + Clock + Print + Eprint + Input + AllocGlobal>(
     host: &mut Host<'_, R>,
     path: &str,
+    labels: &[Label],
     keyboard: Keyboard,
     setting: Setting,
 ) -> Outcome {
@@ -62,6 +64,7 @@ pub fn debug_file<R: Files + Clock + Print + Eprint + Input + AllocGlobal>(
         Ok(prg) => debug_prg(
             rt.alloc(),
             prg.as_slice(),
+            labels,
             keyboard,
             setting,
             &mut Tracked::new(rt.reader()),

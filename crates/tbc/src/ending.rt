@@ -17,6 +17,8 @@ pub enum Ending {
     Report(Report),
     /// A run, with what its machine told at the end.
     Run(NotedRun),
+    /// The run of a PRG file, and the name of the place where it stopped, if it has one.
+    Prg(Report, Option<String>),
     /// The making of a disk.
     Disk(DiskOutcome),
     /// A check of sources.
@@ -38,6 +40,7 @@ impl Ending {
     pub fn status(&self) -> u8 {
         match self {
             Ending::Report(report) | Ending::Run(NotedRun { report, .. }) => report.status(),
+            Ending::Prg(report, _) => report.status(),
             Ending::Disk(outcome) => outcome.status(),
             Ending::Check(outcome) => outcome.status(),
             Ending::Format(outcome) => outcome.status(),
@@ -70,6 +73,7 @@ impl fmt::Display for Ending {
     fn fmt<W: fmt::Write>(&self, f: &mut fmt::Formatter<W>) -> fmt::Result {
         match self {
             Ending::Report(report) | Ending::Run(NotedRun { report, .. }) => report.fmt(f),
+            Ending::Prg(report, _) => report.fmt(f),
             Ending::Disk(DiskOutcome::Done) => Ok(()),
             Ending::Disk(outcome) => writeln!(f, "tbc: {outcome}"),
             Ending::Check(CheckOutcome::Accepted | CheckOutcome::Refused) => Ok(()),

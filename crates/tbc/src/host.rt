@@ -95,6 +95,15 @@ impl<'a, R> Host<'a, R> {
     }
 }
 
+impl<R> Host<'_, R> {
+    /// The file that was asked for last is one of what is typed.
+    pub fn asked_for_keys(&mut self) {
+        if let Some(asked) = &mut self.last {
+            asked.purpose = Purpose::Keys;
+        }
+    }
+}
+
 impl<R: AllocGlobal> Host<'_, R> {
     fn asks(&mut self, path: &str, purpose: Purpose, error: Option<io::ErrorKind>) {
         self.last = match String::from_str(self.rt.alloc(), path) {

@@ -8,6 +8,7 @@ mod ending;
 mod formatting;
 mod hinting;
 mod host;
+mod labelling;
 mod noting;
 mod places;
 mod playing;

@@ -8,21 +8,20 @@ use tb_command_line::Job;
 use tb_file_reasons::{FileNote, Purpose, Told, file_reason, first_clash};
 use tb_files::{FileSystem, Named, STANDARD};
 
-/// Says why the file that was asked for last could not be read or written; it was wanted for another purpose if one is
-/// named. Nothing if that is not known.
-pub fn file_note<R: Files + Eprint>(host: &Host<'_, R>, purpose: Option<Purpose>) {
+/// Says why the file that was asked for last could not be read or written. Nothing if that is not known.
+pub fn file_note<R: Files + Eprint>(host: &Host<'_, R>) {
     if let Some(file) = &host.last {
-        note_file(host.rt, file, purpose.unwrap_or(file.purpose));
+        note_file(host.rt, file);
     }
 }
 
-fn note_file<R: Files + Eprint>(rt: &R, file: &Asked, purpose: Purpose) {
+fn note_file<R: Files + Eprint>(rt: &R, file: &Asked) {
     let told = match file.error {
         Some(error) => failed(error),
         None if file.purpose == Purpose::Output => return,
         None => told(rt, file.path.as_str()),
     };
-    note_told(rt, file.path.as_str(), purpose, told);
+    note_told(rt, file.path.as_str(), file.purpose, told);
 }
 
 // Of standard input and standard output nothing is known.

@@ -5,6 +5,7 @@ use crate::debugging::{debug_file, debug_source, setting_of};
 use crate::ending::Ending;
 use crate::formatting::format_file;
 use crate::host::Host;
+use crate::labelling::{labels_in, named_place};
 use crate::playing::{Playing, play};
 use crate::profiling::profile;
 use crate::reading::{settings_of, size_limit};
@@ -25,8 +26,9 @@ use tb_driver::{
 use tb_file_engine::{BuildNames, assemble_file, build_file, disk_file, opened};
 use tb_files::{Barred, may_write};
 use tb_kernal::{Keyboard, Outside, Quiet, Rude};
+use tb_labels::Label;
 use tb_renumber_engine::Numbering;
-use tb_run_notes::{NotedRun, run_noted, run_prg_watched};
+use tb_run_notes::{PrgRun, run_noted, run_prg_watched};
 
 /// Does what the words ask for, if the files that are to be written may be. A prompt is shown before a debugger's command
 /// where that is wanted.
@@ -53,7 +55,8 @@ fn run_job<R: Files + Env + Clock + Print + Eprint + Input + AllocGlobal>(
             what,
             settings,
             rude,
-        } => Ending::Run(run_beside(host, what, settings, *rude)?),
+            labels,
+        } => run_beside(host, what, settings, *rude, name_of(labels))?,
         Job::Play {
             what,
             seed,
@@ -81,7 +84,8 @@ fn run_job<R: Files + Env + Clock + Print + Eprint + Input + AllocGlobal>(
             what,
             settings,
             rude,
-        } => debug_beside(host, what, settings, *rude, prompts)?,
+            labels,
+        } => debug_beside(host, what, settings, *rude, name_of(labels), prompts)?,
         Job::Step { what, settings } => Ending::Report(step_file(host, what, settings)?),
         Job::Build { .. }
         | Job::Asm { .. }
@@ -116,6 +120,7 @@ fn other_job<R: Files + Print + Input + AllocGlobal>(
             text,
             out,
             at,
+            long,
             labels,
             listing,
         } => {
@@ -124,7 +129,7 @@ fn other_job<R: Files + Print + Input + AllocGlobal>(
                 labels: name_of(labels),
                 listing: name_of(listing),
             };
-            assemble(host, text, name_of(at), names)
+            assemble(host, text, name_of(at), *long, names)
         }
         Job::Dis { prg, dialect } => Ok(plain_ending(rt, list_file(host, prg, *dialect))),
         Job::Disk { out, files } => {
@@ -221,11 +226,14 @@ fn run_beside<R: Files + Clock + Print + Eprint + Input + AllocGlobal>(
     what: &Runnable,
     settings: &Settings,
     rude: Option<u16>,
-) -> Result<NotedRun, Failure> {
+    labels: Option<&str>,
+) -> Result<Ending, Failure> {
     let keyboard = keyboard(host, settings)?;
+    let labels = labels_in(host, labels)?;
+    let labels = labels.as_slice();
     Ok(match rude {
-        Some(rude) => run_file(host, what, settings, keyboard, &mut Rude::new(rude)),
-        None => run_file(host, what, settings, keyboard, &mut Quiet),
+        Some(rude) => run_file(host, what, settings, keyboard, &mut Rude::new(rude), labels),
+        None => run_file(host, what, settings, keyboard, &mut Quiet, labels),
     })
 }
 
@@ -252,9 +260,11 @@ fn debug_beside<R: Files + Clock + Print + Eprint + Input + AllocGlobal>(
     what: &Runnable,
     settings: &Settings,
     rude: Option<u16>,
+    labels: Option<&str>,
     prompts: bool,
 ) -> Result<Ending, Failure> {
     let keyboard = keyboard(host, settings)?;
+    let labels = labels_in(host, labels)?;
     let setting = setting_of(settings, rude, prompts);
     let outcome = match what {
         Runnable::Source(source) => debug_source(
@@ -264,7 +274,7 @@ fn debug_beside<R: Files + Clock + Print + Eprint + Input + AllocGlobal>(
             keyboard,
             setting,
         ),
-        Runnable::Prg(prg) => debug_file(host, prg.as_str(), keyboard, setting),
+        Runnable::Prg(prg) => debug_file(host, prg.as_str(), labels.as_slice(), keyboard, setting),
     };
     Ok(plain_ending(host.rt, outcome))
 }
@@ -297,7 +307,9 @@ fn keys_in<R: Files + Print + Input + AllocGlobal>(
     host: &mut Host<'_, R>,
     path: &str,
 ) -> Result<Vec<u8>, Failure> {
-    let mut file = opened(host, path).map_err(of_file)?;
+    let opened = opened(host, path);
+    host.asked_for_keys();
+    let mut file = opened.map_err(of_file)?;
     read_key_file(host.rt.alloc(), &mut file).map_err(of_key_file)
 }
 
@@ -316,8 +328,8 @@ fn of_key_file(error: KeyFileError) -> Failure {
     }
 }
 
-// Why a key file was not opened.
-fn of_file(outcome: Outcome) -> Failure {
+/// Why a key file or a label file was not opened.
+pub fn of_file(outcome: Outcome) -> Failure {
     match outcome {
         Outcome::NoMemory => Failure::NoMemory,
         _ => Failure::ReadFault,
@@ -331,30 +343,26 @@ fn show<R: Print>(rt: &R, text: &str) -> Outcome {
     }
 }
 
-// A run of which nothing more is told.
-fn untold(report: Report) -> NotedRun {
-    NotedRun { report, note: None }
-}
-
 fn run_file<R: Files + Clock + Print + Eprint + Input + AllocGlobal, O: Outside>(
     host: &mut Host<'_, R>,
     what: &Runnable,
     settings: &Settings,
     keyboard: Keyboard,
     outside: &mut O,
-) -> NotedRun {
+    labels: &[Label],
+) -> Ending {
     let (Runnable::Source(path) | Runnable::Prg(path)) = what;
     let rt = host.rt;
     let mut file = match opened(host, path.as_str()) {
         Ok(file) => file,
-        Err(outcome) => return untold(plain(rt, outcome)),
+        Err(outcome) => return plain_ending(rt, outcome),
     };
     let mut screen = Tracked::new(io::writer(rt));
     let alloc = rt.alloc();
     let limit = u64::from(settings.limit.events);
     match what {
         Runnable::Source(_) => {
-            run_noted(
+            Ending::Run(run_noted(
                 alloc,
                 &mut file,
                 &mut screen,
@@ -363,10 +371,10 @@ fn run_file<R: Files + Clock + Print + Eprint + Input + AllocGlobal, O: Outside>
                 limit,
                 outside,
                 &mut Progress::new(rt, limit, host.notes),
-            )
+            ))
         }
         Runnable::Prg(_) => {
-            let outcome = run_prg_watched(
+            let PrgRun { outcome, place } = run_prg_watched(
                 alloc,
                 &mut file,
                 &mut screen,
@@ -375,7 +383,11 @@ fn run_file<R: Files + Clock + Print + Eprint + Input + AllocGlobal, O: Outside>
                 outside,
                 &mut Progress::new(rt, limit, host.notes),
             );
-            untold(plain(rt, outcome))
+            let place = match place {
+                Some(address) => named_place(rt, labels, address),
+                None => None,
+            };
+            Ending::Prg(plain(rt, outcome), place)
         }
     }
 }

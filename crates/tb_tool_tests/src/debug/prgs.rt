@@ -115,6 +115,7 @@ fn debugged<R: Read, W: Write>(
     debug_prg(
         alloc,
         file,
+        &[],
         no_keys(alloc),
         setting,
         reader,

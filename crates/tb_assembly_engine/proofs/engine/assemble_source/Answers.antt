@@ -11,6 +11,6 @@ returns g c =
     let does = g.F.FileSystem.does in
     let h = c.read_and_assemble.new.files in
     let a = c.in_ok-made.made in
-    something leads does c.args.files.now c.write.new.files c.args.at c.args.names h a _ _ c.write.result
+    something leads does c.args.files.now c.write.new.files c.args.manner c.args.names h a _ _ c.write.result
     (ap (map string_bytes) c.new-2.ensures.items) c.in_ok-made.ensures.opens c.in_ok-made.ensures.made
     (subst (λ x. Writes leads does h (map string_bytes x) c.args.names a c.write.result c.write.new.files) c.deref.ensures.value c.write.ensures)

@@ -1,5 +1,5 @@
 -- The goals of `place_all` in src/layout.rt.
-use Rattle.std.proofs.Common.{◌≡◌, ◌+◌, ◌++◌, drop, map, sym, ap, ◌∙◌}
+use Rattle.std.proofs.Common.{◌+◌, ◌++◌, drop, map, sym, ap, ◌∙◌}
 use Rattle.tb_assembly_text.specs.Statements.{said_of}
 use Rattle.tb_assembly_meaning.specs.Places.{laid_of, layout_of, reached_from, spots_from}
 use Rattle.tb_assembly_meaning.proofs.Next.{next, place_on, reach_on}

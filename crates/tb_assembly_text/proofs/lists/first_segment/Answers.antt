@@ -1,5 +1,5 @@
 -- The goals of `first_segment` in src/lists.rt.
-use Rattle.std.proofs.Common.{◌≡◌, ◌+◌, ◌≤◌, length, map, sym, ◌∙◌, arith}
+use Rattle.std.proofs.Common.{◌≡◌, length, map, sym, ◌∙◌, arith}
 use Rattle.std.proofs.lemmas.List.{length-map}
 use Rattle.tb_assembly_text.specs.Tokens.{token_of}
 use Rattle.tb_assembly_text.proofs.Segments.{segment_ends, segment_on}

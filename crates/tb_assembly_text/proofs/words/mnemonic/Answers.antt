@@ -1,8 +1,10 @@
 -- The goals of `mnemonic` in src/words.rt.
-use Rattle.std.proofs.Common.{sym, ◌∙◌}
-use Rattle.tb_assembly_text.proofs.Named.{mnemonic_missed}
+use Rattle.std.proofs.Common.{arith}
+use Rattle.tb_assembly_text.proofs.Named.{no_mnemonic}
 use Rattle.tb_assembly_text.proofs.words.mnemonic.Goals as goal
 
-pub loop-mnemonic-preserved : goal.loop-mnemonic-preserved
-loop-mnemonic-preserved c =
-    mnemonic_missed c.args.word.now c.loop-mnemonic.mnemonic-index _ c.loop-mnemonic-test.true c.loop-mnemonic.invariant (sym c.names.ensures ∙ c.if-names.false)
+pub returns-in_default : goal.returns-in_default
+returns-in_default c = no_mnemonic c.args.word.now (λ e. omega arith)
+
+pub returns-in_default-2 : goal.returns-in_default-2
+returns-in_default-2 c = no_mnemonic c.args.word.now (λ e. omega arith)

@@ -1,0 +1,4 @@
+-- items that are the same, and where they are others
+pub mod Items
+-- the laws
+pub mod Laws

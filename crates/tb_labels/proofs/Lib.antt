@@ -1,0 +1,2 @@
+-- names are text
+pub mod Names
