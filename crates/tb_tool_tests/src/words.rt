@@ -4,7 +4,7 @@ use std::test::Fail;
 use tb_command_line::{Failure, job, room_for_screen};
 
 /// Words, and the job that they become.
-static JOBS: [(&[&str], &str); 54] = [
+static JOBS: [(&[&str], &str); 25] = [
     (
         &["build", "a", "b"],
         "Ok(Build { source: \"a\", out: \"b\", seed: 1, fit: false, beside: BuildExtras { labels: None, listing: None, dialect: None, map: None, watch: None } })",
@@ -119,6 +119,10 @@ static JOBS: [(&[&str], &str); 54] = [
         &["assemble", "-", "--list=s"],
         "Ok(Assemble { text: \"-\", out: \"-\", at: None, long: false, labels: None, listing: Some(\"s\") })",
     ),
+];
+
+/// The same, of commands that look at programs or at sources.
+static TOOL_JOBS: [(&[&str], &str); 29] = [
     (&["dis", "a"], "Ok(Dis { prg: \"a\", dialect: None })"),
     (
         &["dis", "a", "--for", "64tass"],
@@ -363,6 +367,14 @@ fn begins(alloc: Global, words: &[&str], beginning: &str) -> Result<bool, Fail> 
 #[test]
 fn words_become_jobs(rt: HostRuntime) -> Result<(), Fail> {
     for &(words, wanted) in &JOBS {
+        assert!(rt; becomes(rt.alloc(), words, wanted)?, "{words:?}");
+    }
+    Ok(())
+}
+
+#[test]
+fn words_of_tools_become_jobs(rt: HostRuntime) -> Result<(), Fail> {
+    for &(words, wanted) in &TOOL_JOBS {
         assert!(rt; becomes(rt.alloc(), words, wanted)?, "{words:?}");
     }
     Ok(())
