@@ -52,11 +52,13 @@ def sibling(crate, file, name, text, pairs):
         return None
     body = applied(text[slice(*span)], pairs)
     was = re.search(r"^(?:pub(?:\(\w+\))? )?fn (\w+)", body, re.M)[1]
-    proof = crate / "proofs" / Path(file).relative_to("src").with_suffix("")
+    module = Path(file).relative_to("src").with_suffix("")
+    proof = crate / "proofs" / module
     if (proof / was).is_dir():
         shutil.copytree(proof / was, proof / name)
         for answers in (proof / name).iterdir():
-            answers.write_text(answers.read_text().replace(f".{was}.", f".{name}."))
+            within = ".".join(["", *module.parts, ""])
+            answers.write_text(answers.read_text().replace(f"{within}{was}.", f"{within}{name}."))
     body = re.sub(r"(?m)^#\[cycle\(\w+\)\]\n", "", body)  # nothing calls the copy
     return span[1], "\n" + re.sub(rf"\bfn {was}\b", f"fn {name}", body, count=1)
 
