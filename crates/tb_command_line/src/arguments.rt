@@ -40,8 +40,8 @@ pub enum Form {
     FileOption,
     /// An option that names a file, and excludes the argument of this name.
     FileInPlaceOf(&'static str),
-    /// An option that names a file, and takes the option of this name along.
-    FileWith(&'static str),
+    /// An option that names a file, takes the option of the first name along, and excludes the argument of the other.
+    FileWith(&'static str, &'static str),
     /// An option of a text, and excludes the arguments of these names.
     TextInPlaceOf(&'static [&'static str]),
     /// An option of hexadecimal digits, none if it is missing.
@@ -249,7 +249,7 @@ pub const LABELS: Argument = Argument {
 pub const PRG_LABELS: Argument = Argument {
     name: "labels",
     help: "Name the addresses of the PRG file by this label file",
-    form: Form::FileWith(PRG_NAME),
+    form: Form::FileWith(PRG_NAME, SOURCE_NAME),
 };
 
 pub const LONG: Argument = Argument {

@@ -100,7 +100,12 @@ fn clap_argument<'a>(alloc: Global, argument: &Argument) -> Result<Arg<'a>, Allo
             choice_option(plain, argument, names).requires_arg(other)
         }
         Form::FileOption => Ok(option(plain, argument, "FILE")),
-        Form::FileWith(other) => option(plain, argument, "FILE").requires_arg(other),
+        Form::FileWith(other, excluded) => {
+            without(
+                option(plain, argument, "FILE").requires_arg(other),
+                excluded,
+            )
+        }
         Form::Digits => Ok(digits_option(plain, argument)),
         Form::Address => Ok(option(plain, argument, "HEX").required(true)),
         Form::AddressIfNamed => Ok(option(plain, argument, "HEX")),
@@ -111,6 +116,15 @@ fn clap_argument<'a>(alloc: Global, argument: &Argument) -> Result<Arg<'a>, Allo
         }
         Form::EventsOr(usual) => Ok(events_option(plain, argument).default_value(usual)),
     }
+}
+
+// An argument that excludes another one. The library doesn't ask for what an option takes along if that excludes an
+// argument that is there; so the option must exclude that one too.
+fn without<'a>(
+    argument: Result<Arg<'a>, AllocError>,
+    excluded: &'static str,
+) -> Result<Arg<'a>, AllocError> {
+    argument?.conflicts_with(excluded)
 }
 
 // An option with a value of this name.
