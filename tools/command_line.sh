@@ -88,6 +88,7 @@ mkdir folder
 . "$root/tools/command_line/files.sh"
 . "$root/tools/command_line/running.sh"
 . "$root/tools/command_line/stepping.sh"
+. "$root/tools/command_line/signs.sh"
 
 echo "$rows calls of tbc, $failed other than they should be"
 [ "$failed" = 0 ]

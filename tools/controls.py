@@ -7,13 +7,19 @@ no function. One check then proves these functions, or the whole copy if somethi
 libraries as `rt ci` or `rt all check` last proved them: nothing below is proved again. Each edit of a crate with controls
 has one.
 
-    tools/controls.py [CRATE..]"""
+    tools/controls.py [--seconds N] [CRATE..]
+
+After N seconds no further crate is begun, and those that are left out are named. Which ones these are changes with each
+commit, since the crates come in an order that its name gives."""
+import hashlib
+import math
 import os
 import re
 import shutil
 import subprocess
 import sys
 import tempfile
+import time
 from concurrent.futures import ThreadPoolExecutor
 from pathlib import Path
 
@@ -150,13 +156,37 @@ def prove(crate):
     return True, f"controls: {crate}: {number} proved"
 
 
-def main():
-    crates = sys.argv[1:] or sorted(it.parent.name for it in ROOT.glob("crates/*/controls"))
+def in_order(crates, is_in_time):
+    """What takes long first; if the time may not do for all, an order that each commit changes."""
+    if is_in_time:
+        return sorted(crates, key=lambda it: -len([*(ROOT / "crates" / it / "controls").iterdir()]))
+    how = {"cwd": ROOT, "capture_output": True, "text": True}
+    commit = subprocess.run(["git", "rev-parse", "HEAD"], **how).stdout
+    return sorted(crates, key=lambda it: hashlib.sha256(f"{commit}{it}".encode()).digest())
+
+
+def prove_all(crates, end):
+    """Proves the controls of these crates, and returns whether that went well, and for which no time was left."""
+    is_well, left_out = True, []
     with ThreadPoolExecutor(len(os.sched_getaffinity(0))) as pool:
-        is_well = True
-        for each, said in pool.map(prove, crates):
-            print(said, flush=True)
-            is_well = is_well and each
+        answers = pool.map(lambda it: prove(it) if time.monotonic() < end else None, crates)
+        for crate, answer in zip(crates, answers):
+            if answer is None:
+                left_out.append(crate)
+                continue
+            print(answer[1], flush=True)
+            is_well = is_well and answer[0]
+    return is_well, left_out
+
+
+def main():
+    words, seconds = sys.argv[1:], math.inf
+    if words[:1] == ["--seconds"]:
+        seconds, words = float(words[1]), words[2:]
+    crates = words or [it.parent.name for it in ROOT.glob("crates/*/controls")]
+    is_well, left_out = prove_all(in_order(crates, seconds == math.inf), time.monotonic() + seconds)
+    if left_out:
+        print(f"controls: no time was left for those of {len(left_out)} crates: {' '.join(sorted(left_out))}")
     sys.exit(not is_well)
 
 

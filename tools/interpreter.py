@@ -1,8 +1,9 @@
 #!/usr/bin/env python3
 """An interpreter of Tiny BASIC, written from docs/LANGUAGE.md alone, with which compiled programs are compared.
 
-  tools/interpreter.py SOURCE [--keys HEX] [--answers HEX] [--seed N] [--lines N]
-      writes what the source sends as `tbc run` shows it; status 0 if it ended, 5 after N lines (a million), 6 if it waits
+  tools/interpreter.py SOURCE [--petscii] [--keys HEX] [--answers HEX] [--seed N] [--lines N]
+      writes what the source sends as `tbc run` shows it; status 0 if it ended, 5 after N lines (a million), 6 if it waits;
+      with --petscii its texts may have signs, as {clr}
   tools/interpreter.py --check
       plays each example with the keys of each of its rows (crates/tb_golden/data/compiler/programs.txt), and compares
       with the stored answer (crates/tb_golden/stdout); the cost of one that is too large is worked out as well
@@ -16,6 +17,13 @@ RELATIONS = {
     "<=": lambda a, b: a <= b, ">": lambda a, b: a > b, ">=": lambda a, b: a >= b,
 }
 CARRIAGE_RETURN, STOP, MOST_RETURNS = 13, 3, 500
+QUOTE, MOST_TIMES = 34, 255
+CONTROLS = dict(
+    blk=0x90, wht=0x05, red=0x1C, cyn=0x9F, pur=0x9C, grn=0x1E, blu=0x1F, yel=0x9E,
+    orng=0x81, brn=0x95, lred=0x96, gry1=0x97, gry2=0x98, lgrn=0x99, lblu=0x9A, gry3=0x9B,
+    clr=0x93, home=0x13, down=0x11, up=0x91, left=0x9D, rght=0x1D, rvon=0x12, rvof=0x92,
+    swlc=0x0E, swuc=0x8E, inst=0x94, **{"del": 0x14},
+)
 
 
 class Syntax(Exception):
@@ -38,14 +46,39 @@ def signed(number):
 # Reading a source. An expression is ("number", n), ("variable", v), ("negative", e), ("random", e) or (operator, e, e).
 
 
-def squeezed(line):
+def meant(sign):
+    """What a sign of a text stands for, by what is between its braces."""
+    if re.fullmatch("[0-9A-Fa-f]{2}", sign) and int(sign, 16) not in (QUOTE, CARRIAGE_RETURN):
+        return chr(int(sign, 16))
+    times, name = re.fullmatch("(?:([0-9]+) )?(.*)", sign).groups()
+    if name.lower() not in CONTROLS or not 1 <= int(times or 1) <= MOST_TIMES:
+        raise Syntax(f"{{{sign}}} is no sign")
+    return chr(CONTROLS[name.lower()]) * int(times or 1)
+
+
+def parts(line, has_signs):
+    """The bytes of a line, each with what it is shown as; with signs, a sign of a text and what it stands for."""
+    quoted = False
+    while line:
+        if has_signs and quoted and line[0] == "{":
+            sign, brace, line = line[1:].partition("}")
+            if not brace:
+                raise Syntax(f"{{{sign} has no end")
+            yield "{", meant(sign)
+            continue
+        quoted ^= line[0] == '"'
+        yield line[0], line[0].upper()
+        line = line[1:]
+
+
+def squeezed(line, has_signs=False):
     """A line without spaces, in upper case; a text keeps its spaces, and a remark is cut off after REM."""
     text, quoted = "", False
-    for sign in line:
+    for sign, shown in parts(line, has_signs):
         if sign == '"':
             quoted = not quoted
         if quoted or sign != " ":
-            text += sign.upper()
+            text += shown
         if not quoted and text.endswith("REM") and '"' not in text[-3:]:
             break
     return text
@@ -140,11 +173,11 @@ class Reader:
         raise Syntax(f"a statement is wanted at {self.text[self.at:]!r}")
 
 
-def program_of(source):
+def program_of(source, has_signs=False):
     """The statements of a source by their numbers."""
     program = {}
     for line in re.split("\r\n|\r|\n", source):
-        reader = Reader(squeezed(line))
+        reader = Reader(squeezed(line, has_signs))
         if not reader.text:
             continue
         number = int(reader.match("[0-9]+") or reader.wants("a line number"))
@@ -307,9 +340,9 @@ def host_form(sent):
     return "".join(map(shown, sent))
 
 
-def ran(path, keys=b"", answers=b"", seed=1, lines=1_000_000):
+def ran(path, keys=b"", answers=b"", seed=1, lines=1_000_000, has_signs=False):
     """How a source's run ends, and what it shows."""
-    run = Run(program_of(path.read_text("latin-1")), seed, keys, answers)
+    run = Run(program_of(path.read_text("latin-1"), has_signs), seed, keys, answers)
     ending = run.run(lines)
     return ending, host_form(run.sent)
 
@@ -345,10 +378,11 @@ def wanted_of(row):
     """The answer to a row, as a pattern; for a size, its bytes are any."""
     call, name, *keys = row.split()
     path = TOP / "examples" / f"{name}.bas"
+    has_signs = call == "signs"
     if call == "size":
         program = program_of(path.read_text())
         return f"costs {64 + sum(36 + cost(it) for it in program.values())} and takes [0-9]+ bytes\n"
-    ending, shown = ran(path, bytes.fromhex("".join(keys)))
+    ending, shown = ran(path, bytes.fromhex("".join(keys)), has_signs=has_signs)
     end = {"ended": "Done", "waits": "WaitsForKey", "goes on": "StepLimit"}[ending]
     return re.escape(f"Ended({end}), beside a rude ROM Ended({end}), the same text: true\n{shown}")
 
@@ -359,13 +393,14 @@ def check():
     answers = (GOLDEN / "stdout").read_text("latin-1")
     wrong, played = 0, set()
     for row, following in zip(rows, rows[1:]):
-        if not re.match("(run|fit|size) ", row):
+        if not re.match("(run|fit|size|signs) ", row):
             continue
         played.add(row.split()[1])
         if not re.search("\n" + re.escape(f"{row} => ") + wanted_of(row) + (re.escape(following) or "\n"), answers):
             wrong += 1
             print(f"the stored answer to {row[:60]!r} is another one than the interpreter's", file=sys.stderr)
-    for name in {path.stem for path in (TOP / "examples").glob("*.bas")} - played:
+    sources = [*(TOP / "examples").glob("*.bas"), *(TOP / "examples").glob("colour/*.bas")]
+    for name in {str(path.relative_to(TOP / "examples").with_suffix("")) for path in sources} - played:
         wrong += 1
         print(f"no row plays {name}.bas", file=sys.stderr)
     print(f"{len(played)} examples, {wrong} other than the interpreter has them")
@@ -379,6 +414,7 @@ def main():
     parser.add_argument("--answers", type=bytes.fromhex, default=b"")
     parser.add_argument("--seed", type=int, default=1)
     parser.add_argument("--lines", type=int, default=1_000_000)
+    parser.add_argument("--petscii", action="store_true")
     parser.add_argument("--check", action="store_true")
     given = parser.parse_args()
     if given.check:
@@ -386,7 +422,7 @@ def main():
     if not given.source:
         parser.error("a source is wanted")
     try:
-        ending, shown = ran(given.source, given.keys, given.answers, given.seed, given.lines)
+        ending, shown = ran(given.source, given.keys, given.answers, given.seed, given.lines, given.petscii)
     except Syntax as error:
         print(error, file=sys.stderr)
         return 1

@@ -48,7 +48,7 @@ done
 put "$root/README.md" $share/doc/tbc/README.md
 for it in "$root"/docs/pictures/*; do put "$it" "$share/doc/tbc/docs/pictures/${it##*/}"; done
 for it in "$root"/docs/*.md; do put "$it" "$share/doc/tbc/docs/${it##*/}"; done
-for it in "$root"/examples/*.bas "$root"/examples/asm/*; do put "$it" "$share/doc/tbc/${it#"$root/"}"; done
+for it in "$root"/examples/*.bas "$root"/examples/colour/* "$root"/examples/asm/*; do put "$it" "$share/doc/tbc/${it#"$root/"}"; done
 "$root/tools/debian_changelog.py" "$version" "$SOURCE_DATE_EPOCH" | packed $share/doc/tbc/changelog.gz
 text $share/doc/tbc/copyright <<'END'
 Format: https://www.debian.org/doc/packaging-manuals/copyright-format/1.0/

@@ -30,6 +30,7 @@ SECONDS = "1800"  # as many as each program of a trial run gets, also on a busy 
 KILOBYTES_SIDE_BY_SIDE = 6_000_000
 LINES = 300  # the most that a generated program takes, since a trial run is slow
 EXAMPLE_LINES = 2_000  # the most that an example takes
+OPTIONS = {"run": [], "fit": ["--fit"], "signs": ["--petscii"]}  # of a row of an example
 LIMIT = "1000000"  # of events
 # Rows of tb_golden that take long in a trial run, by how they begin: they are left to the gate.
 SLOW = ("fit startrek ", "random ", "repeated ", "check {104857", "check {99998", "cuts ", "kept ", "back_over_rude_up_to ",
@@ -147,10 +148,10 @@ def jumping_program(chance):
 def examples():
     """Each example with the keys of each of its rows, and the options that it needs."""
     for row in (GOLDEN / "data/compiler/programs.txt").read_text().splitlines():
-        found = re.match(r"(run|fit) (\w+)(.*)", row)
+        found = re.match(r"(run|fit|signs) ([\w/]+)(.*)", row)
         if found and (TOP / f"examples/{found[2]}.bas").exists():
             source = (TOP / "examples" / f"{found[2]}.bas").read_text()
-            yield found[2], source, bytes.fromhex(found[3].replace(" ", "")), ["--fit"] if found[1] == "fit" else []
+            yield found[2].replace("/", "_"), source, bytes.fromhex(found[3].replace(" ", "")), OPTIONS[found[1]]
 
 
 def generated(count):
@@ -166,7 +167,7 @@ def lay(folder, name, source, keys, options):
     path = folder / name
     path.write_text(source)
     lines = LINES if name.startswith("program_") else EXAMPLE_LINES
-    ending, shown = interpreter.ran(path, keys, b"", 1, lines)
+    ending, shown = interpreter.ran(path, keys, b"", 1, lines, "--petscii" in options)
     if ending == "goes on":
         path.unlink()
         return None
@@ -237,7 +238,7 @@ def main():
     slow = sum(it.startswith(SLOW) for it in rows())
     print(f"{slow} rows that take long in a trial run are left to `rt ci`.")
     print("Nothing here is proved. That compiled programs do what their sources mean, for every source, keyboard and ROM, is")
-    print("what `rt ci` proves, from nothing in about two hours of processor time: see docs/PROVED.md.")
+    print("what `rt ci` proves, from nothing in about four hours of processor time: see docs/PROVED.md.")
     print(f"{tally.passed} passed, {tally.failed} failed")
     return 1 if tally.failed else 0
 

@@ -1,16 +1,20 @@
 #!/usr/bin/env bash
 # Runs each command of the built program with the first, the second, .. growth of its memory refused, until a run
-# meets no refusal; of a large program, with each hundredth or so. Each run must end with status 4,
+# meets no refusal; of a large program, with each hundredth or so (refuse_each.py). Each run must end with status 4,
 # `tbc: out of memory` and nothing written (of a program that is played, debugged or profiled, its warnings and a prefix
-# of what it shows; of sources that are checked, a prefix of what is said of them; of a server, of its answers), or answer exactly what the command
-# answers with ample memory; if no growth was refused, it must not run out of memory. The same holds for the calls that
-# no command makes or shows, each a name after `tb_bench call`. The refusing malloc is preloaded, so this needs a C
-# compiler (cc) and glibc.
+# of what it shows; of sources that are checked, a prefix of what is said of them; of a server, of its answers), or
+# answer exactly what the command answers with ample memory; if no growth was refused, it must not run out of memory.
+# The same holds for the calls that no command makes or shows, each a name after `tb_bench call`. The refusing malloc is
+# preloaded, so this needs a C compiler (cc) and glibc.
+#
+#   tools/refused_growth.sh [PART OF]     (each OF-th command alone, from the PARTth on: parts can run side by side)
+part=${1:-1}
+parts=${2:-1}
 . "$(dirname "${BASH_SOURCE[0]}")/setup.sh"
 needs_program
 trials=$root/crates/tb_bench/out/tb_bench
 [ -x "$trials" ] || { echo "build the trials first: cd crates/tb_bench && rt run <stdin" >&2; exit 1; }
-needs cc
+needs cc python3
 with_step=yes
 
 cc -shared -fPIC -O1 -fno-builtin -o refuse.so -x c - <<'C'
@@ -41,88 +45,33 @@ void *calloc(unsigned long n, unsigned long m) { return refuses() ? 0 : __libc_c
 void *realloc(void *p, unsigned long n) { return refuses() ? 0 : __libc_realloc(p, n); }
 C
 
-answer() { # GROWTH PROGRAM WORD..: a run with that growth refused, with none for 0; leaves status, said, shown and out.prg
-    local growth=$1
-    shift
-    status=0
-    rm -f out.prg beside.* said shown refused
-    REFUSE=$growth LD_PRELOAD=$work/refuse.so "$@" <commands >shown 2>said 9>refused || status=$?
-}
-
-# Whether OUT, and the files that belong to it, are there as they are with ample memory.
-same_made() {
-    local name
-    if [ -e made.wanted ]; then cmp -s out.prg made.wanted; else [ ! -e out.prg ]; fi || return
-    for name in wanted_beside.*; do
-        [ ! -e "$name" ] || cmp -s "${name#wanted_}" "$name" || return
-    done
-}
-
-nothing_made() { [ ! -e out.prg ] && ! compgen -G 'beside.*' >/dev/null; }
-
-# Takes away what leaves a terminal at the end of what was shown, if that is there.
-without_closing() { sed -z -i 's/\x1b\[0m\x1b\[25;1H\r\n$//' shown; }
-
-begins() { cmp -s -n "$(stat -c %s "$1")" "$1" "$2"; } # FILE OTHER: whether it is a prefix of the other
-
-# Whether a run that ran out of memory said so and wrote nothing. A program that is played or debugged has warned and
-# shown a prefix, and so has a profile if there is no memory to open its page. A check has told of the sources before.
-is_out_of_memory() { # NAME WORD..
-    [ "$(tail -n 1 said)" = "$1: out of memory" ] && nothing_made || return
-    head -n -1 said >before
-    [ -z "${TERMINAL-}" ] || without_closing
-    case ${2-} in
-        play | debug | profile | check | lsp | dap) begins before said.wanted && begins shown shown.wanted ;;
-        *) [ ! -s before ] && [ ! -s shown ] ;;
-    esac
-}
-
+found=0
 rows=0
-runs=0
 failed=0
 stride=1 # from one growth that is refused to the next
+: >runs
 refuse_each() { # PROGRAM WORD..: what it answers, with each growth refused in turn
-    local growth wanted made want=0 again=0 name=${1##*/} words=${*:2}
     rows=$((rows + 1))
-    answer 0 "$@"
-    wanted=$status
-    if [ "$wanted" = 4 ]; then
-        echo "$name $words: out of memory though no growth was refused" >&2
-        failed=$((failed + 1))
-    fi
-    rm -f made.wanted wanted_beside.*
-    mv said said.wanted
-    mv shown shown.wanted
-    [ ! -f out.prg ] || mv out.prg made.wanted
-    for made in beside.*; do [ ! -f "$made" ] || mv "$made" "wanted_$made"; done
-    for ((growth = 1; growth < 1000000; growth += stride)); do
-        answer "$growth" "$@"
-        runs=$((runs + 1))
-        if [ "$status" = 4 ] && [ ! -s refused ]; then
-            echo "$name $words: out of memory though no growth was refused" >&2
-            failed=$((failed + 1))
-        elif [ "$status" = "$wanted" ] && cmp -s said said.wanted && cmp -s shown shown.wanted && same_made; then
-            again=$((again + 1))
-        elif [ "$status" = 4 ] && is_out_of_memory "$name" "${@:2}"; then
-            want=$((want + 1))
-        else
-            echo "$name $words: another answer at growth $growth: status $status, $(head -c 80 said)" >&2
-            failed=$((failed + 1))
-        fi
-        [ -s refused ] || break
-    done
-    echo "$name $words: status $wanted; $want times out of memory, $again times its answer"
+    "$root/tools/refuse_each.py" $stride "$@" || failed=$((failed + 1))
 }
 
-check() { refuse_each "$tbc" "$@"; } # WORD..: a command of the program
+is_of_this_part() { # whether the command that is now found is
+    found=$((found + 1))
+    ((found % parts == part % parts))
+}
+
+check() { # WORD..: a command of the program
+    ! is_of_this_part || refuse_each "$tbc" "$@"
+}
 
 check_shown() { # WORD..: the same, at a terminal
     TERMINAL=yes COLUMNS=80 LINES=25 check "$@"
 }
 
 check_call() { # NAME: a call, whose answer is a text
+    is_of_this_part || return 0
     refuse_each "$trials" call "$1"
-    [ -s shown.wanted ] || { echo "tb_bench call $1: no answer: $(<said.wanted)" >&2; failed=$((failed + 1)); }
+    [ -s shown.wanted ] || { echo "tb_bench call $1: no answer" >&2; failed=$((failed + 1)); }
 }
 
 : >commands
@@ -175,6 +124,13 @@ check run all.bas --keys 58
 check run hello.bas --answers 03
 check run bad.bas
 check run nowhere.bas
+printf '10 PRINT "{clr}{3 down}[{C1}]"\n20 INPUT A\n30 PRINT "{red}";A\n40 END\n' >signs.bas
+printf '10 PRINT "{cls}"\n20 PRINT "A{dwon}"\n30 PRINT "{!}"\n' >near.bas
+check run signs.bas --petscii --keys 330d
+check build signs.bas out.prg --petscii --labels beside.vs --list beside.s --map beside.map
+check build near.bas out.prg --petscii
+check check near.bas --petscii
+check profile signs.bas --petscii --keys 330d
 check run --prg hello.prg
 check run --prg hello.prg --rude 1
 check run --prg wrong.prg
@@ -258,15 +214,19 @@ check renumber hello.bas
 check renumber bad.bas
 check renumber hello.bas --in-place
 check renumber nowhere.bas --in-place
+check format signs.bas --petscii
+check renumber signs.bas --petscii
 while IFS= read -r content; do
     printf 'Content-Length: %d\r\n\r\n%s' "$(printf %s "$content" | wc -c)" "$content"
 done <"$root/tools/clients/dialogue.jsonl" >commands
 check lsp
+check lsp --petscii
 while IFS= read -r content; do
     content=${content//SOURCE/all.bas}
     printf 'Content-Length: %d\r\n\r\n%s' "$(printf %s "$content" | wc -c)" "$content"
 done <"$root/tools/clients/adapter.jsonl" >commands
 check dap
+check dap --petscii
 : >commands
 printf '10 FOR I=1 TO 10\n20 PRIMT "X"\n30 PRINT "Y\nEND\n' >slips.bas
 printf '10 PRINT RND(6)\n20 IF A=1 GOTO 99\n10 REM\n' >dice.bas
@@ -294,6 +254,7 @@ check debug nowhere.bas
 printf '10 A=0\n20 PRINT 1/A\n' >fault.bas
 printf 'f\nc\nv\nc\nf\nq\n' >commands
 check debug fault.bas
+check debug signs.bas --petscii --keys 330d
 printf 'n 3\np\nb $C002\nb\nc\nrc\nt 2\nv\no\nk A\ns 9\nx\ni\nq\n' >commands
 check debug --prg hello.prg
 check debug --prg hello.prg --labels some.labels
@@ -338,5 +299,5 @@ for call in host_form key_list compile make bad_lines parse parse_expr tokens lo
     check_call $call
 done
 
-echo "$rows commands and calls, $runs runs, $failed with another answer"
+echo "$rows commands and calls, $(awk '{ sum += $1 } END { print sum + 0 }' runs) runs, $failed commands with another answer"
 [ "$failed" = 0 ]

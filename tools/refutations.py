@@ -50,7 +50,7 @@ IMAGES = [
     Image("ends", ["10 END"]),
     Image("goto_itself", ["10 GOTO 10"]),
     Image("prints_variable", ["10 PRINT A;", "20 END"]),
-    Image("prints_and_faults", ['10 PRINT "A";1/0;']),
+    Image("prints_and_faults", ['10 PRINT "AA";1/0;']),
     Image("goes_nowhere", ["10 GOTO 20"]),
     Image("prints_two", ['10 PRINT "AA";', "20 END"]),
     Image("prints_quotient", ["10 PRINT 1/(A+1);"]),
@@ -59,7 +59,7 @@ IMAGES = [
     Image("calls_and_returns", ["10 GOSUB 30", "20 END", "30 RETURN"]),
     Image("goes_to_sum", ["10 GOTO A+20", "20 END"]),
     Image("prints_forever", ['10 PRINT "A";', "20 GOTO 10"]),
-    Image("prints_if_zero", ['10 IF A=0 THEN PRINT "A";', "20 END"]),
+    Image("prints_if_zero", ['10 IF A=0 THEN PRINT "AA";', "20 END"]),
     Image("prints_negative_quotient", ["10 PRINT (A-1)/(A+2);"]),
     Image("compares_far", ['10 IF A-20000<A+20000 THEN PRINT "A";', "20 END"]),
     Image("prints_quotient_by_256", ["10 PRINT (A-1)/256;"]),
@@ -67,9 +67,12 @@ IMAGES = [
     Image("prints_if_positive", ['10 IF A>0 THEN PRINT "A";', "20 END"]),
     Image("prints_if_below_256", ['10 IF A-1<256 THEN PRINT "A";', "20 END"]),
     Image("prints_rest", ["10 LET A=A-1", "20 PRINT A-A/4*4;"]),
+    Image("prints_rest_by_three", ["10 LET A=A-1", "20 PRINT A-A/3*3;"]),
+    Image("prints_rest_of_bytes", ["10 LET A=A+25", "20 LET B=B+4", "30 PRINT A-A/B*B;"]),
+    Image("prints_in_zones", ['10 PRINT "A",1;']),
 ]
 
-TEXT = "a9 .. 85 fb a9 .. 85 fc a9 01 8d 6c c0 20 text 4c .. .. 41"
+TEXT = "a9 .. 85 fb a9 .. 85 fc a9 02 8d 6c c0 20 text 4c .. .. 41 41"
 QUOTIENT = """a9 0a 8d 3a c0 a9 00 8d 3b c0 a9 01 85 fb a9 00 85 fc a9 00 85 fd a9 00 85 fe 20 divide
     a5 fb 8d 40 c0 a5 fc 8d 41 c0"""
 
@@ -98,7 +101,7 @@ CHANGES = [
     ]),
     Change("quotient_before_text", "the quotient is computed first, and then the text is sent", "prints_and_faults", [
         (TEXT + " " + QUOTIENT,
-         QUOTIENT + " a9 <@+58 85 fb a9 >@+58 85 fc a9 01 8d 6c c0 20 text 4c @+59 41"),
+         QUOTIENT + " a9 <@+58 85 fb a9 >@+58 85 fc a9 02 8d 6c c0 20 text 4c @+60 41 41"),
     ]),
     Change("folded_to_zero", "0 instead of 1, and three NOP instead of the division", "prints_and_faults", [
         ("a9 01 85 fb a9 00 85 fc a9 00 85 fd a9 00 85 fe 20 divide", ".. 00 " + ".. " * 14 + "ea ea ea"),
@@ -120,16 +123,25 @@ CHANGES = [
         ("69 ff 29 fe 49 fe", "18 ea ea ea ea ea"),
     ]),
     Change("high_byte_ignored", "two NOP in place of the branch if a high byte is not 0", "prints_if_256", [
-        ("ad 41 c0 d0 14", ".. .. .. ea ea"),
+        ("ad 41 c0 d0 05", ".. .. .. ea ea"),
     ]),
     Change("zero_not_asked", "two NOP in place of the branch if a word that is not negative is 0", "prints_if_positive", [
-        ("0d 00 c0 f0 14", ".. .. .. ea ea"),
+        ("0d 00 c0 f0 05", ".. .. .. ea ea"),
     ]),
     Change("sign_not_turned", "two NOP in place of EOR, which turns the sign of a high byte", "prints_if_below_256", [
         ("49 80 c9 81", "ea ea .. .."),
     ]),
     Change("sign_not_looked_at", "0 in place of the high byte whose sign a remainder gets", "prints_rest", [
         ("ac 01 c0 10 0f", "a0 00 ea .. .."),
+    ]),
+    Change("sign_of_rest_lost", "0 in place of the high byte whose sign the rest of a multiple gets", "prints_rest_by_three", [
+        ("ac 01 c0 10 0d", "a0 00 ea .. .."),
+    ]),
+    Change("fifth_difference_forgotten", "two NOP in place of the branch to the call if more than four divisors are in a byte", "prints_rest_of_bytes", [
+        ("cd 02 c0 b0 0a", ".. .. .. ea ea"),
+    ]),
+    Change("byte_not_counted", "the call of CHROUT in place of that of Send, which counts columns", "prints_in_zones", [
+        ("a9 41 20 send 20 zone", ".. .. .. d2 ff .. .. .."),
     ]),
     Change("digit_in_rom_memory", "the fault's digit at $026D, which the ROM may write, instead of $C06D", "goes_nowhere", [
         ("69 30 8d 6d c0", ".. .. .. .. 02"),

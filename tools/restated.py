@@ -48,6 +48,13 @@ def arguments(body, name):
     return [it for it in [said[1], *said[2].split(",")] if it and it.strip()] if said else []
 
 
+def brought(text, name):
+    """The crates that the file brings the call's name from, or its type's; else all that it brings something from."""
+    head = name.split("::")[0]
+    uses = re.findall(r"^use (tb_\w+)::([^;]*);", text, re.M)
+    return {crate for crate, names in uses if re.search(rf"\b{head}\b", names)} or {crate for crate, _ in uses}
+
+
 def missing(own, call):
     (_, _, rest, _, body, text), (name, parameters, its_rest, _, _, its_text) = own, call
     given = dict(zip(parameters, [it.strip() for it in arguments(body, name)]))
@@ -71,8 +78,7 @@ def main():
     for file, name, own in restated:
         if name not in known and name in of_traits:
             continue  # its contract is a member of the trait
-        brought = set(re.findall(r"\b(tb_\w+)::", own[5]))
-        crates = [it for it in known.get(name, {}) if it in brought] or list(known.get(name, {}))
+        crates = [it for it in known.get(name, {}) if it in brought(own[5], name)] or list(known.get(name, {}))
         if len(crates) != 1:
             sys.exit(f"restated: {file}: {own[0]} calls {name}, which is public in {crates or 'no crate'}")
         lacks = list(missing(own, known[name][crates[0]]))

@@ -41,12 +41,16 @@ GAMES = [
     (ASKED.encode(), ["1,2", "3", "4", '5"', "6,7", "29,0"]),
     (ASKED.encode(), ["1," + " " * 100 + "7", "30,1"]),
     (b'10 PRINT "' + b"X" * 90 + b'"\n20 GOTO 10\n', []),
+    ((ROOT / "examples/colour/guess.bas").read_bytes(), ["50", "10", "23"]),
+    ((ROOT / "examples/colour/times.bas").read_bytes(), []),
     (ECHO + COLOURS + b"\0", ["a line", "", "x" * 90]),
 ]
 
 
 def words_of(program):
-    return ["--prg"] if program.startswith(b"\x00") else []
+    if program.startswith(b"\x00"):
+        return ["--prg"]
+    return ["--petscii"] if b"{" in program else []
 
 
 def play(tbc, file, words, lines):

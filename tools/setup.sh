@@ -51,6 +51,8 @@ timed() { # NAME WORD..: appends the microseconds that a command takes to NAME.u
     echo $(($(now) - began)) >>"$file"
 }
 
+fastest() { sort -n "$1.us" | head -n 1; } # NAME; other load hardly counts if there are many rounds
+
 median() { sort -n "$1.us" | awk '{ round[NR] = $1 } END { print round[int((NR + 1) / 2)] }'; }
 
 processor_time() { # ROUNDS WORD..: the milliseconds of processor time that a command takes on average; other load hardly counts
@@ -61,6 +63,6 @@ processor_time() { # ROUNDS WORD..: the milliseconds of processor time that a co
         awk -v rounds="$rounds" '{ printf "%.4f\n", ($1 + $2) * 1000 / rounds }'
 }
 
-counted() { # WORD..: the instructions of this processor that a command takes
-    valgrind --tool=callgrind --callgrind-out-file=/dev/null "$@" 2>&1 >/dev/null | awk '/Collected/ { print $NF }'
+counted() { # WORD..: the instructions of this processor that a command takes; those of its start grow with the environment
+    env -i PATH="$PATH" valgrind --tool=callgrind --callgrind-out-file=/dev/null "$@" 2>&1 >/dev/null | awk '/Collected/ { print $NF }'
 }

@@ -30,8 +30,8 @@ END
 refused_sources build SOURCE out.prg
 refused_sources run SOURCE
 
-# With --fit the memory is the limit, to the byte
-ends() { printf '1 PRINT "A%s"\n' "$2" && seq -f '%g END' 2 "$1"; } # LINES TEXT
+# With --fit the memory is the limit, to the byte (a text of one byte alone would take less than its byte)
+ends() { printf '1 PRINT "AB%s"\n' "$2" && seq -f '%g END' 2 "$1"; } # LINES TEXT
 left_of() { # FILE: the bytes that its program leaves
     "$tbc" build --fit "$1" left.prg --map left.map && awk '$1 == "left" { print $3 }' left.map
 }
@@ -41,15 +41,15 @@ taken=$((37888 - $(left_of large.bas)))
 fill=$(printf "%${left}s" '' | tr ' ' X)
 ends $lines "$fill" >full.bas
 ends $lines "X$fill" >over.bas
-full_cost=$((88 + 1 + left + 36 * lines))
+full_cost=$((88 + 2 + left + 36 * lines))
 row 0 '' '' build large.bas out.prg --fit
 row 0 '' A run --fit large.bas
-row 0 '' "A$fill" run full.bas --fit
-row 0 '' "A$fill" play full.bas --fit
-row 0 '' '*A*' debug full.bas --fit
+row 0 '' "AB$fill" run full.bas --fit
+row 0 '' "AB$fill" play full.bas --fit
+row 0 '' '*AB*' debug full.bas --fit
 row 0 '' '' step full.bas --fit
 row 0 '' '*END*' profile full.bas --fit
-built "A$fill" full.bas out.prg --fit
+built "AB$fill" full.bas out.prg --fit
 "$tbc" build large.bas left.prg --fit --map left.map
 row 1 'tbc: program too large (37889 bytes)' '' build large.bas out.prg --map out.map --labels none.vs
 same out.map left.map

@@ -14,5 +14,5 @@ pub use evaluation::{Evaluated, evaluate};
 pub use frames::{Frame, stack_value};
 pub use memory::{memory_value, shifted};
 pub use scopes::scope_value;
-pub use sources::{Breakable, SourceFile, is_same_file};
+pub use sources::{Breakable, SourceFile, before, is_same_file};
 pub use texts::place_of;

@@ -15,6 +15,7 @@ use tb_hover::hover;
 use tb_messages::Refusal;
 use tb_navigation::{definition, highlights, references, symbols};
 use tb_outline::{folds, semantic_tokens};
+use tb_parser::Notation;
 use tb_place_values::Place;
 use tb_rename::{prepare, rename};
 use tb_source_names::{Source, read_source};
@@ -30,14 +31,15 @@ fn readable(text: &[u8]) -> &[u8]
 // The fixes on lines.
 fn fixes(
     alloc: Global,
+    notation: Notation,
     uri: &str,
     text: &[u8],
     range: Option<LineRange>,
 ) -> Result<Value, AllocError>
-    ensures { IfOk result (λ v. AnswersRange range uri.now text.now (view v)) }
+    ensures { IfOk result (λ v. AnswersRange notation range uri.now text.now (view v)) }
 {
     match range {
-        Some(range) => actions(alloc, uri, text, range),
+        Some(range) => actions(alloc, notation, uri, text, range),
         None => Ok(Value::Array(Vec::new(alloc))),
     }
 }
@@ -50,7 +52,7 @@ fn named(
     source: &Source<'_>,
     asked: OfNames,
 ) -> Result<Value, AllocError>
-    ensures { IfOk result (λ v. AnswersNamed asked uri.now text.now source.now.lines.items (view v)) }
+    ensures { IfOk result (λ v. AnswersNamed source.now.notation asked uri.now text.now source.now.lines.items (view v)) }
 {
     match asked {
         OfNames::Hover(place) => {
@@ -84,24 +86,31 @@ fn named(
 }
 
 // What is answered from the names of a text.
-fn names(alloc: Global, uri: &str, text: &[u8], asked: OfNames) -> Result<Value, AllocError>
-    ensures { IfOk result (λ v. AnswersNames asked uri.now text.now (view v)) }
+fn names(
+    alloc: Global,
+    notation: Notation,
+    uri: &str,
+    text: &[u8],
+    asked: OfNames,
+) -> Result<Value, AllocError>
+    ensures { IfOk result (λ v. AnswersNames notation asked uri.now text.now (view v)) }
 {
-    let source = read_source(alloc, text)?;
+    let source = read_source(alloc, notation, text)?;
     named(alloc, uri, text, &source, asked)
 }
 
 // What is answered to a new name for a variable.
 fn renaming(
     alloc: Global,
+    notation: Notation,
     uri: &str,
     text: &[u8],
     place: Place,
     letter: Option<u8>,
 ) -> Result<Result<Value, Refusal>, AllocError>
-    ensures { IfOk result (AnswersRename place letter uri.now text.now) }
+    ensures { IfOk result (AnswersRename notation place letter uri.now text.now) }
 {
-    let source = read_source(alloc, text)?;
+    let source = read_source(alloc, notation, text)?;
     let (line, character) = (place.line as usize, place.character as usize);
     let answer = rename(alloc, uri, &source, line, character, letter)?;
     Ok(answer)
@@ -110,45 +119,49 @@ fn renaming(
 // What is answered to what is asked of a text.
 fn answer_asked(
     alloc: Global,
+    notation: Notation,
     uri: &str,
     text: &[u8],
     asked: Asked,
 ) -> Result<Result<Value, Refusal>, AllocError>
-    ensures { IfOk result (AnswersAsked asked uri.now text.now) }
+    ensures { IfOk result (AnswersAsked notation asked uri.now text.now) }
 {
     match asked {
-        Asked::Names(asked) => Ok(Ok(names(alloc, uri, text, asked)?)),
-        Asked::Actions(range) => Ok(Ok(fixes(alloc, uri, text, range)?)),
-        Asked::Formatting => Ok(Ok(formatting(alloc, text)?)),
-        Asked::Rename(place, letter) => renaming(alloc, uri, text, place, letter),
+        Asked::Names(asked) => Ok(Ok(names(alloc, notation, uri, text, asked)?)),
+        Asked::Actions(range) => Ok(Ok(fixes(alloc, notation, uri, text, range)?)),
+        Asked::Formatting => Ok(Ok(formatting(alloc, notation, text)?)),
+        Asked::Rename(place, letter) => renaming(alloc, notation, uri, text, place, letter),
     }
 }
 
 // The same, or that the params have not the form that the request asks for.
 fn answer_if_asked(
     alloc: Global,
+    notation: Notation,
     uri: &str,
     text: &[u8],
     asked: Option<Asked>,
 ) -> Result<Result<Value, Refusal>, AllocError>
-    ensures { IfOk result (AnswersBy asked uri.now text.now) }
+    ensures { IfOk result (AnswersBy notation asked uri.now text.now) }
 {
     let Some(asked) = asked else {
         return Ok(Err(Refusal::BadParams));
     };
-    let answer = answer_asked(alloc, uri, readable(text), asked)?;
+    let answer = answer_asked(alloc, notation, uri, readable(text), asked)?;
     Ok(answer)
 }
 
-/// What is answered to a request on a text, or why it is refused. Fails only if memory runs out.
+/// What is answered to a request on a text that is read in a notation, or why it is refused. Fails only if memory runs
+/// out.
 pub fn answer(
     alloc: Global,
+    notation: Notation,
     method: Method,
     uri: &str,
     text: &[u8],
     params: &Value,
 ) -> Result<Result<Value, Refusal>, AllocError>
-    ensures { IfOk result (Answers method uri.now text.now (view params.now)) }
+    ensures { IfOk result (Answers notation method uri.now text.now (view params.now)) }
 {
-    answer_if_asked(alloc, uri, text, asked_of(method, params))
+    answer_if_asked(alloc, notation, uri, text, asked_of(method, params))
 }

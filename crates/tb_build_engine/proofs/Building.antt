@@ -58,7 +58,7 @@ memory_wanting contents settings ended warnings had files ends none =
     (subst (λ o. Builds contents settings o [] had files files) (sym ends) (refl, all_left contents files))
 
 module _ {W : Type 0} (contents : W → Option (List ℕ)) (settings : CompileSettings) (s : CompiledSource) (reader : Use) (made : Made) (prg watch : List ℕ)
-    (warnings : List Warning) (is : ReadsSource settings (Ok s) reader) (tells : IsMade s.text.items s.program made)
+    (warnings : List Warning) (is : ReadsSource settings (Ok s) reader) (tells : IsMade settings.notation s.text.items s.program made)
     (file : prg ≡ prg_of s.program) (watched : watch ≡ watch_text (length prg)) (warned : warnings ≡ warnings_of s.program) where
   texts : AreTexts settings reader.old warnings (texts_of prg made watch)
   texts = record {

@@ -22,8 +22,8 @@ use Rattle.tb_build_engine.specs.Files.{AllWhole, AreLeft, BreaksOff, texts_of}
 -- what is made of a source before anything is written: its program, whose file keeps it, and the texts that tell of it
 pub record IsBuilt (settings : CompileSettings) (source : List ℕ) (program : Compiled) (made : Made) : Type 0 where
   pub compiled : Compiles settings source (Ok program)
-  pub keeps : KeepsSource settings.seed source (prg_of program)
-  pub tells : IsMade source program made
+  pub keeps : KeepsSource settings source (prg_of program)
+  pub tells : IsMade settings.notation source program made
 
 -- these texts are those of all that a reader had, the watch file last, with the program's warnings
 pub record AreTexts (settings : CompileSettings) (had : Option (List ℕ)) (warnings : List Warning) (texts : List (List ℕ)) : Type 0 where

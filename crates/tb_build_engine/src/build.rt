@@ -40,7 +40,12 @@ pub fn build_files<R: Read, W: Write>(
         Ok(source) => source,
         Err(outcome) => return Report::new(alloc, outcome),
     };
-    let Ok(made) = make(alloc, source.text.as_slice(), &source.program) else {
+    let Ok(made) = make(
+        alloc,
+        source.text.as_slice(),
+        settings.notation,
+        &source.program,
+    ) else {
         return Report::new(alloc, Outcome::NoMemory);
     };
     let prg = source.program.prg();

@@ -8,17 +8,17 @@ ghost use Rattle.tb_build_engine.specs.Maps.{IsMap, MapsSource};
 
 use std::alloc::Global;
 use std::io::{Read, Write};
-use tb_driver::{CompileSettings, CompiledSource, read_source};
+use tb_driver::{CompileSettings, CompiledSource, Notation, read_source};
 use tb_engines::{End, NoText, Report, Text, deliver};
 use tb_listing::make;
 use tb_streams::Tracked;
 
 // The map of a source's program.
-fn map_of(alloc: Global, source: &CompiledSource) -> Result<Text, NoText>
-    requires { IsProgramOf source.now.text.items source.now.program }
-    ensures { Makes (IsMap source.now.text.items source.now.program) result }
+fn map_of(alloc: Global, source: &CompiledSource, notation: Notation) -> Result<Text, NoText>
+    requires { IsProgramOf notation source.now.text.items source.now.program }
+    ensures { Makes (IsMap notation source.now.text.items source.now.program) result }
 {
-    match make(alloc, source.text.as_slice(), &source.program) {
+    match make(alloc, source.text.as_slice(), notation, &source.program) {
         Ok(made) => Ok(Text {
             bytes: made.map,
             end: End::Done,
@@ -46,7 +46,7 @@ pub fn map_source<R: Read, W: Write>(
         Err(outcome) => return Report::new(alloc, outcome),
     };
     Report {
-        outcome: deliver(writer, map_of(alloc, &source)),
+        outcome: deliver(writer, map_of(alloc, &source, settings.notation)),
         warnings: source.program.into_warnings(),
     }
 }

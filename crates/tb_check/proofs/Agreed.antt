@@ -15,15 +15,16 @@ use Rattle.tb_compile_errors.specs.declared.refusals.CompileError.TheVariants.{S
 use Rattle.tb_compile_errors.specs.declared.refusals.CompileError.{CompileError}
 use Rattle.tb_runtime16.specs.Addresses.{PROLOGUE_AT}
 use Rattle.tb_templates.specs.Program.{program_code}
-use Rattle.tb_codegen.specs.Answers.{LinesMake, OutcomeAnswer, ProgramAnswer}
+use Rattle.tb_codegen.specs.Answers.{OutcomeAnswer, ProgramAnswer}
 use Rattle.tb_codegen.specs.Coded.{TakesTooMuch, told_of}
 use Rattle.tb_codegen.specs.Compiled.{IsCompiled}
 use Rattle.tb_codegen.specs.Refusals.{IsTooLarge, IsWithinCost}
 use Rattle.tb_codegen.specs.declared.compiled.Compiled.{Compiled}
 use Rattle.tb_codegen.specs.declared.settings.CompileSettings.{CompileSettings}
+use Rattle.tb_check.specs.declared.settings.CheckSettings.{CheckSettings}
 use Rattle.tb_codegen.specs.declared.settings.SizeLimit.{SizeLimit}
 use Rattle.tb_codegen.specs.declared.settings.SizeLimit.TheVariants.{Cost, Memory}
-use Rattle.tb_check.specs.Agreement.{Accepts, Agrees, AgreesWith, Compiles, RefusesFirst, RefusesProgram, first_of}
+use Rattle.tb_check.specs.Agreement.{Accepts, Agrees, AgreesWith, Compiles, RefusesFirst, RefusesProgram, first_of, with_seed}
 use Rattle.tb_check.specs.BadLines.{FirstIs}
 use Rattle.tb_check.specs.Verdicts.{FitsMemory, HasFaults, IsGood, Judges, MakesShallow, TellsSize, deep_lines}
 use Rattle.tb_check.specs.declared.judging.ProgramFaults.{ProgramFaults}
@@ -102,37 +103,37 @@ none_of size p f has good = (has.deep ∙ good.shallow, by f.too_large has.large
     by None t = refl
     by (Some n) t = absurd (one_size size p n t good)
 
-refused : (size : SizeLimit) (seed : ℕ) (p : Program) (f : ProgramFaults) (answer : Result Compiled CompileError) → HasFaults size p f → ¬ (IsGood size p)
-    → ProgramAnswer (record { seed = seed; size = size }) p answer → RefusesProgram f answer
-refused size seed p f (Ok c) has bad h = bad (record { shallow = no_deep p h.1.shallow; small = small size seed p c h.0 h.1 })
-refused size seed p f (Err (Source e)) has bad h = h
-refused size seed p f (Err (Lower deep.NoMemory)) has bad h = h
-refused size seed p f (Err (Lower (deep.TooDeep n))) has bad h = ap first_of has.deep ∙ first_deep p ∙ h
-refused size seed p f (Err (TooLarge n)) has bad h = (has.deep ∙ no_deep p h.0, told size seed p n f.too_large (no_deep p h.0) h.1 has.large)
-refused size seed p f (Err NoMemory) has bad h = tt
+refused : (settings : CheckSettings) (seed : ℕ) (p : Program) (f : ProgramFaults) (answer : Result Compiled CompileError) → HasFaults settings.size p f → ¬ (IsGood settings.size p)
+    → ProgramAnswer (with_seed seed settings) p answer → RefusesProgram f answer
+refused settings seed p f (Ok c) has bad h = bad (record { shallow = no_deep p h.1.shallow; small = small settings.size seed p c h.0 h.1 })
+refused settings seed p f (Err (Source e)) has bad h = h
+refused settings seed p f (Err (Lower deep.NoMemory)) has bad h = h
+refused settings seed p f (Err (Lower (deep.TooDeep n))) has bad h = ap first_of has.deep ∙ first_deep p ∙ h
+refused settings seed p f (Err (TooLarge n)) has bad h = (has.deep ∙ no_deep p h.0, told settings.size seed p n f.too_large (no_deep p h.0) h.1 has.large)
+refused settings seed p f (Err NoMemory) has bad h = tt
 
-accepted : (size : SizeLimit) (seed : ℕ) (p : Program) (answer : Result Compiled CompileError) → IsGood size p
-    → ProgramAnswer (record { seed = seed; size = size }) p answer → Accepts answer
-accepted size seed p (Ok c) good h = tt
-accepted size seed p (Err (Source e)) good h = h
-accepted size seed p (Err (Lower deep.NoMemory)) good h = h
-accepted size seed p (Err (Lower (deep.TooDeep n))) good h = none_is_some n (sym (ap first_of good.shallow) ∙ first_deep p ∙ h)
-accepted size seed p (Err (TooLarge n)) good h = none_is_some n (told size seed p n None good.shallow h.1 good.small)
-accepted size seed p (Err NoMemory) good h = tt
+accepted : (settings : CheckSettings) (seed : ℕ) (p : Program) (answer : Result Compiled CompileError) → IsGood settings.size p
+    → ProgramAnswer (with_seed seed settings) p answer → Accepts answer
+accepted settings seed p (Ok c) good h = tt
+accepted settings seed p (Err (Source e)) good h = h
+accepted settings seed p (Err (Lower deep.NoMemory)) good h = h
+accepted settings seed p (Err (Lower (deep.TooDeep n))) good h = none_is_some n (sym (ap first_of good.shallow) ∙ first_deep p ∙ h)
+accepted settings seed p (Err (TooLarge n)) good h = none_is_some n (told settings.size seed p n None good.shallow h.1 good.small)
+accepted settings seed p (Err NoMemory) good h = tt
 
-first : (settings : CompileSettings) (source : List ℕ) (found : List SourceError) (answer : Result Compiled CompileError) → FirstIs source found → found ≢ []
+first : (settings : CompileSettings) (source : List ℕ) (found : List SourceError) (answer : Result Compiled CompileError) → FirstIs settings.notation source found → found ≢ []
     → Compiles settings source answer → RefusesFirst found answer
 first settings source [] answer is some only = some refl
 first settings source (e ∷ found) answer is some only = (is.0, is.1, only _ is.2)
 
-pub agree : (size : SizeLimit) (seed : ℕ) (source : List ℕ) (v : Verdict) (answer : Result Compiled CompileError) → Judges size source v
-    → Compiles (record { seed = seed; size = size }) source answer → AgreesWith v answer
-agree size seed source (BadLines found) answer h only = first (record { seed = seed; size = size }) source found.items answer h.1 h.2 only
-agree size seed source Empty answer h only = only _ h
-agree size seed source (Refused f) answer h only = refused size seed h.0 f answer h.2.0 h.2.1 (only _ h.1)
-agree size seed source (Accepted p) answer h only = accepted size seed h.0 answer h.2.1 (only _ h.1)
+pub agree : (settings : CheckSettings) (seed : ℕ) (source : List ℕ) (v : Verdict) (answer : Result Compiled CompileError) → Judges settings source v
+    → Compiles (with_seed seed settings) source answer → AgreesWith v answer
+agree settings seed source (BadLines found) answer h only = first (with_seed seed settings) source found.items answer h.1 h.2 only
+agree settings seed source Empty answer h only = only _ h
+agree settings seed source (Refused f) answer h only = refused settings seed h.0 f answer h.2.0 h.2.1 (only _ h.1)
+agree settings seed source (Accepted p) answer h only = accepted settings seed h.0 answer h.2.1 (only _ h.1)
 
 -- what a call answers agrees
-pub agree_on : {E : Type 0} (size : SizeLimit) (source : List ℕ) (r : Result Verdict E) → IfOk r (Judges size source) → IfOk r (Agrees size source)
-agree_on size source (Ok v) h = λ seed answer only. agree size seed source v answer h only
-agree_on size source (Err e) h = tt
+pub agree_on : {E : Type 0} (settings : CheckSettings) (source : List ℕ) (r : Result Verdict E) → IfOk r (Judges settings source) → IfOk r (Agrees settings source)
+agree_on settings source (Ok v) h = λ seed answer only. agree settings seed source v answer h only
+agree_on settings source (Err e) h = tt

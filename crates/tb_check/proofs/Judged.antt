@@ -6,9 +6,10 @@ use Rattle.tb_syntax.specs.Source.{Program}
 use Rattle.tb_syntax.specs.declared.statements.Statement.{Statement}
 use Rattle.tb_meaning.specs.Cost.{cost}
 use Rattle.tb_parser.specs.Files.{at_end}
+use Rattle.tb_parser.specs.declared.notation.Notation.{Notation}
 use Rattle.tb_parser.specs.Lines.{lines_of_file}
-use Rattle.tb_codegen.specs.Answers.{LinesMake}
-use Rattle.tb_codegen.specs.declared.settings.SizeLimit.{SizeLimit}
+use Rattle.tb_codegen.specs.Answers.{SourceMakes}
+use Rattle.tb_check.specs.declared.settings.CheckSettings.{CheckSettings}
 use Rattle.tb_check.specs.BadLines.{BadLinesAre, FirstIs}
 use Rattle.tb_check.specs.Entries.{DeepLinesAre}
 use Rattle.tb_check.specs.Findings.{AreFindings, Tells, WarningsAre}
@@ -27,50 +28,52 @@ use Rattle.tb_check.proofs.Checked.{first_is}
 use Rattle.tb_check.proofs.Depth.{deep_of_file}
 use Rattle.tb_check.proofs.Makes.{made, made_small, some_left}
 
-module _ (source : List ℕ) (lines : SourceLines) (read : AreRead source lines) where
+module _ (notation : Notation) (source : List ℕ) (lines : SourceLines) (read : AreRead notation source lines) where
   -- the cost of the program can be counted
   pub small : lines.bad.items ≡ [] → cost (lines_of lines.program) < 4294967296
-  small none = made_small source (lines_of lines.program) (made source lines read none)
+  small none = made_small notation source (lines_of lines.program) (made notation source lines read none)
 
   -- if no line is bad and one is left, the lines make the program
-  pub made_some : lines.bad.items ≡ [] → lines.program ≢ [] → LinesMake source (Ok (lines_of lines.program))
-  made_some none some = some_left source lines.program some (made source lines read none)
+  pub made_some : lines.bad.items ≡ [] → lines.program ≢ [] → SourceMakes notation source (Ok (lines_of lines.program))
+  made_some none some = some_left notation source lines.program some (made notation source lines read none)
 
-module _ (size : SizeLimit) (source : List ℕ) (lines : SourceLines) (read : AreRead source lines) where
-  judged : (v : Verdict) → JudgesLines size lines.bad.items lines.program v → Judges size source v
+module _ (settings : CheckSettings) (source : List ℕ) (lines : SourceLines) (read : AreRead settings.notation source lines) where
+  judged : (v : Verdict) → JudgesLines settings.size lines.bad.items lines.program v → Judges settings source v
   judged (BadLines found) j = (
-    subst (BadLinesAre 1 (lines_of_file source)) (sym j.0) read.bad,
-    subst (FirstIs source) (sym j.0) (first_is source lines.bad.items read.bad),
+    subst (BadLinesAre settings.notation 1 (lines_of_file source)) (sym j.0) read.bad,
+    subst (FirstIs settings.notation source) (sym j.0) (first_is settings.notation source lines.bad.items read.bad),
     λ none. j.1 (sym j.0 ∙ none),
   )
-  judged Empty j = let Family : List (ℕ × Statement) → Type 0 = λ p. LinesMake source (at_end (lines_of p)) in subst Family j.1 (made source lines read j.0)
-  judged (Refused f) j = (lines_of lines.program, made_some source lines read j.0 j.1, j.2)
-  judged (Accepted p) j = (lines_of lines.program, made_some source lines read j.0 j.1, j.2)
+  judged Empty j =
+      let Family : List (ℕ × Statement) → Type 0 = λ p. SourceMakes settings.notation source (at_end (lines_of p)) in
+      subst Family j.1 (made settings.notation source lines read j.0)
+  judged (Refused f) j = (lines_of lines.program, made_some settings.notation source lines read j.0 j.1, j.2)
+  judged (Accepted p) j = (lines_of lines.program, made_some settings.notation source lines read j.0 j.1, j.2)
 
   -- the clause `judged` of `judge`
-  pub judged_on : {E : Type 0} (r : Result Verdict E) → IfOk r (JudgesLines size lines.bad.items lines.program) → IfOk r (Judges size source)
+  pub judged_on : {E : Type 0} (r : Result Verdict E) → IfOk r (JudgesLines settings.size lines.bad.items lines.program) → IfOk r (Judges settings source)
   judged_on (Ok v) j = judged v j
   judged_on (Err e) j = tt
 
   -- the deep lines of the program, as lines of the file
-  deep : (numbers found : List ℕ) → numbers ≡ deep_lines (lines_of lines.program) → found ≡ remaining numbers lines.numbered.items → DeepLinesAre source found
+  deep : (numbers found : List ℕ) → numbers ≡ deep_lines (lines_of lines.program) → found ≡ remaining numbers lines.numbered.items → DeepLinesAre settings.notation source found
   deep numbers found are remain = (read.entries, read.entered, remain ∙ rw (are, read.program, read.numbered) (sym (deep_of_file read.entries)))
 
   -- the warnings on the program, as those on the source
-  warned : (p : Program) (found : List LineWarning) → found ≡ warnings_on p lines.numbered.items → WarningsAre source p found
+  warned : (p : Program) (found : List LineWarning) → found ≡ warnings_on p lines.numbered.items → WarningsAre settings.notation source p found
   warned p found are = (read.entries, read.entered, are ∙ ap (warnings_on p) read.numbered)
 
   abbrev Remain : List ℕ → List ℕ → Type 0
   Remain numbers found = found ≡ remaining numbers lines.numbered.items
 
   abbrev AreDeep : List ℕ → List ℕ → Type 0
-  AreDeep numbers found = DeepLinesAre source found
+  AreDeep numbers found = DeepLinesAre settings.notation source found
 
   abbrev Warned : Program → List LineWarning → Type 0
   Warned p found = found ≡ warnings_on p lines.numbered.items
 
-  told : (v : Verdict) (f : Findings) → JudgesLines size lines.bad.items lines.program v → Tells (lines_of_file source) Remain Warned v f
-      → Tells (lines_of_file source) AreDeep (WarningsAre source) v f
+  told : (v : Verdict) (f : Findings) → JudgesLines settings.size lines.bad.items lines.program v → Tells settings.notation (lines_of_file source) Remain Warned v f
+      → Tells settings.notation (lines_of_file source) AreDeep (WarningsAre settings.notation source) v f
   told (BadLines errors) (findings.BadLines bad) j t = t
   told (BadLines errors) findings.Empty j t = t
   told (BadLines errors) (findings.Refused found large) j t = t
@@ -89,11 +92,11 @@ module _ (size : SizeLimit) (source : List ℕ) (lines : SourceLines) (read : Ar
   told (Accepted p) (findings.Accepted warnings) j t = warned (lines_of p) warnings.items t
 
   abbrev ToldBy : List (List ℕ) → List NumberedLine → Verdict → Findings → Type 0
-  ToldBy texts numbered = Tells texts (λ numbers found. found ≡ remaining numbers numbered) (λ p found. found ≡ warnings_on p numbered)
+  ToldBy texts numbered = Tells settings.notation texts (λ numbers found. found ≡ remaining numbers numbered) (λ p found. found ≡ warnings_on p numbered)
 
   -- the clause `findings` of `examine`
   pub found_on : (v : Verdict) (f : Findings) (texts : List (List ℕ)) (numbered : List NumberedLine) → texts ≡ texts_of lines → numbered ≡ lines.numbered.items
-      → JudgesLines size lines.bad.items lines.program v → ToldBy texts numbered v f → AreFindings size source f
+      → JudgesLines settings.size lines.bad.items lines.program v → ToldBy texts numbered v f → AreFindings settings source f
   found_on v f texts numbered written same j t =
       let here = subst (λ ls. ToldBy ls numbered v f) (written ∙ read.texts) t in
       (v, judged v j, told v f j (subst (λ ns. ToldBy (lines_of_file source) ns v f) same here))

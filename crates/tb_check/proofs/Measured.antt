@@ -3,11 +3,10 @@ use Rattle.std.proofs.Common.{◌≡◌, ℕ, List, [], Option, Some, None, Resu
 use Rattle.tb_lower.specs.Lowered as lowered
 use Rattle.tb_lower.specs.declared.lowering.LowerError.{LowerError}
 use Rattle.tb_lower.specs.declared.lowering.LowerError.TheVariants as deep
+use Rattle.tb_parser.specs.declared.notation.Notation.{Notation}
 use Rattle.tb_parser.specs.declared.errors.SourceError.{SourceError}
 use Rattle.tb_compile_errors.specs.declared.refusals.CompileError.TheVariants.{Source, Lower, TooLarge}
 use Rattle.tb_compile_errors.specs.declared.refusals.CompileError.{CompileError}
-use Rattle.tb_codegen.specs.Answers.{LinesMake}
-use Rattle.tb_codegen.specs.Settings.{by_memory}
 use Rattle.tb_codegen.specs.declared.compiled.Compiled.{Compiled}
 use Rattle.tb_codegen.specs.declared.settings.CompileSettings.{CompileSettings}
 use Rattle.tb_codegen.specs.declared.settings.SizeLimit.TheVariants.{Memory}
@@ -16,17 +15,21 @@ use Rattle.tb_check.specs.Verdicts.{MakesShallow, TellsSizeOf}
 use Rattle.tb_check.proofs.Agreed.{compiled_fits, first_deep, no_deep}
 use Rattle.tb_check.proofs.Seeds.{fits_any, takes_any}
 
-module _ {seed : ℕ} (source : List ℕ) (settings : CompileSettings) (is : settings ≡ by_memory seed) where
-  -- what the compiler promises of a refusal, with the settings and the refusal as they are
-  refusal : {found : CompileError} (e : CompileError) → found ≡ e → Compiles settings source (Err found) → Compiles (by_memory seed) source (Err e)
-  refusal e same only = subst (λ s. Compiles s source (Err e)) is (subst (λ f. Compiles settings source (Err f)) same only)
+-- the compiler's settings by the memory
+abbrev by_memory : Notation → ℕ → CompileSettings
+by_memory notation seed = record { seed = seed; size = Memory; notation = notation }
+
+module _ (notation : Notation) (seed : ℕ) (source : List ℕ) where
+  -- what the compiler promises of a refusal, with the refusal as it is
+  refusal : {found : CompileError} (e : CompileError) → found ≡ e → Compiles (by_memory notation seed) source (Err found) → Compiles (by_memory notation seed) source (Err e)
+  refusal e same only = subst (λ f. Compiles (by_memory notation seed) source (Err f)) same only
 
   -- a source that makes a program is not refused by its lines
-  pub no_bad_line : {found : CompileError} (e : SourceError) → found ≡ Source e → MakesShallow source → Compiles settings source (Err found) → ⊥
+  pub no_bad_line : {found : CompileError} (e : SourceError) → found ≡ Source e → MakesShallow notation source → Compiles (by_memory notation seed) source (Err found) → ⊥
   no_bad_line e same makes only = refusal (Source e) same only (Ok makes.program) makes.made
 
   -- nor by a line that is too deep, if there is none
-  pub no_deep_line : {found : CompileError} (e : LowerError) → found ≡ Lower e → MakesShallow source → Compiles settings source (Err found) → ⊥
+  pub no_deep_line : {found : CompileError} (e : LowerError) → found ≡ Lower e → MakesShallow notation source → Compiles (by_memory notation seed) source (Err found) → ⊥
   no_deep_line deep.NoMemory same makes only = refusal (Lower deep.NoMemory) same only (Ok makes.program) makes.made
   no_deep_line (deep.TooDeep n) same makes only =
       let refused = refusal (Lower (deep.TooDeep n)) same only (Ok makes.program) makes.made in
@@ -34,13 +37,11 @@ module _ {seed : ℕ} (source : List ℕ) (settings : CompileSettings) (is : set
       true≢false (sym (ap is_some none))
 
   -- what is compiled is not too large
-  pub fits_all : (c : Compiled) → Compiles settings source (Ok c) → TellsSizeOf Memory source None
-  fits_all c only = λ program made shallow other.
-      let compiled = subst (λ s. Compiles s source (Ok c)) is only (Ok program) made in
-      fits_any seed other program (compiled_fits seed program c compiled.1)
+  pub fits_all : (c : Compiled) → Compiles (by_memory notation seed) source (Ok c) → TellsSizeOf notation Memory source None
+  fits_all c only = λ program made shallow other. fits_any seed other program (compiled_fits seed program c (only (Ok program) made).1)
 
   -- what is refused by its size is too large, by the number that is told
-  pub takes_all : {found : CompileError} (n : ℕ) → found ≡ TooLarge n → Compiles settings source (Err found) → TellsSizeOf Memory source (Some n)
+  pub takes_all : {found : CompileError} (n : ℕ) → found ≡ TooLarge n → Compiles (by_memory notation seed) source (Err found) → TellsSizeOf notation Memory source (Some n)
   takes_all n same only = λ program made.
       let answer = refusal (TooLarge n) same only (Ok program) made in
       (no_deep program answer.0, λ other. takes_any seed other n (lowered.program_code program) answer.1)

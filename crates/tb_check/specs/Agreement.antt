@@ -8,17 +8,17 @@ use Rattle.tb_parser.specs.Files.{Outcome, refused_at}
 use Rattle.tb_parser.specs.Readings.{Refusal, at_column}
 use Rattle.tb_compile_errors.specs.declared.refusals.CompileError.TheVariants.{Source, Lower, TooLarge, NoMemory}
 use Rattle.tb_compile_errors.specs.declared.refusals.CompileError.{CompileError}
-use Rattle.tb_codegen.specs.Answers.{LinesMake, OutcomeAnswer, RefusalAnswer}
+use Rattle.tb_codegen.specs.Answers.{OutcomeAnswer, RefusalAnswer, SourceMakes}
 use Rattle.tb_codegen.specs.declared.compiled.Compiled.{Compiled}
 use Rattle.tb_codegen.specs.declared.settings.CompileSettings.{CompileSettings}
-use Rattle.tb_codegen.specs.declared.settings.SizeLimit.{SizeLimit}
+use Rattle.tb_check.specs.declared.settings.CheckSettings.{CheckSettings}
 use Rattle.tb_check.specs.declared.judging.ProgramFaults.{ProgramFaults}
 use Rattle.tb_check.specs.declared.judging.Verdict.{Verdict}
 use Rattle.tb_check.specs.declared.judging.Verdict.TheVariants.{BadLines, Empty, Refused, Accepted}
 
 -- what the compiler promises of its answer for a source
 abbrev pub Compiles : CompileSettings → List ℕ → Result Compiled CompileError → Type 0
-Compiles settings source answer = (outcome : Outcome) → LinesMake source outcome → OutcomeAnswer settings outcome answer
+Compiles settings source answer = (outcome : Outcome) → SourceMakes settings.notation source outcome → OutcomeAnswer settings outcome answer
 
 -- the compiler's refusal is the first of the bad lines
 abbrev pub RefusesFirst : List SourceError → Result Compiled CompileError → Type 0
@@ -53,7 +53,11 @@ AgreesWith Empty answer = RefusalAnswer (refused_at 0 (at_column kind.Empty 0)) 
 AgreesWith (Refused f) answer = RefusesProgram f answer
 AgreesWith (Accepted p) answer = Accepts answer
 
+-- the compiler's settings with a seed
+abbrev pub with_seed : ℕ → CheckSettings → CompileSettings
+with_seed seed settings = record { seed = seed; size = settings.size; notation = settings.notation }
+
 -- whatever the compiler may answer for a source, with any seed, agrees with a verdict
-abbrev pub Agrees : SizeLimit → List ℕ → Verdict → Type 0
-Agrees size source v =
-    (seed : ℕ) (answer : Result Compiled CompileError) → Compiles (record { seed = seed; size = size }) source answer → AgreesWith v answer
+abbrev pub Agrees : CheckSettings → List ℕ → Verdict → Type 0
+Agrees settings source v =
+    (seed : ℕ) (answer : Result Compiled CompileError) → Compiles (with_seed seed settings) source answer → AgreesWith v answer

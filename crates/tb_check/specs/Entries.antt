@@ -4,8 +4,9 @@ use Rattle.std.specs.Prelude.{◌∷◌, ◌++◌, map, Option, Some, None, is_n
 use Rattle.std.specs.List.{list_any}
 use Rattle.tb_syntax.specs.Source.{Statement}
 use Rattle.tb_lower.specs.Need.{statement_need}
+use Rattle.tb_parser.specs.declared.notation.Notation.{Notation}
 use Rattle.tb_parser.specs.Lines.{lines_of_file}
-use Rattle.tb_parser.specs.Readings.{Edit, LineIs, Refusal, Nothing, Sets, Deletes}
+use Rattle.tb_parser.specs.Readings.{Edit, LineIn, Refusal, Nothing, Sets, Deletes}
 use Rattle.tb_check.specs.declared.lines.NumberedLine.{NumberedLine}
 
 -- a line with a number: which line of the file it is, its number, and its statement, None if the number is bare
@@ -25,17 +26,18 @@ entry_by n (Sets number c) = Some (record { line = n; number = number; states = 
 entry_by n (Deletes number) = Some (record { line = n; number = number; states = None })
 
 -- a line's number and its statement; None if it has no number or is bad
-abbrev pub IsEntry : List ℕ → Option (ℕ × Option Statement) → Type 0
-IsEntry line None = LineIs line (Ok Nothing) ⊎ ((r : Refusal) × LineIs line (Err r))
-IsEntry line (Some (number, Some c)) = LineIs line (Ok (Sets number c))
-IsEntry line (Some (number, None)) = LineIs line (Ok (Deletes number))
+abbrev pub IsEntry : Notation → List ℕ → Option (ℕ × Option Statement) → Type 0
+IsEntry notation line None = LineIn notation line (Ok Nothing) ⊎ ((r : Refusal) × LineIn notation line (Err r))
+IsEntry notation line (Some (number, Some c)) = LineIn notation line (Ok (Sets number c))
+IsEntry notation line (Some (number, None)) = LineIn notation line (Ok (Deletes number))
 
 -- the entries of lines of which the first is line n of the file
-pub data EntriesAre : ℕ → List (List ℕ) → List Entry → Type 0 where
-  none : (n : ℕ) → EntriesAre n [] []
-  left_out : (n : ℕ) (line : List ℕ) (lines : List (List ℕ)) (es : List Entry) → IsEntry line None → EntriesAre (n + 1) lines es → EntriesAre n (line ∷ lines) es
+pub data EntriesAre (notation : Notation) : ℕ → List (List ℕ) → List Entry → Type 0 where
+  none : (n : ℕ) → EntriesAre notation n [] []
+  left_out : (n : ℕ) (line : List ℕ) (lines : List (List ℕ)) (es : List Entry) → IsEntry notation line None → EntriesAre notation (n + 1) lines es
+      → EntriesAre notation n (line ∷ lines) es
   entered : (line : List ℕ) (lines : List (List ℕ)) (es : List Entry) (e : Entry)
-      → IsEntry line (Some (e.number, e.states)) → EntriesAre (e.line + 1) lines es → EntriesAre e.line (line ∷ lines) (e ∷ es)
+      → IsEntry notation line (Some (e.number, e.states)) → EntriesAre notation (e.line + 1) lines es → EntriesAre notation e.line (line ∷ lines) (e ∷ es)
 
 -- ── lines that are too deep ──
 -- whether a statement needs more than 16 slots
@@ -57,5 +59,5 @@ deep_of [] = []
 deep_of (e ∷ es) = deep_here e es ++ deep_of es
 
 -- the lines of a file that are too deep and that no later line replaces or takes out
-abbrev pub DeepLinesAre : List ℕ → List ℕ → Type 0
-DeepLinesAre source deep = (es : List Entry) × EntriesAre 1 (lines_of_file source) es × (deep ≡ deep_of es)
+abbrev pub DeepLinesAre : Notation → List ℕ → List ℕ → Type 0
+DeepLinesAre notation source deep = (es : List Entry) × EntriesAre notation 1 (lines_of_file source) es × (deep ≡ deep_of es)

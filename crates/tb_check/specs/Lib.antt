@@ -1,3 +1,5 @@
+-- how sources are checked
+pub mod Settings
 -- ── the lines of a source ──
 -- the lines with a number, and those of them that are too deep
 pub mod Entries

@@ -5,8 +5,9 @@ use Rattle.tb_syntax.specs.PlainData.{lines_of}
 use Rattle.tb_parser.specs.declared.errors.LineFault.{LineFault}
 use Rattle.tb_parser.specs.Answers.{refusal_of}
 use Rattle.tb_parser.specs.Files.{edited, with_line, without_line}
+use Rattle.tb_parser.specs.declared.notation.Notation.{Notation}
 use Rattle.tb_parser.specs.Lines.{lines_of_file}
-use Rattle.tb_parser.specs.Readings.{Edit, LineIs, Refusal}
+use Rattle.tb_parser.specs.Readings.{Edit, LineIn, Refusal}
 use Rattle.tb_check.specs.BadLines.{BadLinesAre}
 use Rattle.tb_check.specs.Entries.{Entry, EntriesAre, entry_by, numbered_of}
 use Rattle.tb_check.specs.declared.lines.SourceLines.{SourceLines}
@@ -26,11 +27,11 @@ abbrev pub texts_of : SourceLines → List (List ℕ)
 texts_of lines = map (λ t. t.now) lines.texts.items
 
 -- what is read of a file: its lines, the bad ones, those with a number, and the program that these make
-pub record AreRead (source : List ℕ) (lines : SourceLines) : Type 0 where
+pub record AreRead (notation : Notation) (source : List ℕ) (lines : SourceLines) : Type 0 where
   pub texts : texts_of lines ≡ lines_of_file source
-  pub bad : BadLinesAre 1 (lines_of_file source) lines.bad.items
+  pub bad : BadLinesAre notation 1 (lines_of_file source) lines.bad.items
   pub entries : List Entry
-  pub entered : EntriesAre 1 (lines_of_file source) entries
+  pub entered : EntriesAre notation 1 (lines_of_file source) entries
   pub numbered : lines.numbered.items ≡ map numbered_of entries
   pub program : lines_of lines.program ≡ with_entries entries []
 
@@ -53,7 +54,7 @@ pub record HasFault (n : ℕ) (fault : LineFault) (old new : SourceLines) : Type
   pub program : new.program ≡ old.program
 
 -- line n of a file was read: it is good and does something to the program, or it has a fault
-abbrev pub Says : ℕ → List ℕ → SourceLines → SourceLines → Type 0
-Says n line old new =
-    ((edit : Edit) × LineIs line (Ok edit) × DoesEdit n edit old new)
-    ⊎ ((fault : LineFault) × (r : Refusal) × LineIs line (Err r) × (refusal_of fault.kind fault.column ≡ Some r) × HasFault n fault old new)
+abbrev pub Says : Notation → ℕ → List ℕ → SourceLines → SourceLines → Type 0
+Says notation n line old new =
+    ((edit : Edit) × LineIn notation line (Ok edit) × DoesEdit n edit old new)
+    ⊎ ((fault : LineFault) × (r : Refusal) × LineIn notation line (Err r) × (refusal_of fault.kind fault.column ≡ Some r) × HasFault n fault old new)

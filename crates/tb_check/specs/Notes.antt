@@ -1,15 +1,19 @@
 -- The note on the first fault of a bad line, by the bytes of the line.
 use Rattle.std.specs.Prelude.{ℕ, ◌+◌, ◌-◌, nat_eq, nat_lt, Bool, false, not, ◌&&◌, ◌||◌, ◌==◌, if◌then◌else◌, Option, Some, None, option_map}
 use Rattle.std.specs.Prelude.{List, [], ◌∷◌, length, map, reverse, take, drop, codes}
-use Rattle.std.specs.Option.{option_or}
+use Rattle.std.specs.Option.{option_and_then, option_map_or, option_or}
 use Rattle.std.specs.Char.{is_ascii_digit, is_ascii_uppercase, to_ascii_uppercase}
 use Rattle.std.specs.List.{slice_get, starts_with, ends_with}
 use Rattle.tb_parser.specs.declared.errors.SourceError.{SourceError}
 use Rattle.tb_parser.specs.declared.errors.SourceErrorKind.{SourceErrorKind}
 use Rattle.tb_parser.specs.declared.errors.SourceErrorKind.TheVariants.{BadByte, NotCompiled, Syntax}
+use Rattle.tb_parser.specs.declared.notation.Notation.{Notation}
+use Rattle.tb_parser.specs.declared.notation.Notation.TheVariants.{Plain, Signs}
+use Rattle.tb_signs.specs.Names.{byte_named}
+use Rattle.tb_signs.specs.Near.{near_name}
 use Rattle.tb_check.specs.declared.notes.Note.{Note}
 use Rattle.tb_check.specs.declared.notes.Note.TheVariants.{ForeignWord, QuestionMark, Colon, LongName, TextName, ThenNumber, OpenText, Tab}
-use Rattle.tb_check.specs.declared.notes.Note.TheVariants.{ByteOrderMark, Near, SignInText, Power, Array}
+use Rattle.tb_check.specs.declared.notes.Note.TheVariants.{ByteOrderMark, Near, NearSign, SignInText, UnknownSign, Power, Array}
 use Rattle.tb_check.specs.declared.notes.Word.{Word as RustWord}
 use Rattle.tb_check.specs.ForeignWords.{foreign_word}
 use Rattle.tb_check.specs.NearWords.{near_word}
@@ -26,8 +30,8 @@ abbrev pub is_at_mark : List ℕ → SourceError → Bool
 is_at_mark line e = (e.line == 1) && ((e.column == 1) && starts_with nat_eq line (239 ∷ 187 ∷ 191 ∷ []))
 
 -- outside a text, at a byte that other BASICs have: ^ [ _
-abbrev pub note_on_sign : ℕ → Option Note
-note_on_sign b =
+abbrev pub note_on_foreign_byte : ℕ → Option Note
+note_on_foreign_byte b =
     if b == 94 then Some Power
     else if b == 91 then Some Array
     else if b == 95 then Some LongName
@@ -35,22 +39,37 @@ note_on_sign b =
 
 -- at such a byte, in a text or outside
 abbrev pub note_on_bad_byte : Bool → ℕ → Option Note
-note_on_bad_byte is_in_text b = if b == 9 then Some Tab else if is_in_text then Some SignInText else note_on_sign b
+note_on_bad_byte is_in_text b = if b == 9 then Some Tab else if is_in_text then Some SignInText else note_on_foreign_byte b
 
 -- whether a text has no second quote: the number of quotes is odd
 abbrev pub is_open : List ℕ → Bool
 is_open [] = false
 is_open (b ∷ bs) = if b == 34 then not (is_open bs) else is_open bs
 
+-- at a brace of a text that begins no sign: the control character whose name was probably meant, or none
+abbrev pub note_on_near_sign : Option ℕ → Note
+note_on_near_sign near = option_map_or (λ byte. NearSign byte) near UnknownSign
+
+-- at such a brace, by what follows it
+abbrev pub note_on_sign : List ℕ → Note
+note_on_sign inside = note_on_near_sign (option_and_then byte_named (near_name inside))
+
+-- whether a byte of a text is meant to begin a sign: {, where there are signs
+abbrev pub begins_sign : Notation → ℕ → Bool
+begins_sign Plain b = false
+begins_sign Signs b = b == 123
+
 -- at a byte that is at a place, if there is one
-abbrev pub note_on_bad_place : List ℕ → ℕ → Option ℕ → Option Note
-note_on_bad_place line place (Some b) = note_on_bad_byte (is_open (take place line)) b
-note_on_bad_place line place None = None
+abbrev pub note_on_bad_place : Notation → List ℕ → ℕ → Option ℕ → Option Note
+note_on_bad_place notation line place (Some b) =
+    if is_open (take place line) && begins_sign notation b then Some (note_on_sign (drop (place + 1) line))
+    else note_on_bad_byte (is_open (take place line)) b
+note_on_bad_place notation line place None = None
 
 -- at a byte that no line may have
-abbrev pub note_on_byte : List ℕ → SourceError → Option Note
-note_on_byte line e =
-    if is_at_mark line e then Some ByteOrderMark else note_on_bad_place line (e.column - 1) (slice_get line (e.column - 1))
+abbrev pub note_on_byte : Notation → List ℕ → SourceError → Option Note
+note_on_byte notation line e =
+    if is_at_mark line e then Some ByteOrderMark else note_on_bad_place notation line (e.column - 1) (slice_get line (e.column - 1))
 
 -- ── runs of bytes ──
 -- how many letters a text in upper case begins with
@@ -151,12 +170,12 @@ note_on_left_out line place = if nat_lt place (length line) then option_map (λ 
 
 -- ── all notes ──
 -- by the kind of the fault
-abbrev pub note_by : SourceErrorKind → List ℕ → SourceError → Option Note
-note_by BadByte line e = note_on_byte line e
-note_by NotCompiled line e = note_on_left_out (map to_ascii_uppercase line) (e.column - 1)
-note_by Syntax line e = note_on_syntax (map to_ascii_uppercase line) (e.column - 1)
-note_by _ line e = None
+abbrev pub note_by : SourceErrorKind → Notation → List ℕ → SourceError → Option Note
+note_by BadByte notation line e = note_on_byte notation line e
+note_by NotCompiled notation line e = note_on_left_out (map to_ascii_uppercase line) (e.column - 1)
+note_by Syntax notation line e = note_on_syntax (map to_ascii_uppercase line) (e.column - 1)
+note_by _ notation line e = None
 
--- the note on the first fault of a line, if there is one
-abbrev pub note_on : List ℕ → SourceError → Option Note
-note_on line e = note_by e.kind line e
+-- the note on the first fault of a line that was read in a notation, if there is one
+abbrev pub note_on : Notation → List ℕ → SourceError → Option Note
+note_on notation line e = note_by e.kind notation line e

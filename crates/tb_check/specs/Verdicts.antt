@@ -9,14 +9,16 @@ use Rattle.tb_lower.specs.Lowered as lowered
 use Rattle.tb_lower.specs.Need.{statement_need}
 use Rattle.tb_parser.specs.declared.errors.SourceError.{SourceError}
 use Rattle.tb_parser.specs.Files.{at_end}
+use Rattle.tb_parser.specs.declared.notation.Notation.{Notation}
 use Rattle.tb_parser.specs.Lines.{lines_of_file}
 use Rattle.tb_runtime16.specs.Addresses.{PROLOGUE_AT}
 use Rattle.tb_templates.specs.Program.{program_code}
-use Rattle.tb_codegen.specs.Answers.{LinesMake}
+use Rattle.tb_codegen.specs.Answers.{SourceMakes}
 use Rattle.tb_codegen.specs.Refusals.{IsExcess, IsTooLarge}
 use Rattle.tb_codegen.specs.declared.settings.SizeLimit.{SizeLimit}
 use Rattle.tb_codegen.specs.declared.settings.SizeLimit.TheVariants.{Cost, Memory}
 use Rattle.tb_check.specs.BadLines.{BadLinesAre, FirstIs}
+use Rattle.tb_check.specs.declared.settings.CheckSettings.{CheckSettings}
 use Rattle.tb_check.specs.declared.judging.ProgramFaults.{ProgramFaults}
 use Rattle.tb_check.specs.declared.judging.Verdict.{Verdict}
 use Rattle.tb_check.specs.declared.judging.Verdict.TheVariants.{BadLines, Empty, Refused, Accepted}
@@ -40,13 +42,13 @@ TellsSize Memory program (Some n) = (deep_lines program ≡ []) × ((seed : ℕ)
 TellsSize Memory program None = deep_lines program ≡ [] → (seed : ℕ) → FitsMemory seed program
 
 -- what is told of the size of the program that the lines of a source make
-abbrev pub TellsSizeOf : SizeLimit → List ℕ → Option ℕ → Type 0
-TellsSizeOf size source found = (program : Program) → LinesMake source (Ok program) → TellsSize size program found
+abbrev pub TellsSizeOf : Notation → SizeLimit → List ℕ → Option ℕ → Type 0
+TellsSizeOf notation size source found = (program : Program) → SourceMakes notation source (Ok program) → TellsSize size program found
 
 -- the lines of a source make a program without a line that is too deep
-pub record MakesShallow (source : List ℕ) : Type 0 where
+pub record MakesShallow (notation : Notation) (source : List ℕ) : Type 0 where
   pub program : Program
-  pub made : LinesMake source (Ok program)
+  pub made : SourceMakes notation source (Ok program)
   pub shallow : deep_lines program ≡ []
 
 -- what is wrong with a program: all of it
@@ -74,8 +76,9 @@ JudgesLines size bad program (Refused f) = (bad ≡ []) × (program ≢ []) × J
 JudgesLines size bad program (Accepted p) = (bad ≡ []) × (program ≢ []) × JudgesProgram size (lines_of program) (Accepted p)
 
 -- what becomes of a source: its bad lines, or that no line is left, or what is wrong with its program, or the program
-abbrev pub Judges : SizeLimit → List ℕ → Verdict → Type 0
-Judges size source (BadLines found) = BadLinesAre 1 (lines_of_file source) found.items × FirstIs source found.items × (found.items ≢ [])
-Judges size source Empty = LinesMake source (at_end [])
-Judges size source (Refused f) = (program : Program) × LinesMake source (Ok program) × JudgesProgram size program (Refused f)
-Judges size source (Accepted p) = (program : Program) × LinesMake source (Ok program) × JudgesProgram size program (Accepted p)
+abbrev pub Judges : CheckSettings → List ℕ → Verdict → Type 0
+Judges settings source (BadLines found) =
+    BadLinesAre settings.notation 1 (lines_of_file source) found.items × FirstIs settings.notation source found.items × (found.items ≢ [])
+Judges settings source Empty = SourceMakes settings.notation source (at_end [])
+Judges settings source (Refused f) = (program : Program) × SourceMakes settings.notation source (Ok program) × JudgesProgram settings.size program (Refused f)
+Judges settings source (Accepted p) = (program : Program) × SourceMakes settings.notation source (Ok program) × JudgesProgram settings.size program (Accepted p)

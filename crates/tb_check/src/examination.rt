@@ -9,10 +9,10 @@ use crate::judging::{Verdict, verdict_on};
 use crate::lines::{NumberedLine, read_lines};
 use crate::notes::{Note, note_of};
 use crate::remaining::remaining_lines;
+use crate::settings::CheckSettings;
 use crate::warnings::{LineWarning, warnings};
 use std::alloc::{AllocError, Global};
-use tb_codegen::SizeLimit;
-use tb_parser::SourceError;
+use tb_parser::{Notation, SourceError};
 
 /// A bad line's first fault, with a note if there is one.
 #[derive(Clone, Copy, Drop)]
@@ -47,32 +47,47 @@ pub struct Examined<'a> {
     pub findings: Findings,
 }
 
-/// Looks at a source, whose program is too large by this limit. Fails only if memory runs out.
-pub fn examine(alloc: Global, source: &[u8], size: SizeLimit) -> Result<Examined<'_>, AllocError>
+/// Looks at a source. Fails only if memory runs out.
+pub fn examine(
+    alloc: Global,
+    source: &[u8],
+    settings: CheckSettings,
+) -> Result<Examined<'_>, AllocError>
     ensures lines { IfOk result (λ seen. map (λ t. t.now) seen.lines.items ≡ lines_of_file source.now) }
-    ensures findings { IfOk result (λ seen. AreFindings size source.now seen.findings) }
+    ensures findings { IfOk result (λ seen. AreFindings settings source.now seen.findings) }
 {
-    let lines = read_lines(alloc, source)?;
-    let verdict = verdict_on(alloc, source, lines.bad, lines.program, size)?;
-    let findings = findings_by(alloc, &lines.texts, &lines.numbered, &verdict)?;
+    let lines = read_lines(alloc, source, settings.notation)?;
+    let verdict = verdict_on(alloc, source, lines.bad, lines.program, settings)?;
+    let looked = Looked {
+        notation: settings.notation,
+        texts: &lines.texts,
+    };
+    let findings = findings_by(alloc, looked, &lines.numbered, &verdict)?;
     Ok(Examined {
         lines: lines.texts,
         findings,
     })
 }
 
+// The lines of a source, and how they were read.
+#[derive(Clone, Copy, Drop)]
+struct Looked<'a> {
+    notation: Notation,
+    texts: &'a [&'a [u8]],
+}
+
 // What there is to say of a source, by its lines and what becomes of it.
 fn findings_by(
     alloc: Global,
-    texts: &[&[u8]],
+    looked: Looked<'_>,
     numbered: &[NumberedLine],
     verdict: &Verdict,
 ) -> Result<Findings, AllocError>
-    ensures { IfOk result (Tells (map (λ t. t.now) texts.now) (λ numbers deep. deep ≡ remaining numbers numbered.now)
+    ensures { IfOk result (Tells looked.entry.notation (map (λ t. t.now) looked.entry.texts.now) (λ numbers deep. deep ≡ remaining numbers numbered.now)
         (λ program found. found ≡ warnings_on program numbered.now) verdict.now) }
 {
     match verdict {
-        Verdict::BadLines(errors) => Ok(Findings::BadLines(noted(alloc, texts, errors)?)),
+        Verdict::BadLines(errors) => Ok(Findings::BadLines(noted(alloc, looked, errors)?)),
         Verdict::Empty => Ok(Findings::Empty),
         Verdict::Refused(faults) => Ok(Findings::Refused {
             deep: remaining_lines(alloc, numbered, &faults.deep)?,
@@ -85,33 +100,38 @@ fn findings_by(
 }
 
 // Bad lines with their notes, by the lines of their file.
-fn noted(alloc: Global, texts: &[&[u8]], errors: &[SourceError]) -> Result<Vec<BadLine>, AllocError>
-    ensures { IfOk result (λ bad. bad.items ≡ map (noted (map (λ t. t.now) texts.now)) errors.now) }
+fn noted(
+    alloc: Global,
+    looked: Looked<'_>,
+    errors: &[SourceError],
+) -> Result<Vec<BadLine>, AllocError>
+    ensures { IfOk result (λ bad. bad.items ≡ map (noted looked.entry.notation (map (λ t. t.now) looked.entry.texts.now)) errors.now) }
 {
     let mut found = Vec::new(alloc);
     for error in errors {
-        push_noted(alloc, texts, *error, &mut found)?;
+        push_noted(alloc, looked, *error, &mut found)?;
     }
     Ok(found)
 }
 
 fn push_noted(
     alloc: Global,
-    texts: &[&[u8]],
+    looked: Looked<'_>,
     error: SourceError,
     found: &mut Vec<BadLine>,
 ) -> Result<(), AllocError>
-    ensures { OnOk result (found.new.items ≡ found.old.items ++ noted (map (λ t. t.now) texts.now) error ∷ []) }
+    ensures { OnOk result (found.new.items
+        ≡ found.old.items ++ noted looked.entry.notation (map (λ t. t.now) looked.entry.texts.now) error ∷ []) }
 {
-    found.push(with_note(alloc, texts, error)?)?;
+    found.push(with_note(alloc, looked, error)?)?;
     Ok(())
 }
 
-fn with_note(alloc: Global, texts: &[&[u8]], error: SourceError) -> Result<BadLine, AllocError>
-    ensures { IfOk result (λ bad. bad ≡ noted (map (λ t. t.now) texts.now) error) }
+fn with_note(alloc: Global, looked: Looked<'_>, error: SourceError) -> Result<BadLine, AllocError>
+    ensures { IfOk result (λ bad. bad ≡ noted looked.entry.notation (map (λ t. t.now) looked.entry.texts.now) error) }
 {
-    let note = match texts.get(error.line.saturating_sub(1)) {
-        Some(text) => note_of(alloc, text, error)?,
+    let note = match looked.texts.get(error.line.saturating_sub(1)) {
+        Some(text) => note_of(alloc, looked.notation, text, error)?,
         None => None,
     };
     Ok(BadLine { error, note })

@@ -3,14 +3,17 @@ ghost use Rattle.std.specs.Prelude.{◌≡◌, ◌≢◌, ◌<◌, ◌↔◌, []
 ghost use Rattle.tb_syntax.specs.PlainData.{lines_of};
 ghost use Rattle.tb_meaning.specs.Cost as costs;
 ghost use Rattle.tb_check.specs.Agreement.{Agrees};
-ghost use Rattle.tb_codegen.specs.Answers.{LinesMake};
+ghost use Rattle.tb_codegen.specs.Answers.{SourceMakes};
 ghost use Rattle.tb_codegen.specs.Refusals.{IsExcess};
 ghost use Rattle.tb_codegen.specs.declared.settings.SizeLimit.TheVariants.{Cost, Memory};
 ghost use Rattle.tb_check.specs.Verdicts.{HasFaults, Judges, JudgesLines, JudgesProgram, MakesShallow, TellsSizeOf, deep_lines};
 
 use crate::lines::read_lines;
+use crate::settings::CheckSettings;
 use std::alloc::{AllocError, Global};
-use tb_codegen::{CompileError, CompileSettings, MOST_COST, SizeLimit, compile_within, cost};
+use tb_codegen::{
+    CompileError, CompileSettings, MOST_COST, Notation, SizeLimit, compile_within, cost,
+};
 use tb_lower::{SLOT_COUNT, statement_need};
 use tb_parser::SourceError;
 use tb_syntax::Program;
@@ -50,14 +53,14 @@ pub enum Verdict {
 /// The seed that sizes are measured with: with any other they are the same.
 const SEED: u16 = 1;
 
-/// Judges a source, whose program is too large by this limit. Fails only if memory runs out.
-pub fn judge(alloc: Global, source: &[u8], size: SizeLimit) -> Result<Verdict, AllocError>
-    ensures judged { IfOk result (Judges size source.now) }
+/// Judges a source. Fails only if memory runs out.
+pub fn judge(alloc: Global, source: &[u8], settings: CheckSettings) -> Result<Verdict, AllocError>
+    ensures judged { IfOk result (Judges settings source.now) }
     // What the compiler answers agrees with it.
-    ensures agrees { IfOk result (Agrees size source.now) }
+    ensures agrees { IfOk result (Agrees settings source.now) }
 {
-    let lines = read_lines(alloc, source)?;
-    verdict_on(alloc, source, lines.bad, lines.program, size)
+    let lines = read_lines(alloc, source, settings.notation)?;
+    verdict_on(alloc, source, lines.bad, lines.program, settings)
 }
 
 /// Judges the bad lines of a source and the program that its other lines make.
@@ -66,18 +69,18 @@ pub fn verdict_on(
     source: &[u8],
     bad: Vec<SourceError>,
     program: Program,
-    size: SizeLimit,
+    settings: CheckSettings,
 ) -> Result<Verdict, AllocError>
     requires small { bad.items ≡ [] → costs.cost (lines_of program) < 4294967296 }
-    requires made { bad.items ≡ [] → program ≢ [] → LinesMake source.now (Ok (lines_of program)) }
-    ensures { IfOk result (JudgesLines size bad.items program) }
+    requires made { bad.items ≡ [] → program ≢ [] → SourceMakes settings.notation source.now (Ok (lines_of program)) }
+    ensures { IfOk result (JudgesLines settings.size bad.items program) }
 {
     if !bad.is_empty() {
         Ok(Verdict::BadLines(bad))
     } else if program.is_empty() {
         Ok(Verdict::Empty)
     } else {
-        judge_program(alloc, source, program, size)
+        judge_program(alloc, source, program, settings)
     }
 }
 
@@ -85,13 +88,13 @@ fn judge_program(
     alloc: Global,
     source: &[u8],
     program: Program,
-    size: SizeLimit,
+    settings: CheckSettings,
 ) -> Result<Verdict, AllocError>
     requires small { costs.cost (lines_of program) < 4294967296 }
-    requires made { LinesMake source.now (Ok (lines_of program)) }
-    ensures { IfOk result (JudgesProgram size (lines_of program)) }
+    requires made { SourceMakes settings.notation source.now (Ok (lines_of program)) }
+    ensures { IfOk result (JudgesProgram settings.size (lines_of program)) }
 {
-    let faults = faults_of(alloc, source, &program, size)?;
+    let faults = faults_of(alloc, source, &program, settings)?;
     Ok(if faults.is_empty() {
         Verdict::Accepted(program)
     } else {
@@ -103,16 +106,16 @@ fn faults_of(
     alloc: Global,
     source: &[u8],
     program: &Program,
-    size: SizeLimit,
+    settings: CheckSettings,
 ) -> Result<ProgramFaults, AllocError>
     requires small { costs.cost (lines_of program.now) < 4294967296 }
-    requires made { LinesMake source.now (Ok (lines_of program.now)) }
-    ensures { IfOk result (HasFaults size (lines_of program.now)) }
+    requires made { SourceMakes settings.notation source.now (Ok (lines_of program.now)) }
+    ensures { IfOk result (HasFaults settings.size (lines_of program.now)) }
 {
     let deep = deep_lines(alloc, program)?;
-    let too_large = match size {
+    let too_large = match settings.size {
         SizeLimit::Cost => excess(program),
-        SizeLimit::Memory if deep.is_empty() => overrun(alloc, source)?,
+        SizeLimit::Memory if deep.is_empty() => overrun(alloc, source, settings.notation)?,
         SizeLimit::Memory => None,
     };
     Ok(ProgramFaults { deep, too_large })
@@ -142,11 +145,16 @@ fn excess(program: &Program) -> Option<u32>
 
 // The bytes that a source's program takes, if those are too many. What the compiler promises is of sources, so the source
 // is read once more.
-fn overrun(alloc: Global, source: &[u8]) -> Result<Option<u32>, AllocError>
-    requires { MakesShallow source.now }
-    ensures { IfOk result (TellsSizeOf Memory source.now) }
+fn overrun(alloc: Global, source: &[u8], notation: Notation) -> Result<Option<u32>, AllocError>
+    requires { MakesShallow notation source.now }
+    ensures { IfOk result (TellsSizeOf notation Memory source.now) }
 {
-    match compile_within(alloc, source, CompileSettings::by_memory(SEED)) {
+    let settings = CompileSettings {
+        seed: SEED,
+        size: SizeLimit::Memory,
+        notation,
+    };
+    match compile_within(alloc, source, settings) {
         Ok(_) => Ok(None),
         Err(CompileError::TooLarge(bytes)) => Ok(Some(bytes)),
         Err(CompileError::NoMemory) => Err(AllocError),

@@ -11,6 +11,7 @@ mod notes;
 mod patterns;
 mod remaining;
 mod rules;
+mod settings;
 mod surroundings;
 mod warnings;
 
@@ -20,5 +21,6 @@ pub use judging::{ProgramFaults, Verdict, judge};
 pub use lines::bad_lines;
 pub use near_words::StatementWord;
 pub use notes::Note;
+pub use settings::CheckSettings;
 pub use tb_parser::{SourceError, SourceErrorKind};
 pub use warnings::{LineWarning, Warning};

@@ -8,7 +8,9 @@ ghost use Rattle.tb_check.specs.Entries.{entry_by, numbered_of};
 ghost use Rattle.tb_check.specs.Lines.{AreRead, DoesEdit, HasFault, Says, texts_of};
 
 use std::alloc::{AllocError, Global};
-use tb_parser::{LineEdit, LineFault, SourceError, SourceErrorKind, apply, next_line, read_line};
+use tb_parser::{
+    LineEdit, LineFault, Notation, SourceError, SourceErrorKind, apply, next_line, read_line_in,
+};
 use tb_syntax::Program;
 
 /// A line of a file that has a number.
@@ -35,8 +37,12 @@ pub struct SourceLines<'a> {
 }
 
 /// Reads the lines of a file. A bad line hides no later one, and a line that is replaced later is read too.
-pub fn read_lines(alloc: Global, source: &[u8]) -> Result<SourceLines<'_>, AllocError>
-    ensures { IfOk result (AreRead source.now) }
+pub fn read_lines(
+    alloc: Global,
+    source: &[u8],
+    notation: Notation,
+) -> Result<SourceLines<'_>, AllocError>
+    ensures { IfOk result (AreRead notation source.now) }
 {
     let mut lines = SourceLines {
         texts: Vec::new(alloc),
@@ -47,7 +53,7 @@ pub fn read_lines(alloc: Global, source: &[u8]) -> Result<SourceLines<'_>, Alloc
     let mut rest = source;
     let mut number = 1;
     while let Some((text, after)) = next_line(rest) {
-        lines.add(alloc, number, text)?;
+        lines.add(alloc, notation, number, text)?;
         rest = after;
         number += 1;
     }
@@ -56,24 +62,34 @@ pub fn read_lines(alloc: Global, source: &[u8]) -> Result<SourceLines<'_>, Alloc
 
 /// The bad lines of a source, in order, each with its first fault: line and column as `compile` counts them. A bad line
 /// hides no later one, and a line that is replaced later is looked at too.
-pub fn bad_lines(alloc: Global, source: &[u8]) -> Result<Vec<SourceError>, AllocError>
+pub fn bad_lines(
+    alloc: Global,
+    source: &[u8],
+    notation: Notation,
+) -> Result<Vec<SourceError>, AllocError>
     // Exactly the bad lines, in their order.
-    ensures lines { IfOk result (λ found. BadLinesAre 1 (lines_of_file source.now) found.items) }
+    ensures lines { IfOk result (λ found. BadLinesAre notation 1 (lines_of_file source.now) found.items) }
     // The first one is why the file is refused; if there is none, no line of the file is why it is.
-    ensures first { IfOk result (λ found. FirstIs source.now found.items) }
+    ensures first { IfOk result (λ found. FirstIs notation source.now found.items) }
 {
-    let lines = read_lines(alloc, source)?;
+    let lines = read_lines(alloc, source, notation)?;
     Ok(lines.bad)
 }
 
 impl<'a> SourceLines<'a> {
     // Reads the next line, which has this number in the file, from 1.
-    fn add(&mut self, alloc: Global, line: usize, text: &'a [u8]) -> Result<(), AllocError>
+    fn add(
+        &mut self,
+        alloc: Global,
+        notation: Notation,
+        line: usize,
+        text: &'a [u8],
+    ) -> Result<(), AllocError>
         ensures written { OnOk result (texts_of self.new ≡ texts_of self.old ++ text.now ∷ []) }
-        ensures says { OnOk result (Says line text.now self.old self.new) }
+        ensures says { OnOk result (Says notation line text.now self.old self.new) }
     {
         self.texts.push(text)?;
-        match read_line(alloc, text) {
+        match read_line_in(alloc, notation, text) {
             Ok(edit) => self.edit(line, edit),
             Err(fault) => self.refuse(line, fault),
         }

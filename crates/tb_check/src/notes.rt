@@ -1,7 +1,7 @@
 //! Notes: what may help with a bad line, by what is at the place of its fault.
 ghost use Rattle.std.specs.Prelude.{◌≡◌, ◌<◌, ◌≤◌, IfOk, length, option_map};
 ghost use Rattle.std.specs.List.{slice_get};
-ghost use Rattle.tb_check.specs.declared.notes.Note.TheVariants.{Near};
+ghost use Rattle.tb_check.specs.declared.notes.Note.TheVariants.{Near, NearSign, UnknownSign};
 ghost use Rattle.tb_check.specs.Notes as spec;
 
 use crate::foreign_words::{ForeignWord, foreign_word};
@@ -10,7 +10,8 @@ use crate::rules::note_by_rules;
 use crate::surroundings::code_around;
 use std::alloc::{AllocError, Global};
 use tb_grammar::THEN;
-use tb_parser::{SourceError, SourceErrorKind};
+use tb_parser::{Notation, SourceError, SourceErrorKind};
+use tb_signs::{byte_named, near_name};
 
 /// The bytes with which some editors begin a file.
 const BYTE_ORDER_MARK: &[u8] = &[0xef, 0xbb, 0xbf];
@@ -39,6 +40,10 @@ pub enum Note {
     Near(StatementWord),
     /// A byte that no text may have, in a text.
     SignInText,
+    /// A sign whose name is near to that of a control character, which is this byte.
+    NearSign(u8),
+    /// A brace in a text that begins no sign, nor nearly one.
+    UnknownSign,
     /// A text after INPUT.
     TextInInput,
     /// `**` or `^`.
@@ -82,12 +87,17 @@ pub enum Note {
     NoSeparator,
 }
 
-/// The note on the first fault of a line, if there is one. Fails only if memory runs out.
-pub fn note_of(alloc: Global, line: &[u8], error: SourceError) -> Result<Option<Note>, AllocError>
-    ensures { IfOk result (λ note. note ≡ spec.note_on line.now error) }
+/// The note on the first fault of a line that was read in a notation, if there is one. Fails only if memory runs out.
+pub fn note_of(
+    alloc: Global,
+    notation: Notation,
+    line: &[u8],
+    error: SourceError,
+) -> Result<Option<Note>, AllocError>
+    ensures { IfOk result (λ note. note ≡ spec.note_on notation line.now error) }
 {
     match error.kind {
-        SourceErrorKind::BadByte => Ok(note_on_byte(line, error)),
+        SourceErrorKind::BadByte => note_on_byte(alloc, notation, line, error),
         SourceErrorKind::NotCompiled => {
             let line = line.to_ascii_uppercase(alloc)?;
             Ok(note_on_left_out(&line, error.column.saturating_sub(1)))
@@ -100,22 +110,68 @@ pub fn note_of(alloc: Global, line: &[u8], error: SourceError) -> Result<Option<
     }
 }
 
-fn note_on_byte(line: &[u8], error: SourceError) -> Option<Note>
-    ensures { result ≡ spec.note_on_byte line.now error }
+fn note_on_byte(
+    alloc: Global,
+    notation: Notation,
+    line: &[u8],
+    error: SourceError,
+) -> Result<Option<Note>, AllocError>
+    ensures { IfOk result (λ note. note ≡ spec.note_on_byte notation line.now error) }
 {
     if is_at_mark(line, error) {
-        return Some(Note::ByteOrderMark);
+        return Ok(Some(Note::ByteOrderMark));
     }
-    note_on_bad_place(line, error.column.saturating_sub(1))
+    note_on_bad_place(alloc, notation, line, error.column.saturating_sub(1))
 }
 
 // The note by the byte at a place of a line, from 0.
-fn note_on_bad_place(line: &[u8], place: usize) -> Option<Note>
-    ensures { result ≡ spec.note_on_bad_place line.now place (slice_get line.now place) }
+fn note_on_bad_place(
+    alloc: Global,
+    notation: Notation,
+    line: &[u8],
+    place: usize,
+) -> Result<Option<Note>, AllocError>
+    ensures { IfOk result (λ note. note ≡ spec.note_on_bad_place notation line.now place (slice_get line.now place)) }
 {
     match line.get(place) {
-        Some(byte) => note_on_bad_byte(is_open(&line[..place]), *byte),
-        None => None,
+        Some(byte) => {
+            let is_in_text = is_open(&line[..place]);
+            if is_in_text && begins_sign(notation, *byte) {
+                Ok(Some(note_on_sign(alloc, &line[place + 1..])?))
+            } else {
+                Ok(note_on_bad_byte(is_in_text, *byte))
+            }
+        }
+        None => Ok(None),
+    }
+}
+
+// Whether a byte of a text is meant to begin a sign.
+fn begins_sign(notation: Notation, byte: u8) -> bool
+    ensures { result ≡ spec.begins_sign notation byte }
+{
+    match notation {
+        Notation::Plain => false,
+        Notation::Signs => byte == b'{',
+    }
+}
+
+// The note on a brace that begins no sign, by what follows it.
+fn note_on_sign(alloc: Global, inside: &[u8]) -> Result<Note, AllocError>
+    ensures { IfOk result (λ note. note ≡ spec.note_on_sign inside.now) }
+{
+    match near_name(alloc, inside)? {
+        Some(name) => Ok(note_on_near_sign(byte_named(name))),
+        None => Ok(Note::UnknownSign),
+    }
+}
+
+fn note_on_near_sign(near: Option<u8>) -> Note
+    ensures { result ≡ spec.note_on_near_sign near }
+{
+    match near {
+        Some(byte) => Note::NearSign(byte),
+        None => Note::UnknownSign,
     }
 }
 

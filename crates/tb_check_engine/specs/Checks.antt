@@ -7,7 +7,7 @@ use Rattle.std.specs.declared.vec.Vec.{Vec}
 use Rattle.tb_streams.specs.Streams.{AppendsPrefix}
 use Rattle.tb_streams.specs.declared.stream.InputError.{InputError}
 use Rattle.tb_streams.specs.declared.stream.InputError.TheVariants.{Fault}
-use Rattle.tb_codegen.specs.declared.settings.SizeLimit.{SizeLimit}
+use Rattle.tb_check.specs.declared.settings.CheckSettings.{CheckSettings}
 use Rattle.tb_parser.specs.Lines.{lines_of_file}
 use Rattle.tb_check.specs.Findings.{AreFindings}
 use Rattle.tb_check.specs.declared.examination.Findings.{Findings}
@@ -63,22 +63,22 @@ is_miss (Saw source found) = false
 is_miss Missed = true
 
 -- a source was read by its name, and this is what is found in it; or reading it failed
-abbrev pub IsLook : {S : Type 0} → (S → List ℕ → Result (List ℕ) InputError → S → Type 0) → SizeLimit → S → List ℕ → Look → S → Type 0
-IsLook reads size s name (Saw source found) t = reads s name (Ok source) t × AreFindings size source found
-IsLook reads size s name Missed t = reads s name (Err Fault) t
+abbrev pub IsLook : {S : Type 0} → (S → List ℕ → Result (List ℕ) InputError → S → Type 0) → CheckSettings → S → List ℕ → Look → S → Type 0
+IsLook reads settings s name (Saw source found) t = reads s name (Ok source) t × AreFindings settings source found
+IsLook reads settings s name Missed t = reads s name (Err Fault) t
 
 -- ---- all sources
 
 -- sources were read one after the other
-abbrev pub Looks : {S : Type 0} → (S → List ℕ → Result (List ℕ) InputError → S → Type 0) → SizeLimit → S → List Turn → S → Type 0
-Looks reads size s [] u = u ≡ s
-Looks reads size s (turn ∷ turns) u = (t : _) × IsLook reads size s turn.name turn.look t × Looks reads size t turns u
+abbrev pub Looks : {S : Type 0} → (S → List ℕ → Result (List ℕ) InputError → S → Type 0) → CheckSettings → S → List Turn → S → Type 0
+Looks reads settings s [] u = u ≡ s
+Looks reads settings s (turn ∷ turns) u = (t : _) × IsLook reads settings s turn.name turn.look t × Looks reads settings t turns u
 
 -- the sources with these names were read one after the other, and what is said of each of them was written, in order
-pub record Told {S : Type 0} (reads : S → List ℕ → Result (List ℕ) InputError → S → Type 0) (size : SizeLimit) (s : S) (names : List (List ℕ)) (old : Option (List ℕ)) (t : S) (new : Option (List ℕ)) : Type 0 where
+pub record Told {S : Type 0} (reads : S → List ℕ → Result (List ℕ) InputError → S → Type 0) (settings : CheckSettings) (s : S) (names : List (List ℕ)) (old : Option (List ℕ)) (t : S) (new : Option (List ℕ)) : Type 0 where
   pub turns : List Turn
   pub named : map (λ t. t.name) turns ≡ names
-  pub looks : Looks reads size s turns t
+  pub looks : Looks reads settings s turns t
   pub wrote : Appends old new (flat_map said turns)
 
 -- what came of sources, all in all
@@ -96,15 +96,15 @@ name_at names n = slice_index_or names n []
 
 -- What a check did, by how it ended. All sources were told of. Or the writer failed at what is said of the n-th one, of
 -- which a prefix was written. Or memory ran out when the n-th one was read or looked at, of which nothing was written.
-abbrev pub Checks : {S : Type 0} → (S → List ℕ → Result (List ℕ) InputError → S → Type 0) → SizeLimit → S → List (List ℕ) → Option (List ℕ) → CheckOutcome → S → Option (List ℕ) → Type 0
-Checks reads size s names old WriteFault t new =
-    (n : ℕ) × (u : _) × (mid : Option (List ℕ)) × Told reads size s (take n names) old u mid
-    × (look : Look) × IsLook reads size u (name_at names n) look t × AppendsPrefix mid new (said_of (name_at names n) look)
-Checks reads size s names old NoMemory t new =
-    (n : ℕ) × (u : _) × Told reads size s (take n names) old u new
+abbrev pub Checks : {S : Type 0} → (S → List ℕ → Result (List ℕ) InputError → S → Type 0) → CheckSettings → S → List (List ℕ) → Option (List ℕ) → CheckOutcome → S → Option (List ℕ) → Type 0
+Checks reads settings s names old WriteFault t new =
+    (n : ℕ) × (u : _) × (mid : Option (List ℕ)) × Told reads settings s (take n names) old u mid
+    × (look : Look) × IsLook reads settings u (name_at names n) look t × AppendsPrefix mid new (said_of (name_at names n) look)
+Checks reads settings s names old NoMemory t new =
+    (n : ℕ) × (u : _) × Told reads settings s (take n names) old u new
     × (given : Result (List ℕ) InputError) × reads u (name_at names n) given t
-Checks reads size s names old outcome t new =
-    (told : Told reads size s names old t new) × (outcome ≡ ending (marks_of told.turns))
+Checks reads settings s names old outcome t new =
+    (told : Told reads settings s names old t new) × (outcome ≡ ending (marks_of told.turns))
 
 -- a write fault comes only if the writer failed in this call
 abbrev pub WriteFaults : CheckOutcome → ℕ → ℕ → Type 0
@@ -133,21 +133,21 @@ outcome_of (Ok seen) = Accepted
 outcome_of (Err outcome) = outcome
 
 -- a source was looked at, and told of as far as its writer took it
-abbrev pub Tells : SizeLimit → List ℕ → List ℕ → Result Seen CheckOutcome → Option (List ℕ) → Option (List ℕ) → Type 0
-Tells size name source (Ok answer) old new =
-    (found : Findings) × AreFindings size source found × Appends old new (report name (lines_of_file source) found)
+abbrev pub Tells : CheckSettings → List ℕ → List ℕ → Result Seen CheckOutcome → Option (List ℕ) → Option (List ℕ) → Type 0
+Tells settings name source (Ok answer) old new =
+    (found : Findings) × AreFindings settings source found × Appends old new (report name (lines_of_file source) found)
     × (answer ≡ seen_of (Saw source found))
-Tells size name source (Err WriteFault) old new =
-    (found : Findings) × AreFindings size source found × AppendsPrefix old new (report name (lines_of_file source) found)
-Tells size name source (Err NoMemory) old new = new ≡ old
-Tells size name source (Err e) old new = ⊥
+Tells settings name source (Err WriteFault) old new =
+    (found : Findings) × AreFindings settings source found × AppendsPrefix old new (report name (lines_of_file source) found)
+Tells settings name source (Err NoMemory) old new = new ≡ old
+Tells settings name source (Err e) old new = ⊥
 
 -- the same of a source that was read by its name
-abbrev pub ChecksNext : {S : Type 0} → (S → List ℕ → Result (List ℕ) InputError → S → Type 0) → SizeLimit → S → List ℕ → Option (List ℕ) → Result Seen CheckOutcome → S → Option (List ℕ) → Type 0
-ChecksNext reads size s name old (Ok answer) t new =
-    (look : Look) × IsLook reads size s name look t × Appends old new (said_of name look) × (answer ≡ seen_of look)
-ChecksNext reads size s name old (Err WriteFault) t new =
-    (look : Look) × IsLook reads size s name look t × AppendsPrefix old new (said_of name look)
-ChecksNext reads size s name old (Err NoMemory) t new =
+abbrev pub ChecksNext : {S : Type 0} → (S → List ℕ → Result (List ℕ) InputError → S → Type 0) → CheckSettings → S → List ℕ → Option (List ℕ) → Result Seen CheckOutcome → S → Option (List ℕ) → Type 0
+ChecksNext reads settings s name old (Ok answer) t new =
+    (look : Look) × IsLook reads settings s name look t × Appends old new (said_of name look) × (answer ≡ seen_of look)
+ChecksNext reads settings s name old (Err WriteFault) t new =
+    (look : Look) × IsLook reads settings s name look t × AppendsPrefix old new (said_of name look)
+ChecksNext reads settings s name old (Err NoMemory) t new =
     (given : Result (List ℕ) InputError) × reads s name given t × (new ≡ old)
-ChecksNext reads size s name old (Err e) t new = ⊥
+ChecksNext reads settings s name old (Err e) t new = ⊥

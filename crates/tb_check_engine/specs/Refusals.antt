@@ -8,7 +8,8 @@ use Rattle.tb_lower.specs.declared.lowering.LowerError.{LowerError}
 use Rattle.tb_lower.specs.declared.lowering.LowerError.TheVariants as lower
 use Rattle.tb_compile_errors.specs.declared.refusals.CompileError.{CompileError}
 use Rattle.tb_compile_errors.specs.declared.refusals.CompileError.TheVariants as compile
-use Rattle.tb_codegen.specs.declared.settings.SizeLimit.TheVariants.{Cost}
+use Rattle.tb_check.specs.Settings.{by_cost}
+use Rattle.tb_parser.specs.declared.notation.Notation.{Notation}
 use Rattle.tb_check.specs.Findings.{AreFindings}
 use Rattle.tb_check.specs.declared.examination.BadLine.{BadLine}
 use Rattle.tb_check.specs.declared.examination.Findings.{Findings}
@@ -54,7 +55,7 @@ refusal_rows name lines numbered (compile.TooLarge n) found = []
 refusal_rows name lines numbered compile.NoMemory found = []
 
 -- the same of a source, by what there is to say of it
-pub record TellsRefusal (name source : List ℕ) (e : CompileError) (text : List ℕ) : Type 0 where
+pub record TellsRefusal (notation : Notation) (name source : List ℕ) (e : CompileError) (text : List ℕ) : Type 0 where
   pub found : Findings
-  pub are : AreFindings Cost source found
+  pub are : AreFindings (by_cost notation) source found
   pub says : text ≡ refusal_rows name (lines_of_file source) (numbered source) e found

@@ -1,8 +1,10 @@
 -- The texts of notes and warnings.
-use Rattle.std.specs.Prelude.{ℕ, ◌*◌, ◌/◌, ◌==◌, if◌then◌else◌, List, ◌++◌, codes}
+use Rattle.std.specs.Prelude.{ℕ, ◌*◌, ◌/◌, ◌==◌, if◌then◌else◌, List, [], ◌++◌, codes}
+use Rattle.std.specs.Option.{option_map_or}
 use Rattle.std.specs.Fmt.{decimal, signed_decimal}
 use Rattle.tb_check.specs.ForeignWords.{name_of}
 use Rattle.tb_check.specs.NearWords.{spelling_of}
+use Rattle.tb_signs.specs.Names as signs
 use Rattle.tb_check.specs.declared.foreign_words.ForeignWord.{ForeignWord}
 use Rattle.tb_check.specs.declared.foreign_words.ForeignWord.TheVariants as foreign
 use Rattle.tb_check.specs.declared.notes.Note.{Note}
@@ -51,6 +53,8 @@ note_text note.Tab = codes "this is a tab; write spaces"
 note_text note.ByteOrderMark = codes "the file begins with a byte order mark (EF BB BF); save it without one"
 note_text (note.Near word) = codes "did you mean " ++ spelling_of word
 note_text note.SignInText = codes "a text holds letters, digits, spaces and the signs from ! to @"
+note_text (note.NearSign byte) = codes "did you mean {" ++ (option_map_or (λ name. name) (signs.name_of byte) [] ++ codes "}")
+note_text note.UnknownSign = codes "a sign in a text is a name, as {clr} and {3 down}, or two hexadecimal digits, as {C1}"
 note_text note.TextInInput = codes "INPUT takes variables alone; PRINT the text on the line before"
 note_text note.Power = codes "Tiny BASIC has no powers; write A*A"
 note_text note.SignedOperand = codes "a sign behind an operator stands in parentheses: A*(-1)"

@@ -8,8 +8,7 @@ use crate::reports::{Source, push_report};
 use crate::sources::Sources;
 use std::alloc::Global;
 use std::io::Write;
-use tb_check::{Findings, examine};
-use tb_codegen::SizeLimit;
+use tb_check::{CheckSettings, Findings, examine};
 use tb_streams::{InputError, Tracked, write_output};
 
 /// What came of a source.
@@ -77,12 +76,12 @@ fn tell<W: Write>(
     name: &str,
     source: &[u8],
     writer: &mut Tracked<W>,
-    size: SizeLimit,
+    settings: CheckSettings,
 ) -> Result<Seen, CheckOutcome>
-    ensures tells { Tells size name.now source.now result (W.contents writer.old.stream) (W.contents writer.new.stream) }
+    ensures tells { Tells settings name.now source.now result (W.contents writer.old.stream) (W.contents writer.new.stream) }
     ensures faults { WriteFaults (outcome_of result) (failures_of writer.old) (failures_of writer.new) }
 {
-    let seen = examine(alloc, source, size)?;
+    let seen = examine(alloc, source, settings)?;
     let shown = Source {
         name,
         lines: seen.lines.as_slice(),
@@ -102,29 +101,29 @@ fn check_next<S: Sources, W: Write>(
     sources: &mut S,
     name: &str,
     writer: &mut Tracked<W>,
-    size: SizeLimit,
+    settings: CheckSettings,
 ) -> Result<Seen, CheckOutcome>
-    ensures next { ChecksNext S.reads size sources.old name.now (W.contents writer.old.stream)
+    ensures next { ChecksNext S.reads settings sources.old name.now (W.contents writer.old.stream)
         result sources.new (W.contents writer.new.stream) }
     ensures faults { WriteFaults (outcome_of result) (failures_of writer.old) (failures_of writer.new) }
 {
     match sources.read(alloc, name) {
-        Ok(source) => tell(alloc, name, source.as_slice(), writer, size),
+        Ok(source) => tell(alloc, name, source.as_slice(), writer, settings),
         Err(InputError::Fault) => Ok(Seen::Unread),
         Err(InputError::NoMemory) => Err(CheckOutcome::NoMemory),
     }
 }
 
-/// Checks the sources with these names, whose programs are too large by this limit. Each one is read, and what there is
+/// Checks the sources with these names. Each one is read, and what there is
 /// to say of it is written, before the next one is read; so what is in memory is of one source at a time.
 pub fn check_sources<S: Sources, W: Write>(
     alloc: Global,
     sources: &mut S,
     names: &[String],
     writer: &mut Tracked<W>,
-    size: SizeLimit,
+    settings: CheckSettings,
 ) -> CheckOutcome
-    ensures checks { Checks S.reads size sources.old (map string_bytes names.now) (W.contents writer.old.stream)
+    ensures checks { Checks S.reads settings sources.old (map string_bytes names.now) (W.contents writer.old.stream)
         result sources.new (W.contents writer.new.stream) }
     ensures faults { WriteFaults result (failures_of writer.old) (failures_of writer.new) }
 {
@@ -133,7 +132,7 @@ pub fn check_sources<S: Sources, W: Write>(
         is_unread: false,
     };
     for name in names {
-        match check_next(alloc, sources, name.as_str(), writer, size) {
+        match check_next(alloc, sources, name.as_str(), writer, settings) {
             Ok(seen) => marks = marks.with(seen),
             Err(outcome) => return outcome,
         }

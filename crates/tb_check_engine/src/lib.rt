@@ -14,4 +14,5 @@ pub use outcome::CheckOutcome;
 pub use refusals::refusal_text;
 pub use rows::{push_caret, push_line};
 pub use sources::Sources;
+pub use tb_check::CheckSettings;
 pub use texts::{NoteText, WarningText, times_of};

@@ -7,8 +7,8 @@ ghost use Rattle.tb_check_engine.specs.Reports.{lines_in};
 
 use crate::reports::{Source, push_bad_line, push_deep_line};
 use std::alloc::{AllocError, Global};
-use tb_check::{BadLine, Findings, SourceError, examine};
-use tb_codegen::SizeLimit;
+use tb_check::{BadLine, CheckSettings, Findings, SourceError, examine};
+use tb_codegen::{Notation, SizeLimit};
 use tb_compile_errors::CompileError;
 use tb_lower::LowerError;
 use tb_source_text::{Numbered, numbered_lines};
@@ -19,12 +19,17 @@ pub fn refusal_text(
     alloc: Global,
     name: &str,
     source: &[u8],
+    notation: Notation,
     error: CompileError,
 ) -> Result<Vec<u8>, AllocError>
-    ensures { IfOk result (λ text. TellsRefusal name.now source.now error text.items) }
+    ensures { IfOk result (λ text. TellsRefusal notation name.now source.now error text.items) }
 {
     // Neither bad lines nor lines that are too deep depend on the limit of the size.
-    let seen = examine(alloc, source, SizeLimit::Cost)?;
+    let settings = CheckSettings {
+        size: SizeLimit::Cost,
+        notation,
+    };
+    let seen = examine(alloc, source, settings)?;
     let numbered = numbered_lines(alloc, source)?;
     let shown = Source {
         name,

@@ -4,6 +4,7 @@ ghost use Rattle.tb_check_engine.specs.Texts.{advice, note_text, times_of, warni
 
 use std::fmt;
 use tb_check::{ForeignWord, Note, Warning};
+use tb_signs::name_of;
 
 /// The largest bound of RND that is advised.
 const ADVISED: u32 = 32_767;
@@ -68,6 +69,13 @@ impl fmt::Display for NoteText {
             Note::Near(word) => write!(f, "did you mean {}", word.spelling()),
             Note::SignInText => f.write_str(
                 "a text holds letters, digits, spaces and the signs from ! to @",
+            ),
+            Note::NearSign(byte) => {
+                let name = name_of(byte).unwrap_or("");
+                write!(f, "did you mean {{{name}}}")
+            }
+            Note::UnknownSign => f.write_str(
+                "a sign in a text is a name, as {clr} and {3 down}, or two hexadecimal digits, as {C1}",
             ),
             Note::TextInInput => f.write_str(
                 "INPUT takes variables alone; PRINT the text on the line before",

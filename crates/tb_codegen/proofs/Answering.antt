@@ -1,9 +1,8 @@
 -- What linking answers is what the compiler answers.
-use Rattle.std.proofs.Common.{ℕ, ◌≡◌, ◌<◌, ◌≤◌, Option, Some, None, Result, Ok, Err, sym, subst}
+use Rattle.std.proofs.Common.{ℕ, ◌≡◌, Some, None, Result, Ok, Err, subst}
 use Rattle.std.specs.Prelude.{IfErr, IfOk}
 use Rattle.tb_syntax.specs.Source.{Program}
 use Rattle.tb_lower.specs.Lowered as lowered
-use Rattle.tb_lower.specs.Need.{too_deep}
 use Rattle.tb_lower.specs.Slots.{SlotCode}
 use Rattle.tb_parser.specs.Files.{AreStated}
 use Rattle.tb_compile_errors.specs.declared.refusals.CompileError.{CompileError}

@@ -6,7 +6,8 @@ use Rattle.tb_asm.specs.Layout.{size}
 use Rattle.tb_lower.specs.Follows.{Follows}
 use Rattle.tb_lower.specs.Lowered as lowered
 use Rattle.tb_lower.specs.Slots.{SlotCode}
-use Rattle.tb_parser.specs.Files.{LinesAre, Outcome, edited, end, bad, good}
+use Rattle.tb_parser.specs.declared.notation.Notation.{Notation}
+use Rattle.tb_parser.specs.Files.{LinesIn, Outcome, edited, end, bad, good}
 use Rattle.tb_prg.specs.Prg.{header}
 use Rattle.tb_runtime16.specs.Addresses.{PROLOGUE_AT}
 use Rattle.tb_syntax.specs.Source.{Program, numbers}
@@ -41,7 +42,7 @@ same_made : (a b : Program) → ◌≡◌ {A = Outcome} (Ok a) (Ok b) → a ≡ 
 same_made a b e = cc
 
 -- a file that makes a program has at least one line
-pub made_some : (n : ℕ) (p : Program) (ls : List (List ℕ)) (o : Outcome) → LinesAre n p ls o → (q : Program) → o ≡ Ok q → 1 ≤ length q
+pub made_some : {notation : Notation} (n : ℕ) (p : Program) (ls : List (List ℕ)) (o : Outcome) → LinesIn notation n p ls o → (q : Program) → o ≡ Ok q → 1 ≤ length q
 made_some _ _ _ _ (end n []) q e = cc
 made_some _ _ _ _ (end n (l ∷ k)) q e = subst (λ x. 1 ≤ length x) (same_made (l ∷ k) q e) (omega arith)
 made_some _ _ _ _ (bad n p line lines r k) q e = cc

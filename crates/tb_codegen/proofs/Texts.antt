@@ -1,13 +1,13 @@
 -- The texts of a line are in its settled code.
 use Rattle.std.proofs.Common.{◌≡◌, ℕ, ◌+◌, ◌≤◌, List, [], ◌∷◌, ◌++◌, length, take, drop, map, true, refl, sym, ap, subst, ◌∙◌}
 use Rattle.std.proofs.Common.{arith, append_assoc, length-append, Bool, Option, Some, None}
-use Rattle.std.specs.Prelude.{unwrap_or}
+use Rattle.std.specs.Prelude.{◌/◌, ◌%◌, ◌<◌, unwrap_or}
 use Rattle.std.specs.List.{list_all}
 use Rattle.tb_words.specs.declared.Rel.{Rel}
 use Rattle.tb_syntax.specs.declared.expressions.Operator.{Operator}
 use Rattle.tb_syntax.specs.declared.expressions.Operator.TheVariants.{Subtract}
 use Rattle.tb_templates.specs.Labels.{label_of}
-use Rattle.tb_runtime16.specs.Addresses.{PROLOGUE_AT}
+use Rattle.tb_runtime16.specs.Addresses.{PROLOGUE_AT, SEND_AT}
 use Rattle.tb_asm.specs.declared.names.Name.{Name}
 use Rattle.tb_asm.specs.Layout.{Entry, bytes, size, bytes_from}
 use Rattle.tb_asm.specs.Settle as settle
@@ -23,7 +23,9 @@ use Rattle.tb_lower.proofs.Weighed.{same_texts}
 use Rattle.tb_templates.specs.declared.labels.Inner.TheVariants as inner
 use Rattle.tb_templates.specs.declared.labels.Target.TheVariants as target
 use Rattle.tb_runtime16.specs.Addresses.{POINTER}
-use Rattle.tb_templates.specs.Templates.{address, text_call, jump, here}
+use Rattle.tb_opcodes.specs.Opcodes as opcodes
+use Rattle.tb_templates.specs.Templates.{address, byte_sent, only_byte, sent, text_call, jump, here}
+use Rattle.tb_templates.proofs.Sent.{IsOnly, only, only_is, other}
 use Rattle.tb_templates.specs.GroupTemplates.{group_template}
 use Rattle.tb_templates.specs.Breaks.{polled, behind, some_leaves}
 use Rattle.tb_templates.specs.Layout.{LabelsAt}
@@ -100,6 +102,25 @@ loud labels a xs ys t texts h front back =
     ap (λ i. take (length t) (drop (length front + size xs) i)) shown ∙ ap (λ n. take (length t) (drop n ((front ++ p) ++ (t ++ m)))) (sym l) ∙ take_middle (front ++ p) t m in
     text (length front) (length front + size xs) t texts (omega arith) stands
     (lower image (length front + size (es ++ ys)) (length front + size xs + length t) (length front + size es) texts (omega (arith, s)) (later labels a es ys texts h front back))
+
+-- the byte of a text of one byte, in an instruction before another piece
+loud_byte : (labels : List (Name × ℕ)) (a b : ℕ) (ys : List Entry) (texts : List (List ℕ)) → b < 256 → Holds labels (a + 5) ys texts → Holds labels a (byte_sent b ++ ys) ((b ∷ []) ∷ texts)
+unfolding opcodes.encoded
+loud_byte labels a b ys texts small h front back =
+    let m = bytes_from labels (a + 5) ys ++ back in
+    let image = front ++ (bytes_from labels a (byte_sent b ++ ys) ++ back) in
+    let e : b % 256 ≡ b = omega (arith, small) in
+    let tail = 0x20 ∷ SEND_AT % 256 ∷ SEND_AT / 256 ∷ m in
+    let there : bytes_from labels (a + 2 + 3) ys ≡ bytes_from labels (a + 5) ys = (let q : a + 2 + 3 ≡ a + 5 = omega arith in ap (λ n. bytes_from labels n ys) q) in
+    let shown : image ≡ (front ++ 0xa9 ∷ []) ++ ((b ∷ []) ++ tail) =
+    (λ i. front ++ 0xa9 ∷ e i ∷ 0x20 ∷ SEND_AT % 256 ∷ SEND_AT / 256 ∷ (there i ++ back)) ∙ sym (append_assoc front (0xa9 ∷ []) ((b ∷ []) ++ tail)) in
+    let long : length (front ++ 0xa9 ∷ []) ≡ length front + 1 = length-append front (0xa9 ∷ []) in
+    let stands : take 1 (drop (length front + 1) image) ≡ b ∷ [] =
+    ap (λ i. take 1 (drop (length front + 1) i)) shown ∙ ap (λ n. take 1 (drop n ((front ++ 0xa9 ∷ []) ++ ((b ∷ []) ++ tail)))) (sym long)
+    ∙ take_middle (front ++ 0xa9 ∷ []) (b ∷ []) tail in
+    let s : size (byte_sent b ++ ys) ≡ 5 + size ys = omega arith in
+    text (length front) (length front + 1) (b ∷ []) texts (omega arith) stands
+    (lower image (length front + size (byte_sent b ++ ys)) (length front + 1 + 1) (length front + size (byte_sent b)) texts (omega arith) (later labels a (byte_sent b) ys texts h front back))
 
 -- a piece without texts after another one
 quiet_behind : (labels : List (Name × ℕ)) (a : ℕ) (xs ys : List Entry) (texts : List (List ℕ)) → Holds labels a xs texts → Holds labels a (xs ++ ys) texts
@@ -232,6 +253,22 @@ module _ (labels : List (Name × ℕ)) (ns : List ℕ) (seed n : ℕ) where
   nothing a [] h = λ front back. none (length front) (omega arith)
   nothing a (f ∷ fs) h = absurd h
 
+  -- a text, of one byte or of others, before other groups
+  sent_texts : (i : ℕ) (t : List ℕ) (o : Option ℕ) → IsOnly t o → (gs : List Group) (a : ℕ) (fs : List Form)
+      → AreFormsOf (sent o (target.Inside inner.Text n i) (target.Inside inner.Behind n i) t ++ rest_code ns seed n (i + 1) gs) fs
+      → RestHolds (i + 1) gs (instr_texts (expand_all gs)) → Holds labels a (items_from a fs) (t ∷ instr_texts (expand_all gs))
+  sent_texts i _ _ (only b small) gs a fs h rest =
+      let own = byte_sent b in
+      let s = split own (rest_code ns seed n (i + 1) gs) fs h in
+      let same : s.front ≡ map settle.kept own = straight_forms own s.front refl s.of_front in
+      let front : items_from a s.front ≡ own = ap (items_from a) same ∙ items_kept a own in
+      let there : a + forms_size s.front ≡ a + 5 = (let e = items_size a s.front in let f = ap size front in omega (arith, e, f)) in
+      subst (λ es. Holds labels a es ((b ∷ []) ∷ instr_texts (expand_all gs)))
+      (sym (ap (items_from a) s.are ∙ items_append a s.front s.back ∙ (λ j. front j ++ items_from (there j) s.back)))
+      (loud_byte labels a b (items_from (a + 5) s.back) (instr_texts (expand_all gs)) small (rest (a + 5) s.back s.of_back))
+  sent_texts i t _ (other _) gs a fs h rest =
+      loud_forms labels a (before_text i t) t (here (target.Inside inner.Behind n i)) (rest_code ns seed n (i + 1) gs) fs (instr_texts (expand_all gs)) refl h rest
+
   rest_texts : (i : ℕ) (gs : List Group) → RestHolds i gs (instr_texts (expand_all gs))
   rest_texts i [] = nothing
   rest_texts i (Calculate op x y d ∷ gs) = silent i (Calculate op x y d) gs _ (calculate_texts op x y d (expand_all gs)) (rest_texts (i + 1) gs)
@@ -243,8 +280,7 @@ module _ (labels : List (Name × ℕ)) (ns : List ℕ) (seed n : ℕ) where
   rest_texts i (Divides how x d side to ∷ gs) = silent i (Divides how x d side to) gs _ (divides_texts how x d side to (expand_all gs)) (rest_texts (i + 1) gs)
   rest_texts i (Remains x d to ∷ gs) = silent i (Remains x d to) gs _ (remains_texts x d to (expand_all gs)) (rest_texts (i + 1) gs)
   rest_texts i (Stepped op x y by w v ∷ gs) = silent i (Stepped op x y by w v) gs _ (stepped_texts op x y by w v (expand_all gs)) (rest_texts (i + 1) gs)
-  rest_texts i (Single (SendText t) ∷ gs) = λ a fs h.
-      loud_forms labels a (before_text i t) t (here (target.Inside inner.Behind n i)) (rest_code ns seed n (i + 1) gs) fs (instr_texts (expand_all gs)) refl h (rest_texts (i + 1) gs)
+  rest_texts i (Single (SendText t) ∷ gs) = λ a fs h. sent_texts i t (only_byte t) (only_is t) gs a fs h (rest_texts (i + 1) gs)
   rest_texts i (Single (Put k w) ∷ gs) = silent i (Single (Put k w)) gs _ refl (rest_texts (i + 1) gs)
   rest_texts i (Single (Load k x) ∷ gs) = silent i (Single (Load k x)) gs _ refl (rest_texts (i + 1) gs)
   rest_texts i (Single (Store x) ∷ gs) = silent i (Single (Store x)) gs _ refl (rest_texts (i + 1) gs)

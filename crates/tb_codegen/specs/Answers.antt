@@ -2,7 +2,9 @@
 use Rattle.std.specs.Prelude.{◌≡◌, ℕ, List, [], map, Result, Ok, Err}
 use Rattle.tb_words.specs.Words.{word_of}
 use Rattle.tb_syntax.specs.Source.{Program}
-use Rattle.tb_parser.specs.Files.{FileRefusal, Outcome, LinesAre}
+use Rattle.tb_parser.specs.declared.notation.Notation.{Notation}
+use Rattle.tb_parser.specs.declared.notation.Notation.TheVariants.{Plain}
+use Rattle.tb_parser.specs.Files.{FileRefusal, Outcome, LinesIn}
 use Rattle.tb_parser.specs.Lines.{lines_of_file}
 use Rattle.tb_compile_errors.specs.declared.refusals.CompileError.{CompileError}
 use Rattle.tb_compile_errors.specs.declared.refusals.CompileError.TheVariants.{NoMemory}
@@ -28,14 +30,18 @@ abbrev pub OutcomeAnswer : CompileSettings → Outcome → Result Compiled Compi
 OutcomeAnswer settings (Ok program) result = ProgramAnswer settings program result
 OutcomeAnswer settings (Err r) result = RefusalAnswer r result
 
--- what the lines of a file make
+-- what the lines of a file make in a notation
+abbrev pub SourceMakes : Notation → List ℕ → Outcome → Type 0
+SourceMakes notation source outcome = LinesIn notation 1 [] (lines_of_file source) outcome
+
+-- what they make without signs
 abbrev pub LinesMake : List ℕ → Outcome → Type 0
-LinesMake source outcome = LinesAre 1 [] (lines_of_file source) outcome
+LinesMake source outcome = SourceMakes Plain source outcome
 
 -- the file's outcome, and the answer for it
 pub record Answered (settings : CompileSettings) (source : List ℕ) (result : Result Compiled CompileError) : Type 0 where
   pub outcome : Outcome
-  pub made : LinesMake source outcome
+  pub made : SourceMakes settings.notation source outcome
   pub answer : OutcomeAnswer settings outcome result
 
 -- unless memory ran out, the file has an outcome

@@ -1,11 +1,13 @@
 -- The theorem of `compile`: what is compiled keeps its source, and marks its lines.
 use Rattle.std.specs.Prelude.{ℕ, List, Ok}
 use Rattle.tb_memmap.specs.Regions.{BASIC_START}
+use Rattle.tb_parser.specs.declared.notation.Notation.{Notation}
+use Rattle.tb_parser.specs.declared.notation.Notation.TheVariants.{Plain}
 use Rattle.tb_syntax.specs.Source.{Program}
 use Rattle.tb_simulation.specs.LineStarts.{MarksLines}
 use Rattle.tb_simulation.specs.Theorem.{Keeps}
 use Rattle.tb_codegen.specs.declared.compiled.Compiled.{Compiled}
-use Rattle.tb_codegen.specs.Answers.{LinesMake}
+use Rattle.tb_codegen.specs.Answers.{SourceMakes}
 use Rattle.tb_codegen.specs.Compiled.{loaded_of, start_of}
 
 -- a compiled file's code, loaded at $0801, keeps a program, whatever the ROM does
@@ -16,10 +18,18 @@ KeepsProgram seed program c = Keeps BASIC_START (loaded_of c) program seed
 abbrev pub MarksProgram : ℕ → Program → Compiled → Type 0
 MarksProgram seed program c = MarksLines BASIC_START (loaded_of c) program seed (start_of c)
 
+-- it keeps the program that its source makes in a notation
+abbrev pub KeepsSourceIn : Notation → ℕ → List ℕ → Compiled → Type 0
+KeepsSourceIn notation seed source c = (program : Program) × SourceMakes notation source (Ok program) × KeepsProgram seed program c
+
+-- it marks the lines of the program that its source makes in a notation
+abbrev pub MarksLinesIn : Notation → ℕ → List ℕ → Compiled → Type 0
+MarksLinesIn notation seed source c = (program : Program) × SourceMakes notation source (Ok program) × MarksProgram seed program c
+
 -- it keeps the program that its source makes
 abbrev pub KeepsItsSource : ℕ → List ℕ → Compiled → Type 0
-KeepsItsSource seed source c = (program : Program) × LinesMake source (Ok program) × KeepsProgram seed program c
+KeepsItsSource seed source c = KeepsSourceIn Plain seed source c
 
 -- it marks the lines of the program that its source makes
 abbrev pub MarksItsLines : ℕ → List ℕ → Compiled → Type 0
-MarksItsLines seed source c = (program : Program) × LinesMake source (Ok program) × MarksProgram seed program c
+MarksItsLines seed source c = MarksLinesIn Plain seed source c

@@ -6,12 +6,14 @@ ghost use Rattle.tb_meaning.specs.Cost as cost;
 ghost use Rattle.tb_lower.specs.PlainData.{code_of};
 ghost use Rattle.tb_lower.specs.Refusals.{IsRefusal};
 ghost use Rattle.tb_parser.specs.Files.{AreStated, Outcome};
+ghost use Rattle.tb_parser.specs.Lines.{lines_of_file};
+ghost use Rattle.tb_parser.specs.Signed.{LackSigns};
 ghost use Rattle.tb_codegen.specs.declared.compiled.Compiled.{Compiled};
-ghost use Rattle.tb_codegen.specs.Answers.{GivesSame, HasOutcome, LinesMake, OutcomeAnswer, ProgramAnswer};
+ghost use Rattle.tb_codegen.specs.Answers.{GivesSame, HasOutcome, LinesMake, OutcomeAnswer, ProgramAnswer, SourceMakes};
 ghost use Rattle.tb_codegen.specs.Coded.{IsSlotCode};
 ghost use Rattle.tb_codegen.specs.Refusals.{IsExcess};
 ghost use Rattle.tb_codegen.specs.Settings.{by_cost, by_memory};
-ghost use Rattle.tb_codegen.specs.Theorem.{KeepsItsSource, KeepsProgram, MarksItsLines, MarksProgram};
+ghost use Rattle.tb_codegen.specs.Theorem.{KeepsItsSource, KeepsProgram, KeepsSourceIn, MarksItsLines, MarksLinesIn, MarksProgram};
 
 use crate::compiled::Compiled;
 use crate::costs::cost;
@@ -20,7 +22,7 @@ use crate::settings::{CompileSettings, SizeLimit};
 use std::alloc::Global;
 use tb_compile_errors::CompileError;
 use tb_lower::{LowerError, SlotCode, lower};
-use tb_parser::parse;
+use tb_parser::parse_in;
 use tb_syntax::Program;
 
 /// The most that a program may cost, in bytes.
@@ -70,18 +72,21 @@ pub fn compile_to_fit(
     compile_within(alloc, source, CompileSettings::by_memory(options.seed))
 }
 
-/// The PRG file of a source text, refused as too large by either limit: `compile` and `compile_to_fit` in one.
+/// The PRG file of a source text, refused as too large by either limit, and with or without signs: `compile` and
+/// `compile_to_fit` in one.
 pub fn compile_within(
     alloc: Global,
     source: &[u8],
     settings: CompileSettings,
 ) -> Result<Compiled, CompileError>
     ensures found { HasOutcome settings source.now result }
-    ensures only { (outcome : Outcome) → LinesMake source.now outcome → OutcomeAnswer settings outcome result }
-    ensures keeps { IfOk result (KeepsItsSource settings.seed source.now) }
-    ensures marks { IfOk result (MarksItsLines settings.seed source.now) }
+    ensures only { (outcome : Outcome) → SourceMakes settings.notation source.now outcome → OutcomeAnswer settings outcome result }
+    // If no text has a brace or a bracket, what the lines make without signs is answered.
+    ensures plain { LackSigns (lines_of_file source.now) → (outcome : Outcome) → LinesMake source.now outcome → OutcomeAnswer settings outcome result }
+    ensures keeps { IfOk result (KeepsSourceIn settings.notation settings.seed source.now) }
+    ensures marks { IfOk result (MarksLinesIn settings.notation settings.seed source.now) }
 {
-    let program = parse(alloc, source)?;
+    let program = parse_in(alloc, settings.notation, source)?;
     compile_program(alloc, &program, settings)
 }
 

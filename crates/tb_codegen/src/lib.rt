@@ -12,3 +12,4 @@ pub use compiler::{MOST_COST, Options, compile, compile_to_fit, compile_within};
 pub use costs::{cost, line_cost};
 pub use settings::{CompileSettings, SizeLimit};
 pub use tb_compile_errors::CompileError;
+pub use tb_parser::Notation;

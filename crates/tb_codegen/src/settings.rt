@@ -2,6 +2,8 @@
 ghost use Rattle.std.specs.Prelude.{◌≡◌};
 ghost use Rattle.tb_codegen.specs.Settings.{by_cost, by_memory};
 
+use tb_parser::Notation;
+
 /// When a program is refused as too large.
 #[derive(Clone, Copy, Debug, PartialEq, Eq, Drop)]
 pub enum SizeLimit {
@@ -18,26 +20,30 @@ pub struct CompileSettings {
     pub seed: u16,
     /// When it is refused as too large.
     pub size: SizeLimit,
+    /// How its texts are read.
+    pub notation: Notation,
 }
 
 impl CompileSettings {
-    /// With a first state of RND, and refused by the cost.
+    /// With a first state of RND, refused by the cost, and without signs.
     pub fn by_cost(seed: u16) -> CompileSettings
         ensures { result ≡ by_cost seed }
     {
         CompileSettings {
             seed,
             size: SizeLimit::Cost,
+            notation: Notation::Plain,
         }
     }
 
-    /// With a first state of RND, and refused only if the memory is too small.
+    /// With a first state of RND, refused only if the memory is too small, and without signs.
     pub fn by_memory(seed: u16) -> CompileSettings
         ensures { result ≡ by_memory seed }
     {
         CompileSettings {
             seed,
             size: SizeLimit::Memory,
+            notation: Notation::Plain,
         }
     }
 }

@@ -186,6 +186,12 @@ pub const FIT: Argument = Argument {
     form: Form::Flag,
 };
 
+pub const PETSCII: Argument = Argument {
+    name: "petscii",
+    help: "Read signs in texts: {clr} clears the screen, {C1} is a byte",
+    form: Form::Flag,
+};
+
 pub const KEYS: Argument = Argument {
     name: KEYS_NAME,
     help: "What is typed, as pairs of hexadecimal digits: 350d is a 5 and return",

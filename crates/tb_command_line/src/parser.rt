@@ -1,6 +1,7 @@
 //! The table of the commands as a parser of `clap`.
 use crate::arguments::{Argument, Form};
 use crate::commands::{CommandRow, rows};
+use crate::taken::arguments_of;
 use clap::{Arg, ArgAction, Command, value_parser};
 use std::alloc::{AllocError, Global};
 use std::convert::AsStr;
@@ -32,7 +33,7 @@ pub fn parser<'a, S: AsStr>(alloc: Global, words: &[S]) -> Result<Command<'a>, A
         .subcommand_required(true);
     for row in rows() {
         let arguments = if is_named(words, row.name) {
-            row.arguments
+            arguments_of(row.command)
         } else {
             &[]
         };

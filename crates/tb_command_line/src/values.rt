@@ -1,12 +1,13 @@
 //! The values of arguments that the parser found.
 use crate::arguments::{
     ANSWERS, Argument, FIT, FOR, IN_PLACE, KEY_FILE, KEYS, LABELS, LIMIT, LIST, LONG, MAP,
-    ONLY_CHECK, PRG, RUDE, SCREEN, SEED, SOURCE_OR_PRG, TYPE, WATCH,
+    ONLY_CHECK, PETSCII, PRG, RUDE, SCREEN, SEED, SOURCE_OR_PRG, TYPE, WATCH,
 };
 use clap::ArgMatches;
 use std::alloc::{AllocError, Global};
 use tb_jobs::{
-    BuildExtras, Dialect, FormatTarget, Limit, Runnable, Settings, Typed, USUAL_SEED, USUAL_STEP,
+    BuildExtras, Dialect, FormatTarget, Limit, Notation, Runnable, Settings, Typed, USUAL_SEED,
+    USUAL_STEP,
 };
 
 /// A copy of the text of an argument, or an empty one if the parser let it be missing.
@@ -64,6 +65,15 @@ pub fn seed_of(found: &ArgMatches<'_>) -> u16 {
 /// Whether a source is refused as too large only if it doesn't fit the memory.
 pub fn fit_of(found: &ArgMatches<'_>) -> bool {
     found.get_flag(FIT.name)
+}
+
+/// How the texts of a source are read.
+pub fn notation_of(found: &ArgMatches<'_>) -> Notation {
+    if found.get_flag(PETSCII.name) {
+        Notation::Signs
+    } else {
+        Notation::Plain
+    }
 }
 
 /// Where the tidy text of a source goes. The parser lets at most one of the two options through.
@@ -126,6 +136,7 @@ pub fn settings_of(alloc: Global, found: &ArgMatches<'_>) -> Result<Settings, Al
     Ok(Settings {
         seed: seed_of(found),
         fit: fit_of(found),
+        notation: notation_of(found),
         keys: typed_of(alloc, found)?,
         answers: text(alloc, found, &ANSWERS)?,
         limit: limit_of(found, &LIMIT, Limit::default_limit()),

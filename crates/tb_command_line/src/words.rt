@@ -11,7 +11,8 @@ use crate::commands::{CommandName, command_named, rows};
 use crate::parser::{VERSION, parser};
 use crate::values::{
     dialect_of, extras_of, first_text, fit_of, in_place_of, limit_of, line_number_of, long_of,
-    optional_text, rude_of, runnable_of, screen_of, seed_of, settings_of, target_of, text, texts,
+    notation_of, optional_text, rude_of, runnable_of, screen_of, seed_of, settings_of, target_of,
+    text, texts,
 };
 use clap::ArgMatches;
 use clap::error::ErrorKind;
@@ -78,8 +79,12 @@ fn job_of(alloc: Global, command: CommandName, found: &ArgMatches<'_>) -> Result
         CommandName::Check => check_job(alloc, found),
         CommandName::Format => format_job(alloc, found),
         CommandName::Renumber => renumber_job(alloc, found),
-        CommandName::Lsp => Ok(Job::Lsp),
-        CommandName::Dap => Ok(Job::Dap),
+        CommandName::Lsp => Ok(Job::Lsp {
+            notation: notation_of(found),
+        }),
+        CommandName::Dap => Ok(Job::Dap {
+            notation: notation_of(found),
+        }),
         CommandName::Version => version_job(alloc),
     }
 }
@@ -97,6 +102,7 @@ fn build_job(alloc: Global, found: &ArgMatches<'_>) -> Result<Job, AllocError>
         out,
         seed: seed_of(found),
         fit: fit_of(found),
+        notation: notation_of(found),
         beside: extras_of(alloc, found)?,
     })
 }
@@ -119,6 +125,7 @@ fn play_job(alloc: Global, found: &ArgMatches<'_>) -> Result<Job, AllocError>
         what: runnable_of(alloc, found)?,
         seed: seed_of(found),
         fit: fit_of(found),
+        notation: notation_of(found),
         limit: limit_of(found, &PLAY_LIMIT, Limit::most()),
         record: optional_text(alloc, found, &RECORD)?,
         screen: screen_of(found),
@@ -223,6 +230,7 @@ fn check_job(alloc: Global, found: &ArgMatches<'_>) -> Result<Job, AllocError>
     Ok(Job::Check {
         sources: texts(alloc, found, &SOURCES)?,
         fit: fit_of(found),
+        notation: notation_of(found),
     })
 }
 
@@ -231,6 +239,7 @@ fn format_job(alloc: Global, found: &ArgMatches<'_>) -> Result<Job, AllocError>
 {
     Ok(Job::Format {
         source: text(alloc, found, &SOURCE)?,
+        notation: notation_of(found),
         target: target_of(found),
     })
 }
@@ -240,6 +249,7 @@ fn renumber_job(alloc: Global, found: &ArgMatches<'_>) -> Result<Job, AllocError
 {
     Ok(Job::Renumber {
         source: text(alloc, found, &SOURCE)?,
+        notation: notation_of(found),
         first: line_number_of(found, &FIRST_LINE),
         step: line_number_of(found, &LINE_STEP),
         in_place: in_place_of(found),

@@ -6,6 +6,7 @@ use Rattle.serde_json.specs.View.{items_of}
 use Rattle.tb_places.specs.Columns.{place_at, units_of}
 use Rattle.tb_places.specs.declared.spans.Span.{Span}
 use Rattle.tb_edit_values.specs.Edits.{edit_value}
+use Rattle.tb_parser.specs.declared.notation.Notation.{Notation}
 use Rattle.tb_source_names.specs.declared.lines.Line.{Line as SourceLine}
 use Rattle.tb_completion.specs.Candidates.{candidates, spelling, written}
 use Rattle.tb_completion.specs.Offered.{Offers}
@@ -53,18 +54,18 @@ abbrev pub line_at : ℕ → List SourceLine → List ℕ
 line_at line lines = text_of (slice_get lines line)
 
 -- what is offered behind the beginning of a line, in place of what is typed
-abbrev pub AreOffered : List SourceLine → ℕ → List ℕ → List Data → Type 0
-AreOffered lines line before items =
-    (t : Typed) × IsTyped before t × ((found : List Candidate) × Offers t (candidates lines) found × (items ≡ items_in (span_of line before t) found))
+abbrev pub AreOffered : Notation → List SourceLine → ℕ → List ℕ → List Data → Type 0
+AreOffered notation lines line before items =
+    (t : Typed) × IsTyped before t × ((found : List Candidate) × Offers notation t (candidates lines) found × (items ≡ items_in (span_of line before t) found))
 
 -- the same, by whether the place is beyond the longest line
-abbrev pub AreItemsBy : Bool → List SourceLine → ℕ → List ℕ → List Data → Type 0
-AreItemsBy true lines line before items = items ≡ []
-AreItemsBy false lines line before items = AreOffered lines line before items
+abbrev pub AreItemsBy : Bool → Notation → List SourceLine → ℕ → List ℕ → List Data → Type 0
+AreItemsBy true notation lines line before items = items ≡ []
+AreItemsBy false notation lines line before items = AreOffered notation lines line before items
 
 -- the items behind the beginning of a line
-abbrev pub AreItems : List SourceLine → ℕ → List ℕ → List Data → Type 0
-AreItems lines line before items = AreItemsBy (nat_lt 255 (length before)) lines line before items
+abbrev pub AreItems : Notation → List SourceLine → ℕ → List ℕ → List Data → Type 0
+AreItems notation lines line before items = AreItemsBy (nat_lt 255 (length before)) notation lines line before items
 
 -- a list of items, which is all of them
 abbrev pub list_of : List Data → Data
@@ -74,6 +75,7 @@ list_of items = object (member (codes "isIncomplete") (boolean false) (member (c
 abbrev pub before_of : ℕ → List ℕ → List ℕ
 before_of character text = take (place_at character text) text
 
--- what may be written at a place of a source
-abbrev pub Completes : List SourceLine → ℕ → ℕ → Data → Type 0
-Completes lines line character v = (items : List Data) × AreItems lines line (before_of character (line_at line lines)) items × (v ≡ list_of items)
+-- what may be written at a place of a source that is read in a notation
+abbrev pub Completes : Notation → List SourceLine → ℕ → ℕ → Data → Type 0
+Completes notation lines line character v =
+    (items : List Data) × AreItems notation lines line (before_of character (line_at line lines)) items × (v ≡ list_of items)

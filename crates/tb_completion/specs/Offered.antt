@@ -1,7 +1,8 @@
 -- What is offered.
 use Rattle.std.specs.Prelude.{ℕ, ◌≡◌, ◌⊎◌, Bool, true, false, ◌&&◌, ◌||◌, ◌==◌, not, List, [], ◌∷◌, ◌++◌, Option, None, Ok, Err}
 use Rattle.std.specs.Char.{to_ascii_uppercase}
-use Rattle.tb_parser.specs.Readings.{Edit, LineIs, Refusal}
+use Rattle.tb_parser.specs.Readings.{Edit, LineIn, Refusal}
+use Rattle.tb_parser.specs.declared.notation.Notation.{Notation}
 use Rattle.tb_parser.specs.declared.errors.SourceErrorKind.TheVariants.{Syntax}
 use Rattle.tb_parser.specs.declared.lexer.TokenKind.{TokenKind}
 use Rattle.tb_completion.specs.Candidates.{spelled}
@@ -16,11 +17,11 @@ begins text [] = true
 begins [] (b ∷ part) = false
 begins (a ∷ text) (b ∷ part) = (a == to_ascii_uppercase b) && begins text part
 
--- Whether a line begins one of the grammar: one that does is good, or bad in its syntax alone; one that doesn't is bad.
--- Where a fault of syntax stands no definition states.
-abbrev pub BeginsLine : List ℕ → Bool → Type 0
-BeginsLine line true = ((e : Edit) × LineIs line (Ok e)) ⊎ LineIs line (Err (record { kind = Syntax; column = None }))
-BeginsLine line false = (r : Refusal) × LineIs line (Err r)
+-- Whether a line begins one of the grammar in a notation: one that does is good, or bad in its syntax alone; one that
+-- doesn't is bad. Where a fault of syntax stands no definition states.
+abbrev pub BeginsLine : Notation → List ℕ → Bool → Type 0
+BeginsLine notation line true = ((e : Edit) × LineIn notation line (Ok e)) ⊎ LineIn notation line (Err (record { kind = Syntax; column = None }))
+BeginsLine notation line false = (r : Refusal) × LineIn notation line (Err r)
 
 -- whether a candidate goes on with a number before it
 abbrev pub joins : Option TokenKind → Candidate → Bool
@@ -32,13 +33,13 @@ abbrev pub is_excluded : Typed → Candidate → Bool
 is_excluded t c = is_closed t.before || (joins t.before c || not (begins (spelled c) t.part.now))
 
 -- whether a candidate is offered, by that
-abbrev pub IsOfferedBy : Bool → Typed → Candidate → Bool → Type 0
-IsOfferedBy true t c offered = offered ≡ false
-IsOfferedBy false t c offered = BeginsLine (t.base.now ++ spelled c) offered
+abbrev pub IsOfferedBy : Bool → Notation → Typed → Candidate → Bool → Type 0
+IsOfferedBy true notation t c offered = offered ≡ false
+IsOfferedBy false notation t c offered = BeginsLine notation (t.base.now ++ spelled c) offered
 
 -- whether a candidate is offered behind what is typed: it begins so, and the line with it behind begins one of the grammar
-abbrev pub IsOffered : Typed → Candidate → Bool → Type 0
-IsOffered t c offered = IsOfferedBy (is_excluded t c) t c offered
+abbrev pub IsOffered : Notation → Typed → Candidate → Bool → Type 0
+IsOffered notation t c offered = IsOfferedBy (is_excluded t c) notation t c offered
 
 -- a candidate, if it is offered
 abbrev pub one : Bool → Candidate → List Candidate
@@ -46,11 +47,13 @@ one true c = c ∷ []
 one false c = []
 
 -- it comes behind others
-abbrev pub AppendsOffered : Typed → Candidate → List Candidate → List Candidate → Type 0
-AppendsOffered t c old new = (offered : Bool) × IsOffered t c offered × (new ≡ old ++ one offered c)
+abbrev pub AppendsOffered : Notation → Typed → Candidate → List Candidate → List Candidate → Type 0
+AppendsOffered notation t c old new = (offered : Bool) × IsOffered notation t c offered × (new ≡ old ++ one offered c)
 
 -- these candidates are offered of those
-pub data Offers (t : Typed) : List Candidate → List Candidate → Type 0 where
-  none : Offers t [] []
-  offered : (c : Candidate) (cs found : List Candidate) → IsOffered t c true → Offers t cs found → Offers t (c ∷ cs) (c ∷ found)
-  left_out : (c : Candidate) (cs found : List Candidate) → IsOffered t c false → Offers t cs found → Offers t (c ∷ cs) found
+pub data Offers (notation : Notation) (t : Typed) : List Candidate → List Candidate → Type 0 where
+  none : Offers notation t [] []
+  offered : (c : Candidate) (cs found : List Candidate) → IsOffered notation t c true → Offers notation t cs found
+      → Offers notation t (c ∷ cs) (c ∷ found)
+  left_out : (c : Candidate) (cs found : List Candidate) → IsOffered notation t c false → Offers notation t cs found
+      → Offers notation t (c ∷ cs) found

@@ -102,11 +102,11 @@ fn offered_items(
     line: usize,
     before: &[u8],
 ) -> Result<Vec<Value>, AllocError>
-    ensures { IfOk result (λ items. spec.AreOffered source.now.lines.items line before.now (map view items.items)) }
+    ensures { IfOk result (λ items. spec.AreOffered source.now.notation source.now.lines.items line before.now (map view items.items)) }
 {
     let typed = typed_part(alloc, before)?;
     let candidates = candidates(alloc, source)?;
-    let found = offered(alloc, typed, &candidates)?;
+    let found = offered(alloc, source.notation, typed, &candidates)?;
     let items = items_of(alloc, &found, span_of(line, before, typed))?;
     Ok(items)
 }
@@ -118,7 +118,7 @@ fn items(
     line: usize,
     before: &[u8],
 ) -> Result<Vec<Value>, AllocError>
-    ensures { IfOk result (λ items. spec.AreItems source.now.lines.items line before.now (map view items.items)) }
+    ensures { IfOk result (λ items. spec.AreItems source.now.notation source.now.lines.items line before.now (map view items.items)) }
 {
     if before.len() > LONGEST_LINE {
         return Ok(Vec::new(alloc));
@@ -135,7 +135,7 @@ pub fn completion(
     line: usize,
     character: usize,
 ) -> Result<Value, AllocError>
-    ensures { IfOk result (λ v. spec.Completes source.now.lines.items line character (view v)) }
+    ensures { IfOk result (λ v. spec.Completes source.now.notation source.now.lines.items line character (view v)) }
 {
     let text = line_at(source, line);
     let before = &text[..place_at(text, character)];

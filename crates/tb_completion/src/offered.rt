@@ -6,7 +6,7 @@ ghost use Rattle.tb_completion.specs.Offered as spec;
 use crate::candidates::Candidate;
 use crate::typed::Typed;
 use std::alloc::{AllocError, Global};
-use tb_parser::{SourceErrorKind, read_line};
+use tb_parser::{Notation, SourceErrorKind, read_line_in};
 
 /// How a candidate is spelled.
 pub fn spelled(alloc: Global, candidate: Candidate) -> Result<String, AllocError>
@@ -32,10 +32,10 @@ fn begins(text: &[u8], part: &[u8]) -> bool
 }
 
 // Whether a line is good, or nothing is wrong with it but that it ends.
-fn begins_line(alloc: Global, line: &[u8]) -> Result<bool, AllocError>
-    ensures { IfOk result (spec.BeginsLine line.now) }
+fn begins_line(alloc: Global, notation: Notation, line: &[u8]) -> Result<bool, AllocError>
+    ensures { IfOk result (spec.BeginsLine notation line.now) }
 {
-    match read_line(alloc, line) {
+    match read_line_in(alloc, notation, line) {
         Ok(_) => Ok(true),
         Err(fault) => match fault.kind {
             SourceErrorKind::NoMemory => Err(AllocError),
@@ -46,12 +46,12 @@ fn begins_line(alloc: Global, line: &[u8]) -> Result<bool, AllocError>
 }
 
 // Whether a text behind another one begins a line of the grammar.
-fn fits(alloc: Global, base: &[u8], text: &[u8]) -> Result<bool, AllocError>
-    ensures { IfOk result (λ fits. spec.BeginsLine (base.now ++ text.now) fits) }
+fn fits(alloc: Global, notation: Notation, base: &[u8], text: &[u8]) -> Result<bool, AllocError>
+    ensures { IfOk result (λ fits. spec.BeginsLine notation (base.now ++ text.now) fits) }
 {
     let mut line = Vec::from_slice(alloc, base)?;
     line.extend_from_slice(text)?;
-    begins_line(alloc, line.as_slice())
+    begins_line(alloc, notation, line.as_slice())
 }
 
 // Whether a candidate goes on with a number that stands before it.
@@ -65,43 +65,50 @@ fn joins(typed: Typed<'_>, candidate: Candidate) -> bool
 }
 
 // Whether a candidate is offered behind what is typed.
-fn is_offered(alloc: Global, typed: Typed<'_>, candidate: Candidate) -> Result<bool, AllocError>
-    ensures { IfOk result (spec.IsOffered typed.entry candidate) }
+fn is_offered(
+    alloc: Global,
+    notation: Notation,
+    typed: Typed<'_>,
+    candidate: Candidate,
+) -> Result<bool, AllocError>
+    ensures { IfOk result (spec.IsOffered notation typed.entry candidate) }
 {
     let text = spelled(alloc, candidate)?;
     let text = text.as_str().as_bytes();
     if typed.is_closed() || joins(typed, candidate) || !begins(text, typed.part) {
         return Ok(false);
     }
-    fits(alloc, typed.base, text)
+    fits(alloc, notation, typed.base, text)
 }
 
 // Appends a candidate, if it is offered.
 fn push_offered(
     alloc: Global,
+    notation: Notation,
     typed: Typed<'_>,
     candidate: Candidate,
     found: &mut Vec<Candidate>,
 ) -> Result<(), AllocError>
-    ensures { OnOk result (spec.AppendsOffered typed.entry candidate found.old.items found.new.items) }
+    ensures { OnOk result (spec.AppendsOffered notation typed.entry candidate found.old.items found.new.items) }
 {
-    if is_offered(alloc, typed, candidate)? {
+    if is_offered(alloc, notation, typed, candidate)? {
         found.push(candidate)?;
     }
     Ok(())
 }
 
-/// Those of these candidates that are offered behind what is typed.
+/// Those of these candidates that are offered behind what is typed, where lines are read in a notation.
 pub fn offered(
     alloc: Global,
+    notation: Notation,
     typed: Typed<'_>,
     candidates: &[Candidate],
 ) -> Result<Vec<Candidate>, AllocError>
-    ensures { IfOk result (λ found. spec.Offers typed.entry candidates.now found.items) }
+    ensures { IfOk result (λ found. spec.Offers notation typed.entry candidates.now found.items) }
 {
     let mut found = Vec::new(alloc);
     for candidate in candidates {
-        push_offered(alloc, typed, *candidate, &mut found)?;
+        push_offered(alloc, notation, typed, *candidate, &mut found)?;
     }
     Ok(found)
 }

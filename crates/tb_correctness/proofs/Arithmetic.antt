@@ -23,5 +23,9 @@ pub mod Stepping
 pub mod Remainders
 -- a remainder by a power of two: what its code does, and that it is the remainder with the word's sign
 pub mod MaskedRests
+-- what the code of a remainder by a constant's multiples does
+pub mod Reductions
+-- what the code of a remainder by differences does
+pub mod Subtractions
 -- the law of a variable's remainder: its slot instructions and its code give the remainder's size with its sign
 pub mod Rests

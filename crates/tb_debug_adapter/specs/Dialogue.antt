@@ -22,6 +22,7 @@ use Rattle.tb_frames.specs.declared.reading.Frame.TheVariants as frame
 use Rattle.tb_frames.specs.declared.reading.FrameError.TheVariants as frame_error
 use Rattle.tb_kernal.specs.Machine.{state_of}
 use Rattle.tb_kernal.specs.declared.machine.Machine.{Machine}
+use Rattle.tb_parser.specs.declared.notation.Notation.{Notation}
 use Rattle.tb_source_names.specs.Sources.{AreLinesOf}
 use Rattle.tb_streams.specs.Streams.{AppendsPrefix}
 use Rattle.tb_streams.specs.declared.stream.InputError.{InputError}
@@ -188,36 +189,38 @@ SaysGreeting asked c (greeting.Said told) ends result a b =
     (said : Result (Unit {0}) AdapterOutcome) × Says asked c (map seen told.items) said a b × (result ≡ turned (after ends said))
 SaysGreeting asked c (greeting.Launched l) ends result a b = (result ≡ Ok (turn.Launched (launched l asked))) × (b ≡ a)
 
--- a request is taken before a launch, and what is said to it is written; or memory ran out
-abbrev pub GreetsOrRunsOut : {S : Type 0} → Reading S → (asked : ℕ) → List ℕ → Data → Bool → S → Result Turn AdapterOutcome → Bool → S → Written → Written → Type 0
-GreetsOrRunsOut reads asked c arguments before s result now t a b =
-    ((g : Greeting) × Greets reads (command_of c) arguments before s g now t × SaysGreeting asked c g (is_end (command_of c)) result a b)
+-- a request is taken before a launch by an adapter that has a notation, and what is said to it is written; or memory ran
+-- out
+abbrev pub GreetsOrRunsOut : {S : Type 0} → Reading S → Notation → (asked : ℕ) → List ℕ → Data → Bool → S → Result Turn AdapterOutcome → Bool → S → Written
+    → Written → Type 0
+GreetsOrRunsOut reads usual asked c arguments before s result now t a b =
+    ((g : Greeting) × Greets reads usual (command_of c) arguments before s g now t × SaysGreeting asked c g (is_end (command_of c)) result a b)
     ⊎ RunsOut result a b
 
 -- a message is taken
-abbrev pub GreetsMessage : {S : Type 0} → Reading S → Asked → Bool → S → Result Turn AdapterOutcome → Bool → S → Written → Written → Type 0
-GreetsMessage reads (request seq c arguments) before s result now t a b = GreetsOrRunsOut reads seq c (given arguments) before s result now t a b
-GreetsMessage reads passed before s result now t a b = (result ≡ Ok turn.Goes) × (now ≡ before) × (t ≡ s) × (b ≡ a)
-GreetsMessage reads no_message before s result now t a b =
+abbrev pub GreetsMessage : {S : Type 0} → Reading S → Notation → Asked → Bool → S → Result Turn AdapterOutcome → Bool → S → Written → Written → Type 0
+GreetsMessage reads usual (request seq c arguments) before s result now t a b = GreetsOrRunsOut reads usual seq c (given arguments) before s result now t a b
+GreetsMessage reads usual passed before s result now t a b = (result ≡ Ok turn.Goes) × (now ≡ before) × (t ≡ s) × (b ≡ a)
+GreetsMessage reads usual no_message before s result now t a b =
     ((said : Result (Unit {0}) AdapterOutcome) × Complains refusal.NoMessage said a b × (result ≡ turned said)) × (now ≡ before) × (t ≡ s)
 
 -- what a frame holds is taken
-abbrev pub GreetsHeard : {S : Type 0} → Reading S → Heard → Bool → S → Result Turn AdapterOutcome → Bool → S → Written → Written → Type 0
-GreetsHeard reads (heard.Value v) before s result now t a b = GreetsMessage reads (asked_in (view v)) before s result now t a b
-GreetsHeard reads (heard.Unheard why) before s result now t a b =
+abbrev pub GreetsHeard : {S : Type 0} → Reading S → Notation → Heard → Bool → S → Result Turn AdapterOutcome → Bool → S → Written → Written → Type 0
+GreetsHeard reads usual (heard.Value v) before s result now t a b = GreetsMessage reads usual (asked_in (view v)) before s result now t a b
+GreetsHeard reads usual (heard.Unheard why) before s result now t a b =
     ((said : Result (Unit {0}) AdapterOutcome) × Complains why said a b × (result ≡ turned said)) × (now ≡ before) × (t ≡ s)
 
 -- a frame leads from one moment to another, or the dialogue ends
-abbrev pub GreetsFrame : {S : Type 0} → Reading S → Early S → Result Turn AdapterOutcome → Early S → Type 0
-GreetsFrame reads a result b =
-    ((h : Heard) × Hears (Ok h) a.left b.left a.read b.read × GreetsHeard reads h a.initialized a.sources result b.initialized b.sources a.written b.written)
+abbrev pub GreetsFrame : {S : Type 0} → Reading S → Notation → Early S → Result Turn AdapterOutcome → Early S → Type 0
+GreetsFrame reads usual a result b =
+    ((h : Heard) × Hears (Ok h) a.left b.left a.read b.read × GreetsHeard reads usual h a.initialized a.sources result b.initialized b.sources a.written b.written)
     ⊎ ((e : AdapterOutcome) × Hears (Err e) a.left b.left a.read b.read × (result ≡ Err e) × (b.initialized ≡ a.initialized)
     × (b.sources ≡ a.sources) × (b.written ≡ a.written))
 
 -- frames lead from one moment to another, each answered before the next one is read
-pub data Greeted {S : Type 0} (reads : S → List ℕ → Result (List ℕ) InputError → S → Type 0) : Early S → Early S → Type 0 where
-  none : (a : Early S) → Greeted reads a a
-  more : (a b c : Early S) → Greeted reads a b → GreetsFrame reads b (Ok turn.Goes) c → Greeted reads a c
+pub data Greeted {S : Type 0} (reads : S → List ℕ → Result (List ℕ) InputError → S → Type 0) (usual : Notation) : Early S → Early S → Type 0 where
+  none : (a : Early S) → Greeted reads usual a a
+  more : (a b c : Early S) → Greeted reads usual a b → GreetsFrame reads usual b (Ok turn.Goes) c → Greeted reads usual a c
 
 -- what a wait for a launch ends with, as a turn
 abbrev pub as_turn : Result Launched AdapterOutcome → Result Turn AdapterOutcome
@@ -225,17 +228,17 @@ as_turn (Ok l) = Ok (turn.Launched l)
 as_turn (Err e) = Err e
 
 -- frames, and one that launches a program or ends the dialogue; or as many as can be counted
-abbrev pub Waits : {S : Type 0} → Reading S → Early S → Result Launched AdapterOutcome → (Bool → Early S) → Type 0
-Waits reads a result z =
-    (now : Bool) × (((b : Early _) × Greeted reads a b × GreetsFrame reads b (as_turn result) (z now)) ⊎ (Greeted reads a (z now) × (result ≡ Err Ended)))
+abbrev pub Waits : {S : Type 0} → Reading S → Notation → Early S → Result Launched AdapterOutcome → (Bool → Early S) → Type 0
+Waits reads usual a result z =
+    (now : Bool) × (((b : Early _) × Greeted reads usual a b × GreetsFrame reads usual b (as_turn result) (z now)) ⊎ (Greeted reads usual a (z now) × (result ≡ Err Ended)))
 
 -- ---- the whole
 
--- a session of a program that is loaded: its debugger is on the program's run from the machine that was started, where it is
--- opened, and nothing was set, told or typed
-pub record IsSession (at : List ℕ) (source : CompiledSource) (machine : Machine) (rom : Rom) (asked : Plan) (s : Session) : Type 0 where
+-- a session of a program that is loaded: its lines are the source's in the notation, its debugger is on the program's run
+-- from the machine that was started, where it is opened, and nothing was set, told or typed
+pub record IsSession (at : List ℕ) (source : CompiledSource) (notation : Notation) (machine : Machine) (rom : Rom) (asked : Plan) (s : Session) : Type 0 where
   pub path : s.file.path.now ≡ at
-  pub lines : AreLinesOf source.text.items s.file.source.lines.items
+  pub lines : AreLinesOf notation source.text.items s.file.source.lines.items
   pub program : s.file.program.now ≡ source.program
   pub debugs : program_of s.debugger.debuggee ≡ Some source.program
   pub run : OnRun (first_point (state_of machine) rom) s.debugger
@@ -253,16 +256,16 @@ Opens asked s result a b = Says asked (codes "launch") (opening s) result a b �
 -- nothing is read or written.
 abbrev pub Debugs : Launched → AdapterOutcome → (Session → Moment) → (Session → Moment) → Type 0
 Debugs l outcome first last =
-    ((s : Session) × IsSession (string_bytes l.loaded.path) l.loaded.source l.loaded.machine l.loaded.rom l.loaded.plan s
+    ((s : Session) × IsSession (string_bytes l.loaded.path) l.loaded.source l.loaded.notation l.loaded.machine l.loaded.rom l.loaded.plan s
     × (((w : Written) × Opens l.asked s (Ok (record {})) (first s).written w × ((z : Session) × TalksTo (moment s (first s).left (first s).read w) outcome (last z)))
     ⊎ (Opens l.asked s (Err outcome) (first s).written (last s).written × ((last s).left ≡ (first s).left))))
     ⊎ ((outcome ≡ NoMemory) × ((s : Session) → last s ≡ first s))
 
--- a whole dialogue: up to a launch, and then with the program
-abbrev pub Serves : {S : Type 0} → Reading S → Early S → AdapterOutcome → (Bool → ℕ → Early S) → Type 0
-Serves reads a outcome z =
-    ((now : Bool) × (next : ℕ) × Waits reads a (Err outcome) (λ b. z b next))
-    ⊎ ((b : Bool → Early _) × (l : Launched) × (next : ℕ) × Waits reads a (Ok l) b
+-- a whole dialogue of an adapter that has a notation: up to a launch, and then with the program
+abbrev pub Serves : {S : Type 0} → Reading S → Notation → Early S → AdapterOutcome → (Bool → ℕ → Early S) → Type 0
+Serves reads usual a outcome z =
+    ((now : Bool) × (next : ℕ) × Waits reads usual a (Err outcome) (λ b. z b next))
+    ⊎ ((b : Bool → Early _) × (l : Launched) × (next : ℕ) × Waits reads usual a (Ok l) b
     × Debugs l outcome
     (λ s. moment s (b true).left (b true).read (b true).written)
     (λ s. moment s (z true next).left (z true next).read (z true next).written))

@@ -7,6 +7,7 @@ use Rattle.tb_adapter_messages.specs.declared.refusals.Refusal.TheVariants as re
 use Rattle.tb_adapter_values.specs.Bodies.{capabilities_body}
 use Rattle.tb_adapter_values.specs.declared.requests.Command.{Command}
 use Rattle.tb_adapter_values.specs.declared.requests.Command.TheVariants as command
+use Rattle.tb_parser.specs.declared.notation.Notation.{Notation}
 use Rattle.tb_streams.specs.declared.stream.InputError.{InputError}
 use Rattle.tb_debug_adapter.specs.Launching.{Asked, is_understood, launch_in}
 use Rattle.tb_debug_adapter.specs.Loading.{Loads}
@@ -52,15 +53,16 @@ Launches reads None s g t = Refuses refusal.BadArguments g × (t ≡ s)
 abbrev pub too_early : Bool → Refusal
 too_early before = if before then refusal.NotLaunched else refusal.NotInitialized
 
--- what comes of `launch`, by whether the adapter was initialized
-abbrev pub LaunchesAfter : {S : Type 0} → (S → List ℕ → Result (List ℕ) InputError → S → Type 0) → Bool → Data → S → Greeting → S → Type 0
-LaunchesAfter reads true a s g t = Launches reads (launch_in a) s g t
-LaunchesAfter reads false a s g t = Refuses refusal.NotInitialized g × (t ≡ s)
+-- what comes of `launch`, by whether the adapter was initialized, which has a notation
+abbrev pub LaunchesAfter : {S : Type 0} → (S → List ℕ → Result (List ℕ) InputError → S → Type 0) → Notation → Bool → Data → S → Greeting → S → Type 0
+LaunchesAfter reads usual true a s g t = Launches reads (launch_in usual a) s g t
+LaunchesAfter reads usual false a s g t = Refuses refusal.NotInitialized g × (t ≡ s)
 
 -- what comes of a request before a program is launched, by whether the adapter was initialized
-abbrev pub Greets : {S : Type 0} → (S → List ℕ → Result (List ℕ) InputError → S → Type 0) → Option Command → Data → Bool → S → Greeting → Bool → S → Type 0
-Greets reads None a before s g after t = Refuses refusal.UnknownCommand g × (after ≡ before) × (t ≡ s)
-Greets reads (Some command.Disconnect) a before s g after t = IsDone g × (after ≡ before) × (t ≡ s)
-Greets reads (Some command.Initialize) a before s g after t = Initializes before (is_understood a) g after × (t ≡ s)
-Greets reads (Some command.Launch) a before s g after t = LaunchesAfter reads before a s g t × (after ≡ before)
-Greets reads (Some c) a before s g after t = Refuses (too_early before) g × (after ≡ before) × (t ≡ s)
+abbrev pub Greets : {S : Type 0} → (S → List ℕ → Result (List ℕ) InputError → S → Type 0) → Notation → Option Command → Data → Bool → S → Greeting → Bool → S
+    → Type 0
+Greets reads usual None a before s g after t = Refuses refusal.UnknownCommand g × (after ≡ before) × (t ≡ s)
+Greets reads usual (Some command.Disconnect) a before s g after t = IsDone g × (after ≡ before) × (t ≡ s)
+Greets reads usual (Some command.Initialize) a before s g after t = Initializes before (is_understood a) g after × (t ≡ s)
+Greets reads usual (Some command.Launch) a before s g after t = LaunchesAfter reads usual before a s g t × (after ≡ before)
+Greets reads usual (Some c) a before s g after t = Refuses (too_early before) g × (after ≡ before) × (t ≡ s)

@@ -6,6 +6,8 @@ use Rattle.serde_json.specs.Find.{as_number, as_u64, get}
 use Rattle.tb_adapter_values.specs.Arguments.{flag_in, number_in, optional_text, text_in}
 use Rattle.tb_codegen.specs.declared.settings.CompileSettings.{CompileSettings}
 use Rattle.tb_codegen.specs.declared.settings.SizeLimit.{SizeLimit}
+use Rattle.tb_parser.specs.declared.notation.Notation.{Notation}
+use Rattle.tb_parser.specs.declared.notation.Notation.TheVariants.{Plain, Signs}
 use Rattle.tb_codegen.specs.declared.settings.SizeLimit.TheVariants.{Cost, Memory}
 use Rattle.tb_debug.specs.declared.rom.Rom.{Rom}
 use Rattle.tb_debug.specs.declared.rom.Rom.TheVariants.{Quiet, Rude}
@@ -24,12 +26,24 @@ seed_in d = option_and_then seed_by (number_in d (codes "seed") 1)
 abbrev pub size_by : Bool → SizeLimit
 size_by fit = if fit then Memory else Cost
 
--- how the program is compiled
-abbrev pub settings_by : ℕ → Bool → CompileSettings
-settings_by seed fit = record { seed = seed; size = size_by fit }
+-- how texts are read: with signs, or without
+abbrev pub notation_by : Bool → Notation
+notation_by petscii = if petscii then Signs else Plain
 
-abbrev pub settings_in : Data → Option CompileSettings
-settings_in d = option_and_then (λ seed. option_map (λ fit. settings_by seed fit) (flag_in d (codes "fit") false)) (seed_in d)
+-- whether texts have signs in a notation
+abbrev pub has_signs : Notation → Bool
+has_signs Plain = false
+has_signs Signs = true
+
+-- how the program is compiled
+abbrev pub settings_by : ℕ → Bool → Bool → CompileSettings
+settings_by seed fit petscii = record { seed = seed; size = size_by fit; notation = notation_by petscii }
+
+-- the same as arguments ask for it: in the usual notation, if nothing else is asked for
+abbrev pub settings_in : Notation → Data → Option CompileSettings
+settings_in usual d =
+    option_and_then (λ seed. option_and_then (λ fit. option_map (λ petscii. settings_by seed fit petscii)
+    (flag_in d (codes "petscii") (has_signs usual))) (flag_in d (codes "fit") false)) (seed_in d)
 
 -- a rude ROM
 abbrev pub rude_by : ℕ → Option Rom
@@ -93,12 +107,12 @@ asked path settings rom keys answers plan =
 abbrev pub asked_of : Launch → Asked
 asked_of l = asked l.path.now l.settings l.rom l.keys.now l.answers.now l.plan
 
--- what arguments ask for
-abbrev pub launch_in : Data → Option Asked
-launch_in d =
+-- what arguments ask for, of an adapter that has this notation
+abbrev pub launch_in : Notation → Data → Option Asked
+launch_in usual d =
     option_and_then (λ path. option_and_then (λ settings. option_and_then (λ rom. option_and_then (λ keys. option_and_then (λ answers.
     option_map (λ plan. asked path settings rom keys answers plan)
-    (plan_in d)) (digits_in d (codes "answers"))) (digits_in d (codes "keys"))) (rom_in d)) (settings_in d)) (path_in d)
+    (plan_in d)) (digits_in d (codes "answers"))) (digits_in d (codes "keys"))) (rom_in d)) (settings_in usual d)) (path_in d)
 
 -- a flag has its usual value, which is true
 abbrev pub is_usual : Option Bool → Bool

@@ -12,7 +12,7 @@ use Rattle.tb_check.specs.declared.examination.Findings.{Findings}
 use Rattle.tb_check_engine.specs.Reports.{report}
 use Rattle.tb_codegen.specs.Compiled.{prg_of}
 use Rattle.tb_codegen.specs.declared.settings.CompileSettings.{CompileSettings}
-use Rattle.tb_codegen.specs.declared.settings.SizeLimit.{SizeLimit}
+use Rattle.tb_check.specs.declared.settings.CheckSettings.{CheckSettings}
 use Rattle.tb_compile_errors.specs.declared.refusals.CompileError.{CompileError}
 use Rattle.tb_compile_errors.specs.declared.refusals.CompileError.TheVariants as compile_error
 use Rattle.tb_driver.specs.Sources.{Compiles}
@@ -61,19 +61,23 @@ error_text (compile_error.Lower NoLowerMemory) = codes "out of memory"
 error_text (compile_error.TooLarge cost) = texts.too_large_text cost
 error_text compile_error.NoMemory = codes "out of memory"
 
--- what `check` says of a source under its path: of all that is found in it, where it is too large by this limit
-abbrev pub IsReport : SizeLimit → (path text said : List ℕ) → Type 0
-IsReport size path text said = (found : Findings) × AreFindings size text found × (said ≡ report path (lines_of_file text) found)
+-- how a source is checked that is compiled like this
+abbrev pub check_settings : CompileSettings → CheckSettings
+check_settings settings = record { size = settings.size; notation = settings.notation }
+
+-- what `check` says of a source under its path: of all that is found in it
+abbrev pub IsReport : CheckSettings → (path text said : List ℕ) → Type 0
+IsReport settings path text said = (found : Findings) × AreFindings settings text found × (said ≡ report path (lines_of_file text) found)
 
 -- what `check` says of a source, and then the refusal
-abbrev pub IsUnfit : SizeLimit → (path text : List ℕ) → CompileError → List Saying → Type 0
-IsUnfit size path text e told =
-    (said : List ℕ) × IsReport size path text said × (told ≡ output_of (codes "stderr") (shown said) ∷ refused (error_text e) true ∷ [])
+abbrev pub IsUnfit : CheckSettings → (path text : List ℕ) → CompileError → List Saying → Type 0
+IsUnfit settings path text e told =
+    (said : List ℕ) × IsReport settings path text said × (told ≡ output_of (codes "stderr") (shown said) ∷ refused (error_text e) true ∷ [])
 
 -- what comes of compiling a source at a path
 abbrev pub CompilesTo : CompileSettings → (path text : List ℕ) → Compiling → Type 0
 CompilesTo settings path text (Fit s) = (s.text.items ≡ text) × Compiles settings text (Ok s.program)
-CompilesTo settings path text (Unfit told) = (e : CompileError) × Compiles settings text (Err e) × IsUnfit settings.size path text e (map seen told.items)
+CompilesTo settings path text (Unfit told) = (e : CompileError) × Compiles settings text (Err e) × IsUnfit (check_settings settings) path text e (map seen told.items)
 
 -- ---- loading
 
@@ -91,6 +95,7 @@ IsRefused refusal (loading.Loaded l) = ⊥
 pub record IsLoaded (a : Asked) (text answers : List ℕ) (s : CompiledSource) (l : Loaded) : Type 0 where
   pub path : string_bytes l.path ≡ a.path
   pub source : l.source ≡ s
+  pub notation : l.notation ≡ a.settings.notation
   pub machine : StartsPrg text answers (prg_of s.program) (Ok l.machine)
   pub rom : l.rom ≡ a.rom
   pub plan : l.plan ≡ a.plan

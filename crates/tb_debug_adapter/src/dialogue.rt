@@ -20,6 +20,7 @@ use tb_adapter_messages::{Asker, Message, Refusal, message_of};
 use tb_adapter_values::{Command, command_of};
 use tb_adapter_views::SourceFile;
 use tb_check_engine::Sources;
+use tb_codegen::Notation;
 use tb_debug::{Debugger, Rom};
 use tb_driver::CompiledSource;
 use tb_frames::{Frame, FrameError, read_frame};
@@ -210,6 +211,7 @@ fn say_greeting<W: Write>(
 // Takes a request before a launch.
 fn take_early_request<S: Sources, W: Write>(
     alloc: Global,
+    notation: Notation,
     next: &mut u64,
     initialized: &mut bool,
     sources: &mut S,
@@ -217,13 +219,13 @@ fn take_early_request<S: Sources, W: Write>(
     arguments: &Value,
     writer: &mut Tracked<W>,
 ) -> Result<Turn, AdapterOutcome>
-    ensures { spec.GreetsOrRunsOut S.reads asker.entry.seq asker.entry.command.now (view arguments.now) initialized.old sources.old result
+    ensures { spec.GreetsOrRunsOut S.reads notation asker.entry.seq asker.entry.command.now (view arguments.now) initialized.old sources.old result
         initialized.new sources.new
         (spec.written (W.contents writer.old.stream) (failures_of writer.old) next.old)
         (spec.written (W.contents writer.new.stream) (failures_of writer.new) next.new) }
 {
     let command = command_of(asker.command);
-    match greet(alloc, initialized, sources, command, arguments) {
+    match greet(alloc, notation, initialized, sources, command, arguments) {
         Ok(greeting) => say_greeting(alloc, next, asker, greeting, is_end(command), writer),
         Err(_) => Err(AdapterOutcome::NoMemory),
     }
@@ -232,13 +234,14 @@ fn take_early_request<S: Sources, W: Write>(
 // Takes a message before a launch.
 fn take_early<S: Sources, W: Write>(
     alloc: Global,
+    notation: Notation,
     next: &mut u64,
     initialized: &mut bool,
     sources: &mut S,
     message: Message<'_>,
     writer: &mut Tracked<W>,
 ) -> Result<Turn, AdapterOutcome>
-    ensures { spec.GreetsMessage S.reads (asked_of message.entry) initialized.old sources.old result initialized.new sources.new
+    ensures { spec.GreetsMessage S.reads notation (asked_of message.entry) initialized.old sources.old result initialized.new sources.new
         (spec.written (W.contents writer.old.stream) (failures_of writer.old) next.old)
         (spec.written (W.contents writer.new.stream) (failures_of writer.new) next.new) }
 {
@@ -251,7 +254,16 @@ fn take_early<S: Sources, W: Write>(
             let null = Value::Null;
             let asker = Asker { seq, command };
             let arguments = given(arguments, &null);
-            take_early_request(alloc, next, initialized, sources, asker, arguments, writer)
+            take_early_request(
+                alloc,
+                notation,
+                next,
+                initialized,
+                sources,
+                asker,
+                arguments,
+                writer,
+            )
         }
         Message::Passed => Ok(Turn::Goes),
         Message::NoMessage => turned(complain(alloc, next, Refusal::NoMessage, writer)),
@@ -261,13 +273,14 @@ fn take_early<S: Sources, W: Write>(
 // Takes a frame before a launch.
 fn take_early_frame<S: Sources, R: Read, W: Write>(
     alloc: Global,
+    notation: Notation,
     next: &mut u64,
     initialized: &mut bool,
     sources: &mut S,
     reader: &mut Tracked<R>,
     writer: &mut Tracked<W>,
 ) -> Result<Turn, AdapterOutcome>
-    ensures { spec.GreetsFrame S.reads
+    ensures { spec.GreetsFrame S.reads notation
         (spec.early initialized.old sources.old (R.remaining reader.old.stream) (failures_of reader.old)
         (spec.written (W.contents writer.old.stream) (failures_of writer.old) next.old))
         result
@@ -277,6 +290,7 @@ fn take_early_frame<S: Sources, R: Read, W: Write>(
     match hear(alloc, reader) {
         Ok(Heard::Value(value)) => take_early(
             alloc,
+            notation,
             next,
             initialized,
             sources,
@@ -291,12 +305,13 @@ fn take_early_frame<S: Sources, R: Read, W: Write>(
 // Answers messages up to a launch.
 fn wait<S: Sources, R: Read, W: Write>(
     alloc: Global,
+    notation: Notation,
     next: &mut u64,
     sources: &mut S,
     reader: &mut Tracked<R>,
     writer: &mut Tracked<W>,
 ) -> Result<Launched, AdapterOutcome>
-    ensures { spec.Waits S.reads
+    ensures { spec.Waits S.reads notation
         (spec.early false sources.old (R.remaining reader.old.stream) (failures_of reader.old)
         (spec.written (W.contents writer.old.stream) (failures_of writer.old) next.old))
         result
@@ -305,7 +320,15 @@ fn wait<S: Sources, R: Read, W: Write>(
 {
     let mut initialized = false;
     for _ in 0..u64::MAX {
-        match take_early_frame(alloc, next, &mut initialized, sources, reader, writer) {
+        match take_early_frame(
+            alloc,
+            notation,
+            next,
+            &mut initialized,
+            sources,
+            reader,
+            writer,
+        ) {
             Ok(Turn::Goes) => {}
             Ok(Turn::Launched(launched)) => return Ok(launched),
             Err(outcome) => return Err(outcome),
@@ -390,13 +413,14 @@ fn session_of<'a>(
     alloc: Global,
     path: &'a str,
     source: &'a CompiledSource,
+    notation: Notation,
     machine: Machine,
     rom: Rom,
     plan: Plan,
 ) -> Result<Session<'a>, AllocError>
-    ensures { IfOk result (spec.IsSession path.now source.now machine rom plan) }
+    ensures { IfOk result (spec.IsSession path.now source.now notation machine rom plan) }
 {
-    let lines = read_source(alloc, &source.text)?;
+    let lines = read_source(alloc, notation, &source.text)?;
     let debugger = Debugger::new(alloc, &source.program, machine, rom)?;
     Ok(Session {
         file: SourceFile {
@@ -474,11 +498,12 @@ fn debug<R: Read, W: Write>(
     let Loaded {
         path,
         source,
+        notation,
         machine,
         rom,
         plan,
     } = launched.loaded;
-    let Ok(mut session) = session_of(alloc, &path, &source, machine, rom, plan) else {
+    let Ok(mut session) = session_of(alloc, &path, &source, notation, machine, rom, plan) else {
         return AdapterOutcome::NoMemory;
     };
     match open(alloc, next, &session, launched.asked, writer) {
@@ -487,14 +512,16 @@ fn debug<R: Read, W: Write>(
     }
 }
 
-/// Reads messages and answers each before the next one is read, up to the end.
+/// Reads messages and answers each before the next one is read, up to the end. A launch that doesn't ask for another
+/// notation has this one.
 pub fn serve<S: Sources, R: Read, W: Write>(
     alloc: Global,
+    notation: Notation,
     sources: &mut S,
     reader: &mut Tracked<R>,
     writer: &mut Tracked<W>,
 ) -> AdapterOutcome
-    ensures { spec.Serves S.reads
+    ensures { spec.Serves S.reads notation
         (spec.early false sources.old (R.remaining reader.old.stream) (failures_of reader.old)
         (spec.written (W.contents writer.old.stream) (failures_of writer.old) 1))
         result
@@ -502,7 +529,7 @@ pub fn serve<S: Sources, R: Read, W: Write>(
         (spec.written (W.contents writer.new.stream) (failures_of writer.new) next)) }
 {
     let mut next = 1;
-    match wait(alloc, &mut next, sources, reader, writer) {
+    match wait(alloc, notation, &mut next, sources, reader, writer) {
         Ok(launched) => debug(alloc, &mut next, launched, reader, writer),
         Err(outcome) => outcome,
     }

@@ -14,6 +14,7 @@ use std::alloc::{AllocError, Global};
 use tb_adapter_messages::Refusal;
 use tb_adapter_values::{Command, capabilities_body};
 use tb_check_engine::Sources;
+use tb_codegen::Notation;
 
 /// What comes of a request before a program is launched.
 #[derive(Drop)]
@@ -99,15 +100,17 @@ fn done(alloc: Global) -> Result<Greeting, AllocError>
     Ok(Greeting::Said(alone(alloc, Said::Done(None))?))
 }
 
-/// What comes of a request before a program is launched, by whether the adapter was initialized.
+/// What comes of a request before a program is launched, by whether the adapter was initialized. Sources are read in
+/// the notation, if no launch asks for another one.
 pub fn greet<S: Sources>(
     alloc: Global,
+    notation: Notation,
     initialized: &mut bool,
     sources: &mut S,
     command: Option<Command>,
     arguments: &Value,
 ) -> Result<Greeting, AllocError>
-    ensures { IfOk result (λ greeting. spec.Greets S.reads command (view arguments.now) initialized.old sources.old greeting initialized.new sources.new) }
+    ensures { IfOk result (λ greeting. spec.Greets S.reads notation command (view arguments.now) initialized.old sources.old greeting initialized.new sources.new) }
 {
     match command {
         None => unwelcome(alloc, Refusal::UnknownCommand),
@@ -115,7 +118,9 @@ pub fn greet<S: Sources>(
         Some(Command::Initialize) => {
             initialize_once(alloc, initialized, is_understood(arguments))
         }
-        Some(Command::Launch) if *initialized => launch(alloc, sources, launch_in(arguments)),
+        Some(Command::Launch) if *initialized => {
+            launch(alloc, sources, launch_in(arguments, notation))
+        }
         Some(_) => unwelcome(alloc, too_early(*initialized)),
     }
 }

@@ -5,7 +5,7 @@ ghost use Rattle.tb_debug_adapter.specs.Launching as spec;
 
 use serde_json::Value;
 use tb_adapter_values::{flag_in, number_in, optional_text, text_in};
-use tb_codegen::{CompileSettings, SizeLimit};
+use tb_codegen::{CompileSettings, Notation, SizeLimit};
 use tb_debug::Rom;
 
 /// How many events a movement takes at most, if nothing else is asked for.
@@ -72,15 +72,38 @@ fn size_by(fit: bool) -> SizeLimit
     }
 }
 
-// How the program is compiled.
-fn settings_in(arguments: &Value) -> Option<CompileSettings>
-    ensures { result ≡ spec.settings_in (view arguments.now) }
+// How texts are read: with signs, or without.
+fn notation_by(petscii: bool) -> Notation
+    ensures { result ≡ spec.notation_by petscii }
+{
+    if petscii {
+        Notation::Signs
+    } else {
+        Notation::Plain
+    }
+}
+
+// Whether texts have signs in a notation.
+fn has_signs(notation: Notation) -> bool
+    ensures { result ≡ spec.has_signs notation }
+{
+    match notation {
+        Notation::Plain => false,
+        Notation::Signs => true,
+    }
+}
+
+// How the program is compiled: in the usual notation, if nothing else is asked for.
+fn settings_in(arguments: &Value, usual: Notation) -> Option<CompileSettings>
+    ensures { result ≡ spec.settings_in usual (view arguments.now) }
 {
     let seed = seed_in(arguments)?;
     let fit = flag_in(arguments, "fit", false)?;
+    let petscii = flag_in(arguments, "petscii", has_signs(usual))?;
     Some(CompileSettings {
         seed,
         size: size_by(fit),
+        notation: notation_by(petscii),
     })
 }
 
@@ -158,11 +181,11 @@ fn path_in(arguments: &Value) -> Option<&str>
 }
 
 /// What is launched; none where the arguments have another form.
-pub fn launch_in(arguments: &Value) -> Option<Launch<'_>>
-    ensures { option_map spec.asked_of result ≡ spec.launch_in (view arguments.now) }
+pub fn launch_in(arguments: &Value, usual: Notation) -> Option<Launch<'_>>
+    ensures { option_map spec.asked_of result ≡ spec.launch_in usual (view arguments.now) }
 {
     let path = path_in(arguments)?;
-    let settings = settings_in(arguments)?;
+    let settings = settings_in(arguments, usual)?;
     let rom = rom_in(arguments)?;
     let keys = digits_in(arguments, "keys")?;
     let answers = digits_in(arguments, "answers")?;

@@ -10,8 +10,9 @@ use crate::launching::{Launch, Plan};
 use crate::said::{Said, output};
 use std::alloc::{AllocError, Global};
 use tb_adapter_messages::Refusal;
+use tb_check::CheckSettings;
 use tb_check_engine::{CheckOutcome, Sources, check_sources};
-use tb_codegen::{CompileError, CompileSettings, SizeLimit, compile_within};
+use tb_codegen::{CompileError, CompileSettings, Notation, compile_within};
 use tb_debug::Rom;
 use tb_driver::{CompiledSource, start_program};
 use tb_engines::{NoText, TOO_DEEP, TooLarge, source_text};
@@ -26,6 +27,8 @@ use tb_streams::{InputError, KeyError, Tracked, key_list};
 pub struct Loaded {
     pub path: String,
     pub source: CompiledSource,
+    /// How the source's texts were read.
+    pub notation: Notation,
     /// Its machine, which has not moved.
     pub machine: Machine,
     pub rom: Rom,
@@ -66,14 +69,19 @@ impl Sources for Held<'_> {
 }
 
 // What `check` says of a source.
-fn report(alloc: Global, path: &str, text: &[u8], size: SizeLimit) -> Result<Vec<u8>, AllocError>
-    ensures { IfOk result (λ said. IsReport size path.now text.now said.items) }
+fn report(
+    alloc: Global,
+    path: &str,
+    text: &[u8],
+    settings: CheckSettings,
+) -> Result<Vec<u8>, AllocError>
+    ensures { IfOk result (λ said. IsReport settings path.now text.now said.items) }
 {
     let mut names = Vec::new(alloc);
     names.push(String::from_str(alloc, path)?)?;
     let mut held = Held { text };
     let mut writer = Tracked::new(Vec::new(alloc));
-    let outcome = check_sources(alloc, &mut held, &names, &mut writer, size);
+    let outcome = check_sources(alloc, &mut held, &names, &mut writer, settings);
     match outcome {
         CheckOutcome::NoMemory | CheckOutcome::WriteFault => Err(AllocError),
         CheckOutcome::Accepted | CheckOutcome::Refused | CheckOutcome::ReadFault => {
@@ -122,12 +130,12 @@ fn unfit(
     alloc: Global,
     path: &str,
     text: &[u8],
-    size: SizeLimit,
+    settings: CheckSettings,
     error: CompileError,
 ) -> Result<Vec<Said>, AllocError>
-    ensures { IfOk result (λ said. IsUnfit size path.now text.now error (map seen said.items)) }
+    ensures { IfOk result (λ said. IsUnfit settings path.now text.now error (map seen said.items)) }
 {
-    let report = report(alloc, path, text, size)?;
+    let report = report(alloc, path, text, settings)?;
     let told = output(alloc, "stderr", shown(&report))?;
     let why = error_text(alloc, error)?;
     let mut said = Vec::new(alloc);
@@ -148,7 +156,13 @@ fn compiled(
     match compile_within(alloc, &text, settings) {
         Ok(program) => Ok(Compiling::Fit(CompiledSource { text, program })),
         Err(CompileError::NoMemory) => Err(AllocError),
-        Err(error) => Ok(Compiling::Unfit(unfit(alloc, path, &text, settings.size, error)?)),
+        Err(error) => {
+            let checked = CheckSettings {
+                size: settings.size,
+                notation: settings.notation,
+            };
+            Ok(Compiling::Unfit(unfit(alloc, path, &text, checked, error)?))
+        }
     }
 }
 
@@ -191,6 +205,7 @@ fn started(
         Ok(machine) => Ok(Loading::Loaded(Loaded {
             path,
             source,
+            notation: launch.settings.notation,
             machine,
             rom: launch.rom,
             plan: launch.plan,

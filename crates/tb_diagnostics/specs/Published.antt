@@ -5,7 +5,8 @@ use Rattle.serde_json.specs.Find.{of_integer}
 use Rattle.serde_json.specs.View.{items_of}
 use Rattle.tb_streams.specs.Streams.{most_input}
 use Rattle.tb_parser.specs.Lines.{lines_of_file}
-use Rattle.tb_codegen.specs.declared.settings.SizeLimit.TheVariants.{Cost}
+use Rattle.tb_parser.specs.declared.notation.Notation.{Notation}
+use Rattle.tb_check.specs.Settings.{by_cost}
 use Rattle.tb_check.specs.Findings.{AreFindings}
 use Rattle.tb_check.specs.declared.examination.Findings.{Findings}
 use Rattle.tb_messages.specs.Messages.{Says}
@@ -23,12 +24,13 @@ published_of uri version found =
     object (member (codes "jsonrpc") (string (codes "2.0")) (member (codes "method") (string (codes "textDocument/publishDiagnostics"))
     (member (codes "params") (params_of uri version found) no_members)))
 
--- diagnostics of a source: those of its findings, which are what `check` says of it; or that it has too many bytes
-abbrev pub Diagnoses : List ℕ → List ℕ → List Data → Type 0
-Diagnoses uri source found =
-    (length source ≤ most_input → (f : Findings) × AreFindings Cost source f × (found ≡ diagnostics_of uri (lines_of_file source) f))
+-- diagnostics of a source: those of its findings, which are what `check` says of it in a notation; or that it has too
+-- many bytes
+abbrev pub Diagnoses : Notation → List ℕ → List ℕ → List Data → Type 0
+Diagnoses notation uri source found =
+    (length source ≤ most_input → (f : Findings) × AreFindings (by_cost notation) source f × (found ≡ diagnostics_of uri (lines_of_file source) f))
     × (most_input < length source → found ≡ too_long ∷ [])
 
 -- a content that publishes diagnostics of a source
-abbrev pub Publishes : List ℕ → Option ℤ → List ℕ → List ℕ → Type 0
-Publishes uri version source content = (found : List Data) × Diagnoses uri source found × Says content (published_of uri version found)
+abbrev pub Publishes : Notation → List ℕ → Option ℤ → List ℕ → List ℕ → Type 0
+Publishes notation uri version source content = (found : List Data) × Diagnoses notation uri source found × Says content (published_of uri version found)

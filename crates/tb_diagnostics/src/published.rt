@@ -7,18 +7,27 @@ ghost use Rattle.tb_diagnostics.specs.Published.{Diagnoses, Publishes, published
 use crate::findings::{Lines, diagnostics, too_long};
 use serde_json::{Value, json};
 use std::alloc::{AllocError, Global};
-use tb_check::examine;
-use tb_codegen::SizeLimit;
+use tb_check::{CheckSettings, examine};
+use tb_codegen::{Notation, SizeLimit};
 use tb_streams::MOST_INPUT;
 
-/// The diagnostics of a source.
-pub fn diagnose(alloc: Global, uri: &str, source: &[u8]) -> Result<Vec<Value>, AllocError>
-    ensures { IfOk result (λ found. Diagnoses uri.now source.now (map view found.items)) }
+/// The diagnostics of a source that is read in a notation.
+pub fn diagnose(
+    alloc: Global,
+    notation: Notation,
+    uri: &str,
+    source: &[u8],
+) -> Result<Vec<Value>, AllocError>
+    ensures { IfOk result (λ found. Diagnoses notation uri.now source.now (map view found.items)) }
 {
     if source.len() > MOST_INPUT {
         return too_long(alloc);
     }
-    let examined = examine(alloc, source, SizeLimit::Cost)?;
+    let settings = CheckSettings {
+        size: SizeLimit::Cost,
+        notation,
+    };
+    let examined = examine(alloc, source, settings)?;
     let text = Lines {
         uri,
         lines: examined.lines.as_slice(),
@@ -49,16 +58,17 @@ fn message(
     })
 }
 
-/// The content that publishes what `check` finds of a source.
+/// The content that publishes what `check` finds of a source that is read in a notation.
 pub fn publish(
     alloc: Global,
+    notation: Notation,
     uri: &str,
     version: Option<i64>,
     source: &[u8],
 ) -> Result<Vec<u8>, AllocError>
-    ensures { IfOk result (λ content. Publishes uri.now version source.now content.items) }
+    ensures { IfOk result (λ content. Publishes notation uri.now version source.now content.items) }
 {
-    let found = diagnose(alloc, uri, source)?;
+    let found = diagnose(alloc, notation, uri, source)?;
     let message = message(alloc, uri, version, found)?;
     message.to_vec(alloc)
 }

@@ -23,7 +23,7 @@ use Rattle.tb_opcodes.specs.Bytes.{AreBytes}
 use Rattle.tb_simulation.specs.Theorem.{Starts, HasEnded, IsSound, Keeps}
 use Rattle.tb_codegen.specs.declared.compiled.Compiled.{Compiled}
 use Rattle.tb_codegen.specs.declared.settings.CompileSettings.{CompileSettings}
-use Rattle.tb_codegen.specs.Answers.{LinesMake, OutcomeAnswer, Answered}
+use Rattle.tb_codegen.specs.Answers.{Answered, OutcomeAnswer, SourceMakes}
 use Rattle.tb_codegen.specs.Compiled.{prg_of, loaded_of, IsCompiled}
 use Rattle.tb_streams.specs.HostForm.{host_form_of}
 use Rattle.tb_engines.specs.Outcomes.{Product}
@@ -145,7 +145,7 @@ in_ram n h k below = let a : BASIC_START + k < 0xa000 = omega arith in open_so (
     open_so a from to = grind (arith, nat_tests)
 
 module _ {O : Type 0} (s : Settings O) (settings : CompileSettings) (source file : List ℕ)
-    (kept : KeepsSource settings.seed source file) (small : AreBytes file) (small_text : AreBytes s.text) (small_answers : AreBytes s.answers) where
+    (kept : KeepsSource settings source file) (small : AreBytes file) (small_text : AreBytes s.text) (small_answers : AreBytes s.answers) where
   abbrev bytes : List ℕ
   bytes = drop 2 file
 
@@ -199,7 +199,7 @@ module _ (settings : CompileSettings) (source : List ℕ) (c : Compiled) where
 
   -- a compiled file keeps its source
   pub keeps_source : Answered settings source (Ok c)
-      → (program : Program) × LinesMake source (Ok program) × Keeps BASIC_START (loaded_of c) program settings.seed → KeepsSource settings.seed source (prg_of c)
+      → (program : Program) × SourceMakes settings.notation source (Ok program) × Keeps BASIC_START (loaded_of c) program settings.seed → KeepsSource settings source (prg_of c)
   keeps_source found (program, made, keeps) =
       let loads = file_loads found.outcome found.answer in
       record { program = program; made = made; content = loads.0; ends = loads.1; keeps = keeps }

@@ -9,7 +9,7 @@ use Rattle.tb_simulation.specs.LineStarts.{MarksLines}
 use Rattle.tb_parser.specs.Files.{Outcome as FileOutcome}
 use Rattle.tb_compile_errors.specs.declared.refusals.CompileError.{CompileError}
 use Rattle.tb_compile_errors.specs.declared.refusals.CompileError.TheVariants.{Source as BadSource, Lower, TooLarge, NoMemory as NoCompilerMemory}
-use Rattle.tb_codegen.specs.Answers.{HasOutcome, LinesMake, OutcomeAnswer}
+use Rattle.tb_codegen.specs.Answers.{HasOutcome, OutcomeAnswer, SourceMakes}
 use Rattle.tb_codegen.specs.Compiled.{prg_of, loaded_of, start_of, warnings_of}
 use Rattle.tb_codegen.specs.declared.compiled.Compiled.{Compiled}
 use Rattle.tb_codegen.specs.declared.settings.CompileSettings.{CompileSettings}
@@ -36,9 +36,9 @@ use Rattle.tb_driver.proofs.Refused.{is_refused}
 
 -- the program that the compiler answered for a source
 pub compiled : (settings : CompileSettings) (text source : List ℕ) (c : Compiled) → source ≡ text → HasOutcome settings source (Ok c)
-    → ((outcome : FileOutcome) → LinesMake source outcome → OutcomeAnswer settings outcome (Ok c))
-    → (program : Program) × LinesMake source (Ok program) × Keeps BASIC_START (loaded_of c) program settings.seed
-    → (program : Program) × LinesMake source (Ok program) × MarksLines BASIC_START (loaded_of c) program settings.seed (start_of c) → IsCompilation settings text c
+    → ((outcome : FileOutcome) → SourceMakes settings.notation source outcome → OutcomeAnswer settings outcome (Ok c))
+    → (program : Program) × SourceMakes settings.notation source (Ok program) × Keeps BASIC_START (loaded_of c) program settings.seed
+    → (program : Program) × SourceMakes settings.notation source (Ok program) × MarksLines BASIC_START (loaded_of c) program settings.seed (start_of c) → IsCompilation settings text c
 compiled settings text source c same found only keeps (program, made, marks) =
     subst (λ s. IsCompilation settings s c) same (record {
       answer = record { found = found; only = only };
@@ -51,11 +51,11 @@ compiled settings text source c same found only keeps (program, made, marks) =
 
 -- why the compiler answered none
 pub not_compiled : (settings : CompileSettings) (text source : List ℕ) (e : CompileError) (stop : NoText) → source ≡ text → HasOutcome settings source (Err e)
-    → ((outcome : FileOutcome) → LinesMake source outcome → OutcomeAnswer settings outcome (Err e)) → stop ≡ stop_of e → CompilesText settings text (Err stop)
+    → ((outcome : FileOutcome) → SourceMakes settings.notation source outcome → OutcomeAnswer settings outcome (Err e)) → stop ≡ stop_of e → CompilesText settings text (Err stop)
 not_compiled settings text source e stop same found only is =
     subst (λ s. CompilesText settings s (Err stop)) same (subst (λ t. CompilesText settings source (Err t)) (sym is) (by e found only))
   where
-    by : (e : CompileError) → HasOutcome settings source (Err e) → ((outcome : FileOutcome) → LinesMake source outcome → OutcomeAnswer settings outcome (Err e))
+    by : (e : CompileError) → HasOutcome settings source (Err e) → ((outcome : FileOutcome) → SourceMakes settings.notation source outcome → OutcomeAnswer settings outcome (Err e))
         → CompilesText settings source (Err (stop_of e))
     by (BadSource e) found only = (BadSource e, record { found = found; only = only }, refl)
     by (Lower e) found only = (Lower e, record { found = found; only = only }, refl)
@@ -139,9 +139,9 @@ module _ (settings : CompileSettings) (reader : Use) (s : CompiledSource) (is : 
 
   -- running its file is running the source
   pub file_run : (text answers file : List ℕ) (made : Result Text NoText) → file ≡ prg_of s.program
-      → ((settings : CompileSettings) (source : List ℕ) → KeepsSource settings.seed source file → Makes (RunsSource settings text answers source) made)
+      → ((settings : CompileSettings) (source : List ℕ) → KeepsSource settings source file → Makes (RunsSource settings text answers source) made)
       → Answers (Shows made) outcome writer.old writer.new → AnswersInput (RunsSource settings text answers) outcome reader writer
   file_run text answers file made same runs written =
-      let run = runs settings s.text.items (subst (KeepsSource settings.seed s.text.items) (sym same) is.1.keeps) in
+      let run = runs settings s.text.items (subst (KeepsSource settings s.text.items) (sym same) is.1.keeps) in
       answers_as (Shows made) (MadeFrom reader.old (RunsSource settings text answers))
       (λ x shows. (s.text.items, is.0, shown (RunsSource settings text answers s.text.items) made run x shows)) outcome writer.old writer.new written

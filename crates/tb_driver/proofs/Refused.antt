@@ -4,7 +4,7 @@ use Rattle.tb_parser.specs.Files.{Outcome}
 use Rattle.tb_compile_errors.specs.declared.refusals.CompileError.{CompileError}
 use Rattle.tb_compile_errors.specs.declared.refusals.CompileError.TheVariants.{Source, Lower, TooLarge, NoMemory}
 use Rattle.tb_codegen.specs.declared.settings.CompileSettings.{CompileSettings}
-use Rattle.tb_codegen.specs.Answers.{LinesMake, OutcomeAnswer, Answered}
+use Rattle.tb_codegen.specs.Answers.{Answered, OutcomeAnswer, SourceMakes}
 use Rattle.tb_codegen.specs.Refusals.{Refuses}
 use Rattle.tb_driver.specs.Sources.{IsAnswer, Compiles}
 use Rattle.tb_driver.specs.Refused.{IsRefused}
@@ -38,7 +38,7 @@ refused_answers settings (Err r) (TooLarge n) none = none
 refused_answers settings (Err r) NoMemory none = tt
 
 by_answer : (settings : CompileSettings) (source : List ℕ) (e : CompileError) → IsRefusal e → Answered settings source (Err e)
-    → ((outcome : Outcome) → LinesMake source outcome → OutcomeAnswer settings outcome (Err e)) → IsRefused settings source e
+    → ((outcome : Outcome) → SourceMakes settings.notation source outcome → OutcomeAnswer settings outcome (Err e)) → IsRefused settings source e
 by_answer settings source e told found only =
     record {
       outcome = found.outcome;
@@ -58,7 +58,7 @@ module _ (settings : CompileSettings) (source : List ℕ) (e : CompileError) (r 
   found : Answered settings source (Err e)
   found = record { outcome = r.outcome; made = r.made; answer = refused_answers settings r.outcome e r.refused }
 
-  only : (outcome : Outcome) → LinesMake source outcome → OutcomeAnswer settings outcome (Err e)
+  only : (outcome : Outcome) → SourceMakes settings.notation source outcome → OutcomeAnswer settings outcome (Err e)
   only outcome made = refused_answers settings outcome e (r.only outcome made)
 
 never_memory : (settings : CompileSettings) (outcome : Outcome) → Refuses settings outcome NoMemory → ⊥

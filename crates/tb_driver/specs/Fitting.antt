@@ -4,15 +4,16 @@ use Rattle.tb_runtime16.specs.Addresses.{LINES_AT}
 use Rattle.tb_streams.specs.Streams.{Reads}
 use Rattle.tb_streams.specs.Uses.{Use}
 use Rattle.tb_codegen.specs.Compiled.{prg_of}
-use Rattle.tb_codegen.specs.Settings.{by_memory}
 use Rattle.tb_codegen.specs.Texts.{offset_of}
 use Rattle.tb_codegen.specs.declared.compiled.Compiled.{Compiled}
+use Rattle.tb_codegen.specs.declared.settings.CompileSettings.{CompileSettings}
+use Rattle.tb_codegen.specs.declared.settings.SizeLimit.TheVariants.{Memory}
 use Rattle.tb_driver.specs.Sources.{Compiles}
 
--- all that a reader had compiles with the memory as its limit, and from the first line's address on its file has so many bytes
-pub record FitsWith (seed bytes : ℕ) (reader : Use) : Type 0 where
+-- all that a reader had compiles with these settings and the memory as its limit, and from the first line's address on its file has so many bytes
+pub record FitsWith (settings : CompileSettings) (bytes : ℕ) (reader : Use) : Type 0 where
   pub source : List ℕ
   pub program : Compiled
   pub reads : Reads reader.old source
-  pub compiles : Compiles (by_memory seed) source (Ok program)
+  pub compiles : Compiles (record (settings) { size = Memory }) source (Ok program)
   pub takes : bytes ≡ length (prg_of program) - offset_of LINES_AT

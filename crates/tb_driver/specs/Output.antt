@@ -7,7 +7,7 @@ use Rattle.tb_meaning.specs.Steps.{Ended, Faulted, Waits, Over, sent_by}
 use Rattle.tb_words.specs.Prefixes.{IsPrefix}
 use Rattle.tb_meaning.specs.Meaning.{source_run}
 use Rattle.tb_simulation.specs.Theorem.{Keeps}
-use Rattle.tb_codegen.specs.Answers.{LinesMake}
+use Rattle.tb_codegen.specs.Answers.{SourceMakes}
 use Rattle.tb_codegen.specs.declared.settings.CompileSettings.{CompileSettings}
 use Rattle.tb_prg.specs.Prg.{content_of}
 use Rattle.tb_streams.specs.HostForm.{host_form_of}
@@ -46,20 +46,20 @@ ShowsOutput program seed text answers (WentWrong wrong pc) written = ⊥
 -- what comes of running a source: what is written of the program that its lines make, or why it is refused
 abbrev pub RunsSource : CompileSettings → List ℕ → List ℕ → List ℕ → Product → Type 0
 RunsSource settings text answers source (Ok shown) =
-    (program : Program) × LinesMake source (Ok program) × ShowsOutput program settings.seed text answers shown.1 shown.0
+    (program : Program) × SourceMakes settings.notation source (Ok program) × ShowsOutput program settings.seed text answers shown.1 shown.0
 RunsSource settings text answers source (Err (Source e)) = IsRefused settings source e
 RunsSource settings text answers source (Err e) = ⊥
 
 -- a PRG file, loaded at $0801 and ending below $A000, keeps the program that the source's lines make
-pub record KeepsSource (seed : ℕ) (source file : List ℕ) : Type 0 where
+pub record KeepsSource (settings : CompileSettings) (source file : List ℕ) : Type 0 where
   pub program : Program
-  pub made : LinesMake source (Ok program)
+  pub made : SourceMakes settings.notation source (Ok program)
   pub content : content_of file ≡ Ok (BASIC_START, drop 2 file)
   pub ends : BASIC_START + length (drop 2 file) ≤ 0xa000
-  pub keeps : Keeps BASIC_START (drop 2 file) program seed
+  pub keeps : Keeps BASIC_START (drop 2 file) program settings.seed
 
 -- what playing a file wrote is, for each source that it keeps, that source's output on what was typed
 abbrev pub ShowsSources : List ℕ → Outcome → List ℕ → Use → Type 0
 ShowsSources file outcome typed writer =
-    (settings : CompileSettings) (source : List ℕ) → KeepsSource settings.seed source file
+    (settings : CompileSettings) (source : List ℕ) → KeepsSource settings source file
     → Shows (λ text product. RunsSource settings text [] source product) outcome typed writer

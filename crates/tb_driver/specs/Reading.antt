@@ -11,7 +11,7 @@ use Rattle.tb_engines.specs.declared.delivery.NoText.TheVariants.{Refused as NoT
 use Rattle.tb_engines.specs.declared.outcome.Outcome.{Outcome}
 use Rattle.tb_engines.specs.declared.outcome.Outcome.TheVariants.{Ended, Refused, ReadFault, WriteFault, NoMemory}
 use Rattle.tb_engines.specs.declared.outcome.Refusal.TheVariants.{Source}
-use Rattle.tb_codegen.specs.Answers.{LinesMake}
+use Rattle.tb_codegen.specs.Answers.{SourceMakes}
 use Rattle.tb_codegen.specs.Compiled.{IsCompiled, prg_of, loaded_of, start_of}
 use Rattle.tb_codegen.specs.declared.compiled.Compiled.{Compiled}
 use Rattle.tb_codegen.specs.declared.settings.CompileSettings.{CompileSettings}
@@ -22,9 +22,9 @@ use Rattle.tb_driver.specs.Output.{KeepsSource}
 -- the compiler's answer for a source is this program: it keeps the source, and begins the source's lines where it says
 pub record IsCompilation (settings : CompileSettings) (source : List ℕ) (program : Compiled) : Type 0 where
   pub answer : IsAnswer settings source (Ok program)
-  pub keeps : KeepsSource settings.seed source (prg_of program)
+  pub keeps : KeepsSource settings source (prg_of program)
   pub lines : Program
-  pub makes : LinesMake source (Ok lines)
+  pub makes : SourceMakes settings.notation source (Ok lines)
   pub compiled : IsCompiled settings.seed lines program
   pub marks : MarksLines BASIC_START (loaded_of program) lines settings.seed (start_of program)
 

@@ -3,12 +3,12 @@ use Rattle.std.specs.Prelude.{ℕ, List}
 use Rattle.tb_parser.specs.Files.{Outcome}
 use Rattle.tb_compile_errors.specs.declared.refusals.CompileError.{CompileError}
 use Rattle.tb_codegen.specs.declared.settings.CompileSettings.{CompileSettings}
-use Rattle.tb_codegen.specs.Answers.{LinesMake}
+use Rattle.tb_codegen.specs.Answers.{SourceMakes}
 use Rattle.tb_codegen.specs.Refusals.{Refuses}
 
 -- why a source is refused: its lines make something, and whatever they make is refused for this
 pub record IsRefused (settings : CompileSettings) (source : List ℕ) (e : CompileError) : Type 0 where
   pub outcome : Outcome
-  pub made : LinesMake source outcome
+  pub made : SourceMakes settings.notation source outcome
   pub refused : Refuses settings outcome e
-  pub only : (other : Outcome) → LinesMake source other → Refuses settings other e
+  pub only : (other : Outcome) → SourceMakes settings.notation source other → Refuses settings other e

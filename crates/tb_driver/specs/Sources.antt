@@ -6,7 +6,7 @@ use Rattle.tb_codegen.specs.declared.compiled.Compiled.{Compiled}
 use Rattle.tb_codegen.specs.declared.settings.CompileSettings.{CompileSettings}
 use Rattle.tb_compile_errors.specs.declared.refusals.CompileError.{CompileError}
 use Rattle.tb_compile_errors.specs.declared.refusals.CompileError.TheVariants.{NoMemory}
-use Rattle.tb_codegen.specs.Answers.{HasOutcome, LinesMake, OutcomeAnswer}
+use Rattle.tb_codegen.specs.Answers.{HasOutcome, OutcomeAnswer, SourceMakes}
 use Rattle.tb_codegen.specs.Compiled.{prg_of, warnings_of}
 use Rattle.tb_engines.specs.Outcomes.{Product}
 use Rattle.tb_engines.specs.Programs.{Settings, RunsPrg}
@@ -21,7 +21,7 @@ use Rattle.tb_engines.specs.declared.outcome.Refusal.TheVariants.{Source}
 -- what is answered
 pub record IsAnswer (settings : CompileSettings) (source : List ℕ) (answer : Result Compiled CompileError) : Type 0 where
   pub found : HasOutcome settings source answer
-  pub only : (outcome : Outcome) → LinesMake source outcome → OutcomeAnswer settings outcome answer
+  pub only : (outcome : Outcome) → SourceMakes settings.notation source outcome → OutcomeAnswer settings outcome answer
 
 -- the compiler's answer; to run out of memory is none
 abbrev pub Compiles : CompileSettings → List ℕ → Result Compiled CompileError → Type 0

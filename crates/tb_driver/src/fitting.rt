@@ -6,19 +6,26 @@ ghost use Rattle.tb_driver.specs.Fitting.{FitsWith};
 use crate::reading::read_source;
 use std::alloc::Global;
 use std::io::Read;
-use tb_codegen::CompileSettings;
+use tb_codegen::{CompileSettings, SizeLimit};
 use tb_runtime16::{BLOCK_AT, LINES_AT};
 use tb_streams::Tracked;
 
 /// How many bytes a PRG file has before the first line's code: its load address, the BASIC line and the block.
 const BEFORE_LINES: usize = 14 + (LINES_AT - BLOCK_AT) as usize;
 
-/// How many bytes the code and the line table of a source take, if it compiles with the memory as its limit. None if it
-/// doesn't, can't be read, or memory runs out.
-pub fn bytes_to_fit<R: Read>(alloc: Global, reader: &mut Tracked<R>, seed: u16) -> Option<usize>
-    ensures { IfSome result (λ bytes. FitsWith seed bytes (use_of R.remaining reader.old reader.new)) }
+/// How many bytes the code and the line table of a source take, if it compiles with these settings and the memory as its
+/// limit. None if it doesn't, can't be read, or memory runs out.
+pub fn bytes_to_fit<R: Read>(
+    alloc: Global,
+    reader: &mut Tracked<R>,
+    settings: CompileSettings,
+) -> Option<usize>
+    ensures { IfSome result (λ bytes. FitsWith settings bytes (use_of R.remaining reader.old reader.new)) }
 {
-    let settings = CompileSettings::by_memory(seed);
+    let settings = CompileSettings {
+        size: SizeLimit::Memory,
+        ..settings
+    };
     match read_source(alloc, reader, settings) {
         Ok(source) => Some(source.program.prg().len().saturating_sub(BEFORE_LINES)),
         Err(_) => None,

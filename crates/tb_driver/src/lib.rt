@@ -15,7 +15,7 @@ pub use reading::{CompiledSource, compile_source, read_source, stop_of};
 pub use sources::{are_bytes, build, build_within, run_text, run_within};
 pub use starting::start_program;
 pub use stepping::{step_prg, step_text, step_within};
-pub use tb_codegen::{CompileError, CompileSettings, SizeLimit};
+pub use tb_codegen::{CompileError, CompileSettings, Notation, SizeLimit};
 pub use tb_engines::{
     End, Outcome, Refusal, Report, Warnings, asm_text, dis_text, run_prg, without_input,
 };

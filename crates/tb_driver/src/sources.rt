@@ -83,7 +83,7 @@ fn run_compiled<O: Outside>(
     outside: &mut O,
 ) -> Result<Text, NoText>
     ensures machine { Makes (RunsPrg (settings_of O.gives outside.old keyboard limit) file.now) result }
-    ensures output { (settings : CompileSettings) (source : List ℕ) → KeepsSource settings.seed source file.now
+    ensures output { (settings : CompileSettings) (source : List ℕ) → KeepsSource settings source file.now
         → Makes (RunsSource settings keyboard.text.items keyboard.answers.items source) result }
 {
     are_bytes(keyboard.text.as_slice());

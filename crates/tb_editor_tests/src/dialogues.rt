@@ -3,6 +3,7 @@ use std::alloc::Global;
 use std::io::Read;
 use std::test::Fail;
 use tb_language_server::serve;
+use tb_parser::Notation;
 use tb_streams::Tracked;
 use tb_test_support::{FailingReader, FailingWriter};
 
@@ -63,7 +64,8 @@ fn front(bytes: &[u8], count: usize) -> &[u8] {
 // The status of a dialogue, and whether it was answered so.
 fn answers<R: Read + Drop>(alloc: Global, reader: R, wanted: &[u8]) -> (u8, bool) {
     let mut writer = Tracked::new(Vec::new(alloc));
-    let outcome = serve(alloc, "1.0.0", &mut Tracked::new(reader), &mut writer);
+    let mut reader = Tracked::new(reader);
+    let outcome = serve(alloc, "1.0.0", Notation::Plain, &mut reader, &mut writer);
     (outcome.status(), writer.stream.as_slice() == wanted)
 }
 
@@ -83,7 +85,8 @@ fn a_bad_source_is_told_of_until_it_is_mended(rt: HostRuntime) -> Result<(), Fai
 fn served(alloc: Global, messages: &[u8], until_fault: usize) -> (u8, Vec<u8>) {
     let reader = FailingReader::new(messages, until_fault, 4096);
     let mut writer = Tracked::new(Vec::new(alloc));
-    let outcome = serve(alloc, "1.0.0", &mut Tracked::new(reader), &mut writer);
+    let mut reader = Tracked::new(reader);
+    let outcome = serve(alloc, "1.0.0", Notation::Plain, &mut reader, &mut writer);
     (outcome.status(), writer.stream)
 }
 
@@ -117,7 +120,7 @@ fn a_writer_that_fails_has_a_prefix(rt: HostRuntime) -> Result<(), Fail> {
     for length in 0..whole.len() {
         let mut reader = Tracked::new(FailingReader::new(messages.as_slice(), usize::MAX, 4096));
         let mut writer = Tracked::new(FailingWriter::new(alloc, length, 7));
-        let outcome = serve(alloc, "1.0.0", &mut reader, &mut writer);
+        let outcome = serve(alloc, "1.0.0", Notation::Plain, &mut reader, &mut writer);
         assert_eq!(rt; outcome.status(), 3, "{length}");
         assert_eq!(rt; writer.stream.taken.as_slice(), &whole.as_slice()[..length]);
     }
@@ -331,7 +334,7 @@ fn all_answers_are_prefixes_where_the_writer_fails(rt: HostRuntime) -> Result<()
         let length = step.saturating_mul(23);
         let mut reader = Tracked::new(FailingReader::new(messages.as_slice(), usize::MAX, 4096));
         let mut writer = Tracked::new(FailingWriter::new(alloc, length, 7));
-        let outcome = serve(alloc, "1.0.0", &mut reader, &mut writer);
+        let outcome = serve(alloc, "1.0.0", Notation::Plain, &mut reader, &mut writer);
         assert_eq!(rt; outcome.status(), 3, "{length}");
         assert_eq!(rt;
             writer.stream.taken.as_slice(),

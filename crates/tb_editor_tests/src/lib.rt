@@ -1,7 +1,9 @@
-//! The tests of what editors call: frames over streams that fail or are cut off, and dialogues with the language server.
-//! There is nothing else in this crate.
+//! The tests of what editors call: frames over streams that fail or are cut off, and dialogues with the language server
+//! and with the debug adapter. There is nothing else in this crate.
 #![tactic(auto)]
 
+#[cfg(test)]
+mod adapter;
 #[cfg(test)]
 mod adapter_messages;
 #[cfg(test)]
@@ -16,3 +18,5 @@ mod frames;
 mod renames;
 #[cfg(test)]
 mod requests;
+#[cfg(test)]
+mod signs;

@@ -3,6 +3,7 @@ use crate::dialogues::{behind, frames, frames_and};
 use std::alloc::Global;
 use std::test::Fail;
 use tb_language_server::serve;
+use tb_parser::Notation;
 use tb_streams::Tracked;
 use tb_test_support::FailingReader;
 
@@ -36,11 +37,25 @@ fn asks(alloc: Global, method: &str, params: &str) -> Result<Vec<u8>, Fail> {
     Ok(Vec::from_slice(alloc, behind(answers.as_slice(), skipped.len()))?)
 }
 
+// What a server without signs answers to messages.
 pub fn answered(alloc: Global, messages: &[u8]) -> Vec<u8> {
+    answered_in(alloc, Notation::Plain, messages)
+}
+
+// What a server that reads texts in a notation answers to messages.
+pub fn answered_in(alloc: Global, notation: Notation, messages: &[u8]) -> Vec<u8> {
+    let mut reader = Tracked::new(FailingReader::new(messages, usize::MAX, 4096));
     let mut writer = Tracked::new(Vec::new(alloc));
-    let reader = FailingReader::new(messages, usize::MAX, 4096);
-    let _ = serve(alloc, "1.0.0", &mut Tracked::new(reader), &mut writer);
+    let _ = serve(alloc, "1.0.0", notation, &mut reader, &mut writer);
     writer.stream
+}
+
+// The frames with which a dialogue begins that opens a text, as JSON has it.
+pub fn opening(alloc: Global, text: &str) -> Result<Vec<u8>, Fail> {
+    let open = format!(in alloc;
+        "{{\"jsonrpc\":\"2.0\",\"method\":\"textDocument/didOpen\",\"params\":{{\"textDocument\":{{\"uri\":\"u\",\"text\":\"{text}\"}}}}}}"
+    )?;
+    frames_and(alloc, &OPEN[..1], open.as_str())
 }
 
 // What is answered to a request with this method and these params on a text, as JSON has it, as a text.
@@ -50,17 +65,25 @@ pub fn asked_of_text(
     method: &str,
     params: &str,
 ) -> Result<String, Fail> {
-    let open = format!(in alloc;
-        "{{\"jsonrpc\":\"2.0\",\"method\":\"textDocument/didOpen\",\"params\":{{\"textDocument\":{{\"uri\":\"u\",\"text\":\"{text}\"}}}}}}"
-    )?;
+    asked_in(alloc, Notation::Plain, text, method, params)
+}
+
+// The same of a server that reads texts in a notation.
+pub fn asked_in(
+    alloc: Global,
+    notation: Notation,
+    text: &str,
+    method: &str,
+    params: &str,
+) -> Result<String, Fail> {
     let request = format!(in alloc;
         "{{\"jsonrpc\":\"2.0\",\"id\":2,\"method\":\"textDocument/{method}\",\"params\":{{\"textDocument\":{{\"uri\":\"u\"}}{params}}}}}"
     )?;
-    let before = frames_and(alloc, &OPEN[..1], open.as_str())?;
-    let mut all = frames_and(alloc, &OPEN[..1], open.as_str())?;
+    let before = opening(alloc, text)?;
+    let mut all = Vec::from_slice(alloc, before.as_slice())?;
     all.extend_from_slice(frames(alloc, &[request.as_str()])?.as_slice())?;
-    let skipped = answered(alloc, before.as_slice());
-    let answers = answered(alloc, all.as_slice());
+    let skipped = answered_in(alloc, notation, before.as_slice());
+    let answers = answered_in(alloc, notation, all.as_slice());
     Ok(String::from_str(alloc, shown(behind(answers.as_slice(), skipped.len())))?)
 }
 
@@ -76,7 +99,7 @@ fn frame_of_answer(alloc: Global, wanted: &str) -> Result<Vec<u8>, Fail> {
     frames(alloc, &[content.as_str()])
 }
 
-fn shown(bytes: &[u8]) -> &str {
+pub fn shown(bytes: &[u8]) -> &str {
     str::from_utf8(bytes).unwrap_or("no UTF-8")
 }
 

@@ -4,6 +4,7 @@ ghost use Rattle.tb_file_engine.specs.Outcomes.{EndsFormat, format_outcome_of};
 
 use std::alloc::Global;
 use std::io::Read;
+use tb_codegen::Notation;
 use tb_files::{FileSystem, STANDARD, Trouble, Work, replace};
 use tb_format_engine::{FormatOutcome, Formatted};
 use tb_streams::Tracked;
@@ -12,6 +13,7 @@ use tb_streams::Tracked;
 #[derive(Drop)]
 struct Formatting {
     alloc: Global,
+    notation: Notation,
     // Whether a source that is tidy is written too.
     always: bool,
     formatted: Option<Formatted>,
@@ -25,7 +27,7 @@ impl Work for Formatting {
     }
 
     fn take<R: Read>(&mut self, input: &mut Tracked<R>) -> Result<(), FormatOutcome> {
-        let formatted = Formatted::read(self.alloc, input)?;
+        let formatted = Formatted::read(self.alloc, input, self.notation)?;
         self.formatted = Some(formatted);
         Ok(())
     }
@@ -69,13 +71,19 @@ fn format_outcome_of(done: Result<(), FormatOutcome>) -> FormatOutcome
     }
 }
 
-/// Puts the tidy text of a source's file in the place of the source. A file that is tidy is not written. Standard input
-/// has its tidy text on standard output.
-pub fn format_in_place<F: FileSystem>(alloc: Global, files: &mut F, path: &str) -> FormatOutcome
+/// Puts the tidy text of a source's file, whose texts are read in a notation, in the place of the source. A file that is
+/// tidy is not written. Standard input has its tidy text on standard output.
+pub fn format_in_place<F: FileSystem>(
+    alloc: Global,
+    files: &mut F,
+    path: &str,
+    notation: Notation,
+) -> FormatOutcome
     ensures { EndsFormat F.does files.old path.now result files.new }
 {
     let mut work = Formatting {
         alloc,
+        notation,
         always: path == STANDARD,
         formatted: None,
     };

@@ -4,6 +4,7 @@ ghost use Rattle.tb_file_engine.specs.Outcomes.{EndsRenumber, renumber_outcome_o
 
 use std::alloc::Global;
 use std::io::Read;
+use tb_codegen::Notation;
 use tb_engines::{End, Outcome};
 use tb_files::{FileSystem, Trouble, Work, replace};
 use tb_renumber_engine::{Numbering, RenumberOutcome, RenumberedSource};
@@ -13,6 +14,7 @@ use tb_streams::Tracked;
 #[derive(Drop)]
 struct Renumbering {
     alloc: Global,
+    notation: Notation,
     numbering: Numbering,
     made: Vec<Vec<u8>>,
 }
@@ -25,7 +27,7 @@ impl Work for Renumbering {
     }
 
     fn take<R: Read>(&mut self, input: &mut Tracked<R>) -> Result<(), RenumberOutcome> {
-        let renumbered = RenumberedSource::read(self.alloc, input, self.numbering)?;
+        let renumbered = RenumberedSource::read(self.alloc, input, self.notation, self.numbering)?;
         match self.made.push(renumbered.into_text()) {
             Ok(()) => Ok(()),
             Err(_) => Err(RenumberOutcome::Engine(Outcome::NoMemory)),
@@ -61,18 +63,20 @@ fn renumber_outcome_of(done: Result<(), RenumberOutcome>) -> RenumberOutcome
     }
 }
 
-/// Puts the text of a source's file with other line numbers in the place of the source. Standard input has its new text
-/// on standard output.
+/// Puts the text of a source's file, whose texts are read in a notation, with other line numbers in the place of the
+/// source. Standard input has its new text on standard output.
 pub fn renumber_in_place<F: FileSystem>(
     alloc: Global,
     files: &mut F,
     path: &str,
+    notation: Notation,
     numbering: Numbering,
 ) -> RenumberOutcome
     ensures { EndsRenumber F.does files.old path.now result files.new }
 {
     let mut work = Renumbering {
         alloc,
+        notation,
         numbering,
         made: Vec::new(alloc),
     };

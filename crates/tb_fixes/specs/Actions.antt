@@ -3,7 +3,8 @@ use Rattle.std.specs.Prelude.{ℕ, ◌≡◌, ◌-◌, nat_le, Bool, true, false
 use Rattle.serde_json.specs.Data.{Data, array, boolean, item, member, no_items, no_members, object, string}
 use Rattle.serde_json.specs.View.{items_of}
 use Rattle.tb_parser.specs.Lines.{lines_of_file}
-use Rattle.tb_codegen.specs.declared.settings.SizeLimit.TheVariants.{Cost}
+use Rattle.tb_parser.specs.declared.notation.Notation.{Notation}
+use Rattle.tb_check.specs.Settings.{by_cost}
 use Rattle.tb_check.specs.Findings.{AreFindings}
 use Rattle.tb_check.specs.declared.examination.BadLine.{BadLine}
 use Rattle.tb_check.specs.declared.examination.Findings.{Findings}
@@ -64,8 +65,8 @@ is_end (Some b) = (b == 10) || (b == 13)
 abbrev pub ends_its_line : List ℕ → Bool
 ends_its_line source = is_end (slice_get source (length source - 1))
 
--- the fixes of the findings of a source, which are what `check` says of it
-abbrev pub AreActions : List ℕ → List ℕ → LineRange → Data → Type 0
-AreActions uri source range v =
-    (f : Findings) × (all : List SourceLine) × AreFindings Cost source f × AreLinesOf source all
+-- the fixes of the findings of a source, which are what `check` says of it in a notation
+abbrev pub AreActions : Notation → List ℕ → List ℕ → LineRange → Data → Type 0
+AreActions notation uri source range v =
+    (f : Findings) × (all : List SourceLine) × AreFindings (by_cost notation) source f × AreLinesOf notation source all
     × (v ≡ array (items_of (of_findings uri (lines_of_file source) all (ends_its_line source) range f)))

@@ -1,51 +1,30 @@
 -- What mends a finding.
-use Rattle.std.specs.Prelude.{ℕ, ◌+◌, ◌-◌, min, nat_lt, Bool, true, false, ◌==◌, List, [], ◌∷◌, ◌++◌, codes, drop, length, map, slice_get, string_bytes, Option, Some, None, if◌then◌else◌}
+use Rattle.std.specs.Prelude.{ℕ, ◌+◌, ◌-◌, min, nat_lt, Bool, true, false, ◌==◌, List, [], ◌∷◌, ◌++◌, codes, length, slice_get, Option, Some, None, if◌then◌else◌}
 use Rattle.std.specs.Option.{option_and_then}
 use Rattle.std.specs.Fmt.{decimal}
 use Rattle.serde_json.specs.Data.{Data}
-use Rattle.serde_json.specs.View.{view}
 use Rattle.tb_places.specs.Spans.{piece, word_span}
-use Rattle.tb_places.specs.declared.spans.Span.{Span}
 use Rattle.tb_check.specs.NearWords.{spelling_of}
 use Rattle.tb_check.specs.declared.examination.BadLine.{BadLine}
 use Rattle.tb_check.specs.declared.notes.Note.{Note}
-use Rattle.tb_check.specs.declared.notes.Note.TheVariants.{ThenNumber, QuestionMark, Near, OpenText, Tab, ByteOrderMark}
+use Rattle.tb_check.specs.declared.notes.Note.TheVariants.{ThenNumber, QuestionMark, Near, NearSign, OpenText, Tab, ByteOrderMark}
 use Rattle.tb_check.specs.declared.warnings.LineWarning.{LineWarning}
 use Rattle.tb_check.specs.declared.warnings.Warning.{Warning}
 use Rattle.tb_check.specs.declared.warnings.Warning.TheVariants.{Replaced, TakenOut, RunsPast, EvenBound}
+use Rattle.tb_signs.specs.Names.{name_of}
 use Rattle.tb_source_text.specs.Lines.{numbered}
 use Rattle.tb_diagnostics.specs.Diagnostics.{line_at}
 use Rattle.tb_edit_values.specs.Edits.{edit_value, lines_edit}
 use Rattle.tb_fixes.specs.Bounds.{better_bound}
 use Rattle.tb_fixes.specs.Mends.{Mends}
-use Rattle.tb_fixes.specs.declared.fixes.Fix.{Fix}
+use Rattle.tb_fixes.specs.Signs.{writes_sign}
+use Rattle.tb_fixes.specs.Writing.{behind, fix_by, writes}
 use Rattle.tb_source_names.specs.declared.lines.Line.{Line as SourceLine}
-
--- a fix that is answered
-abbrev pub seen : Fix → Mends
-seen fix = record { title = string_bytes fix.title; edits = map view fix.edits.items }
-
--- one edit
-abbrev pub fix_by : List ℕ → Data → Option Mends
-fix_by title edit = Some (record { title = title; edits = edit ∷ [] })
-
--- a text in place of a span
-abbrev pub writes : List ℕ → Span → List ℕ → Option Mends
-writes title span text = fix_by title (edit_value span text)
 
 -- PRINT in place of `?`, with a space where none stands and something follows
 abbrev pub print_before : List ℕ → List ℕ
 print_before [] = codes "PRINT"
 print_before (b ∷ text) = if b == 32 then codes "PRINT" else codes "PRINT "
-
--- a text without its first byte
-abbrev pub rest_of : List ℕ → List ℕ
-rest_of [] = []
-rest_of (b ∷ text) = text
-
--- what follows the byte at a place
-abbrev pub behind : ℕ → List ℕ → List ℕ
-behind place text = rest_of (drop (min place (length text)) text)
 
 -- a word in place of the whole word at a column
 abbrev pub writes_word : ℕ → List ℕ → ℕ → List ℕ → Option Mends
@@ -56,6 +35,7 @@ abbrev pub fix_by_note : ℕ → List ℕ → ℕ → Note → Option Mends
 fix_by_note line text column ThenNumber = writes (codes "Write THEN GOTO") (piece line text (column - 1) 0) (codes "GOTO ")
 fix_by_note line text column QuestionMark = writes (codes "Write PRINT") (piece line text (column - 1) 1) (print_before (behind (column - 1) text))
 fix_by_note line text column (Near word) = writes_word line text column (spelling_of word)
+fix_by_note line text column (NearSign byte) = option_and_then (writes_sign line text (column - 1)) (name_of byte)
 fix_by_note line text column OpenText = writes (codes "Close the text") (piece line text (length text) 0) (34 ∷ [])
 fix_by_note line text column Tab = writes (codes "Write a space") (piece line text (column - 1) 1) (codes " ")
 fix_by_note line text column ByteOrderMark = writes (codes "Remove the byte order mark") (piece line text (column - 1) 3) []

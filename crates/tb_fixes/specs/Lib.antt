@@ -1,4 +1,6 @@
 pub mod Mends
+pub mod Writing
 pub mod Bounds
+pub mod Signs
 pub mod Fixes
 pub mod Actions

@@ -6,7 +6,7 @@ ghost use Rattle.tb_source_names.specs.Lines.{does};
 ghost use Rattle.tb_places.specs.Spans.{between};
 ghost use Rattle.tb_edit_values.specs.Edits.{edit_value};
 ghost use Rattle.tb_fixes.specs.Bounds as spec;
-ghost use Rattle.tb_fixes.specs.Fixes.{seen};
+ghost use Rattle.tb_fixes.specs.Writing.{seen};
 
 use crate::fixes::Fix;
 use serde_json::Value;

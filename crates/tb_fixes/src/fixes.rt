@@ -4,8 +4,10 @@ ghost use Rattle.serde_json.specs.View.{view};
 ghost use Rattle.tb_diagnostics.specs.Diagnostics.{texts_of};
 ghost use Rattle.tb_source_text.specs.Lines.{pair_of};
 ghost use Rattle.tb_fixes.specs.Fixes as spec;
+ghost use Rattle.tb_fixes.specs.Writing as writing;
 
 use crate::bounds::better_bound;
+use crate::signs::writes_near;
 use serde_json::Value;
 use std::alloc::{AllocError, Global};
 use tb_check::{BadLine, LineWarning, Note, Warning};
@@ -25,7 +27,7 @@ pub struct Fix {
 
 // A fix with one edit.
 fn fix_by(alloc: Global, title: &str, edit: Value) -> Result<Option<Fix>, AllocError>
-    ensures { IfOk result (λ fix. option_map spec.seen fix ≡ spec.fix_by title.now (view edit)) }
+    ensures { IfOk result (λ fix. option_map writing.seen fix ≡ writing.fix_by title.now (view edit)) }
 {
     let mut edits = Vec::new(alloc);
     edits.push(edit)?;
@@ -33,9 +35,9 @@ fn fix_by(alloc: Global, title: &str, edit: Value) -> Result<Option<Fix>, AllocE
     Ok(Some(Fix { title, edits }))
 }
 
-// A fix that writes a text in place of a span.
-fn writes(alloc: Global, title: &str, span: Span, text: &str) -> Result<Option<Fix>, AllocError>
-    ensures { IfOk result (λ fix. option_map spec.seen fix ≡ spec.writes title.now span text.now) }
+/// A fix that writes a text in place of a span.
+pub fn writes(alloc: Global, title: &str, span: Span, text: &str) -> Result<Option<Fix>, AllocError>
+    ensures { IfOk result (λ fix. option_map writing.seen fix ≡ writing.writes title.now span text.now) }
 {
     let edit = edit_value(alloc, span, text)?;
     fix_by(alloc, title, edit)
@@ -59,15 +61,15 @@ fn writes_word(
     column: usize,
     word: &str,
 ) -> Result<Option<Fix>, AllocError>
-    ensures { IfOk result (λ fix. option_map spec.seen fix ≡ spec.writes_word line text.now column word.now) }
+    ensures { IfOk result (λ fix. option_map writing.seen fix ≡ spec.writes_word line text.now column word.now) }
 {
     let title = format!(in alloc; "Write {word}")?;
     writes(alloc, title.as_str(), word_span(line, text, column), word)
 }
 
-// What follows the byte at a place.
-fn behind(text: &[u8], place: usize) -> &[u8]
-    ensures { result.now ≡ spec.behind place text.now }
+/// What follows the byte at a place.
+pub fn behind(text: &[u8], place: usize) -> &[u8]
+    ensures { result.now ≡ writing.behind place text.now }
 {
     let from_there = &text[place.min(text.len())..];
     match from_there {
@@ -84,7 +86,7 @@ fn fix_by_note(
     column: usize,
     note: Note,
 ) -> Result<Option<Fix>, AllocError>
-    ensures { IfOk result (λ fix. option_map spec.seen fix ≡ spec.fix_by_note line text.now column note) }
+    ensures { IfOk result (λ fix. option_map writing.seen fix ≡ spec.fix_by_note line text.now column note) }
 {
     let place = column.saturating_sub(1);
     match note {
@@ -97,6 +99,7 @@ fn fix_by_note(
             writes(alloc, "Write PRINT", piece(line, text, place, 1), print)
         }
         Note::Near(word) => writes_word(alloc, line, text, column, word.spelling()),
+        Note::NearSign(byte) => writes_near(alloc, line, text, place, byte),
         Note::OpenText => {
             let span = piece(line, text, text.len(), 0);
             writes(alloc, "Close the text", span, "\"")
@@ -116,7 +119,7 @@ pub fn fix_of_bad_line(
     text: &Lines<'_>,
     bad: &BadLine,
 ) -> Result<Option<Fix>, AllocError>
-    ensures { IfOk result (λ fix. option_map spec.seen fix ≡ spec.fix_of_bad_line (texts_of text.now) bad.now) }
+    ensures { IfOk result (λ fix. option_map writing.seen fix ≡ spec.fix_of_bad_line (texts_of text.now) bad.now) }
 {
     let (line, column) = (bad.error.line, bad.error.column);
     match bad.note {
@@ -171,7 +174,7 @@ fn ends(
     is_ended: bool,
     highest: u32,
 ) -> Result<Option<Fix>, AllocError>
-    ensures { IfOk result (λ fix. option_map spec.seen fix ≡ spec.ends count last.now is_ended highest) }
+    ensures { IfOk result (λ fix. option_map writing.seen fix ≡ spec.ends count last.now is_ended highest) }
 {
     if highest >= 32_767 {
         return Ok(None);
@@ -183,7 +186,7 @@ fn ends(
 
 // The line with its end is removed; another one follows it.
 fn removes(alloc: Global, line: usize) -> Result<Option<Fix>, AllocError>
-    ensures { IfOk result (λ fix. option_map spec.seen fix ≡ spec.removes line) }
+    ensures { IfOk result (λ fix. option_map writing.seen fix ≡ spec.removes line) }
 {
     let edit = lines_edit(alloc, line.saturating_sub(1), line, "")?;
     fix_by(alloc, "Remove the line", edit)
@@ -197,7 +200,7 @@ pub fn fix_of_warning(
     is_ended: bool,
     warning: &LineWarning,
 ) -> Result<Option<Fix>, AllocError>
-    ensures { IfOk result (λ fix. option_map spec.seen fix
+    ensures { IfOk result (λ fix. option_map writing.seen fix
         ≡ spec.fix_of_warning (texts_of text.now) source.now.lines.items is_ended warning.now) }
 {
     match warning.warning {

@@ -4,6 +4,7 @@
 mod bounds;
 mod fixes;
 mod offers;
+mod signs;
 
 pub use fixes::{Fix, fix_of_bad_line, fix_of_warning};
 pub use offers::{LineRange, actions};

@@ -2,14 +2,14 @@
 ghost use Rattle.std.specs.Prelude.{◌≡◌, ◌++◌, IfOk, OnOk, map, option_map};
 ghost use Rattle.serde_json.specs.View.{view};
 ghost use Rattle.tb_diagnostics.specs.Diagnostics.{texts_of};
-ghost use Rattle.tb_fixes.specs.Fixes.{seen};
+ghost use Rattle.tb_fixes.specs.Writing.{seen};
 ghost use Rattle.tb_fixes.specs.Actions as spec;
 
 use crate::fixes::{Fix, fix_of_bad_line, fix_of_warning};
 use serde_json::{Value, json};
 use std::alloc::{AllocError, Global};
-use tb_check::{BadLine, Findings, LineWarning, examine};
-use tb_codegen::SizeLimit;
+use tb_check::{BadLine, CheckSettings, Findings, LineWarning, examine};
+use tb_codegen::{Notation, SizeLimit};
 use tb_diagnostics::{Lines, on_bad_line, on_warning};
 use tb_edit_values::changes_value;
 use tb_source_names::{Source, read_source};
@@ -173,21 +173,26 @@ fn ends_its_line(source: &[u8]) -> bool
     }
 }
 
-/// The fixes of what `check` finds on these lines of a source, in its order.
+/// The fixes of what `check` finds on these lines of a source, in its order; the source is read in a notation.
 pub fn actions(
     alloc: Global,
+    notation: Notation,
     uri: &str,
     source: &[u8],
     range: LineRange,
 ) -> Result<Value, AllocError>
-    ensures { IfOk result (λ v. spec.AreActions uri.now source.now range (view v)) }
+    ensures { IfOk result (λ v. spec.AreActions notation uri.now source.now range (view v)) }
 {
-    let examined = examine(alloc, source, SizeLimit::Cost)?;
+    let settings = CheckSettings {
+        size: SizeLimit::Cost,
+        notation,
+    };
+    let examined = examine(alloc, source, settings)?;
     let text = Lines {
         uri,
         lines: examined.lines.as_slice(),
     };
-    let read = read_source(alloc, source)?;
+    let read = read_source(alloc, notation, source)?;
     let is_ended = ends_its_line(source);
     let found = of_findings(alloc, &text, &read, is_ended, range, &examined.findings)?;
     Ok(Value::Array(found))

@@ -1,5 +1,5 @@
 -- What is kept of a line has a line's end only where the line has it, and decides the line's squeezed bytes.
-use Rattle.std.proofs.Common.{◌≡◌, ℕ, ◌+◌, Bool, true, false, List, [], ◌∷◌, refl, sym, ap, ◌∙◌, arith, ◌==◌, ◌⊎◌, inl, inr, if◌then◌else◌}
+use Rattle.std.proofs.Common.{◌≡◌, ℕ, ◌+◌, Bool, true, false, List, [], ◌∷◌, refl, sym, ap, ◌∙◌, arith, ◌==◌, inl, inr, if◌then◌else◌}
 use Rattle.std.proofs.lemmas.Bool.Decides.{nat_tests}
 use Rattle.tb_parser.specs.Squeezed.{upper, bytes, shown, squeezed, squeezed_from}
 use Rattle.tb_parser.specs.Squeezed as parser
@@ -7,13 +7,10 @@ use Rattle.tb_format.specs.declared.modes.Mode.{Mode}
 use Rattle.tb_format.specs.declared.modes.Mode.TheVariants.{Code, CodeR, CodeRe, Text, Remark}
 use Rattle.tb_format.specs.Kept.{after, is_dropped, kept_from, written}
 use Rattle.tb_format.specs.Texts.{AreWithin, IsWithin}
-
-true_or_false : (b : Bool) → (b ≡ true) ⊎ (b ≡ false)
-true_or_false true = inl refl
-true_or_false false = inr refl
+use Rattle.tb_format.proofs.SignEnds.{true_or_false}
 
 -- a byte that is dropped is a space
-dropped_space : (m : Mode) (b : ℕ) → is_dropped m b ≡ true → b ≡ 32
+pub dropped_space : (m : Mode) (b : ℕ) → is_dropped m b ≡ true → b ≡ 32
 dropped_space Code b e = grind (arith, nat_tests)
 dropped_space CodeR b e = grind (arith, nat_tests)
 dropped_space CodeRe b e = grind (arith, nat_tests)
@@ -79,7 +76,7 @@ within_line m (b ∷ line) w = elim (true_or_false (is_dropped m b)) [
 abbrev Taken : {A B : Type 0} → (A → B) → Type 0
 Taken {A} f = A
 
-abbrev ParserMode : Type 0
+abbrev pub ParserMode : Type 0
 ParserMode = Taken parser.is_in_code
 
 record Beginning : Type 0 where
@@ -90,7 +87,7 @@ abbrev beginning : Beginning
 beginning = record { mode = _; begins = λ line. refl }
 
 -- the parser's mode for one of these
-abbrev parsed : Mode → ParserMode
+abbrev pub parsed : Mode → ParserMode
 parsed Code = beginning.mode
 parsed CodeR = parser.after beginning.mode 82
 parsed CodeRe = parser.after (parser.after beginning.mode 82) 69
@@ -102,7 +99,7 @@ parsed_if true m n = refl
 parsed_if false m n = refl
 
 -- both drop the same bytes
-same_dropped : (m : Mode) (b : ℕ) → parser.is_dropped (parsed m) b ≡ is_dropped m b
+pub same_dropped : (m : Mode) (b : ℕ) → parser.is_dropped (parsed m) b ≡ is_dropped m b
 same_dropped Code b = refl
 same_dropped CodeR b = refl
 same_dropped CodeRe b = refl
@@ -110,7 +107,7 @@ same_dropped Text b = refl
 same_dropped Remark b = refl
 
 -- and go on in the same modes
-same_after : (m : Mode) (b : ℕ) → parser.after (parsed m) b ≡ parsed (after m b)
+pub same_after : (m : Mode) (b : ℕ) → parser.after (parsed m) b ≡ parsed (after m b)
 same_after Code b = simp parsed_if
 same_after CodeR b = simp parsed_if
 same_after CodeRe b = simp parsed_if
@@ -118,7 +115,7 @@ same_after Text b = simp parsed_if
 same_after Remark b = refl
 
 -- a byte that is dropped changes no mode
-dropped_mode : (m : Mode) (b : ℕ) → is_dropped m b ≡ true → after m b ≡ m
+pub dropped_mode : (m : Mode) (b : ℕ) → is_dropped m b ≡ true → after m b ≡ m
 dropped_mode Code b e = let space : b ≡ 32 = dropped_space Code b e in rw space refl
 dropped_mode CodeR b e = let space : b ≡ 32 = dropped_space CodeR b e in rw space refl
 dropped_mode CodeRe b e = let space : b ≡ 32 = dropped_space CodeRe b e in rw space refl
@@ -135,7 +132,7 @@ quote_stays : (b : ℕ) → (upper b == 34) ≡ (b == 34)
 quote_stays b = grind (arith, nat_tests)
 
 -- a byte as it is written leads to the mode to which it led
-written_mode : (m : Mode) (b : ℕ) → after m (written m b) ≡ after m b
+pub written_mode : (m : Mode) (b : ℕ) → after m (written m b) ≡ after m b
 written_mode Code b = rw (space_stays b, quote_stays b, upper_again b) refl
 written_mode CodeR b = rw (space_stays b, quote_stays b, upper_again b) refl
 written_mode CodeRe b = rw (space_stays b, quote_stays b, upper_again b) refl
@@ -143,7 +140,7 @@ written_mode Text b = refl
 written_mode Remark b = refl
 
 -- and is shown as it was
-written_shown : (m : Mode) (b : ℕ) → parser.shown (parsed m) (written m b) ≡ parser.shown (parsed m) b
+pub written_shown : (m : Mode) (b : ℕ) → parser.shown (parsed m) (written m b) ≡ parser.shown (parsed m) b
 written_shown Code b = upper_again b
 written_shown CodeR b = upper_again b
 written_shown CodeRe b = upper_again b
@@ -166,11 +163,11 @@ passed_squeezed : (m : Mode) (column b : ℕ) (line : List ℕ) → parser.is_dr
 unfolding squeezed_from
 passed_squeezed m column b line e = rw e refl
 
-taken_kept : (m : Mode) (b : ℕ) (line : List ℕ) → is_dropped m b ≡ false → kept_from m (b ∷ line) ≡ written m b ∷ kept_from (after m b) line
+pub taken_kept : (m : Mode) (b : ℕ) (line : List ℕ) → is_dropped m b ≡ false → kept_from m (b ∷ line) ≡ written m b ∷ kept_from (after m b) line
 unfolding kept_from
 taken_kept m b line e = rw e refl
 
-passed_kept : (m : Mode) (b : ℕ) (line : List ℕ) → is_dropped m b ≡ true → kept_from m (b ∷ line) ≡ kept_from (after m b) line
+pub passed_kept : (m : Mode) (b : ℕ) (line : List ℕ) → is_dropped m b ≡ true → kept_from m (b ∷ line) ≡ kept_from (after m b) line
 unfolding kept_from
 passed_kept m b line e = rw e refl
 
@@ -195,6 +192,6 @@ squeezed_by m column (b ∷ line) =
           ∙ (sym (taken_shown m b (kept_from (after m b) line)) ∙ ap (λ (k : List ℕ). shown_from m k) (sym (taken_kept m b line kept))))
     ]
 
--- lines of which the same is kept have the same squeezed bytes
-pub same_squeezed : (new line : List ℕ) → kept_from Code new ≡ kept_from Code line → bytes (squeezed new) ≡ bytes (squeezed line)
-same_squeezed new line e = squeezed_by Code 1 new ∙ (ap (λ (k : List ℕ). shown_from Code k) e ∙ sym (squeezed_by Code 1 line))
+-- lines of which the same is kept have the same squeezed bytes, where there are no signs
+pub same_plain : (new line : List ℕ) → kept_from Code new ≡ kept_from Code line → bytes (squeezed new) ≡ bytes (squeezed line)
+same_plain new line e = squeezed_by Code 1 new ∙ (ap (λ (k : List ℕ). shown_from Code k) e ∙ sym (squeezed_by Code 1 line))

@@ -6,7 +6,8 @@ use Rattle.tb_parser.specs.declared.edits.LineEdit.{LineEdit}
 use Rattle.tb_parser.specs.declared.errors.LineFault.{LineFault}
 use Rattle.tb_parser.specs.declared.errors.SourceErrorKind.{SourceErrorKind}
 use Rattle.tb_parser.specs.declared.errors.SourceErrorKind.TheVariants.{NoMemory, Syntax}
-use Rattle.tb_parser.specs.Readings.{LineIs, Refusal, at_column}
+use Rattle.tb_parser.specs.declared.notation.Notation.{Notation}
+use Rattle.tb_parser.specs.Readings.{LineIn, Refusal, at_column}
 use Rattle.tb_format.specs.Kept.{kept}
 use Rattle.std.specs.declared.alloc.AllocError.{AllocError}
 use Rattle.std.specs.declared.alloc.Global.{Global}
@@ -20,16 +21,17 @@ refused Syntax column Is ne h = (record { kind = Syntax; column = None }, h)
 refused kind column Is ne h = (at_column kind column, h)
 
 -- a line without a fault is good
-pub good_if : (line : List ℕ) (r : Result LineEdit LineFault) → Says edit_of r (LineIs line) → result_err r ≡ None → IsGood line
-good_if line (Ok edit) h e = (edit_of edit, h)
-good_if line (Err fault) h e = absurd cc
+pub good_if : (notation : Notation) (line : List ℕ) (r : Result LineEdit LineFault) → Says edit_of r (LineIn notation line) → result_err r ≡ None → IsGood notation line
+good_if notation line (Ok edit) h e = (edit_of edit, h)
+good_if notation line (Err fault) h e = absurd cc
 
 -- one with a fault is bad
-pub bad_if : (line : List ℕ) (r : Result LineEdit LineFault) (fault : LineFault) → Says edit_of r (LineIs line) → result_err r ≡ Some fault → fault.kind ≢ NoMemory → IsBad line
-bad_if line (Ok edit) fault h e ne = absurd cc
-bad_if line (Err f) fault h e ne =
+pub bad_if : (notation : Notation) (line : List ℕ) (r : Result LineEdit LineFault) (fault : LineFault) → Says edit_of r (LineIn notation line) → result_err r ≡ Some fault
+    → fault.kind ≢ NoMemory → IsBad notation line
+bad_if notation line (Ok edit) fault h e ne = absurd cc
+bad_if notation line (Err f) fault h e ne =
     let same : f ≡ fault = cc in
-    refused f.kind f.column (λ r. LineIs line (Err r)) (λ k. ne (ap (λ (g : LineFault). g.kind) (sym same) ∙ k)) h
+    refused f.kind f.column (λ r. LineIn notation line (Err r)) (λ k. ne (ap (λ (g : LineFault). g.kind) (sym same) ∙ k)) h
 
 module _ (line bytes made again : List ℕ) (kept_is : bytes ≡ kept line) (made_is : made ≡ tidied bytes) (again_is : again ≡ kept made) where
   made_tidy_is : made ≡ tidy_line line
@@ -53,6 +55,7 @@ copied line Is (Ok v) same is = subst Is (sym same) is
 copied line Is (Err e) same is = tt
 
 -- what comes of a good line comes of the line
-pub of_good : (line : List ℕ) (r : Result (Vec ℕ Global) AllocError) → IsGood line → IfOk r (λ v. IsMadeTidy line v.items) → IfOk r (λ v. IsTidied line v.items)
-of_good line (Ok v) is made = good v.items is made
-of_good line (Err e) is made = tt
+pub of_good : (notation : Notation) (line : List ℕ) (r : Result (Vec ℕ Global) AllocError) → IsGood notation line → IfOk r (λ v. IsMadeTidy line v.items)
+    → IfOk r (λ v. IsTidied notation line v.items)
+of_good notation line (Ok v) is made = good v.items is made
+of_good notation line (Err e) is made = tt

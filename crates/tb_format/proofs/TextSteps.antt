@@ -1,6 +1,7 @@
 -- The tidy text, line by line.
 use Rattle.std.proofs.Common.{◌≡◌, ℕ, ◌+◌, ◌<◌, ◌≤◌, zero, suc, Bool, true, false, ◌&&◌, ◌==◌, List, [], ◌∷◌, ◌++◌, length, get_or, take, drop, sym, ap, subst, ◌∙◌, arith, append_assoc}
 use Rattle.std.proofs.lemmas.List.{take-append-drop}
+use Rattle.tb_parser.specs.declared.notation.Notation.{Notation}
 use Rattle.tb_parser.proofs.Steps.{split}
 use Rattle.tb_format.specs.Texts.{AreWithin, IsEnd, IsTidyText, IsWithin, Places, last, next, placed}
 
@@ -22,25 +23,26 @@ pub around : (text : List ℕ) (i : ℕ) → i < length text → text ≡ take i
 around text i lt = sym (take-append-drop i text) ∙ ap (λ (t : List ℕ). take i text ++ t) (split text i 0 lt)
 
 -- what holds of the text so far: with the tidy text of the rest it is that of the source
-abbrev pub LeadsOn : Bool → List ℕ → List ℕ → List ℕ → Type 0
-LeadsOn behind source rest text = (result : List ℕ) → IsTidyText behind rest result → IsTidyText false source (text ++ result)
+abbrev pub LeadsOn : Notation → Bool → List ℕ → List ℕ → List ℕ → Type 0
+LeadsOn notation behind source rest text = (result : List ℕ) → IsTidyText notation behind rest result → IsTidyText notation false source (text ++ result)
 
 -- one more line with its end
-pub pushed : (behind bound : Bool) (source rest line after old text new_text : List ℕ) (ending : ℕ) → LeadsOn behind source rest old
-    → rest ≡ line ++ ending ∷ after → AreWithin line → IsEnd ending → bound ≡ (behind && (ending == 10)) → Places bound line old text → new_text ≡ text ++ ending ∷ []
-    → LeadsOn (ending == 13) source after new_text
-pushed behind bound source rest line after old text new_text ending whole is within end bound_is places pushed_is = λ result tidy.
+pub pushed : (notation : Notation) (behind bound : Bool) (source rest line after old text new_text : List ℕ) (ending : ℕ) → LeadsOn notation behind source rest old
+    → rest ≡ line ++ ending ∷ after → AreWithin line → IsEnd ending → bound ≡ (behind && (ending == 10)) → Places notation bound line old text → new_text ≡ text ++ ending ∷ []
+    → LeadsOn notation (ending == 13) source after new_text
+pushed notation behind bound source rest line after old text new_text ending whole is within end bound_is places pushed_is = λ result tidy.
     let new = places.0 in
-    let step : IsTidyText behind (line ++ ending ∷ after) (placed (behind && (ending == 10)) line new ++ ending ∷ result) =
+    let step : IsTidyText notation behind (line ++ ending ∷ after) (placed (behind && (ending == 10)) line new ++ ending ∷ result) =
     next behind line new ending after result within end places.1 tidy in
-    let all : IsTidyText false source (old ++ (placed (behind && (ending == 10)) line new ++ ending ∷ result)) =
+    let all : IsTidyText notation false source (old ++ (placed (behind && (ending == 10)) line new ++ ending ∷ result)) =
     whole (placed (behind && (ending == 10)) line new ++ ending ∷ result)
-    (subst (λ (r : List ℕ). IsTidyText behind r (placed (behind && (ending == 10)) line new ++ ending ∷ result)) (sym is) step) in
+    (subst (λ (r : List ℕ). IsTidyText notation behind r (placed (behind && (ending == 10)) line new ++ ending ∷ result)) (sym is) step) in
     let text_is : text ≡ old ++ placed (behind && (ending == 10)) line new = rw bound_is at places.2 in
     let joined : new_text ++ result ≡ old ++ (placed (behind && (ending == 10)) line new ++ ending ∷ result) = rw (pushed_is, text_is) (simp append_assoc) in
-    subst (λ (r : List ℕ). IsTidyText false source r) (sym joined) all
+    subst (λ (r : List ℕ). IsTidyText notation false source r) (sym joined) all
 
 -- the last line, which no byte ends
-pub finished : (behind : Bool) (source rest old text : List ℕ) → LeadsOn behind source rest old → AreWithin rest → Places true rest old text → IsTidyText false source text
-finished behind source rest old text whole within places =
-    subst (λ (r : List ℕ). IsTidyText false source r) (sym places.2) (whole (placed true rest places.0) (last behind rest places.0 within places.1))
+pub finished : (notation : Notation) (behind : Bool) (source rest old text : List ℕ) → LeadsOn notation behind source rest old → AreWithin rest → Places notation true rest old text
+    → IsTidyText notation false source text
+finished notation behind source rest old text whole within places =
+    subst (λ (r : List ℕ). IsTidyText notation false source r) (sym places.2) (whole (placed true rest places.0) (last behind rest places.0 within places.1))

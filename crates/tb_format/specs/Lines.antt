@@ -2,7 +2,8 @@
 use Rattle.std.specs.Prelude.{◌≡◌, ◌≢◌, ℕ, ◌+◌, ◌<◌, ◌≤◌, List, [], ◌∷◌, ◌++◌, length, take, drop}
 use Rattle.std.specs.Prelude.{if◌then◌else◌, Ok, Err}
 use Rattle.tb_grammar.specs.Grammar.{is_digit}
-use Rattle.tb_parser.specs.Readings.{Edit, LineIs, Refusal}
+use Rattle.tb_parser.specs.declared.notation.Notation.{Notation}
+use Rattle.tb_parser.specs.Readings.{Edit, LineIn, Refusal}
 use Rattle.tb_format.specs.Kept.{kept}
 use Rattle.tb_format.specs.Statements.{tidy_statement}
 
@@ -31,14 +32,14 @@ pub data IsMadeTidy (line : List ℕ) : List ℕ → Type 0 where
   other : kept (tidy_line line) ≢ kept line → IsMadeTidy line line
 
 -- a line that is read
-abbrev pub IsGood : List ℕ → Type 0
-IsGood line = (e : Edit) × LineIs line (Ok e)
+abbrev pub IsGood : Notation → List ℕ → Type 0
+IsGood notation line = (e : Edit) × LineIn notation line (Ok e)
 
 -- a line that is refused
-abbrev pub IsBad : List ℕ → Type 0
-IsBad line = (r : Refusal) × LineIs line (Err r)
+abbrev pub IsBad : Notation → List ℕ → Type 0
+IsBad notation line = (r : Refusal) × LineIn notation line (Err r)
 
 -- What comes of a line: a bad one stays as it is. A line of spaces is good, and its tidy form is empty.
-pub data IsTidied (line : List ℕ) : List ℕ → Type 0 where
-  good : (new : List ℕ) → IsGood line → IsMadeTidy line new → IsTidied line new
-  bad : IsBad line → IsTidied line line
+pub data IsTidied (notation : Notation) (line : List ℕ) : List ℕ → Type 0 where
+  good : (new : List ℕ) → IsGood notation line → IsMadeTidy line new → IsTidied notation line new
+  bad : IsBad notation line → IsTidied notation line line

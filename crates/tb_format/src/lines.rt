@@ -6,7 +6,7 @@ ghost use Rattle.tb_format.specs.Kept.{kept};
 use crate::kept::kept;
 use crate::statements::push_statement;
 use std::alloc::{AllocError, Global};
-use tb_parser::{SourceErrorKind, read_line};
+use tb_parser::{Notation, SourceErrorKind, read_line_in};
 
 /// The most bytes that a line has.
 const LONGEST_LINE: usize = 255;
@@ -37,12 +37,12 @@ fn tidied(alloc: Global, text: &[u8]) -> Result<Vec<u8>, AllocError>
     Ok(tidy)
 }
 
-// Whether a line is good. Fails only if memory runs out.
+// Whether a line is good in a notation. Fails only if memory runs out.
 #[tactic(auto, using(crate::proofs::LineCases::good_if, crate::proofs::LineCases::bad_if))]
-fn is_good(alloc: Global, line: &[u8]) -> Result<bool, AllocError>
-    ensures { IfOk result (λ good. MatchBool good (IsGood line.now) (IsBad line.now)) }
+fn is_good(alloc: Global, notation: Notation, line: &[u8]) -> Result<bool, AllocError>
+    ensures { IfOk result (λ good. MatchBool good (IsGood notation line.now) (IsBad notation line.now)) }
 {
-    match read_line(alloc, line).err() {
+    match read_line_in(alloc, notation, line).err() {
         None => Ok(true),
         Some(fault) => match fault.kind {
             SourceErrorKind::NoMemory => Err(AllocError),
@@ -72,12 +72,12 @@ fn tidy_good_line(alloc: Global, line: &[u8]) -> Result<Vec<u8>, AllocError>
     Ok(tidy)
 }
 
-/// What comes of a line of a source: its tidy form if it is good and has one, else the line as it is. Fails only if
-/// memory runs out.
-pub fn tidy_line(alloc: Global, line: &[u8]) -> Result<Vec<u8>, AllocError>
-    ensures { IfOk result (λ new. IsTidied line.now new.items) }
+/// What comes of a line of a source: its tidy form if it is good in the notation and has one, else the line as it is.
+/// Fails only if memory runs out.
+pub fn tidy_line(alloc: Global, notation: Notation, line: &[u8]) -> Result<Vec<u8>, AllocError>
+    ensures { IfOk result (λ new. IsTidied notation line.now new.items) }
 {
-    if !is_good(alloc, line)? {
+    if !is_good(alloc, notation, line)? {
         return Vec::from_slice(alloc, line);
     }
     tidy_good_line(alloc, line)

@@ -4,6 +4,7 @@ ghost use Rattle.tb_format.specs.Texts.{AreWithin, IsEnd, IsTidyText, IsWithin, 
 
 use crate::lines::tidy_line;
 use std::alloc::{AllocError, Global};
+use tb_parser::Notation;
 
 // Whether a byte ends a line.
 fn ends_line(byte: u8) -> bool
@@ -46,32 +47,34 @@ fn is_between(behind_return: bool, ending: u8) -> bool
 // Appends what stands for a line.
 fn push_line(
     alloc: Global,
+    notation: Notation,
     text: &mut Vec<u8>,
     is_bound: bool,
     line: &[u8],
 ) -> Result<(), AllocError>
-    ensures { OnOk result (Places is_bound line.now text.old.items text.new.items) }
+    ensures { OnOk result (Places notation is_bound line.now text.old.items text.new.items) }
 {
-    let new = tidy_line(alloc, line)?;
+    let new = tidy_line(alloc, notation, line)?;
     text.extend_from_slice(placed(is_bound, line, &new))
 }
 
-/// The tidy text of a source. Fails only if memory runs out.
-pub fn tidy_text(alloc: Global, source: &[u8]) -> Result<Vec<u8>, AllocError>
+/// The tidy text of a source whose texts are read in a notation. Fails only if memory runs out.
+pub fn tidy_text(alloc: Global, notation: Notation, source: &[u8]) -> Result<Vec<u8>, AllocError>
     // Each line is tidy or as it was, and line ends stay.
-    ensures tidy { IfOk result (λ text. IsTidyText false source.now text.items) }
+    ensures tidy { IfOk result (λ text. IsTidyText notation false source.now text.items) }
     // There are as many lines, and each says the same.
-    ensures same { IfOk result (λ text. said text.items ≡ said source.now) }
+    ensures same { IfOk result (λ text. said notation text.items ≡ said notation source.now) }
 {
     let mut text = Vec::with_capacity(alloc, source.len())?;
     let mut rest = source;
     let mut behind_return = false;
     while let Some((line, ending, after)) = split_line(rest) {
-        push_line(alloc, &mut text, is_between(behind_return, ending), line)?;
+        let is_bound = is_between(behind_return, ending);
+        push_line(alloc, notation, &mut text, is_bound, line)?;
         text.push(ending)?;
         behind_return = ending == b'\r';
         rest = after;
     }
-    push_line(alloc, &mut text, true, rest)?;
+    push_line(alloc, notation, &mut text, true, rest)?;
     Ok(text)
 }

@@ -3,18 +3,19 @@ use Rattle.std.specs.Prelude.{◌≡◌, ◌≢◌, ◌⊎◌, ℕ, true, false,
 use Rattle.std.specs.Io.KnownBytes.{Appends}
 use Rattle.std.specs.Str.{bytes_eq}
 use Rattle.tb_streams.specs.Streams.{AppendsPrefix, MayPassMost, Reads}
+use Rattle.tb_parser.specs.declared.notation.Notation.{Notation}
 use Rattle.tb_format.specs.Texts.{IsTidyText}
 use Rattle.tb_format_engine.specs.declared.engine.Formatted.{Formatted}
 use Rattle.tb_format_engine.specs.declared.outcome.FormatOutcome.{FormatOutcome}
 use Rattle.tb_format_engine.specs.declared.outcome.FormatOutcome.TheVariants.{Done, Untidy, ReadFault, WriteFault, NoMemory}
 
--- a source that was read, and its tidy text, of a reader that had these bytes, by its count of failures
-abbrev pub Formats : Option (List ℕ) → ℕ → ℕ → Result Formatted FormatOutcome → Type 0
-Formats had failures failures' (Ok f) =
-    Reads had f.source.items × IsTidyText false f.source.items f.text.items × (failures' ≡ failures)
-Formats had failures failures' (Err ReadFault) = (failures' ≢ failures) ⊎ MayPassMost had
-Formats had failures failures' (Err NoMemory) = failures' ≡ failures
-Formats had failures failures' (Err e) = ⊥
+-- a source that was read, and its tidy text in a notation, of a reader that had these bytes, by its count of failures
+abbrev pub Formats : Notation → Option (List ℕ) → ℕ → ℕ → Result Formatted FormatOutcome → Type 0
+Formats notation had failures failures' (Ok f) =
+    Reads had f.source.items × IsTidyText notation false f.source.items f.text.items × (failures' ≡ failures)
+Formats notation had failures failures' (Err ReadFault) = (failures' ≢ failures) ⊎ MayPassMost had
+Formats notation had failures failures' (Err NoMemory) = failures' ≡ failures
+Formats notation had failures failures' (Err e) = ⊥
 
 -- whether a source is its own tidy text
 abbrev pub is_tidy : Formatted → Bool

@@ -8,6 +8,7 @@ use crate::outcome::FormatOutcome;
 use std::alloc::{AllocError, Global};
 use std::io::{Read, Write};
 use tb_format::tidy_text;
+use tb_parser::Notation;
 use tb_streams::{Tracked, read_input, write_output};
 
 /// A source that was read, and its tidy text.
@@ -27,14 +28,18 @@ fn told(alloc: Global, name: &str) -> Result<Vec<u8>, AllocError>
 }
 
 impl Formatted {
-    /// All that a reader gives, a source, with its tidy text.
-    pub fn read<R: Read>(alloc: Global, reader: &mut Tracked<R>) -> Result<Formatted, FormatOutcome>
-        ensures formats { Formats (R.remaining reader.old.stream)
+    /// All that a reader gives, a source whose texts are read in a notation, with its tidy text.
+    pub fn read<R: Read>(
+        alloc: Global,
+        reader: &mut Tracked<R>,
+        notation: Notation,
+    ) -> Result<Formatted, FormatOutcome>
+        ensures formats { Formats notation (R.remaining reader.old.stream)
             (failures_of reader.old) (failures_of reader.new) result }
         ensures taken { TakesInput (use_of R.remaining reader.old reader.new) }
     {
         let source = read_input(alloc, reader)?;
-        let text = tidy_text(alloc, source.as_slice())?;
+        let text = tidy_text(alloc, notation, source.as_slice())?;
         Ok(Formatted { source, text })
     }
 

@@ -4,6 +4,7 @@ use Rattle.std.specs.Str.{bytes_eq, is_utf8}
 use Rattle.serde_json.specs.Data.{Data, array}
 use Rattle.serde_json.specs.View.{items_of}
 use Rattle.tb_places.specs.Spans.{between}
+use Rattle.tb_parser.specs.declared.notation.Notation.{Notation}
 use Rattle.tb_parser.specs.Lines.{lines_of_file}
 use Rattle.tb_format.specs.Texts.{IsTidyText, said}
 use Rattle.tb_edit_values.specs.Edits.{edit_value}
@@ -39,12 +40,12 @@ line_edits n (line ∷ lines) (new ∷ news) = line_edit n line new ++ line_edit
 abbrev pub text_edits : List ℕ → List ℕ → List Data
 text_edits source tidy = line_edits 1 (lines_of_file source) (lines_of_file tidy)
 
--- the edits to the tidy text of a source, each of whose lines says the same
-pub record AreTidying (source made : List ℕ) (v : Data) : Type 0 where
-  pub tidy : IsTidyText false source made
-  pub same : said made ≡ said source
+-- the edits to the tidy text of a source in a notation, each of whose lines says the same
+pub record AreTidying (notation : Notation) (source made : List ℕ) (v : Data) : Type 0 where
+  pub tidy : IsTidyText notation false source made
+  pub same : said notation made ≡ said notation source
   pub edits : v ≡ array (items_of (text_edits source made))
 
 -- the edits that make a source tidy
-abbrev pub Tidies : List ℕ → Data → Type 0
-Tidies source v = (made : List ℕ) × AreTidying source made v
+abbrev pub Tidies : Notation → List ℕ → Data → Type 0
+Tidies notation source v = (made : List ℕ) × AreTidying notation source made v

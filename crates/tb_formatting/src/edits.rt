@@ -7,7 +7,7 @@ use serde_json::Value;
 use std::alloc::{AllocError, Global};
 use tb_edit_values::edit_value;
 use tb_format::tidy_text;
-use tb_parser::next_line;
+use tb_parser::{Notation, next_line};
 use tb_places::between;
 
 // A text in place of a line, which is counted from 1.
@@ -94,11 +94,11 @@ fn edits_between(alloc: Global, source: &[u8], tidy: &[u8]) -> Result<Vec<Value>
     Ok(edits)
 }
 
-/// The edits that make a source tidy, as `format` does it.
-pub fn formatting(alloc: Global, source: &[u8]) -> Result<Value, AllocError>
-    ensures { IfOk result (λ v. spec.Tidies source.now (view v)) }
+/// The edits that make a source tidy in a notation, as `format` does it.
+pub fn formatting(alloc: Global, notation: Notation, source: &[u8]) -> Result<Value, AllocError>
+    ensures { IfOk result (λ v. spec.Tidies notation source.now (view v)) }
 {
-    let tidy = tidy_text(alloc, source)?;
+    let tidy = tidy_text(alloc, notation, source)?;
     let edits = edits_between(alloc, source, tidy.as_slice())?;
     Ok(Value::Array(edits))
 }

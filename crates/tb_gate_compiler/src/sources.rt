@@ -1,11 +1,13 @@
 //! Sources compiled.
 ghost use Rattle.std.specs.Prelude.{◌≡◌, IfOk, Ok};
 ghost use Rattle.tb_parser.specs.Files.{Outcome};
+ghost use Rattle.tb_parser.specs.Lines.{lines_of_file};
+ghost use Rattle.tb_parser.specs.Signed.{LackSigns};
 ghost use Rattle.tb_codegen.specs.declared.compiled.Compiled.{Compiled};
-ghost use Rattle.tb_codegen.specs.Answers.{GivesSame, HasOutcome, LinesMake, OutcomeAnswer};
+ghost use Rattle.tb_codegen.specs.Answers.{GivesSame, HasOutcome, LinesMake, OutcomeAnswer, SourceMakes};
 ghost use Rattle.tb_codegen.specs.Compiled.{line_in, starts_of, table_of};
 ghost use Rattle.tb_codegen.specs.Settings.{by_cost, by_memory};
-ghost use Rattle.tb_codegen.specs.Theorem.{KeepsItsSource, MarksItsLines};
+ghost use Rattle.tb_codegen.specs.Theorem.{KeepsItsSource, KeepsSourceIn, MarksItsLines, MarksLinesIn};
 
 use std::alloc::Global;
 use tb_codegen::{
@@ -57,9 +59,11 @@ pub fn source_compiled_within(
     settings: CompileSettings,
 ) -> Result<Compiled, CompileError>
     ensures found { HasOutcome settings source.now result }
-    ensures only { (outcome : Outcome) → LinesMake source.now outcome → OutcomeAnswer settings outcome result }
-    ensures keeps { IfOk result (KeepsItsSource settings.seed source.now) }
-    ensures marks { IfOk result (MarksItsLines settings.seed source.now) }
+    ensures only { (outcome : Outcome) → SourceMakes settings.notation source.now outcome → OutcomeAnswer settings outcome result }
+    // If no text has a brace or a bracket, what the lines make without signs is answered.
+    ensures plain { LackSigns (lines_of_file source.now) → (outcome : Outcome) → LinesMake source.now outcome → OutcomeAnswer settings outcome result }
+    ensures keeps { IfOk result (KeepsSourceIn settings.notation settings.seed source.now) }
+    ensures marks { IfOk result (MarksLinesIn settings.notation settings.seed source.now) }
 {
     compile_within(alloc, source, settings)
 }

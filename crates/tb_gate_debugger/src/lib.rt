@@ -1,14 +1,12 @@
-//! What the debugger and its parts promise, and the copies of machine and memory that it works on, once more and in one
-//! place: functions that only hand a call on, each with all clauses of the call's contract. A few functions here have no
-//! wrong body.
+//! What the debugger and its parts promise, once more and in one place: functions that only hand a call on, each with
+//! all clauses of the call's contract. A few functions here have no wrong body.
 //!
-//! As in `tb_gate_parts`, the wrong bodies are in `must-fail/`, and no proof of the debugger counts here: what refuses
-//! them is the promise alone.
+//! As in `tb_gate_language`, the wrong bodies are in `must-fail/`, and no proof of the debugger counts here: what
+//! refuses them is the promise alone.
 #![tactic(auto)]
 
 mod causes;
 mod commands;
-mod copies;
 mod engine;
 mod stops;
 mod walks;

@@ -3,7 +3,8 @@ ghost use Rattle.std.specs.Prelude.{◌≡◌, IfOk, option_map};
 ghost use Rattle.serde_json.specs.View.{view};
 ghost use Rattle.tb_diagnostics.specs.Diagnostics.{texts_of};
 ghost use Rattle.tb_fixes.specs.Actions.{AreActions};
-ghost use Rattle.tb_fixes.specs.Fixes.{fix_of_bad_line, seen};
+ghost use Rattle.tb_fixes.specs.Fixes.{fix_of_bad_line};
+ghost use Rattle.tb_fixes.specs.Writing.{seen};
 ghost use Rattle.tb_formatting.specs.Edits.{Tidies};
 ghost use Rattle.tb_hover.specs.Numbers.{NumbersAre};
 
@@ -14,6 +15,7 @@ use tb_diagnostics::Lines;
 use tb_fixes::{Fix, LineRange, actions, fix_of_bad_line};
 use tb_formatting::formatting;
 use tb_hover::{LineNumbers, line_numbers};
+use tb_parser::Notation;
 
 /// Calls `fix_of_bad_line`.
 pub fn fix_found(alloc: Global, text: &Lines<'_>, bad: &BadLine) -> Result<Option<Fix>, AllocError>
@@ -25,29 +27,31 @@ pub fn fix_found(alloc: Global, text: &Lines<'_>, bad: &BadLine) -> Result<Optio
 /// Calls `actions`.
 pub fn fixes_found(
     alloc: Global,
+    notation: Notation,
     uri: &str,
     source: &[u8],
     range: LineRange,
 ) -> Result<Value, AllocError>
-    ensures { IfOk result (λ v. AreActions uri.now source.now range (view v)) }
+    ensures { IfOk result (λ v. AreActions notation uri.now source.now range (view v)) }
 {
-    actions(alloc, uri, source, range)
+    actions(alloc, notation, uri, source, range)
 }
 
 /// Calls `line_numbers`.
 pub fn numbers_found(
     alloc: Global,
+    notation: Notation,
     source: &[u8],
     number: u16,
 ) -> Result<Option<LineNumbers>, AllocError>
-    ensures { IfOk result (NumbersAre source.now number) }
+    ensures { IfOk result (NumbersAre notation source.now number) }
 {
-    line_numbers(alloc, source, number)
+    line_numbers(alloc, notation, source, number)
 }
 
 /// Calls `formatting`.
-pub fn tidied(alloc: Global, source: &[u8]) -> Result<Value, AllocError>
-    ensures { IfOk result (λ v. Tidies source.now (view v)) }
+pub fn tidied(alloc: Global, notation: Notation, source: &[u8]) -> Result<Value, AllocError>
+    ensures { IfOk result (λ v. Tidies notation source.now (view v)) }
 {
-    formatting(alloc, source)
+    formatting(alloc, notation, source)
 }

@@ -50,7 +50,7 @@ pub fn shown(
     line: usize,
     character: usize,
 ) -> Result<Value, AllocError>
-    ensures { IfOk result (λ v. Hovers text.now source.now.lines.items line character (view v)) }
+    ensures { IfOk result (λ v. Hovers source.now.notation text.now source.now.lines.items line character (view v)) }
 {
     hover(alloc, text, source, line, character)
 }
@@ -62,7 +62,7 @@ pub fn offered(
     line: usize,
     character: usize,
 ) -> Result<Value, AllocError>
-    ensures { IfOk result (λ v. Completes source.now.lines.items line character (view v)) }
+    ensures { IfOk result (λ v. Completes source.now.notation source.now.lines.items line character (view v)) }
 {
     completion(alloc, source, line, character)
 }
@@ -88,7 +88,7 @@ pub fn renamed(
     character: usize,
     letter: Option<u8>,
 ) -> Result<Result<Value, Refusal>, AllocError>
-    ensures { IfOk result (Renames uri.now line character letter source.now.lines.items) }
+    ensures { IfOk result (Renames source.now.notation uri.now line character letter source.now.lines.items) }
 {
     rename(alloc, uri, source, line, character, letter)
 }

@@ -1,8 +1,8 @@
-//! What is promised of the files of a command, once more and in one place: functions that only hand a call on, each with
-//! the call's contract.
+//! What is promised of the files of a command, once more and in one place: functions that only hand a call on, each
+//! with the call's contract.
 //!
-//! As in `tb_gate_parts`, the wrong bodies are in `must-fail/`, and no proof of tb_files counts here: what refuses them
-//! is the promise alone.
+//! As in `tb_gate_language`, the wrong bodies are in `must-fail/`, and no proof of tb_files counts here: what refuses
+//! them is the promise alone.
 #![tactic(auto)]
 
 ghost use Rattle.std.specs.Prelude.{◌≡◌, [], ◌∷◌, IfOk, map, string_bytes};

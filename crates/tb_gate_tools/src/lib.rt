@@ -1,12 +1,10 @@
-//! What checks, listings, the engines of sources and the stepper promise, once more and in one place: functions that
-//! only hand a call on, each with the clauses of the call's contract that wrong bodies are tried on. The call may
-//! promise more, and a few functions here have no wrong body.
+//! What the engines of sources and the stepper promise, once more and in one place: functions that only hand a call on,
+//! each with the clauses of the call's contract that wrong bodies are tried on. The call may promise more, and a few
+//! functions here have no wrong body.
 //!
-//! As in `tb_gate_parts`, the wrong bodies are in `must-fail/`, and no proof of the tools counts here: what refuses
+//! As in `tb_gate_language`, the wrong bodies are in `must-fail/`, and no proof of the tools counts here: what refuses
 //! them is the promise alone.
 #![tactic(auto)]
 
-mod checks;
-mod listings;
 mod sources;
 mod stepping;

@@ -19,7 +19,7 @@ pub fn put_answer<R: Files + AllocGlobal>(rt: &R, page: &mut Page, name: &str, r
         "start_of" | "line_at" | "code" => programs::put_place(page, name, rest),
         "warnings" => programs::put_warnings(page, rest),
         "compile_gives_up_for_memory" => programs::put_cuts(page, rest),
-        "run" | "size" | "fit" => put_example(rt, page, name, rest),
+        "run" | "size" | "fit" | "signs" => put_example(rt, page, name, rest),
         "compile" => refusals::put_compile(page, rest),
         "refused" => refusals::put_refused(page, rest),
         "commands" => steps::put_commands(page, rest),
@@ -40,6 +40,7 @@ fn put_example<R: Files + AllocGlobal>(rt: &R, page: &mut Page, name: &str, row:
         match name {
             "size" => large::put_size(page, source.as_bytes()),
             "fit" => large::put_played(page, source.as_bytes(), keys),
+            "signs" => programs::put_runs_with_signs(page, source.as_bytes(), keys),
             _ => programs::put_runs(page, source.as_bytes(), keys),
         }
     }

@@ -1,34 +1,36 @@
-//! Rows of `tbc format`: a source and its tidy text, which is its own tidy text.
+//! Rows of `tbc format`: a source, with or without signs, and its tidy text, which is its own tidy text.
 use crate::notation::decoded;
 use crate::page::Page;
 use std::str;
 use tb_format_engine::Formatted;
+use tb_parser::Notation;
 use tb_streams::Tracked;
 
 /// Appends the answer of a row.
 pub fn put_answer(page: &mut Page, name: &str, given: &str) {
     let source = decoded(page, given);
     match name {
-        "format" => put_tidy(page, source.as_slice()),
+        "format" => put_tidy(page, source.as_slice(), Notation::Plain),
+        "signs" => put_tidy(page, source.as_slice(), Notation::Signs),
         _ => page.fail(),
     }
 }
 
-fn put_tidy(page: &mut Page, source: &[u8]) {
-    let formatted = Formatted::read(page.alloc(), &mut Tracked::new(source));
+fn put_tidy(page: &mut Page, source: &[u8], notation: Notation) {
+    let formatted = Formatted::read(page.alloc(), &mut Tracked::new(source), notation);
     if let Some(formatted) = page.held(formatted) {
         let text = formatted.into_text();
         let shown = str::from_utf8(&text);
         if let Some(shown) = page.held(shown) {
             page.put_debug(&shown);
         }
-        look_again(page, text.as_slice());
+        look_again(page, text.as_slice(), notation);
     }
 }
 
 // Notes if a tidy text is not its own tidy text.
-fn look_again(page: &mut Page, text: &[u8]) {
-    let formatted = Formatted::read(page.alloc(), &mut Tracked::new(text));
+fn look_again(page: &mut Page, text: &[u8], notation: Notation) {
+    let formatted = Formatted::read(page.alloc(), &mut Tracked::new(text), notation);
     if let Some(formatted) = page.held(formatted) {
         if !formatted.is_tidy() {
             page.fail();

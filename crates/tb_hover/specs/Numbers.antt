@@ -4,10 +4,12 @@ use Rattle.tb_syntax.specs.Source.{Program}
 use Rattle.tb_meaning.specs.Cost.{statement_cost}
 use Rattle.tb_compile_errors.specs.declared.refusals.CompileError.{CompileError}
 use Rattle.tb_compile_errors.specs.declared.refusals.CompileError.TheVariants.{NoMemory}
-use Rattle.tb_codegen.specs.Answers.{HasOutcome, LinesMake}
+use Rattle.tb_parser.specs.declared.notation.Notation.{Notation}
+use Rattle.tb_codegen.specs.Answers.{HasOutcome, SourceMakes}
 use Rattle.tb_codegen.specs.Compiled.{starts_of, table_of}
-use Rattle.tb_codegen.specs.Settings.{by_cost}
 use Rattle.tb_codegen.specs.declared.compiled.Compiled.{Compiled}
+use Rattle.tb_codegen.specs.declared.settings.CompileSettings.{CompileSettings}
+use Rattle.tb_codegen.specs.declared.settings.SizeLimit.TheVariants.{Cost}
 use Rattle.tb_listing.specs.Map.{Part, first_part}
 use Rattle.tb_hover.specs.declared.numbers.LineNumbers.{LineNumbers}
 
@@ -26,15 +28,19 @@ part_of n starts table [] = None
 part_of n starts table (line ∷ lines) =
     if line.number == n then first_numbers starts table (36 + statement_cost line.content) else part_of n (drop 1 starts) table lines
 
--- the source is compiled, and these are the numbers of its line n
-abbrev pub NumbersOf : List ℕ → ℕ → Option LineNumbers → Type 0
-NumbersOf source n found =
-    (c : Compiled) × (p : Program) × HasOutcome (by_cost 0) source (Ok c) × LinesMake source (Ok p) × (found ≡ part_of n (starts_of c) (table_of c) p)
+-- how a source is compiled whose numbers are asked for
+abbrev pub settings_in : Notation → CompileSettings
+settings_in notation = record { seed = 0; size = Cost; notation = notation }
+
+-- the source is compiled in a notation, and these are the numbers of its line n
+abbrev pub NumbersOf : Notation → List ℕ → ℕ → Option LineNumbers → Type 0
+NumbersOf notation source n found =
+    (c : Compiled) × (p : Program) × HasOutcome (settings_in notation) source (Ok c) × SourceMakes notation source (Ok p) × (found ≡ part_of n (starts_of c) (table_of c) p)
 
 -- the source is not compiled
-abbrev pub IsNotCompiled : List ℕ → Type 0
-IsNotCompiled source = (e : CompileError) × HasOutcome (by_cost 0) source (Err e) × (e ≢ NoMemory)
+abbrev pub IsNotCompiled : Notation → List ℕ → Type 0
+IsNotCompiled notation source = (e : CompileError) × HasOutcome (settings_in notation) source (Err e) × (e ≢ NoMemory)
 
 -- the numbers of line n of a source, if it is compiled
-abbrev pub NumbersAre : List ℕ → ℕ → Option LineNumbers → Type 0
-NumbersAre source n found = NumbersOf source n found ⊎ (IsNotCompiled source × (found ≡ None))
+abbrev pub NumbersAre : Notation → List ℕ → ℕ → Option LineNumbers → Type 0
+NumbersAre notation source n found = NumbersOf notation source n found ⊎ (IsNotCompiled notation source × (found ≡ None))

@@ -7,8 +7,10 @@ ghost use Rattle.tb_codegen.specs.Texts.{end_before};
 ghost use Rattle.tb_hover.specs.Numbers.{NumbersAre, first_numbers, part_of};
 
 use std::alloc::{AllocError, Global};
-use tb_codegen::{CompileError, LineStart, Options, compile, line_cost};
-use tb_parser::parse;
+use tb_codegen::{
+    CompileError, CompileSettings, LineStart, Notation, SizeLimit, compile_within, line_cost,
+};
+use tb_parser::parse_in;
 use tb_syntax::{Program, Statement};
 
 /// The numbers of a line of a program.
@@ -73,20 +75,26 @@ fn numbers_in(
     None
 }
 
-/// The numbers of a line of a source's program, if that is compiled. Fails only if memory runs out.
+/// The numbers of a line of a source's program, if that is compiled in a notation. Fails only if memory runs out.
 pub fn line_numbers(
     alloc: Global,
+    notation: Notation,
     source: &[u8],
     number: u16,
 ) -> Result<Option<LineNumbers>, AllocError>
-    ensures { IfOk result (NumbersAre source.now number) }
+    ensures { IfOk result (NumbersAre notation source.now number) }
 {
-    let compiled = match compile(alloc, source, Options { seed: 0 }) {
+    let settings = CompileSettings {
+        seed: 0,
+        size: SizeLimit::Cost,
+        notation,
+    };
+    let compiled = match compile_within(alloc, source, settings) {
         Ok(compiled) => compiled,
         Err(CompileError::NoMemory) => return Err(AllocError),
         Err(_) => return Ok(None),
     };
-    let Ok(program) = parse(alloc, source) else {
+    let Ok(program) = parse_in(alloc, notation, source) else {
         return Err(AllocError);
     };
     let (starts, table) = (compiled.starts(), compiled.table());

@@ -76,10 +76,14 @@ fn own(
     place: usize,
     number: u16,
 ) -> Result<String, AllocError>
-    ensures { IfOk result (λ shown. spec.ShowsOwn text.now source.now.lines.items place number (string_bytes shown)) }
+    ensures { IfOk result (λ shown. spec.ShowsOwn source.now.notation text.now source.now.lines.items place number (string_bytes shown)) }
 {
     if source.stands(place, number) {
-        own_text(alloc, number, line_numbers(alloc, text, number)?)
+        own_text(
+            alloc,
+            number,
+            line_numbers(alloc, source.notation, text, number)?,
+        )
     } else {
         own_text(alloc, number, None)
     }
@@ -115,7 +119,7 @@ fn text_of(
     place: usize,
     about: About,
 ) -> Result<String, AllocError>
-    ensures { IfOk result (λ shown. spec.Shows text.now source.now.lines.items place about (string_bytes shown)) }
+    ensures { IfOk result (λ shown. spec.Shows source.now.notation text.now source.now.lines.items place about (string_bytes shown)) }
 {
     match about {
         About::Own(number) => own(alloc, text, source, place, number),
@@ -159,7 +163,7 @@ fn at_token(
     index: usize,
 ) -> Result<Value, AllocError>
     requires { place + 1 < 18446744073709551616 }
-    ensures { IfOk result (λ v. spec.ShowsToken text.now source.now.lines.items place line.now index (about (does line.now.edit) line.now.tokens.items index) (view v)) }
+    ensures { IfOk result (λ v. spec.ShowsToken source.now.notation text.now source.now.lines.items place line.now index (about (does line.now.edit) line.now.tokens.items index) (view v)) }
 {
     match about_token(line, index) {
         Some(about) => {
@@ -179,7 +183,7 @@ pub fn hover(
     line: usize,
     character: usize,
 ) -> Result<Value, AllocError>
-    ensures { IfOk result (λ v. spec.Hovers text.now source.now.lines.items line character (view v)) }
+    ensures { IfOk result (λ v. spec.Hovers source.now.notation text.now source.now.lines.items line character (view v)) }
 {
     let Some(index) = touched_at(source, line, character) else {
         return Ok(Value::Null);

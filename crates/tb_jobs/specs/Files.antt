@@ -43,8 +43,8 @@ path_of (Prg program) = string_bytes program
 
 -- what a job that writes files reads, and the standard streams that it uses
 abbrev pub kept_of : Job → List (List ℕ)
-kept_of (Build source out seed fit beside) = input_path (string_bytes source) ∷ []
-kept_of (Play what seed fit limit made screen) = input_path (path_of what) ∷ standard_input ∷ standard_output ∷ []
+kept_of (Build source out seed fit notation beside) = input_path (string_bytes source) ∷ []
+kept_of (Play what seed fit notation limit made screen) = input_path (path_of what) ∷ standard_input ∷ standard_output ∷ []
 kept_of (Asm text out at) = input_path (string_bytes text) ∷ []
 kept_of (Assemble text out at long labels listing) = input_path (string_bytes text) ∷ []
 kept_of (Profile what settings rude html) = input_path (path_of what) ∷ standard_output ∷ keys_of settings.keys
@@ -53,19 +53,19 @@ kept_of (Run what settings rude labels) = []
 kept_of (Dis prg dialect) = []
 kept_of (Step what settings) = []
 kept_of (Debug what settings rude labels) = []
-kept_of (Check sources fit) = []
-kept_of (Format source target) = []
-kept_of (Renumber source first step in_place) = []
-kept_of Lsp = []
-kept_of Dap = []
+kept_of (Check sources fit notation) = []
+kept_of (Format source notation target) = []
+kept_of (Renumber source notation first step in_place) = []
+kept_of (Lsp notation) = []
+kept_of (Dap notation) = []
 kept_of (Show text) = []
 
 -- The files that a job writes, in the order in which it writes them. A source that is made tidy or renumbered is none of
 -- these: its new text takes its own place.
 abbrev pub written_of : Job → List (List ℕ)
-written_of (Build source out seed fit beside) =
+written_of (Build source out seed fit notation beside) =
     output_path (string_bytes out) ∷ wanted beside.labels ++ wanted beside.listing ++ wanted beside.map ++ wanted beside.watch
-written_of (Play what seed fit limit made screen) = wanted made
+written_of (Play what seed fit notation limit made screen) = wanted made
 written_of (Asm text out at) = output_path (string_bytes out) ∷ []
 written_of (Assemble text out at long labels listing) = output_path (string_bytes out) ∷ wanted labels ++ wanted listing
 written_of (Profile what settings rude html) = wanted html
@@ -74,9 +74,9 @@ written_of (Run what settings rude labels) = []
 written_of (Dis prg dialect) = []
 written_of (Step what settings) = []
 written_of (Debug what settings rude labels) = []
-written_of (Check sources fit) = []
-written_of (Format source target) = []
-written_of (Renumber source first step in_place) = []
-written_of Lsp = []
-written_of Dap = []
+written_of (Check sources fit notation) = []
+written_of (Format source notation target) = []
+written_of (Renumber source notation first step in_place) = []
+written_of (Lsp notation) = []
+written_of (Dap notation) = []
 written_of (Show text) = []

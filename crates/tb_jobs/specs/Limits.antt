@@ -11,9 +11,9 @@ IsWithin limit = (1 ≤ limit.events) × (limit.events ≤ MOST_EVENTS)
 
 -- a run takes 1 to MOST_EVENTS events
 abbrev pub IsWithinLimit : Job → Type 0
-IsWithinLimit (Build source out seed fit beside) = ⊤
+IsWithinLimit (Build source out seed fit notation beside) = ⊤
 IsWithinLimit (Run what settings rude labels) = IsWithin settings.limit
-IsWithinLimit (Play what seed fit limit made screen) = IsWithin limit
+IsWithinLimit (Play what seed fit notation limit made screen) = IsWithin limit
 IsWithinLimit (Asm text out at) = ⊤
 IsWithinLimit (Assemble text out at long labels listing) = ⊤
 IsWithinLimit (Dis prg dialect) = ⊤
@@ -21,9 +21,9 @@ IsWithinLimit (Step what settings) = IsWithin settings.limit
 IsWithinLimit (Debug what settings rude labels) = IsWithin settings.limit
 IsWithinLimit (Profile what settings rude html) = IsWithin settings.limit
 IsWithinLimit (Disk out files) = ⊤
-IsWithinLimit (Check sources fit) = ⊤
-IsWithinLimit (Format source target) = ⊤
-IsWithinLimit (Renumber source first step in_place) = ⊤
-IsWithinLimit Lsp = ⊤
-IsWithinLimit Dap = ⊤
+IsWithinLimit (Check sources fit notation) = ⊤
+IsWithinLimit (Format source notation target) = ⊤
+IsWithinLimit (Renumber source notation first step in_place) = ⊤
+IsWithinLimit (Lsp notation) = ⊤
+IsWithinLimit (Dap notation) = ⊤
 IsWithinLimit (Show text) = ⊤

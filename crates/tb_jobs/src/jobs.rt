@@ -4,6 +4,7 @@ ghost use Rattle.tb_jobs.specs.declared.jobs.TheConstants.{MOST_EVENTS, USUAL_EV
 
 use std::alloc::AllocError;
 use tb_dialects::Dialect;
+use tb_parser::Notation;
 
 /// The most events that a run may be given.
 pub const MOST_EVENTS: u32 = 1_000_000_000;
@@ -87,6 +88,8 @@ pub struct Settings {
     pub seed: u16,
     /// Whether a source is refused as too large only if it doesn't fit the memory.
     pub fit: bool,
+    /// How its texts are read.
+    pub notation: Notation,
     pub keys: Typed,
     /// The answers for GETIN.
     pub answers: String,
@@ -130,6 +133,8 @@ pub enum Job {
         seed: u16,
         /// Whether a source is refused as too large only if it doesn't fit the memory.
         fit: bool,
+        /// How its texts are read.
+        notation: Notation,
         /// The files of the texts that tell of it.
         beside: BuildExtras,
     },
@@ -149,6 +154,8 @@ pub enum Job {
         seed: u16,
         /// Whether a source is refused as too large only if it doesn't fit the memory.
         fit: bool,
+        /// How its texts are read.
+        notation: Notation,
         /// How many events it may take between two lines.
         limit: Limit,
         /// The key file that is written of all that was typed, if it is wanted.
@@ -217,15 +224,21 @@ pub enum Job {
         sources: Vec<String>,
         /// Whether a source is refused as too large only if it doesn't fit the memory.
         fit: bool,
+        /// How the texts of sources are read.
+        notation: Notation,
     },
     /// Writes the tidy text of a source.
     Format {
         source: String,
+        /// How its texts are read.
+        notation: Notation,
         target: FormatTarget,
     },
     /// Writes a source with other line numbers.
     Renumber {
         source: String,
+        /// How its texts are read.
+        notation: Notation,
         /// The number of the first line.
         first: u16,
         /// How much higher each next number is.
@@ -234,9 +247,15 @@ pub enum Job {
         in_place: bool,
     },
     /// Serves an editor as its language server.
-    Lsp,
+    Lsp {
+        /// How the texts of sources are read.
+        notation: Notation,
+    },
     /// Serves an editor as its debug adapter.
-    Dap,
+    Dap {
+        /// How the texts of sources are read.
+        notation: Notation,
+    },
     /// A help text or the version, to be shown.
     Show {
         text: String,

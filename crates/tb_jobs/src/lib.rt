@@ -13,5 +13,6 @@ pub use jobs::{
     Typed, USUAL_EVENTS, USUAL_SEED, USUAL_STEP,
 };
 pub use tb_dialects::Dialect;
+pub use tb_parser::Notation;
 pub use terminals::room_for_screen;
 pub use typing::typed_keys;

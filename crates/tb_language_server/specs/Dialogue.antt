@@ -12,6 +12,7 @@ use Rattle.tb_frames.specs.declared.reading.Frame.{Frame}
 use Rattle.tb_frames.specs.declared.reading.FrameError.TheVariants as frame_error
 use Rattle.tb_frames.specs.declared.reading.Frame.TheVariants as frame
 use Rattle.tb_messages.specs.declared.refusals.Refusal.TheVariants.{NoJson, TooLarge}
+use Rattle.tb_parser.specs.declared.notation.Notation.{Notation}
 use Rattle.tb_language_server.specs.Outcomes.{end_of}
 use Rattle.tb_language_server.specs.Replies.{IsNew, Refuses, Takes}
 use Rattle.tb_language_server.specs.declared.outcome.ServerOutcome.{ServerOutcome}
@@ -115,6 +116,6 @@ pub data Talks : Moment → Moment → Type 0 where
 abbrev pub Serves : Moment → ServerOutcome → Moment → Type 0
 Serves a outcome z = ((b : Moment) × Talks a b × Leads b (Err outcome) z) ⊎ (Talks a z × (outcome ≡ end_of z.server.stage))
 
--- a dialogue of a new server
-abbrev pub ServesNew : (version : List ℕ) → (Server → Moment) → ServerOutcome → (Server → Moment) → Type 0
-ServesNew version first outcome last = (s : Server) × IsNew version s × ((z : Server) × Serves (first s) outcome (last z))
+-- a dialogue of a new server, which has a notation
+abbrev pub ServesNew : (version : List ℕ) → Notation → (Server → Moment) → ServerOutcome → (Server → Moment) → Type 0
+ServesNew version notation first outcome last = (s : Server) × IsNew version notation s × ((z : Server) × Serves (first s) outcome (last z))

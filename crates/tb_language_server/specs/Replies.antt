@@ -7,6 +7,7 @@ use Rattle.serde_json.specs.Data.{Data, Members, array, boolean, item, member, n
 use Rattle.serde_json.specs.View.{view}
 use Rattle.serde_json.specs.declared.value.Value.{Value}
 use Rattle.tb_outline.specs.Tokens.{legend}
+use Rattle.tb_parser.specs.declared.notation.Notation.{Notation}
 use Rattle.tb_answers.specs.Answers.{Answers}
 use Rattle.tb_answers.specs.declared.methods.Method.{Method}
 use Rattle.tb_messages.specs.Messages.{Says, Tells, failure_of, seen, success_of}
@@ -78,35 +79,40 @@ abbrev pub initialized : List ℕ → Data
 initialized version = object (member (codes "capabilities") capabilities (member (codes "serverInfo") (information version) no_members))
 
 -- ── states ──
--- a new server
-pub record IsNew (version : List ℕ) (s : Server) : Type 0 where
+-- a new server, which has a notation
+pub record IsNew (version : List ℕ) (notation : Notation) (s : Server) : Type 0 where
   pub stage : s.stage ≡ New
   pub texts : s.texts.all.items ≡ []
   pub named : s.version.now ≡ version
+  pub reads : s.notation ≡ notation
 
 -- nothing changed
 pub record IsSame (old new : Server) : Type 0 where
   pub stage : new.stage ≡ old.stage
   pub texts : new.texts.all.items ≡ old.texts.all.items
   pub version : new.version.now ≡ old.version.now
+  pub notation : new.notation ≡ old.notation
 
 -- the stage changed, and nothing else
 pub record Becomes (stage : Stage) (old new : Server) : Type 0 where
   pub now : new.stage ≡ stage
   pub texts : new.texts.all.items ≡ old.texts.all.items
   pub version : new.version.now ≡ old.version.now
+  pub notation : new.notation ≡ old.notation
 
 -- a text was opened, and nothing else
 pub record OpensText (uri text : List ℕ) (old new : Server) : Type 0 where
   pub stage : new.stage ≡ old.stage
   pub texts : Opens uri text old.texts.all.items new.texts.all.items
   pub version : new.version.now ≡ old.version.now
+  pub notation : new.notation ≡ old.notation
 
 -- a text was closed, and nothing else
 pub record ClosesText (uri : List ℕ) (old new : Server) : Type 0 where
   pub stage : new.stage ≡ old.stage
   pub texts : new.texts.all.items ≡ without uri old.texts.all.items
   pub version : new.version.now ≡ old.version.now
+  pub notation : new.notation ≡ old.notation
 
 -- ── requests ──
 -- the answer to a request on a text, or why it is refused
@@ -115,31 +121,31 @@ said id (Ok v) = success_of id (view v)
 said id (Err refusal) = failure_of id refusal
 
 -- what a request on a text is answered, where that is open
-abbrev pub AnswersOnText : Method → (id : Data) → (uri : List ℕ) → (params : Data) → Option (List ℕ) → (content : List ℕ) → Type 0
-AnswersOnText m id uri params (Some text) content = (r : Result Value Refusal) × Answers m uri text params r × Says content (said id r)
-AnswersOnText m id uri params None content = Says content (failure_of id NotOpen)
+abbrev pub AnswersOnText : Notation → Method → (id : Data) → (uri : List ℕ) → (params : Data) → Option (List ℕ) → (content : List ℕ) → Type 0
+AnswersOnText notation m id uri params (Some text) content = (r : Result Value Refusal) × Answers notation m uri text params r × Says content (said id r)
+AnswersOnText notation m id uri params None content = Says content (failure_of id NotOpen)
 
 -- the same by the text that params name
-abbrev pub AnswersParams : Method → (id params : Data) → Option (List ℕ) → List OpenText → (content : List ℕ) → Type 0
-AnswersParams m id params (Some uri) texts content = AnswersOnText m id uri params (text_of uri texts) content
-AnswersParams m id params None texts content = Says content (failure_of id BadParams)
+abbrev pub AnswersParams : Notation → Method → (id params : Data) → Option (List ℕ) → List OpenText → (content : List ℕ) → Type 0
+AnswersParams notation m id params (Some uri) texts content = AnswersOnText notation m id uri params (text_of uri texts) content
+AnswersParams notation m id params None texts content = Says content (failure_of id BadParams)
 
 -- what a request on a text is answered
-abbrev pub AnswersText : Method → Data → Option Data → List OpenText → (content : List ℕ) → Type 0
-AnswersText m id (Some params) texts content = AnswersParams m id params (uri_in params) texts content
-AnswersText m id None texts content = Says content (failure_of id BadParams)
+abbrev pub AnswersText : Notation → Method → Data → Option Data → List OpenText → (content : List ℕ) → Type 0
+AnswersText notation m id (Some params) texts content = AnswersParams notation m id params (uri_in params) texts content
+AnswersText notation m id None texts content = Says content (failure_of id BadParams)
 
 -- what a request with this id and these params is answered, by what is done with it
 abbrev pub AnswersBy : Decision → Data → Option Data → Server → Vec ℕ Global → Server → Type 0
 AnswersBy Begin id params old content new = Becomes Ready old new × Says content.items (success_of id (initialized old.version.now))
 AnswersBy End id params old content new = Becomes Shut old new × Says content.items (success_of id null)
-AnswersBy (Answer m) id params old content new = IsSame old new × AnswersText m id params old.texts.all.items content.items
+AnswersBy (Answer m) id params old content new = IsSame old new × AnswersText old.notation m id params old.texts.all.items content.items
 AnswersBy (Refuse refusal) id params old content new = IsSame old new × Says content.items (failure_of id refusal)
 
 -- ── notifications ──
 -- a text is taken, and what is said of it is published
 abbrev pub TakesText : (uri text : List ℕ) → Option ℤ → Server → Reply → Server → Type 0
-TakesText uri text version old (Content content) new = OpensText uri text old new × Publishes uri version text content.items
+TakesText uri text version old (Content content) new = OpensText uri text old new × Publishes old.notation uri version text content.items
 TakesText uri text version old Nothing new = ⊥
 TakesText uri text version old Exit new = ⊥
 

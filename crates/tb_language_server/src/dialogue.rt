@@ -13,6 +13,7 @@ use std::alloc::Global;
 use std::io::{Read, Write};
 use tb_frames::{Frame, FrameError, WriteError, read_frame, write_frame};
 use tb_messages::{Refusal, Unreadable, failure, read_value};
+use tb_parser::Notation;
 use tb_streams::Tracked;
 
 // How a server ends that is asked to, or whose input ends.
@@ -94,19 +95,20 @@ fn take_frame<R: Read, W: Write>(
     }
 }
 
-/// Reads messages and answers each before the next one is read, up to the end.
+/// Reads messages and answers each before the next one is read, up to the end. Sources are read in the notation.
 pub fn serve<R: Read, W: Write>(
     alloc: Global,
     version: &'static str,
+    notation: Notation,
     reader: &mut Tracked<R>,
     writer: &mut Tracked<W>,
 ) -> ServerOutcome
-    ensures { ServesNew version.now
+    ensures { ServesNew version.now notation
         (λ s. moment s (R.remaining reader.old.stream) (failures_of reader.old) (W.contents writer.old.stream) (failures_of writer.old))
         result
         (λ s. moment s (R.remaining reader.new.stream) (failures_of reader.new) (W.contents writer.new.stream) (failures_of writer.new)) }
 {
-    let mut server = Server::new(alloc, version);
+    let mut server = Server::new(alloc, version, notation);
     for _ in 0..u64::MAX {
         if let Err(outcome) = take_frame(alloc, &mut server, reader, writer) {
             return outcome;

@@ -17,6 +17,7 @@ use tb_answers::{Method, answer};
 use tb_diagnostics::{publish, publish_none};
 use tb_messages::{Message, Refusal, failure, message_of, success};
 use tb_outline::legend;
+use tb_parser::Notation;
 
 /// What a server says to a message.
 #[derive(Drop)]
@@ -35,6 +36,8 @@ pub struct Server {
     pub texts: Texts,
     /// The program's version.
     pub version: &'static str,
+    /// How the texts of sources are read, all its life.
+    pub notation: Notation,
 }
 
 // That texts are told of as a whole.
@@ -164,18 +167,19 @@ fn said(alloc: Global, id: &Value, answer: Result<Value, Refusal>) -> Result<Vec
 // What is said to a request on a text, where that is open.
 fn answer_found(
     alloc: Global,
+    notation: Notation,
     id: &Value,
     method: Method,
     params: &Value,
     uri: &str,
     text: Option<&str>,
 ) -> Result<Vec<u8>, AllocError>
-    ensures { IfOk result (λ content. AnswersOnText method (view id.now) uri.now (view params.now) (option_map (λ t. t.now) text.entry)
+    ensures { IfOk result (λ content. AnswersOnText notation method (view id.now) uri.now (view params.now) (option_map (λ t. t.now) text.entry)
         content.items) }
 {
     match text {
         Some(text) => {
-            let answer = answer(alloc, method, uri, text.as_bytes(), params)?;
+            let answer = answer(alloc, notation, method, uri, text.as_bytes(), params)?;
             said(alloc, id, answer)
         }
         None => failure(alloc, Some(id), Refusal::NotOpen),
@@ -183,14 +187,15 @@ fn answer_found(
 }
 
 impl Server {
-    /// A new server.
-    pub fn new(alloc: Global, version: &'static str) -> Server
-        ensures { IsNew version.now result }
+    /// A new server, which reads sources in a notation.
+    pub fn new(alloc: Global, version: &'static str, notation: Notation) -> Server
+        ensures { IsNew version.now notation result }
     {
         Server {
             stage: Stage::New,
             texts: Texts::new(alloc),
             version,
+            notation,
         }
     }
 
@@ -203,10 +208,11 @@ impl Server {
         params: &Value,
         uri: &str,
     ) -> Result<Vec<u8>, AllocError>
-        ensures { IfOk result (λ content. AnswersOnText method (view id.now) uri.now (view params.now)
+        ensures { IfOk result (λ content. AnswersOnText self.now.notation method (view id.now) uri.now (view params.now)
             (text_of uri.now self.now.texts.all.items) content.items) }
     {
-        answer_found(alloc, id, method, params, uri, self.texts.text(uri))
+        let text = self.texts.text(uri);
+        answer_found(alloc, self.notation, id, method, params, uri, text)
     }
 
     // What it says to a request on a text, by the name that params give.
@@ -218,7 +224,7 @@ impl Server {
         params: &Value,
         uri: Option<&str>,
     ) -> Result<Vec<u8>, AllocError>
-        ensures { IfOk result (λ content. AnswersParams method (view id.now) (view params.now) (option_map (λ t. t.now) uri.entry)
+        ensures { IfOk result (λ content. AnswersParams self.now.notation method (view id.now) (view params.now) (option_map (λ t. t.now) uri.entry)
             self.now.texts.all.items content.items) }
     {
         match uri {
@@ -235,7 +241,7 @@ impl Server {
         method: Method,
         params: &Value,
     ) -> Result<Vec<u8>, AllocError>
-        ensures { IfOk result (λ content. AnswersParams method (view id.now) (view params.now) (uri_in (view params.now))
+        ensures { IfOk result (λ content. AnswersParams self.now.notation method (view id.now) (view params.now) (uri_in (view params.now))
             self.now.texts.all.items content.items) }
     {
         self.answer_named(alloc, id, method, params, uri_in(params))
@@ -249,7 +255,7 @@ impl Server {
         method: Method,
         params: Option<&Value>,
     ) -> Result<Vec<u8>, AllocError>
-        ensures { IfOk result (λ content. AnswersText method (view id.now) (seen params.entry) self.now.texts.all.items content.items) }
+        ensures { IfOk result (λ content. AnswersText self.now.notation method (view id.now) (seen params.entry) self.now.texts.all.items content.items) }
     {
         match params {
             Some(params) => self.answer_params(alloc, id, method, params),
@@ -292,7 +298,7 @@ impl Server {
     ) -> Result<Reply, AllocError>
         ensures { IfOk result (λ reply. TakesText uri.now text.now version self.old reply self.new) }
     {
-        let content = publish(alloc, uri, version, text.as_bytes())?;
+        let content = publish(alloc, self.notation, uri, version, text.as_bytes())?;
         self.texts.put(alloc, uri, text)?;
         Ok(Reply::Content(content))
     }

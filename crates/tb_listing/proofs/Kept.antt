@@ -1,5 +1,5 @@
 -- The file of a compiled program keeps its source.
-use Rattle.std.proofs.Common.{ℕ, ◌<◌, ◌≤◌, List, Ok, ap, drop, length, refl, subst, sym, arith}
+use Rattle.std.proofs.Common.{◌≡◌, ℕ, ◌<◌, ◌≤◌, List, Ok, ap, drop, length, refl, subst, sym, arith}
 use Rattle.tb_memmap.specs.Regions.{BASIC_START}
 use Rattle.tb_asm.proofs.Settled.{settled_reaches}
 use Rattle.tb_syntax.specs.Source.{numbers, Rises}
@@ -8,7 +8,7 @@ use Rattle.tb_syntax.specs.declared.statements.Statement.{Statement}
 use Rattle.tb_lower.specs.Lowered as slots
 use Rattle.tb_lower.proofs.Lists.{lowered}
 use Rattle.tb_lower.proofs.Ranged.{in_range}
-use Rattle.tb_parser.specs.Files.{AreStated}
+use Rattle.tb_parser.specs.Files.{AreStated, Outcome}
 use Rattle.tb_prg.specs.Prg.{header}
 use Rattle.tb_runtime16.specs.Addresses.{PROLOGUE_AT}
 use Rattle.tb_selection.proofs.Closed.{all_closed}
@@ -18,17 +18,20 @@ use Rattle.tb_templates.specs.Program.{program_code}
 use Rattle.tb_simulation.specs.Theorem.{Keeps}
 use Rattle.tb_correctness.proofs.Whole.Compiled.{image_keeps}
 use Rattle.tb_codegen.specs.declared.compiled.Compiled.{Compiled}
-use Rattle.tb_codegen.specs.Answers.{LinesMake}
+use Rattle.tb_codegen.specs.Answers.{OutcomeAnswer, SourceMakes}
+use Rattle.tb_codegen.specs.declared.settings.CompileSettings.{CompileSettings}
+use Rattle.tb_parser.specs.declared.notation.Notation.{Notation}
+use Rattle.tb_listing.specs.Builds.{IsAnsweredWith}
 use Rattle.tb_codegen.specs.Compiled.{IsCompiled}
-use Rattle.tb_codegen.specs.Theorem.{KeepsItsSource}
+use Rattle.tb_codegen.specs.Theorem.{KeepsSourceIn}
 use Rattle.tb_codegen.proofs.Kept.{all_polled, made_some}
 use Rattle.tb_codegen.specs.Coded.{IsListed}
 use Rattle.tb_codegen.proofs.Sized.{listed, same_numbers}
 use Rattle.tb_codegen.proofs.SmallPrograms.{count_numbers}
 
 -- the headline, of a program that meets the compiler's promise: `make` has its file by it
-pub program_keeps : (seed : ℕ) (source : List ℕ) (ls : List (ℕ × Statement)) (c : Compiled) → seed < 65536 → LinesMake source (Ok (lines_of ls))
-    → AreStated (lines_of ls) → Rises 1 32768 (numbers (lines_of ls)) → IsCompiled seed (lines_of ls) c → KeepsItsSource seed source c
+pub program_keeps : {notation : Notation} (seed : ℕ) (source : List ℕ) (ls : List (ℕ × Statement)) (c : Compiled) → seed < 65536 → SourceMakes notation source (Ok (lines_of ls))
+    → AreStated (lines_of ls) → Rises 1 32768 (numbers (lines_of ls)) → IsCompiled seed (lines_of ls) c → KeepsSourceIn notation seed source c
 program_keeps seed source ls c small made stated rises is =
     let p = lines_of ls in
     let code = slots.program_code p in
@@ -43,3 +46,8 @@ program_keeps seed source ls c small made stated rises is =
           (image_keeps seed p code small (lowered p code is.shallow refl) s.rising s.lists (all_polled p) (all_closed p) some_numbers s.lines is.items settled is.ends
           (drop 2 header) refl),
     )
+
+-- what is made of a source in a notation is answered by the settings with that notation
+pub answered_in : {notation : Notation} (settings : CompileSettings) (source : List ℕ) (c : Compiled) → settings.notation ≡ notation → IsAnsweredWith settings source c
+    → (outcome : Outcome) → SourceMakes notation source outcome → OutcomeAnswer settings outcome (Ok c)
+answered_in settings source c same answered outcome made = answered outcome (subst (λ (n : Notation). SourceMakes n source outcome) (sym same) made)

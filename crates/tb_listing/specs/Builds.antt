@@ -7,9 +7,10 @@ use Rattle.tb_parser.specs.Files.{Outcome}
 use Rattle.tb_runtime16.specs.Addresses.{PROLOGUE_AT}
 use Rattle.tb_codegen.specs.declared.compiled.Compiled.{Compiled}
 use Rattle.tb_codegen.specs.declared.settings.CompileSettings.{CompileSettings}
-use Rattle.tb_codegen.specs.Answers.{LinesMake, OutcomeAnswer}
+use Rattle.tb_codegen.specs.Answers.{OutcomeAnswer, SourceMakes}
+use Rattle.tb_parser.specs.declared.notation.Notation.{Notation}
 use Rattle.tb_codegen.specs.Compiled.{AddressesRise, prg_of, starts_of, table_of}
-use Rattle.tb_codegen.specs.Theorem.{KeepsItsSource}
+use Rattle.tb_codegen.specs.Theorem.{KeepsSourceIn}
 use Rattle.tb_disasm.specs.Back.{GivesBack}
 use Rattle.tb_listing.specs.declared.build.Made.{Made}
 use Rattle.tb_listing.specs.Labels.{all_labels, labels_text}
@@ -22,11 +23,11 @@ image_size c = length (prg_of c) - 14
 
 -- the compiler answered this program for the source with these settings: for whatever the source's lines make
 abbrev pub IsAnsweredWith : CompileSettings → List ℕ → Compiled → Type 0
-IsAnsweredWith settings source compiled = (outcome : Outcome) → LinesMake source outcome → OutcomeAnswer settings outcome (Ok compiled)
+IsAnsweredWith settings source compiled = (outcome : Outcome) → SourceMakes settings.notation source outcome → OutcomeAnswer settings outcome (Ok compiled)
 
--- the compiler answered this program for the source
-abbrev pub IsProgramOf : List ℕ → Compiled → Type 0
-IsProgramOf source compiled = (settings : CompileSettings) × IsAnsweredWith settings source compiled
+-- the compiler answered this program for the source in a notation
+abbrev pub IsProgramOf : Notation → List ℕ → Compiled → Type 0
+IsProgramOf notation source compiled = (settings : CompileSettings) × (settings.notation ≡ notation) × IsAnsweredWith settings source compiled
 
 -- the labels of a compiled program's places, a listing that gives its image back and shows the lines of the source and
 -- the names of its places, and the map of its parts
@@ -37,13 +38,14 @@ pub record Tells (source : List ℕ) (compiled : Compiled) (program : Program) (
   pub shows : ShowsProgram source (starts_of compiled) (table_of compiled) (drop 14 (prg_of compiled)) made.listing.items
   pub map : made.map.items ≡ map_text (starts_of compiled) (table_of compiled) (image_size compiled) program
 
--- what tells of a source's compilation, with the program that the source's lines make; the file keeps its source, for
--- all settings with which it was compiled
-pub record IsMade (source : List ℕ) (compiled : Compiled) (made : Made) : Type 0 where
+-- what tells of a source's compilation, with the program that the source's lines make in a notation; the file keeps its
+-- source, for all settings with that notation with which it was compiled
+pub record IsMade (notation : Notation) (source : List ℕ) (compiled : Compiled) (made : Made) : Type 0 where
   pub sorted : AddressesRise 0 (all_labels (starts_of compiled) (table_of compiled))
   pub program : Program
-  pub makes : LinesMake source (Ok program)
-  pub keeps : (settings : CompileSettings) → settings.seed < 65536 → IsAnsweredWith settings source compiled → KeepsItsSource settings.seed source compiled
+  pub makes : SourceMakes notation source (Ok program)
+  pub keeps : (settings : CompileSettings) → settings.seed < 65536 → settings.notation ≡ notation → IsAnsweredWith settings source compiled
+      → KeepsSourceIn notation settings.seed source compiled
   pub tells : Tells source compiled program made
   pub bytes : sum_by (λ p. p.bytes) (parts (starts_of compiled) (table_of compiled) (image_size compiled) program) ≡ image_size compiled
   pub prices : sum_by (λ p. p.price) (parts (starts_of compiled) (table_of compiled) (image_size compiled) program) ≡ cost program

@@ -10,8 +10,8 @@ use crate::label_file::labels;
 use crate::listing::list;
 use crate::map::chart;
 use std::alloc::{AllocError, Global};
-use tb_codegen::Compiled;
-use tb_parser::parse;
+use tb_codegen::{Compiled, Notation};
+use tb_parser::parse_in;
 use tb_syntax::Program;
 
 /// The texts about a compiled source.
@@ -25,13 +25,18 @@ pub struct Made {
     pub map: Vec<u8>,
 }
 
-/// Makes all texts about a compiled source.
-pub fn make(alloc: Global, source: &[u8], compiled: &Compiled) -> Result<Made, AllocError>
-    requires { IsProgramOf source.now compiled.now }
-    ensures { IfOk result (IsMade source.now compiled.now) }
+/// Makes all texts about a source that was compiled in a notation.
+pub fn make(
+    alloc: Global,
+    source: &[u8],
+    notation: Notation,
+    compiled: &Compiled,
+) -> Result<Made, AllocError>
+    requires { IsProgramOf notation source.now compiled.now }
+    ensures { IfOk result (IsMade notation source.now compiled.now) }
 {
     // What was compiled is a program: parsing can only fail for lack of memory here.
-    let Ok(program) = parse(alloc, source) else {
+    let Ok(program) = parse_in(alloc, notation, source) else {
         return Err(AllocError);
     };
     all_of(alloc, source, compiled, &program)

@@ -3,6 +3,8 @@
 pub mod FirstLine
 -- the walks over a line, byte by byte
 pub mod Steps
+-- the same of a line with signs
+pub mod SignSteps
 -- digits at the front
 pub mod Numbers
 -- what the readers' answers say of a text
@@ -21,3 +23,5 @@ pub mod Rising
 pub mod Texts
 -- no text, line or file has two meanings
 pub mod Unique
+-- a line without signs is read alike in each notation
+pub mod Alike

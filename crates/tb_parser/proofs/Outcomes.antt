@@ -7,6 +7,7 @@ use Rattle.tb_parser.specs.Answers.{Answers, refusal_of}
 use Rattle.tb_parser.specs.Files.{FileRefusal, refused_at}
 use Rattle.tb_parser.specs.Readings.{Refusal}
 use Rattle.tb_parser.specs.Refusals.{error_at}
+use Rattle.tb_parser.proofs.ReaderAnswers.{passes}
 
 module _ {X A : Type 0} (view : X → A) (Is : Result A FileRefusal → Type 0) where
   -- the error at a place tells the refusal at that place, unless memory ran out
@@ -20,6 +21,13 @@ module _ {X A : Type 0} (view : X → A) (Is : Result A FileRefusal → Type 0) 
   answers_at NumberTooLarge column line h = h
   answers_at Empty column line h = h
   answers_at NoMemory column line h = tt
+
+  -- what holds of an answer carries over to what follows from it
+  pub answers_pass : (result : Result X SourceError) (More : Result A FileRefusal → Type 0) → ((outcome : Result A FileRefusal) → Is outcome → More outcome)
+      → Answers view result Is → Answers view result More
+  answers_pass (Ok x) More more said = more (Ok (view x)) said
+  answers_pass (Err e) More more said =
+      passes (refusal_of e.kind e.column) (λ r. Is (Err (refused_at e.line r))) (λ r. More (Err (refused_at e.line r))) (λ r h. more (Err (refused_at e.line r)) h) said
 
   -- if only one outcome is possible, the answer is that outcome
   pub only_one : (result : Result X SourceError) → ((a b : Result A FileRefusal) → Is a → Is b → a ≡ b) → Answers view result Is

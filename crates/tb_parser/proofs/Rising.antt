@@ -4,8 +4,9 @@ use Rattle.std.proofs.lemmas.Bool.Decides.{nat_tests}
 use Rattle.std.specs.Prelude.{nat_lt}
 use Rattle.std.proofs.lemmas.Bool.{eqb-true}
 use Rattle.tb_syntax.specs.Source.{Statement, Program, Rises, numbers}
-use Rattle.tb_parser.specs.Files.{Outcome, line_at, with_line, without_line, edited, at_end, LinesAre, end, bad, good}
-use Rattle.tb_parser.specs.Readings.{Refusal, Edit, LineIs, blank, unfit, unnumbered, bad_line_number, deletes, sets, unread}
+use Rattle.tb_parser.specs.declared.notation.Notation.{Notation}
+use Rattle.tb_parser.specs.Files.{Outcome, line_at, with_line, without_line, edited, at_end, LinesIn, end, bad, good}
+use Rattle.tb_parser.specs.Readings.{Refusal, Edit, LineIn, blank, unfit, unnumbered, bad_line_number, deletes, sets, unread}
 
 from_lower : (low lower : ℕ) (ns : List ℕ) → lower ≤ low → Rises (low + 1) 32768 ns → Rises (lower + 1) 32768 ns
 from_lower low lower [] le h = tt
@@ -42,7 +43,7 @@ KeepsRising : Result Edit Refusal → Type 0
 KeepsRising (Ok edit) = (p : Program) → Rises 1 32768 (numbers p) → Rises 1 32768 (numbers (edited edit p))
 KeepsRising (Err r) = Unit {0}
 
-edit_keeps : (line : List ℕ) (m : Result Edit Refusal) → LineIs line m → KeepsRising m
+edit_keeps : {notation : Notation} (line : List ℕ) (m : Result Edit Refusal) → LineIn notation line m → KeepsRising m
 unfolding KeepsRising
 edit_keeps line _ (blank e) = λ p h. h
 edit_keeps line _ (unfit first r e u) = tt
@@ -61,7 +62,7 @@ end_rises [] h = tt
 end_rises (line ∷ lines) h = h
 
 -- the lines of a file make a program whose numbers rise
-pub lines_rise : (n : ℕ) (p : Program) (lines : List (List ℕ)) (outcome : Outcome) → Rises 1 32768 (numbers p) → LinesAre n p lines outcome → OutcomeRises outcome
+pub lines_rise : {notation : Notation} (n : ℕ) (p : Program) (lines : List (List ℕ)) (outcome : Outcome) → Rises 1 32768 (numbers p) → LinesIn notation n p lines outcome → OutcomeRises outcome
 unfolding KeepsRising
 lines_rise n p _ _ h (end _ _) = end_rises p h
 lines_rise n p _ _ h (bad _ _ line lines r is) = tt

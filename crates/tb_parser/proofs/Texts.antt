@@ -4,24 +4,13 @@ use Rattle.std.specs.Prelude.{nat_lt}
 use Rattle.tb_syntax.specs.Source.{Statement, Program}
 use Rattle.tb_grammar.specs.Statements.{States}
 use Rattle.tb_grammar.specs.Grammar.{is_digit}
-use Rattle.tb_parser.specs.declared.squeeze.Mode.{Mode}
-use Rattle.tb_parser.specs.declared.squeeze.Mode.TheVariants.{Code}
+use Rattle.tb_parser.specs.declared.notation.Notation.{Notation}
 use Rattle.tb_parser.specs.declared.squeeze.Placed.{Placed}
-use Rattle.tb_parser.specs.Squeezed.{squeezed_from, squeezed, bytes, is_dropped, shown, is_in_code, after}
+use Rattle.tb_parser.specs.Notations.{squeezed_in}
+use Rattle.tb_parser.specs.Squeezed.{bytes}
 use Rattle.tb_parser.specs.Scans.{number_at}
-use Rattle.tb_parser.specs.Readings.{Refusal, Edit, LineIs, blank, unfit, unnumbered, bad_line_number, deletes, sets, unread, TextIs, reads, IsNumbered}
-use Rattle.tb_parser.specs.Files.{Outcome, line_at, with_line, without_line, edited, at_end, LinesAre, end, bad, good, IsStated, AreStated}
-
-squeezed_length : (m : Mode) (column : ℕ) (line : List ℕ) → length (squeezed_from m column line) ≤ length line
-unfolding squeezed_from
-squeezed_length m column [] = omega arith
-squeezed_length m column (b ∷ line) = by (is_dropped m b) (squeezed_length (after m b) (column + 1) line)
-  where
-    by : (t : Bool) → length (squeezed_from (after m b) (column + 1) line) ≤ length line
-        → length (if t then squeezed_from (after m b) (column + 1) line else record { byte = shown m b; column = column; in_code = is_in_code m }
-        ∷ squeezed_from (after m b) (column + 1) line) ≤ length (b ∷ line)
-    by true h = omega (arith, h)
-    by false h = omega (arith, h)
+use Rattle.tb_parser.specs.Readings.{Refusal, Edit, LineIn, blank, unfit, unnumbered, bad_line_number, deletes, sets, unread, TextIs, reads, IsNumberedIn}
+use Rattle.tb_parser.specs.Files.{Outcome, line_at, with_line, without_line, edited, at_end, LinesIn, end, bad, good, IsStated, AreStated}
 
 rest_length : (n : ℕ) (placed : List Placed) → length (number_at n placed).rest ≤ length placed
 unfolding number_at
@@ -37,14 +26,13 @@ bytes_length : (text : List Placed) → length (bytes text) ≡ length text
 bytes_length [] = omega arith
 bytes_length (p ∷ text) = let e = bytes_length text in omega (arith, e)
 
-text_length : (line : List ℕ) (number : ℕ) (text : List Placed) → IsNumbered line number text → length (bytes text) ≤ 255
-text_length line number text n =
-    let a = squeezed_length Code 1 line in
-    let b = rest_length 0 (squeezed line) in
-    let c : length (number_at 0 (squeezed line)).rest ≡ length text = ap length n.rest in
-    let d = n.fit.short in
-    let e : length (bytes text) ≡ length text = bytes_length text in
-    omega (arith, a, b, c, d, e)
+text_length : {notation : Notation} (line : List ℕ) (number : ℕ) (text : List Placed) → IsNumberedIn notation line number text → length (bytes text) ≤ 255
+text_length {notation} line number text n =
+    let a = n.fit.brief in
+    let b = rest_length 0 (squeezed_in notation line) in
+    let c : length (number_at 0 (squeezed_in notation line)).rest ≡ length text = ap length n.rest in
+    let d : length (bytes text) ≡ length text = bytes_length text in
+    omega (arith, a, b, c, d)
 
 IsStatedAnswer : Result Statement Refusal → Type 0
 IsStatedAnswer (Ok c) = IsStated c
@@ -77,7 +65,7 @@ KeepsStated : Result Edit Refusal → Type 0
 KeepsStated (Ok edit) = (p : Program) → AreStated p → AreStated (edited edit p)
 KeepsStated (Err r) = Unit {0}
 
-edit_keeps : (line : List ℕ) (m : Result Edit Refusal) → LineIs line m → KeepsStated m
+edit_keeps : {notation : Notation} (line : List ℕ) (m : Result Edit Refusal) → LineIn notation line m → KeepsStated m
 unfolding KeepsStated IsStatedAnswer
 edit_keeps line _ (blank e) = λ p h. h
 edit_keeps line _ (unfit first r e u) = tt
@@ -96,7 +84,7 @@ end_stated [] h = tt
 end_stated (line ∷ lines) h = h
 
 -- the lines of a file make a program whose statements are spelled by texts of at most 255 bytes
-pub lines_stated : (n : ℕ) (p : Program) (lines : List (List ℕ)) (outcome : Outcome) → AreStated p → LinesAre n p lines outcome → Stated outcome
+pub lines_stated : {notation : Notation} (n : ℕ) (p : Program) (lines : List (List ℕ)) (outcome : Outcome) → AreStated p → LinesIn notation n p lines outcome → Stated outcome
 unfolding KeepsStated
 lines_stated n p _ _ h (end _ _) = end_stated p h
 lines_stated n p _ _ h (bad _ _ line lines r is) = tt

@@ -8,15 +8,18 @@ use Rattle.tb_grammar.proofs.ExpressionLaws as expression_laws
 use Rattle.tb_grammar.proofs.StatementLaws as statement_laws
 use Rattle.tb_grammar.specs.Reading.{when}
 use Rattle.tb_parser.proofs.Numbers.{number_has_digit, blank_squeezed}
+use Rattle.tb_parser.proofs.SignSteps.{blank_signed}
 use Rattle.tb_parser.specs.declared.errors.SourceErrorKind.TheVariants.{LineTooLong, BadByte, Unnumbered, BadLineNumber, NotCompiled, NumberTooLarge}
-use Rattle.tb_parser.specs.declared.squeeze.Mode.TheVariants.{Code}
+use Rattle.tb_parser.specs.declared.notation.Notation.{Notation}
+use Rattle.tb_parser.specs.declared.notation.Notation.TheVariants.{Plain, Signs}
 use Rattle.tb_parser.specs.declared.squeeze.Placed.{Placed}
-use Rattle.tb_parser.specs.Readings.{Refusal, at_column, Grammar, TextIs, reads, not_compiled, syntax, number_too_large, IsFit, IsUnfit, line_too_long}
-use Rattle.tb_parser.specs.Readings.{bad_byte, IsLineNumber, IsNumbered, Edit, Nothing, Sets, Deletes, LineIs, blank, unfit, unnumbered, bad_line_number}
+use Rattle.tb_parser.specs.Readings.{Refusal, at_column, Grammar, TextIs, reads, not_compiled, syntax, number_too_large, IsFitIn, IsUnfitIn, line_too_long}
+use Rattle.tb_parser.specs.Readings.{bad_byte, stands_for_too_much, IsLineNumber, IsNumberedIn, Edit, Nothing, Sets, Deletes, LineIn, blank, unfit, unnumbered, bad_line_number}
 use Rattle.tb_parser.specs.Readings.{deletes, sets, unread, Expresses, ExpressionIs, unfit_text, fit_text}
-use Rattle.tb_parser.specs.Scans.{first_written, first_bad, starts_with_digit, number_at, left_out_word, column_left}
+use Rattle.tb_parser.specs.Notations.{column_of, first_bad_in, squeezed_in}
+use Rattle.tb_parser.specs.Scans.{first_written, starts_with_digit, number_at, left_out_word, column_left}
 use Rattle.tb_parser.specs.Squeezed.{squeezed, bytes}
-use Rattle.tb_parser.specs.Files.{Outcome, refused_at, edited, LinesAre, end, bad, good}
+use Rattle.tb_parser.specs.Files.{Outcome, refused_at, edited, LinesIn, end, bad, good}
 
 abbrev pub IsUnique : {A : Type 0} → Grammar A → Type 0
 IsUnique {A} grammar = (t : List ℕ) (a b : A) (la lb : Option ℕ) → grammar t a la → grammar t b lb → (a ≡ b) × (la ≡ lb)
@@ -49,16 +52,22 @@ module _ {A : Type 0} (grammar : Grammar A) (unique : IsUnique grammar) (text : 
       ap (λ (v : ℕ). Err (at_column NumberTooLarge (column_left v text))) (some_same l k (Some l) refl (unique (bytes text) a b (Some l) (Some k) h g).1)
 
 -- a line is unfit for one reason
-pub unfit_one : {line : List ℕ} {r s : Refusal} → IsUnfit line r → IsUnfit line s → r ≡ s
+pub unfit_one : {notation : Notation} {line : List ℕ} {r s : Refusal} → IsUnfitIn notation line r → IsUnfitIn notation line s → r ≡ s
 unfit_one (line_too_long h) (line_too_long k) = refl
 unfit_one (line_too_long h) (bad_byte d short f) = absurd (omega arith)
+unfit_one (line_too_long h) (stands_for_too_much short f over) = absurd (omega arith)
 unfit_one (bad_byte c short e) (line_too_long k) = absurd (omega arith)
-unfit_one {line} (bad_byte c short e) (bad_byte d again f) = ap (λ (v : ℕ). at_column BadByte v) (some_same c d (first_bad Code 1 line) e f)
+unfit_one {notation} {line} (bad_byte c short e) (bad_byte d again f) = ap (λ (v : ℕ). at_column BadByte v) (some_same c d (first_bad_in notation line) e f)
+unfit_one {notation} {line} (bad_byte c short e) (stands_for_too_much again f over) = absurd (none_some c (first_bad_in notation line) f e)
+unfit_one (stands_for_too_much short e over) (line_too_long k) = absurd (omega arith)
+unfit_one {notation} {line} (stands_for_too_much short e over) (bad_byte d again f) = absurd (none_some d (first_bad_in notation line) e f)
+unfit_one (stands_for_too_much short e over) (stands_for_too_much again f more) = refl
 
 -- a fit line is not unfit
-pub fit_unfit : {line : List ℕ} {r : Refusal} → IsFit line → IsUnfit line r → ⊥
+pub fit_unfit : {notation : Notation} {line : List ℕ} {r : Refusal} → IsFitIn notation line → IsUnfitIn notation line r → ⊥
 fit_unfit fit (line_too_long h) = omega (arith, fit.short)
-fit_unfit {line} fit (bad_byte c short e) = none_some c (first_bad Code 1 line) fit.clean e
+fit_unfit {notation} {line} fit (bad_byte c short e) = none_some c (first_bad_in notation line) fit.clean e
+fit_unfit fit (stands_for_too_much short e over) = omega (arith, fit.brief, over)
 
 -- a line has one outcome as an expression
 pub expression_one : (line : List ℕ) (x y : Result Expression Refusal) → ExpressionIs line x → ExpressionIs line y → x ≡ y
@@ -82,10 +91,13 @@ numbered_line first placed =
     (let n = number_at 0 placed in if nat_le 1 n.value && nat_le n.value 32767 then behind_number n.value n.rest else Decided (Err (at_column BadLineNumber first)))
     else Decided (Err (at_column Unnumbered first))
 
-judged : List ℕ → Judged
-judged line =
+brief_line : ℕ → List Placed → Judged
+brief_line first placed = if nat_le (length placed) 255 then numbered_line first placed else Decided (Err (at_column LineTooLong (column_of 255 placed)))
+
+judged : Notation → List ℕ → Judged
+judged notation line =
     when (first_written 1 line) (Decided (Ok Nothing)) (λ first.
-    if nat_le (length line) 255 then when (first_bad Code 1 line) (numbered_line first (squeezed line)) (λ column. Decided (Err (at_column BadByte column)))
+    if nat_le (length line) 255 then when (first_bad_in notation line) (brief_line first (squeezed_in notation line)) (λ column. Decided (Err (at_column BadByte column)))
     else Decided (Err (at_column LineTooLong 256)))
 
 -- what a statement does at a line number
@@ -93,10 +105,10 @@ at_number : ℕ → Result Statement Refusal → Result Edit Refusal
 at_number number (Ok c) = Ok (Sets number c)
 at_number number (Err r) = Err r
 
-record Reads (line : List ℕ) (m : Result Edit Refusal) : Type 0 where
+record Reads (notation : Notation) (line : List ℕ) (m : Result Edit Refusal) : Type 0 where
   number : ℕ
   text : List Placed
-  is_judged : judged line ≡ HasStatement number text
+  is_judged : judged notation line ≡ HasStatement number text
   said : Result Statement Refusal
   reading : TextIs Statement States text said
   meaning : m ≡ at_number number said
@@ -115,25 +127,32 @@ no_number n h = go (nat_le 1 n) (nat_le n 32767) refl refl
     go true false e f = refl
     go false high e f = refl
 
+-- nothing is left of a blank line
+blank_in : (notation : Notation) (line : List ℕ) → first_written 1 line ≡ None → squeezed_in notation line ≡ []
+blank_in Plain line e = blank_squeezed 1 line e
+blank_in Signs line e = blank_signed 1 line e
+
 -- a numbered line isn't blank
-number_written : (line : List ℕ) → 1 ≤ (number_at 0 (squeezed line)).value → (first : ℕ) × (first_written 1 line ≡ Some first)
+number_written : (notation : Notation) (line : List ℕ) → 1 ≤ (number_at 0 (squeezed_in notation line)).value → (first : ℕ) × (first_written 1 line ≡ Some first)
 unfolding number_at
-number_written line low = go (first_written 1 line) refl
+number_written notation line low = go (first_written 1 line) refl
   where
     go : (o : Option ℕ) → first_written 1 line ≡ o → (first : ℕ) × (first_written 1 line ≡ Some first)
-    go None e = let zero : 1 ≤ 0 = rw (blank_squeezed 1 line e) at low in absurd (omega (arith, zero))
+    go None e = let zero : 1 ≤ 0 = rw (blank_in notation line e) at low in absurd (omega (arith, zero))
     go (Some first) e = (first, e)
 
-judged_number : (line : List ℕ) (number : ℕ) (text : List Placed) → IsNumbered line number text → judged line ≡ behind_number number text
-unfolding judged numbered_line
-judged_number line number text n =
-    let low : 1 ≤ (number_at 0 (squeezed line)).value = rw (n.value) n.in_range.0 in
-    let written = number_written line low in
+judged_number : (notation : Notation) (line : List ℕ) (number : ℕ) (text : List Placed) → IsNumberedIn notation line number text
+    → judged notation line ≡ behind_number number text
+unfolding judged brief_line numbered_line
+judged_number notation line number text n =
+    let low : 1 ≤ (number_at 0 (squeezed_in notation line)).value = rw (n.value) n.in_range.0 in
+    let written = number_written notation line low in
     rw (
       written.1,
       low_enough (length line) 255 n.fit.short,
       n.fit.clean,
-      number_has_digit (squeezed line) low,
+      low_enough (length (squeezed_in notation line)) 255 n.fit.brief,
+      number_has_digit (squeezed_in notation line) low,
       n.value,
       n.rest,
       low_enough 1 number n.in_range.0,
@@ -145,27 +164,38 @@ unfolding behind_number
 statement_behind number [] some = absurd (some refl)
 statement_behind number (p ∷ text) some = refl
 
-judged_as : (line : List ℕ) (m : Result Edit Refusal) → LineIs line m → (judged line ≡ Decided m) ⊎ Reads line m
-unfolding judged numbered_line behind_number at_number
-judged_as line _ (blank e) = inl (rw e refl)
-judged_as line _ (unfit first _ e (line_too_long h)) = inl (rw (e, too_high (length line) 255 h) refl)
-judged_as line _ (unfit first _ e (bad_byte column short f)) = inl (rw (e, low_enough (length line) 255 short, f) refl)
-judged_as line _ (unnumbered first e fit d) = inl (rw (e, low_enough (length line) 255 fit.short, fit.clean, d) refl)
-judged_as line _ (bad_line_number first e fit d n) = inl (rw (e, low_enough (length line) 255 fit.short, fit.clean, d, no_number (number_at 0 (squeezed line)).value n) refl)
-judged_as line _ (deletes number n) = inl (judged_number line number [] n)
-judged_as line _ (sets number text c n some t) = inr (record {
+judged_as : (notation : Notation) (line : List ℕ) (m : Result Edit Refusal) → LineIn notation line m → (judged notation line ≡ Decided m) ⊎ Reads notation line m
+unfolding judged brief_line numbered_line behind_number at_number
+judged_as notation line _ (blank e) = inl (rw e refl)
+judged_as notation line _ (unfit first _ e (line_too_long h)) = inl (rw (e, too_high (length line) 255 h) refl)
+judged_as notation line _ (unfit first _ e (bad_byte column short f)) = inl (rw (e, low_enough (length line) 255 short, f) refl)
+judged_as notation line _ (unfit first _ e (stands_for_too_much short f over)) =
+    inl (rw (e, low_enough (length line) 255 short, f, too_high (length (squeezed_in notation line)) 255 over) refl)
+judged_as notation line _ (unnumbered first e fit d) =
+    inl (rw (e, low_enough (length line) 255 fit.short, fit.clean, low_enough (length (squeezed_in notation line)) 255 fit.brief, d) refl)
+judged_as notation line _ (bad_line_number first e fit d n) =
+    inl (rw (
+      e,
+      low_enough (length line) 255 fit.short,
+      fit.clean,
+      low_enough (length (squeezed_in notation line)) 255 fit.brief,
+      d,
+      no_number (number_at 0 (squeezed_in notation line)).value n,
+    ) refl)
+judged_as notation line _ (deletes number n) = inl (judged_number notation line number [] n)
+judged_as notation line _ (sets number text c n some t) = inr (record {
   number = number;
   text = text;
-  is_judged = judged_number line number text n
+  is_judged = judged_number notation line number text n
       ∙ statement_behind number text some;
   said = Ok c;
   reading = t;
   meaning = refl;
 })
-judged_as line _ (unread number text r n some t) = inr (record {
+judged_as notation line _ (unread number text r n some t) = inr (record {
   number = number;
   text = text;
-  is_judged = judged_number line number text n
+  is_judged = judged_number notation line number text n
       ∙ statement_behind number text some;
   said = Err r;
   reading = t;
@@ -187,7 +217,7 @@ text_in (HasStatement number text) = text
 apart : (j : Judged) (d : Result Edit Refusal) (number : ℕ) (text : List Placed) → j ≡ Decided d → j ≡ HasStatement number text → ⊥
 apart j d number text e f = let no_match : Decided d ≡ HasStatement number text = sym e ∙ f in cc
 
-read_one : {line : List ℕ} {m k : Result Edit Refusal} → Reads line m → Reads line k → m ≡ k
+read_one : {notation : Notation} {line : List ℕ} {m k : Result Edit Refusal} → Reads notation line m → Reads notation line k → m ≡ k
 unfolding number_in text_in
 read_one a b =
     let same = sym a.is_judged ∙ b.is_judged in
@@ -197,14 +227,14 @@ read_one a b =
     a.meaning ∙ rw (number, said) refl ∙ sym b.meaning
 
 -- a line has one outcome
-pub line_one : (line : List ℕ) (m k : Result Edit Refusal) → LineIs line m → LineIs line k → m ≡ k
+pub line_one : {notation : Notation} (line : List ℕ) (m k : Result Edit Refusal) → LineIn notation line m → LineIn notation line k → m ≡ k
 unfolding decided_in
-line_one line m k h g = go (judged_as line m h) (judged_as line k g)
+line_one {notation} line m k h g = go (judged_as notation line m h) (judged_as notation line k g)
   where
-    go : (judged line ≡ Decided m) ⊎ Reads line m → (judged line ≡ Decided k) ⊎ Reads line k → m ≡ k
+    go : (judged notation line ≡ Decided m) ⊎ Reads notation line m → (judged notation line ≡ Decided k) ⊎ Reads notation line k → m ≡ k
     go (inl e) (inl f) = ap (λ (j : Judged). decided_in m j) (sym e ∙ f)
-    go (inl e) (inr b) = absurd (apart (judged line) m b.number b.text e b.is_judged)
-    go (inr a) (inl f) = absurd (apart (judged line) k a.number a.text f a.is_judged)
+    go (inl e) (inr b) = absurd (apart (judged notation line) m b.number b.text e b.is_judged)
+    go (inr a) (inl f) = absurd (apart (judged notation line) k a.number a.text f a.is_judged)
     go (inr a) (inr b) = read_one a b
 
 -- `Ok` is no `Err`
@@ -220,7 +250,7 @@ pub err_same : {A B : Type 0} (a b : B) → ◌≡◌ {A = Result A B} (Err a) (
 err_same a b e = cc
 
 -- lines have one outcome
-pub lines_one : (n : ℕ) (p : Program) (lines : List (List ℕ)) (x y : Outcome) → LinesAre n p lines x → LinesAre n p lines y → x ≡ y
+pub lines_one : {notation : Notation} (n : ℕ) (p : Program) (lines : List (List ℕ)) (x y : Outcome) → LinesIn notation n p lines x → LinesIn notation n p lines y → x ≡ y
 lines_one n p _ _ _ (end _ _) (end _ _) = refl
 lines_one n p _ _ _ (bad _ _ line lines r h) (bad _ _ _ _ s k) = ap (λ (v : Refusal). Err (refused_at n v)) (err_same r s (line_one line (Err r) (Err s) h k))
 lines_one n p _ _ _ (bad _ _ line lines r h) (good _ _ _ _ e y k more) = absurd (ok_err e r (line_one line (Ok e) (Err r) k h))

@@ -1,9 +1,11 @@
 -- The program of a file, line by line.
-use Rattle.std.specs.Prelude.{ℕ, ◌+◌, ◌<◌, ◌≤◌, List, [], ◌∷◌, length, Some, None, Result, Ok, Err, if◌then◌else◌, ◌==◌, nat_lt}
+use Rattle.std.specs.Prelude.{ℕ, ◌+◌, ◌≤◌, List, [], ◌∷◌, length, Some, None, Result, Ok, Err, if◌then◌else◌, ◌==◌, nat_lt}
 use Rattle.tb_syntax.specs.Source.{Statement, Numbered, Program}
 use Rattle.tb_grammar.specs.Statements.{States}
 use Rattle.tb_parser.specs.declared.errors.SourceErrorKind.TheVariants.{Empty}
-use Rattle.tb_parser.specs.Readings.{Refusal, Edit, Nothing, Sets, Deletes, LineIs}
+use Rattle.tb_parser.specs.declared.notation.Notation.{Notation}
+use Rattle.tb_parser.specs.declared.notation.Notation.TheVariants.{Plain}
+use Rattle.tb_parser.specs.Readings.{Refusal, Edit, Nothing, Sets, Deletes, LineIn}
 
 -- a line of a program
 abbrev pub line_at : ℕ → Statement → Numbered Statement
@@ -47,11 +49,16 @@ at_end [] = Err (refused_at 0 (record { kind = Empty; column = Some 0 }))
 at_end (line ∷ lines) = Ok (line ∷ lines)
 
 -- From a line on, with the program that the lines before it made, these lines make a program or are refused.
-pub data LinesAre : ℕ → Program → List (List ℕ) → Outcome → Type 0 where
-  end : (n : ℕ) (p : Program) → LinesAre n p [] (at_end p)
-  bad : (n : ℕ) (p : Program) (line : List ℕ) (lines : List (List ℕ)) (r : Refusal) → LineIs line (Err r) → LinesAre n p (line ∷ lines) (Err (refused_at n r))
+pub data LinesIn (notation : Notation) : ℕ → Program → List (List ℕ) → Outcome → Type 0 where
+  end : (n : ℕ) (p : Program) → LinesIn notation n p [] (at_end p)
+  bad : (n : ℕ) (p : Program) (line : List ℕ) (lines : List (List ℕ)) (r : Refusal) → LineIn notation line (Err r)
+      → LinesIn notation n p (line ∷ lines) (Err (refused_at n r))
   good : (n : ℕ) (p : Program) (line : List ℕ) (lines : List (List ℕ)) (edit : Edit) (outcome : Outcome)
-      → LineIs line (Ok edit) → LinesAre (n + 1) (edited edit p) lines outcome → LinesAre n p (line ∷ lines) outcome
+      → LineIn notation line (Ok edit) → LinesIn notation (n + 1) (edited edit p) lines outcome → LinesIn notation n p (line ∷ lines) outcome
+
+-- lines without signs
+abbrev pub LinesAre : ℕ → Program → List (List ℕ) → Outcome → Type 0
+LinesAre n p lines outcome = LinesIn Plain n p lines outcome
 
 -- a statement that is spelled by a text of at most 255 bytes
 pub record IsStated (c : Statement) : Type 0 where

@@ -1,8 +1,10 @@
 pub mod Answers
 pub mod Files
 pub mod Lines
+pub mod Notations
 pub mod Readings
 pub mod Refusals
 pub mod Scans
+pub mod Signed
 pub mod Squeezed
 pub mod Tokens

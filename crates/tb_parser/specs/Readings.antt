@@ -5,10 +5,12 @@ use Rattle.tb_grammar.specs.Grammar.{Reads, Whole}
 use Rattle.tb_grammar.specs.Statements.{States}
 use Rattle.tb_parser.specs.declared.errors.SourceErrorKind.{SourceErrorKind}
 use Rattle.tb_parser.specs.declared.errors.SourceErrorKind.TheVariants.{LineTooLong, BadByte, Unnumbered, BadLineNumber, NotCompiled, Syntax, NumberTooLarge}
-use Rattle.tb_parser.specs.declared.squeeze.Mode.TheVariants.{Code}
+use Rattle.tb_parser.specs.declared.notation.Notation.{Notation}
+use Rattle.tb_parser.specs.declared.notation.Notation.TheVariants.{Plain}
 use Rattle.tb_parser.specs.declared.squeeze.Placed.{Placed}
+use Rattle.tb_parser.specs.Notations.{column_of, first_bad_in, squeezed_in}
 use Rattle.tb_parser.specs.Squeezed.{squeezed, bytes}
-use Rattle.tb_parser.specs.Scans.{first_written, first_bad, starts_with_digit, number_at, left_out_word, column_left}
+use Rattle.tb_parser.specs.Scans.{first_written, starts_with_digit, number_at, left_out_word, column_left}
 
 -- Why a line is refused. The column is None for Syntax, whose column no definition states.
 pub record Refusal : Type 0 where
@@ -35,25 +37,29 @@ pub data TextIs (A : Type 0) (grammar : Grammar A) (text : List Placed) : Result
   syntax : HasNoReading grammar (bytes text) → left_out_word text ≡ None → TextIs A grammar text (Err (record { kind = Syntax; column = None }))
   number_too_large : (a : A) (left : ℕ) → grammar (bytes text) a (Some left) → TextIs A grammar text (Err (at_column NumberTooLarge (column_left left text)))
 
--- a line that is too long, or else has a bad byte
-pub data IsUnfit (line : List ℕ) : Refusal → Type 0 where
-  line_too_long : 255 < length line → IsUnfit line (at_column LineTooLong 256)
-  bad_byte : (column : ℕ) → length line ≤ 255 → first_bad Code 1 line ≡ Some column → IsUnfit line (at_column BadByte column)
+-- A line that is too long, or else has a bad byte, or else stands for too many bytes, as only one with signs can: the
+-- column is that of the first byte too many.
+pub data IsUnfitIn (notation : Notation) (line : List ℕ) : Refusal → Type 0 where
+  line_too_long : 255 < length line → IsUnfitIn notation line (at_column LineTooLong 256)
+  bad_byte : (column : ℕ) → length line ≤ 255 → first_bad_in notation line ≡ Some column → IsUnfitIn notation line (at_column BadByte column)
+  stands_for_too_much : length line ≤ 255 → first_bad_in notation line ≡ None → 255 < length (squeezed_in notation line)
+      → IsUnfitIn notation line (at_column LineTooLong (column_of 255 (squeezed_in notation line)))
 
 -- a line that is neither
-pub record IsFit (line : List ℕ) : Type 0 where
+pub record IsFitIn (notation : Notation) (line : List ℕ) : Type 0 where
   pub short : length line ≤ 255
-  pub clean : first_bad Code 1 line ≡ None
+  pub clean : first_bad_in notation line ≡ None
+  pub brief : length (squeezed_in notation line) ≤ 255
 
 -- a number that a line may have
 abbrev pub IsLineNumber : ℕ → Type 0
 IsLineNumber n = (1 ≤ n) × (n ≤ 32767)
 
 -- a line with a line number, and the text after it
-pub record IsNumbered (line : List ℕ) (number : ℕ) (text : List Placed) : Type 0 where
-  pub fit : IsFit line
-  pub value : (number_at 0 (squeezed line)).value ≡ number
-  pub rest : (number_at 0 (squeezed line)).rest ≡ text
+pub record IsNumberedIn (notation : Notation) (line : List ℕ) (number : ℕ) (text : List Placed) : Type 0 where
+  pub fit : IsFitIn notation line
+  pub value : (number_at 0 (squeezed_in notation line)).value ≡ number
+  pub rest : (number_at 0 (squeezed_in notation line)).rest ≡ text
   pub in_range : IsLineNumber number
 
 -- what a line does to the program
@@ -62,17 +68,24 @@ pub data Edit : Type 0 where
   Sets : (number : ℕ) (c : Statement) → Edit
   Deletes : (number : ℕ) → Edit
 
--- A line of a file. Its faults are looked for in this order: line too long, bad byte (`IsUnfit`), unnumbered, bad line
+-- A line of a file. Its faults are looked for in this order: line too long, bad byte (`IsUnfitIn`), unnumbered, bad line
 -- number, then one of not compiled, syntax, number too large (`TextIs`). A line of spaces alone is never bad, at any length.
-pub data LineIs (line : List ℕ) : Result Edit Refusal → Type 0 where
-  blank : first_written 1 line ≡ None → LineIs line (Ok Nothing)
-  unfit : (first : ℕ) (r : Refusal) → first_written 1 line ≡ Some first → IsUnfit line r → LineIs line (Err r)
-  unnumbered : (first : ℕ) → first_written 1 line ≡ Some first → IsFit line → starts_with_digit (squeezed line) ≡ false → LineIs line (Err (at_column Unnumbered first))
-  bad_line_number : (first : ℕ) → first_written 1 line ≡ Some first → IsFit line → starts_with_digit (squeezed line) ≡ true
-      → (IsLineNumber (number_at 0 (squeezed line)).value → ⊥) → LineIs line (Err (at_column BadLineNumber first))
-  deletes : (number : ℕ) → IsNumbered line number [] → LineIs line (Ok (Deletes number))
-  sets : (number : ℕ) (text : List Placed) (c : Statement) → IsNumbered line number text → text ≢ [] → TextIs Statement States text (Ok c) → LineIs line (Ok (Sets number c))
-  unread : (number : ℕ) (text : List Placed) (r : Refusal) → IsNumbered line number text → text ≢ [] → TextIs Statement States text (Err r) → LineIs line (Err r)
+pub data LineIn (notation : Notation) (line : List ℕ) : Result Edit Refusal → Type 0 where
+  blank : first_written 1 line ≡ None → LineIn notation line (Ok Nothing)
+  unfit : (first : ℕ) (r : Refusal) → first_written 1 line ≡ Some first → IsUnfitIn notation line r → LineIn notation line (Err r)
+  unnumbered : (first : ℕ) → first_written 1 line ≡ Some first → IsFitIn notation line → starts_with_digit (squeezed_in notation line) ≡ false
+      → LineIn notation line (Err (at_column Unnumbered first))
+  bad_line_number : (first : ℕ) → first_written 1 line ≡ Some first → IsFitIn notation line → starts_with_digit (squeezed_in notation line) ≡ true
+      → (IsLineNumber (number_at 0 (squeezed_in notation line)).value → ⊥) → LineIn notation line (Err (at_column BadLineNumber first))
+  deletes : (number : ℕ) → IsNumberedIn notation line number [] → LineIn notation line (Ok (Deletes number))
+  sets : (number : ℕ) (text : List Placed) (c : Statement) → IsNumberedIn notation line number text → text ≢ []
+      → TextIs Statement States text (Ok c) → LineIn notation line (Ok (Sets number c))
+  unread : (number : ℕ) (text : List Placed) (r : Refusal) → IsNumberedIn notation line number text → text ≢ []
+      → TextIs Statement States text (Err r) → LineIn notation line (Err r)
+
+-- a line without signs
+abbrev pub LineIs : List ℕ → Result Edit Refusal → Type 0
+LineIs line said = LineIn Plain line said
 
 -- the whole text is one expression
 abbrev pub Expresses : Grammar Expression
@@ -80,5 +93,5 @@ Expresses text e large = Reads Whole text e large []
 
 -- A line that is to be one expression, without a line number.
 pub data ExpressionIs (line : List ℕ) : Result Expression Refusal → Type 0 where
-  unfit_text : (r : Refusal) → IsUnfit line r → ExpressionIs line (Err r)
-  fit_text : (outcome : Result Expression Refusal) → IsFit line → TextIs Expression Expresses (squeezed line) outcome → ExpressionIs line outcome
+  unfit_text : (r : Refusal) → IsUnfitIn Plain line r → ExpressionIs line (Err r)
+  fit_text : (outcome : Result Expression Refusal) → IsFitIn Plain line → TextIs Expression Expresses (squeezed line) outcome → ExpressionIs line outcome

@@ -7,9 +7,11 @@ use std::alloc::{AllocError, AllocFailed};
 /// What is wrong, in the order in which a line's faults are looked for.
 #[derive(Clone, Copy, Debug, PartialEq, Eq)]
 pub enum SourceErrorKind {
-    /// More than 255 bytes. The column is 256.
+    /// More than 255 bytes; the column is 256. Or a line whose signs make it stand for more; the column is that of the
+    /// sign or byte with the first byte too many.
     LineTooLong,
-    /// Before the remark, a byte that is neither from 32 to 90 nor a lower-case letter. The column is that byte's.
+    /// Before the remark, a byte that is neither from 32 to 90 nor a lower-case letter; with signs, in a text, one that
+    /// is no sign either. The column is that byte's.
     BadByte,
     /// The first byte that is no space is no digit. The column is that byte's.
     Unnumbered,

@@ -1,26 +1,31 @@
 //! Source texts read: a file, a line of it, one expression.
-ghost use Rattle.std.specs.Prelude.{◌≡◌, ◌≢◌, ℕ, [], None, Some, Result, Ok, Err, IfErr, IfOk, IfSome, MatchOption, MatchResult, length};
+ghost use Rattle.std.specs.Prelude.{◌≡◌, ◌≢◌, ◌<◌, ◌≤◌, ℕ, [], None, Some, Result, Ok, Err, IfErr, IfOk, IfSome, MatchOption, MatchResult, OnOk, length};
 ghost use Rattle.tb_syntax.specs.Source.{Statement as SourceStatement, Expression, Rises, numbers};
 ghost use Rattle.tb_syntax.specs.PlainData.{statement_of, expression_of, lines_of};
 ghost use Rattle.tb_grammar.specs.Statements.{States};
-ghost use Rattle.tb_parser.specs.declared.errors.SourceErrorKind.TheVariants.{NoMemory, NotCompiled, NumberTooLarge, Syntax};
+ghost use Rattle.tb_parser.specs.declared.errors.SourceErrorKind.TheVariants.{LineTooLong, NoMemory, NotCompiled, NumberTooLarge, Syntax};
+ghost use Rattle.tb_parser.specs.declared.notation.Notation.TheVariants.{Plain};
 ghost use Rattle.tb_parser.specs.Answers.{edit_of, refusal_of, Answers, InLineOne, Says};
-ghost use Rattle.tb_parser.specs.Files.{AreStated, FileRefusal, LinesAre, Outcome};
+ghost use Rattle.tb_parser.specs.Files.{AreStated, FileRefusal, LinesAre, LinesIn, Outcome};
 ghost use Rattle.tb_parser.specs.Lines.{lines_of_file};
-ghost use Rattle.tb_parser.specs.Readings.{Expresses, ExpressionIs, IsFit, IsUnfit, LineIs, TextIs};
+ghost use Rattle.tb_parser.specs.Notations.{column_of, first_bad_in, squeezed_in};
+ghost use Rattle.tb_parser.specs.Readings.{Expresses, ExpressionIs, IsFitIn, IsUnfitIn, LineIn, LineIs, TextIs};
 ghost use Rattle.tb_parser.specs.Refusals.{out_of_memory};
 ghost use Rattle.tb_parser.specs.Scans.{column_left, left_out_word};
+ghost use Rattle.tb_parser.specs.Signed.{LackSigns};
 
 use crate::edits::{LineEdit, apply};
 use crate::errors::{LineFault, OUT_OF_MEMORY, SourceError, SourceErrorKind};
 use crate::lines::next_line;
+use crate::notation::Notation;
 use crate::scans::{bad_byte, column_of_left, is_numbered, left_out, line_number, written};
+use crate::signs::{bad_byte_or_sign, squeeze_signs};
 use crate::squeeze::{Placed, copy_bytes, squeeze};
-use std::alloc::Global;
+use std::alloc::{AllocError, Global};
 use tb_grammar::{ReadError, read_expression, read_statement};
 use tb_syntax::{Expr, Program, Statement};
 
-/// The most bytes that a line has.
+/// The most bytes that a line has, and that it stands for.
 pub(crate) const LONGEST_LINE: usize = 255;
 
 /// The program that a file's lines make, or the first bad line.
@@ -41,13 +46,31 @@ pub fn parse(alloc: Global, source: &[u8]) -> Result<Program, SourceError>
         → Answers lines_of result (λ said. said ≡ outcome) }
     ensures memory { IfErr result (λ e. e.kind ≡ NoMemory → e ≡ out_of_memory) }
 {
+    parse_in(alloc, Notation::Plain, source)
+}
+
+/// The same, where the texts of a file are read in a notation.
+pub fn parse_in(alloc: Global, notation: Notation, source: &[u8]) -> Result<Program, SourceError>
+    // What is answered is what the file's lines make in the notation, from line 1 on.
+    ensures found { Answers lines_of result (LinesIn notation 1 [] (lines_of_file source.now)) }
+    // The numbers rise, from 1 to 32,767 at most.
+    ensures rising { IfOk result (λ p. Rises 1 32768 (numbers (lines_of p))) }
+    // Each statement is spelled by a text that fits a line.
+    ensures stated { IfOk result (λ p. AreStated (lines_of p)) }
+    // What the lines make in the notation is answered, unless memory runs out.
+    ensures only { (outcome : Outcome) → LinesIn notation 1 [] (lines_of_file source.now) outcome
+        → Answers lines_of result (λ said. said ≡ outcome) }
+    // If no text has a brace or a bracket, it is what the lines make without signs.
+    ensures plain { LackSigns (lines_of_file source.now) → Answers lines_of result (LinesAre 1 [] (lines_of_file source.now)) }
+    ensures memory { IfErr result (λ e. e.kind ≡ NoMemory → e ≡ out_of_memory) }
+{
     let mut program = Program::new(alloc);
     let mut placed = Vec::new(alloc);
     let mut bytes = Vec::new(alloc);
     let mut rest = source;
     let mut number = 1;
     while let Some((line, behind)) = next_line(rest) {
-        match read_line_in(alloc, line, &mut placed, &mut bytes) {
+        match read_line_with(alloc, notation, line, &mut placed, &mut bytes) {
             Ok(edit) => apply(&mut program, edit)?,
             Err(fault) => return Err(fault.at_line(number)),
         }
@@ -81,25 +104,32 @@ pub fn parse_expr(alloc: Global, text: &[u8]) -> Result<Expr, SourceError>
 pub fn read_line(alloc: Global, line: &[u8]) -> Result<LineEdit, LineFault>
     ensures { Says edit_of result (LineIs line.now) }
 {
+    read_line_in(alloc, Notation::Plain, line)
+}
+
+/// The same, where the line's texts are read in a notation.
+pub fn read_line_in(alloc: Global, notation: Notation, line: &[u8]) -> Result<LineEdit, LineFault>
+    ensures { Says edit_of result (LineIn notation line.now) }
+{
     let mut placed = Vec::new(alloc);
     let mut bytes = Vec::new(alloc);
-    read_line_in(alloc, line, &mut placed, &mut bytes)
+    read_line_with(alloc, notation, line, &mut placed, &mut bytes)
 }
 
 // The same. The lists only lend their room, so that not each line asks for its own.
-fn read_line_in(
+fn read_line_with(
     alloc: Global,
+    notation: Notation,
     line: &[u8],
     placed: &mut Vec<Placed>,
     bytes: &mut Vec<u8>,
 ) -> Result<LineEdit, LineFault>
-    ensures { Says edit_of result (LineIs line.now) }
+    ensures { Says edit_of result (LineIn notation line.now) }
 {
     let Some(first) = written(line) else {
         return Ok(LineEdit::Nothing);
     };
-    check_bytes(line)?;
-    squeeze(placed, line)?;
+    squeeze_fit(notation, placed, line)?;
     if !is_numbered(placed) {
         return Err(LineFault {
             kind: SourceErrorKind::Unnumbered,
@@ -119,10 +149,21 @@ fn read_line_in(
     Ok(LineEdit::Set(number, statement))
 }
 
+// What a line stands for, if that is not too long and the line has no bad byte.
+fn squeeze_fit(notation: Notation, placed: &mut Vec<Placed>, line: &[u8]) -> Result<(), LineFault>
+    ensures { MatchResult result (λ _. IsFitIn notation line.now × (placed.new.items ≡ squeezed_in notation line.now))
+        (λ fault. IfSome (refusal_of fault.kind fault.column) (IsUnfitIn notation line.now)) }
+{
+    check_bytes(notation, line)?;
+    squeeze_in(notation, placed, line)?;
+    check_length(placed)
+}
+
 // A line that is neither too long nor has a bad byte.
 #[tactic(auto, using(crate::specs::Readings::line_too_long, crate::specs::Readings::bad_byte))]
-fn check_bytes(line: &[u8]) -> Result<(), LineFault>
-    ensures { MatchResult result (λ _. IsFit line.now) (λ fault. IfSome (refusal_of fault.kind fault.column) (IsUnfit line.now)) }
+fn check_bytes(notation: Notation, line: &[u8]) -> Result<(), LineFault>
+    ensures { MatchResult result (λ _. (length line.now ≤ 255) × (first_bad_in notation line.now ≡ None))
+        (λ fault. IfSome (refusal_of fault.kind fault.column) (IsUnfitIn notation line.now)) }
 {
     if line.len() > LONGEST_LINE {
         return Err(LineFault {
@@ -130,10 +171,44 @@ fn check_bytes(line: &[u8]) -> Result<(), LineFault>
             column: LONGEST_LINE + 1,
         });
     }
-    match bad_byte(line) {
+    match bad_byte_in(notation, line) {
         Some(column) => Err(LineFault {
             kind: SourceErrorKind::BadByte,
             column,
+        }),
+        None => Ok(()),
+    }
+}
+
+// The column of the first bad byte.
+fn bad_byte_in(notation: Notation, line: &[u8]) -> Option<usize>
+    ensures { result ≡ first_bad_in notation line.now }
+{
+    match notation {
+        Notation::Plain => bad_byte(line),
+        Notation::Signs => bad_byte_or_sign(line),
+    }
+}
+
+// What a line stands for, in the place of what `placed` held.
+fn squeeze_in(notation: Notation, placed: &mut Vec<Placed>, line: &[u8]) -> Result<(), AllocError>
+    ensures { OnOk result (placed.new.items ≡ squeezed_in notation line.now) }
+{
+    match notation {
+        Notation::Plain => squeeze(placed, line),
+        Notation::Signs => squeeze_signs(placed, line),
+    }
+}
+
+// Whether a line stands for too many bytes, as only one with signs can.
+fn check_length(placed: &[Placed]) -> Result<(), LineFault>
+    ensures { MatchResult result (λ _. length placed.now ≤ 255)
+        (λ fault. (255 < length placed.now) × (fault ≡ record { kind = LineTooLong; column = column_of 255 placed.now })) }
+{
+    match placed.get(LONGEST_LINE) {
+        Some(first) => Err(LineFault {
+            kind: SourceErrorKind::LineTooLong,
+            column: first.column,
         }),
         None => Ok(()),
     }
@@ -160,9 +235,8 @@ fn read_line_statement(
 fn read_expression_line(alloc: Global, line: &[u8]) -> Result<Expr, LineFault>
     ensures { Says expression_of result (ExpressionIs line.now) }
 {
-    check_bytes(line)?;
     let mut placed = Vec::new(alloc);
-    squeeze(&mut placed, line)?;
+    squeeze_fit(Notation::Plain, &mut placed, line)?;
     read_value(alloc, line, &placed)
 }
 

@@ -22,7 +22,8 @@ pub(crate) fn written(line: &[u8]) -> Option<usize>
     None
 }
 
-fn is_bad_byte(mode: Mode, byte: u8) -> bool
+/// Whether a byte is not allowed in its place.
+pub(crate) fn is_bad_byte(mode: Mode, byte: u8) -> bool
     ensures { result ≡ is_bad mode byte }
 {
     match mode {

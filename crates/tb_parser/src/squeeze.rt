@@ -36,8 +36,8 @@ impl Mode {
         }
     }
 
-    // Whether a byte here is outside texts and remarks.
-    fn is_in_code(self) -> bool
+    /// Whether a byte here is outside texts and remarks.
+    pub fn is_in_code(self) -> bool
         ensures { result ≡ is_in_code self }
     {
         matches!(self, Mode::Code | Mode::CodeR | Mode::CodeRe)
@@ -48,19 +48,21 @@ impl Mode {
 #[derive(Clone, Copy)]
 pub(crate) struct Placed {
     pub byte: u8,
-    /// Its column in the line, from 1.
+    /// Its column in the line, from 1; that of its sign, if it belongs to one.
     pub column: usize,
     /// Whether it is outside texts and remarks. The quote that opens a text is.
     pub in_code: bool,
 }
 
-fn drops(mode: Mode, byte: u8) -> bool
+/// Whether a byte is a space outside texts and remarks.
+pub(crate) fn drops(mode: Mode, byte: u8) -> bool
     ensures { result ≡ is_dropped mode byte }
 {
     byte == b' ' && mode.is_in_code()
 }
 
-fn show(mode: Mode, byte: u8) -> u8
+/// A byte as it is kept: in upper case, but unchanged in a remark.
+pub(crate) fn show(mode: Mode, byte: u8) -> u8
     ensures { result ≡ shown mode byte }
 {
     match mode {

@@ -7,7 +7,7 @@ use Rattle.tb_memmap.specs.Regions.{BASIC_START}
 use Rattle.tb_syntax.specs.Source.{Program}
 use Rattle.tb_parser.specs.Files.{Outcome as FileOutcome}
 use Rattle.tb_runtime16.specs.Addresses.{LINES_AT}
-use Rattle.tb_codegen.specs.Answers.{HasOutcome, OutcomeAnswer, LinesMake}
+use Rattle.tb_codegen.specs.Answers.{HasOutcome, OutcomeAnswer, SourceMakes}
 use Rattle.tb_codegen.specs.Compiled.{loaded_of, starts_of, IsCompiled, AddressesRise}
 use Rattle.tb_codegen.specs.declared.compiled.Compiled.{Compiled}
 use Rattle.tb_codegen.specs.declared.settings.CompileSettings.{CompileSettings}
@@ -66,11 +66,11 @@ row_lines : (ts : List Step) (starts : List (ℕ × ℕ)) → map (λ r. r.line)
 row_lines ts [] = refl
 row_lines ts (s ∷ starts) = ap (λ ns. s.0 ∷ ns) (row_lines ts starts)
 
-module _ {O : Type 0} (facts : End → Facts) (s : Settings O) (source : List ℕ) (c : Compiled) where
-  of_program : (seed : ℕ) (program : Program) (ran : Ran) (texts : Texts) → LinesMake source (Ok program) → IsCompiled seed program c
+module _ {O : Type 0} (facts : End → Facts) (settings : CompileSettings) (s : Settings O) (source : List ℕ) (c : Compiled) where
+  of_program : (program : Program) (ran : Ran) (texts : Texts) → SourceMakes settings.notation source (Ok program) → IsCompiled settings.seed program c
       → IsProfile s c ran → Shows (facts ran.end) source ran.table texts
-      → IsProfileOf facts s source c texts.page.items texts.table.items ran
-  of_program seed program ran texts made compiled is shows =
+      → IsProfileOf facts settings.notation s source c texts.page.items texts.table.items ran
+  of_program program ran texts made compiled is shows =
       record {
         program = program;
         made = made;
@@ -81,17 +81,17 @@ module _ {O : Type 0} (facts : End → Facts) (s : Settings O) (source : List �
         page = shows.page;
       }
 
-  of_outcome : (settings : CompileSettings) (outcome : FileOutcome) (ran : Ran) (texts : Texts) → LinesMake source outcome → OutcomeAnswer settings outcome (Ok c)
+  of_outcome : (outcome : FileOutcome) (ran : Ran) (texts : Texts) → SourceMakes settings.notation source outcome → OutcomeAnswer settings outcome (Ok c)
       → IsProfile s c ran → Shows (facts ran.end) source ran.table texts
-      → IsProfileOf facts s source c texts.page.items texts.table.items ran
-  of_outcome settings (Ok program) ran texts made answer is shows = of_program settings.seed program ran texts made answer.1 is shows
-  of_outcome settings (Err r) ran texts made answer is shows = absurd answer
+      → IsProfileOf facts settings.notation s source c texts.page.items texts.table.items ran
+  of_outcome (Ok program) ran texts made answer is shows = of_program program ran texts made answer.1 is shows
+  of_outcome (Err r) ran texts made answer is shows = absurd answer
 
   -- the texts of a profiled run are the profile of the source that makes the program
-  pub profiles : (settings : CompileSettings) (ran : Ran) (made : Made) → HasOutcome settings source (Ok c) → IsProfile s c ran
+  pub profiles : (ran : Ran) (made : Made) → HasOutcome settings source (Ok c) → IsProfile s c ran
       → Shows (facts ran.end) source ran.table made.texts → made.end ≡ ran.end
-      → MakesTexts (Profiles facts s source c) (Ok made)
-  profiles settings ran made found is shows ends = (ran, of_outcome settings found.outcome ran made.texts found.made found.answer is shows, ends)
+      → MakesTexts (Profiles facts settings.notation s source c) (Ok made)
+  profiles ran made found is shows ends = (ran, of_outcome found.outcome ran made.texts found.made found.answer is shows, ends)
 
 -- ---- what is prepared
 

@@ -3,7 +3,8 @@ use Rattle.std.specs.Prelude.{ℕ, ◌≡◌, List, map, Result, Ok, Err}
 use Rattle.tb_syntax.specs.Source.{Program, numbers}
 use Rattle.tb_codegen.specs.declared.compiled.Compiled.{Compiled}
 use Rattle.tb_codegen.specs.declared.settings.CompileSettings.{CompileSettings}
-use Rattle.tb_codegen.specs.Answers.{HasOutcome, LinesMake}
+use Rattle.tb_codegen.specs.Answers.{SourceMakes}
+use Rattle.tb_parser.specs.declared.notation.Notation.{Notation}
 use Rattle.tb_driver.specs.Sources.{FromSource}
 use Rattle.tb_meaning.specs.declared.missing.Warning.{Warning}
 use Rattle.tb_engines.specs.Outcomes.{Product}
@@ -25,9 +26,9 @@ use Rattle.tb_profile_engine.specs.Running.{IsProfile}
 
 -- A profile of the program that a source makes: a row for each of its lines in order, rows that add up to the whole
 -- run, and the table and the page of these rows with the statements of the source; the page says what the run was too.
-pub record IsProfileOf {O : Type 0} (facts : End → Facts) (s : Settings O) (source : List ℕ) (c : Compiled) (html shown : List ℕ) (ran : Ran) : Type 0 where
+pub record IsProfileOf {O : Type 0} (facts : End → Facts) (notation : Notation) (s : Settings O) (source : List ℕ) (c : Compiled) (html shown : List ℕ) (ran : Ran) : Type 0 where
   pub program : Program
-  pub made : LinesMake source (Ok program)
+  pub made : SourceMakes notation source (Ok program)
   pub is : IsProfile s c ran
   pub lines : map (λ r. r.line) ran.table.rows.items ≡ numbers program
   pub adds_up : AddsUp ran.table
@@ -35,13 +36,9 @@ pub record IsProfileOf {O : Type 0} (facts : End → Facts) (s : Settings O) (so
   pub page : html ≡ page_of (facts ran.end) ran.table.whole (stated source ran.table.rows.items)
 
 -- the table and the page of a profile, and how its run ended
-abbrev pub Profiles : {O : Type 0} → (End → Facts) → Settings O → List ℕ → Compiled → List ℕ → Product → Type 0
-Profiles facts s source compiled page (Ok shown) = (ran : Ran) × IsProfileOf facts s source compiled page shown.0 ran × (shown.1 ≡ ran.end)
-Profiles facts s source compiled page (Err e) = ⊥
-
--- the compiler answered this program for the source
-abbrev pub IsProgramOf : List ℕ → Compiled → Type 0
-IsProgramOf source compiled = (settings : CompileSettings) × HasOutcome settings source (Ok compiled)
+abbrev pub Profiles : {O : Type 0} → (End → Facts) → Notation → Settings O → List ℕ → Compiled → List ℕ → Product → Type 0
+Profiles facts notation s source compiled page (Ok shown) = (ran : Ran) × IsProfileOf facts notation s source compiled page shown.0 ran × (shown.1 ≡ ran.end)
+Profiles facts notation s source compiled page (Err e) = ⊥
 
 -- what was made of a program; there is nothing if memory ran out
 abbrev pub MakesTexts : (List ℕ → Product → Type 0) → Result Made NoText → Type 0
@@ -52,7 +49,7 @@ MakesTexts makes (Err NoMemory) = Unit {0}
 -- what comes of profiling a source: a table with its page, or the compiler's refusal
 abbrev pub ProfilesSource : {O : Type 0} → Named → Settings O → CompileSettings → List Warning → List ℕ → List ℕ → Product → Type 0
 ProfilesSource named s settings warnings page source product =
-    FromSource settings (λ compiled. Profiles (facts_on named settings s) s source compiled page) warnings source product
+    FromSource settings (λ compiled. Profiles (facts_on named settings s) settings.notation s source compiled page) warnings source product
 
 -- ---- steps of the engine
 

@@ -1,12 +1,13 @@
 //! Profiling a source.
-ghost use Rattle.std.specs.Prelude.{◌≡◌, IfOk, string_bytes};
+ghost use Rattle.std.specs.Prelude.{◌≡◌, IfOk, Ok, string_bytes};
+ghost use Rattle.tb_codegen.specs.Answers.{HasOutcome};
 ghost use Rattle.tb_streams.specs.Uses.{use_of, TakesInput};
 ghost use Rattle.tb_engines.specs.Outcomes.{AnswersInput, Faults};
 ghost use Rattle.tb_engines.specs.Programs.{settings_of};
 ghost use Rattle.tb_driver.specs.Sources.{WarnsOfRead};
 ghost use Rattle.tb_profile_table.specs.Texts.{Shows};
 ghost use Rattle.tb_profile_engine.specs.Facts.{IsCopy, ended_text, fits, facts_of, facts_on};
-ghost use Rattle.tb_profile_engine.specs.Profiles.{IsPrepared, IsProgramOf, MakesTexts, Profiles, ProfilesSource};
+ghost use Rattle.tb_profile_engine.specs.Profiles.{IsPrepared, MakesTexts, Profiles, ProfilesSource};
 
 use crate::running::{Ran, profile_program};
 use std::alloc::{AllocError, Global};
@@ -116,9 +117,9 @@ fn make_texts<O: Outside, W: Watch>(
     outside: &mut O,
     watch: &mut W,
 ) -> Result<Made, NoText>
-    requires { IsProgramOf source.now.text.items source.now.program }
+    requires { HasOutcome settings source.now.text.items (Ok source.now.program) }
     ensures { MakesTexts (Profiles (facts_on named.now settings (settings_of O.gives outside.old keyboard limit))
-        (settings_of O.gives outside.old keyboard limit) source.now.text.items source.now.program) result }
+        settings.notation (settings_of O.gives outside.old keyboard limit) source.now.text.items source.now.program) result }
 {
     let Ok(typed) = copy_of(alloc, &keyboard) else {
         return Err(NoText::NoMemory);

@@ -4,6 +4,7 @@ use Rattle.std.specs.Str.{bytes_eq}
 use Rattle.std.specs.declared.alloc.Global.{Global}
 use Rattle.std.specs.declared.vec.Vec.{Vec}
 use Rattle.serde_json.specs.Data.{Data}
+use Rattle.tb_parser.specs.declared.notation.Notation.{Notation}
 use Rattle.tb_messages.specs.Messages.{Says, failure_of, success_of}
 use Rattle.tb_messages.specs.declared.refusals.Refusal.{Refusal}
 use Rattle.tb_diagnostics.specs.Published.{Publishes, published_of}
@@ -23,14 +24,16 @@ pub data Publication : Type 0 where
 abbrev pub IsAnswer : List ℕ → Type 0
 IsAnswer content = (id : Data) × (((answer : Data) × Says content (success_of id answer)) ⊎ ((refusal : Refusal) × Says content (failure_of id refusal)))
 
--- What a reply publishes, and what becomes of the texts that are open: they change only where something is published.
-pub data Publishing (old : Server) (new : Server) : Reply → Option Publication → Type 0 where
+-- What a reply publishes of sources in a notation, and what becomes of the texts that are open: they change only where
+-- something is published.
+pub data Publishing (notation : Notation) (old : Server) (new : Server) : Reply → Option Publication → Type 0 where
   opens : (uri source : List ℕ) (version : Option ℤ) (content : Vec ℕ Global) → Opens uri source old.texts.all.items new.texts.all.items
-      → Publishes uri version source content.items → Publishing old new (Content content) (Some (finds uri source))
+      → Publishes notation uri version source content.items → Publishing notation old new (Content content) (Some (finds uri source))
   closes : (uri : List ℕ) (content : Vec ℕ Global) → new.texts.all.items ≡ without uri old.texts.all.items
-      → Says content.items (published_of uri None []) → Publishing old new (Content content) (Some (ends uri))
-  answers : (content : Vec ℕ Global) → new.texts.all.items ≡ old.texts.all.items → IsAnswer content.items → Publishing old new (Content content) None
-  is_silent : new.texts.all.items ≡ old.texts.all.items → Publishing old new Nothing None
+      → Says content.items (published_of uri None []) → Publishing notation old new (Content content) (Some (ends uri))
+  answers : (content : Vec ℕ Global) → new.texts.all.items ≡ old.texts.all.items → IsAnswer content.items
+      → Publishing notation old new (Content content) None
+  is_silent : new.texts.all.items ≡ old.texts.all.items → Publishing notation old new Nothing None
 
 -- a list with one more at the front, if there is one
 abbrev pub with_one : Option Publication → List Publication → List Publication
@@ -38,11 +41,12 @@ with_one None ps = ps
 with_one (Some p) ps = p ∷ ps
 
 -- Frames lead from one moment to another, each answered before the next one is read, and this was published, the last first.
-pub data Tells : Moment → Moment → List Publication → Type 0 where
-  none : (a : Moment) → Tells a a []
-  more : (a b c : Moment) (ps : List Publication) (reply : Reply) (p : Option Publication) → Tells a b ps
+pub data Tells (notation : Notation) : Moment → Moment → List Publication → Type 0 where
+  none : (a : Moment) → Tells notation a a []
+  more : (a b c : Moment) (ps : List Publication) (reply : Reply) (p : Option Publication) → Tells notation a b ps
       → TakesOneOf (streams b.left c.left b.read c.read b.written c.written b.wrote c.wrote) b.server reply c.server
-      → Written reply b.written c.written → Publishing b.server c.server reply p → Tells a c (with_one p ps)
+      → Written reply b.written c.written → Publishing notation b.server c.server reply p
+      → Tells notation a c (with_one p ps)
 
 -- the source of a text whose findings were published last, if nothing else of it was after that
 abbrev pub last_of : List ℕ → List Publication → Option (List ℕ)
@@ -50,7 +54,8 @@ last_of uri [] = None
 last_of uri (finds u source ∷ ps) = if bytes_eq u uri then Some source else last_of uri ps
 last_of uri (ends u ∷ ps) = if bytes_eq u uri then None else last_of uri ps
 
--- In a dialogue of a new server the findings of each text that is open were published last, and of no other text any.
+-- In a dialogue of a new server the findings of each text that is open were published last, in its notation, and of no
+-- other text any.
 abbrev pub OpenTextsArePublished : Type 0
-OpenTextsArePublished = (version : List ℕ) (a b : Moment) → IsNew version a.server → Talks a b
-    → (ps : List Publication) × Tells a b ps × ((uri : List ℕ) → text_of uri b.server.texts.all.items ≡ last_of uri ps)
+OpenTextsArePublished = (version : List ℕ) (notation : Notation) (a b : Moment) → IsNew version notation a.server → Talks a b
+    → (ps : List Publication) × Tells notation a b ps × ((uri : List ℕ) → text_of uri b.server.texts.all.items ≡ last_of uri ps)

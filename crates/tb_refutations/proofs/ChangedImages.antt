@@ -1,5 +1,6 @@
 -- Why each changed image is wrong.
-use Rattle.std.proofs.Common.{◌≡◌, ℕ, zero, suc, false, List, [], ◌∷◌, refl}
+use Rattle.std.proofs.Common.{◌≡◌, ℕ, zero, suc, false, List, [], ◌∷◌, ◌++◌, refl}
+use Rattle.std.specs.Prelude.{replicate}
 use Rattle.tb_opcodes.specs.Opcodes.{decoded}
 use Rattle.tb_cpu.specs.declared.wrong.Wrong.TheVariants.{Closed}
 use Rattle.tb_kernal.specs.declared.events.Event.{Event}
@@ -17,13 +18,13 @@ use Rattle.tb_refutations.specs.Programs.{goes_nowhere, inputs_two, calls_itself
 use Rattle.tb_refutations.specs.Programs.{prints_if_zero}
 use Rattle.tb_refutations.specs.Changed.{quotient_rounded_down, difference_wrapped}
 use Rattle.tb_refutations.specs.Changed.{sign_not_turned}
-use Rattle.tb_refutations.specs.Changed.{sign_not_looked_at}
+use Rattle.tb_refutations.specs.Changed.{sign_not_looked_at, sign_of_rest_lost, fifth_difference_forgotten, byte_not_counted}
 use Rattle.tb_refutations.specs.Changed.{zero_not_asked}
 use Rattle.tb_refutations.specs.Changed.{high_byte_ignored}
 use Rattle.tb_refutations.specs.Changed.{upper_byte_rounded_down}
 use Rattle.tb_refutations.specs.Programs.{prints_negative_quotient, compares_far}
 use Rattle.tb_refutations.specs.Programs.{prints_if_below_256}
-use Rattle.tb_refutations.specs.Programs.{prints_rest}
+use Rattle.tb_refutations.specs.Programs.{prints_rest, prints_rest_by_three, prints_rest_of_bytes, prints_in_zones}
 use Rattle.tb_refutations.specs.Programs.{prints_if_positive}
 use Rattle.tb_refutations.specs.Programs.{prints_if_256}
 use Rattle.tb_refutations.specs.Programs.{prints_quotient_by_256}
@@ -84,10 +85,10 @@ pub print_values_all_items_first : IsRefuted quotient_before_text prints_and_fau
 unfolding decoded
 print_values_all_items_first = sends_after quotient_before_text prints_and_faults 1 plain refl 350 (fault_text 2 10) refl 1 refl
 
--- it sends A0, and comes to the end
+-- it sends AA0, and comes to the end
 pub folding_drops_division_by_zero : IsRefuted folded_to_zero prints_and_faults
 unfolding decoded
-folding_drops_division_by_zero = sends_after folded_to_zero prints_and_faults 1 plain refl 420 (65 ∷ 48 ∷ fault_text 7 10) refl 1 refl
+folding_drops_division_by_zero = sends_after folded_to_zero prints_and_faults 1 plain refl 450 (65 ∷ 65 ∷ 48 ∷ fault_text 7 10) refl 1 refl
 
 -- it sends 0
 pub quotient_is_always_zero : IsRefuted quotient_left_zero prints_quotient
@@ -128,6 +129,21 @@ negative_is_above_constant = returns_after sign_not_turned prints_if_below_256 1
 pub remainder_without_its_sign : IsRefuted sign_not_looked_at prints_rest
 unfolding decoded
 remainder_without_its_sign = sends_after sign_not_looked_at prints_rest 1 plain refl 600 (51 ∷ fault_text 7 20) refl 3 refl
+
+-- it sends 1
+pub remainder_by_three_without_its_sign : IsRefuted sign_of_rest_lost prints_rest_by_three
+unfolding decoded
+remainder_by_three_without_its_sign = sends_after sign_of_rest_lost prints_rest_by_three 1 plain refl 600 (49 ∷ fault_text 7 20) refl 3 refl
+
+-- it sends 9
+pub remainder_after_four_differences : IsRefuted fifth_difference_forgotten prints_rest_of_bytes
+unfolding decoded
+remainder_after_four_differences = sends_after fifth_difference_forgotten prints_rest_of_bytes 1 plain refl 600 (57 ∷ fault_text 7 30) refl 4 refl
+
+-- it sends a space too many
+pub byte_in_no_column : IsRefuted byte_not_counted prints_in_zones
+unfolding decoded
+byte_in_no_column = sends_after byte_not_counted prints_in_zones 1 plain refl 600 (65 ∷ (replicate 8 32 ++ 49 ∷ fault_text 7 10)) refl 2 refl
 
 -- it sends the 9 of the interrupts
 pub temporary_in_rom_memory : IsRefuted digit_in_rom_memory goes_nowhere

@@ -26,7 +26,7 @@ use Rattle.tb_refutations.specs.Compiled.{goes_nowhere_image, prints_two_image, 
 use Rattle.tb_refutations.specs.Compiled.{calls_itself_image, calls_and_returns_image, goes_to_sum_image, prints_forever_image}
 use Rattle.tb_refutations.specs.Compiled.{prints_if_zero_image, prints_negative_quotient_image, compares_far_image}
 use Rattle.tb_refutations.specs.Compiled.{prints_if_below_256_image}
-use Rattle.tb_refutations.specs.Compiled.{prints_rest_image}
+use Rattle.tb_refutations.specs.Compiled.{prints_rest_image, prints_rest_by_three_image, prints_rest_of_bytes_image, prints_in_zones_image}
 use Rattle.tb_refutations.specs.Compiled.{prints_if_positive_image}
 use Rattle.tb_refutations.specs.Compiled.{prints_if_256_image}
 use Rattle.tb_refutations.specs.Compiled.{prints_quotient_by_256_image}
@@ -93,7 +93,7 @@ prints_variable = compiled_keeps program.prints_variable (more (omega arith) (mo
     ((tt, ((omega arith, omega arith), (tt, tt))), omega arith, ((tt, (tt, tt)), omega arith, tt))
     (omega arith) (omega arith) (omega arith) refl prints_variable_image refl
 
--- 10 PRINT "A";1/0;
+-- 10 PRINT "AA";1/0;
 pub prints_and_faults : IsKept prints_and_faults_image program.prints_and_faults
 unfolding encoded
 prints_and_faults = compiled_keeps program.prints_and_faults (more (omega arith) none)
@@ -165,7 +165,7 @@ prints_forever = compiled_keeps program.prints_forever (more (omega arith) (more
     ((tt, (omega arith, tt)), omega arith, ((tt, (omega arith, tt)), omega arith, tt))
     (omega arith) (omega arith) (omega arith) refl prints_forever_image refl
 
--- 10 IF A=0 THEN PRINT "A";, 20 END
+-- 10 IF A=0 THEN PRINT "AA";, 20 END
 pub prints_if_zero : IsKept prints_if_zero_image program.prints_if_zero
 unfolding encoded
 prints_if_zero = compiled_keeps program.prints_if_zero (more (omega arith) (more (omega arith) none))
@@ -319,6 +319,30 @@ prints_rest = compiled_keeps program.prints_rest (more (omega arith) (more (omeg
     (omega arith, omega arith, (omega arith, omega arith, tt))
     ((tt, ((omega arith, omega arith), ((omega arith, omega arith), (omega arith, (omega arith, tt))))), omega arith, ((tt, ((omega arith, omega arith), ((omega arith, omega arith), ((omega arith, omega arith), (omega arith, ((omega arith, omega arith), (omega arith, (omega arith, (tt, tt))))))))), omega arith, tt))
     (omega arith) (omega arith) (omega arith) refl prints_rest_image refl
+
+-- 10 LET A=A-1, 20 PRINT A-A/3*3;
+pub prints_rest_by_three : IsKept prints_rest_by_three_image program.prints_rest_by_three
+unfolding encoded
+prints_rest_by_three = compiled_keeps program.prints_rest_by_three (more (omega arith) (more (omega arith) none))
+    (omega arith, omega arith, (omega arith, omega arith, tt))
+    ((tt, ((omega arith, omega arith), ((omega arith, omega arith), (omega arith, (omega arith, tt))))), omega arith, ((tt, ((omega arith, omega arith), ((omega arith, omega arith), ((omega arith, omega arith), (omega arith, ((omega arith, omega arith), (omega arith, (omega arith, (tt, tt))))))))), omega arith, tt))
+    (omega arith) (omega arith) (omega arith) refl prints_rest_by_three_image refl
+
+-- 10 LET A=A+25, 20 LET B=B+4, 30 PRINT A-A/B*B;
+pub prints_rest_of_bytes : IsKept prints_rest_of_bytes_image program.prints_rest_of_bytes
+unfolding encoded
+prints_rest_of_bytes = compiled_keeps program.prints_rest_of_bytes (more (omega arith) (more (omega arith) (more (omega arith) none)))
+    (omega arith, omega arith, (omega arith, omega arith, (omega arith, omega arith, tt)))
+    ((tt, ((omega arith, omega arith), ((omega arith, omega arith), (omega arith, (omega arith, tt))))), omega arith, ((tt, ((omega arith, omega arith), ((omega arith, omega arith), (omega arith, (omega arith, tt))))), omega arith, ((tt, ((omega arith, omega arith), ((omega arith, omega arith), ((omega arith, omega arith), (omega arith, ((omega arith, omega arith), (omega arith, (omega arith, (tt, tt))))))))), omega arith, tt)))
+    (omega arith) (omega arith) (omega arith) refl prints_rest_of_bytes_image refl
+
+-- 10 PRINT "A",1;
+pub prints_in_zones : IsKept prints_in_zones_image program.prints_in_zones
+unfolding encoded
+prints_in_zones = compiled_keeps program.prints_in_zones (more (omega arith) none)
+    (omega arith, omega arith, tt)
+    ((tt, (omega arith, (tt, ((omega arith, omega arith), (tt, tt))))), omega arith, tt)
+    (omega arith) (omega arith) (omega arith) refl prints_in_zones_image refl
 
 -- 10 IF A-1<256 THEN PRINT "A";, 20 END
 pub prints_if_below_256 : IsKept prints_if_below_256_image program.prints_if_below_256

@@ -4,7 +4,8 @@ use Rattle.tb_memmap.specs.Regions.{BASIC_START}
 use Rattle.tb_refutations.specs.Compiled.{goto_itself_image, ends_image, prints_variable_image, prints_two_image, prints_and_faults_image}
 use Rattle.tb_refutations.specs.Compiled.{prints_quotient_image, prints_negative_quotient_image, compares_far_image}
 use Rattle.tb_refutations.specs.Compiled.{prints_quotient_by_256_image, prints_if_256_image, prints_if_positive_image}
-use Rattle.tb_refutations.specs.Compiled.{prints_if_below_256_image, prints_rest_image, goes_nowhere_image, inputs_two_image}
+use Rattle.tb_refutations.specs.Compiled.{prints_if_below_256_image, prints_rest_image, prints_rest_by_three_image}
+use Rattle.tb_refutations.specs.Compiled.{prints_rest_of_bytes_image, prints_in_zones_image, goes_nowhere_image, inputs_two_image}
 use Rattle.tb_refutations.specs.Compiled.{calls_itself_image, calls_and_returns_image, goes_to_sum_image, prints_forever_image}
 use Rattle.tb_refutations.specs.Compiled.{prints_if_zero_image}
 
@@ -45,11 +46,11 @@ abbrev pub quotient_before_text : List ℕ
 quotient_before_text = changed prints_and_faults_image 0x0c11 (
     0x0a ∷ 0x8d ∷ 0x3a ∷ 0xc0 ∷ 0xa9 ∷ 0x00 ∷ 0x8d ∷ 0x3b ∷ 0xc0 ∷ 0xa9 ∷ 0x01 ∷ 0x85 ∷ 0xfb ∷ 0xa9 ∷ 0x00 ∷ 0x85 ∷ 0xfc ∷ 0xa9 ∷ 0x00 ∷ 0x85 ∷
     0xfd ∷ 0xa9 ∷ 0x00 ∷ 0x85 ∷ 0xfe ∷ 0x20 ∷ 0x2e ∷ 0x08 ∷ 0xa5 ∷ 0xfb ∷ 0x8d ∷ 0x40 ∷ 0xc0 ∷ 0xa5 ∷ 0xfc ∷ 0x8d ∷ 0x41 ∷ 0xc0 ∷ 0xa9 ∷ 0x4a ∷
-    0x85 ∷ 0xfb ∷ 0xa9 ∷ 0x0c ∷ 0x85 ∷ 0xfc ∷ 0xa9 ∷ 0x01 ∷ 0x8d ∷ 0x6c ∷ 0xc0 ∷ 0x20 ∷ 0xd9 ∷ 0x09 ∷ 0x4c ∷ 0x4b ∷ 0x0c ∷ 0x41 ∷ [])
+    0x85 ∷ 0xfb ∷ 0xa9 ∷ 0x0c ∷ 0x85 ∷ 0xfc ∷ 0xa9 ∷ 0x02 ∷ 0x8d ∷ 0x6c ∷ 0xc0 ∷ 0x20 ∷ 0xd9 ∷ 0x09 ∷ 0x4c ∷ 0x4c ∷ 0x0c ∷ 0x41 ∷ 0x41 ∷ [])
 
 -- 0 instead of 1, and three NOP instead of the division
 abbrev pub folded_to_zero : List ℕ
-folded_to_zero = changed (changed prints_and_faults_image 0x0c2f (0x00 ∷ [])) 0x0c3e (0xea ∷ 0xea ∷ 0xea ∷ [])
+folded_to_zero = changed (changed prints_and_faults_image 0x0c30 (0x00 ∷ [])) 0x0c3f (0xea ∷ 0xea ∷ 0xea ∷ [])
 
 -- STY and STX, of 0, instead of each last ROL that completes a byte of the quotient
 abbrev pub quotient_left_zero : List ℕ
@@ -82,6 +83,18 @@ sign_not_turned = changed prints_if_below_256_image 0x0c24 (0xea ∷ 0xea ∷ []
 -- 0 in place of the high byte whose sign a remainder gets
 abbrev pub sign_not_looked_at : List ℕ
 sign_not_looked_at = changed prints_rest_image 0x0c32 (0xa0 ∷ 0x00 ∷ 0xea ∷ [])
+
+-- 0 in place of the high byte whose sign the rest of a multiple gets
+abbrev pub sign_of_rest_lost : List ℕ
+sign_of_rest_lost = changed prints_rest_by_three_image 0x0cf6 (0xa0 ∷ 0x00 ∷ 0xea ∷ [])
+
+-- two NOP in place of the branch to the call if more than four divisors are in a byte
+abbrev pub fifth_difference_forgotten : List ℕ
+fifth_difference_forgotten = changed prints_rest_of_bytes_image 0x0c89 (0xea ∷ 0xea ∷ [])
+
+-- the call of CHROUT in place of that of Send, which counts columns
+abbrev pub byte_not_counted : List ℕ
+byte_not_counted = changed prints_in_zones_image 0x0c13 (0xd2 ∷ 0xff ∷ [])
 
 -- the fault's digit at $026D, which the ROM may write, instead of $C06D
 abbrev pub digit_in_rom_memory : List ℕ

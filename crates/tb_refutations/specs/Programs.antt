@@ -2,7 +2,7 @@
 use Rattle.std.specs.Prelude.{ℕ, false, [], ◌∷◌}
 use Rattle.tb_words.specs.declared.Rel.TheVariants.{Eq, Gt, Lt}
 use Rattle.tb_syntax.specs.declared.expressions.Operator.TheVariants.{Add, Subtract, Multiply, Divide}
-use Rattle.tb_syntax.specs.Source.{Program, Numbered, Statement, Number, Variable, Binary, Text, Value}
+use Rattle.tb_syntax.specs.Source.{Program, Numbered, Statement, Number, Variable, Binary, Text, Value, Zone}
 use Rattle.tb_syntax.specs.Source.{Let, Print, Input, If, Goto, Gosub, Return, End}
 
 -- a line by its number and its statement
@@ -44,9 +44,9 @@ prints_two = line 10 (Print (Text (65 ∷ 65 ∷ []) ∷ []) false) ∷ line 20 
 abbrev pub faults : Program
 faults = line 10 (Print (Value (Binary Divide (Number 1) (Number 0)) ∷ []) false) ∷ []
 
--- 10 PRINT "A";1/0;
+-- 10 PRINT "AA";1/0;
 abbrev pub prints_and_faults : Program
-prints_and_faults = line 10 (Print (Text (65 ∷ []) ∷ Value (Binary Divide (Number 1) (Number 0)) ∷ []) false) ∷ []
+prints_and_faults = line 10 (Print (Text (65 ∷ 65 ∷ []) ∷ Value (Binary Divide (Number 1) (Number 0)) ∷ []) false) ∷ []
 
 -- 10 PRINT 1/(A+1);
 abbrev pub prints_quotient : Program
@@ -81,10 +81,10 @@ goes_to_sum = line 10 (Goto (Binary Add (Variable 0) (Number 20))) ∷ line 20 E
 abbrev pub prints_forever : Program
 prints_forever = line 10 print_a ∷ line 20 (Goto (Number 10)) ∷ []
 
--- 10 IF A=0 THEN PRINT "A";
+-- 10 IF A=0 THEN PRINT "AA";
 -- 20 END
 abbrev pub prints_if_zero : Program
-prints_if_zero = line 10 (If (Variable 0) Eq (Number 0) print_a) ∷ line 20 End ∷ []
+prints_if_zero = line 10 (If (Variable 0) Eq (Number 0) (Print (Text (65 ∷ 65 ∷ []) ∷ []) false)) ∷ line 20 End ∷ []
 
 -- 10 IF A-20000<A+20000 THEN PRINT "A";
 -- 20 END
@@ -117,6 +117,25 @@ abbrev pub prints_rest : Program
 prints_rest =
     line 10 (Let 0 (Binary Subtract (Variable 0) (Number 1)))
     ∷ line 20 (Print (Value (Binary Subtract (Variable 0) (Binary Multiply (Binary Divide (Variable 0) (Number 4)) (Number 4))) ∷ []) false) ∷ []
+
+-- 10 LET A=A-1
+-- 20 PRINT A-A/3*3;
+abbrev pub prints_rest_by_three : Program
+prints_rest_by_three =
+    line 10 (Let 0 (Binary Subtract (Variable 0) (Number 1)))
+    ∷ line 20 (Print (Value (Binary Subtract (Variable 0) (Binary Multiply (Binary Divide (Variable 0) (Number 3)) (Number 3))) ∷ []) false) ∷ []
+
+-- 10 LET A=A+25
+-- 20 LET B=B+4
+-- 30 PRINT A-A/B*B;
+abbrev pub prints_rest_of_bytes : Program
+prints_rest_of_bytes =
+    line 10 (Let 0 (Binary Add (Variable 0) (Number 25))) ∷ line 20 (Let 1 (Binary Add (Variable 1) (Number 4)))
+    ∷ line 30 (Print (Value (Binary Subtract (Variable 0) (Binary Multiply (Binary Divide (Variable 0) (Variable 1)) (Variable 1))) ∷ []) false) ∷ []
+
+-- 10 PRINT "A",1;
+abbrev pub prints_in_zones : Program
+prints_in_zones = line 10 (Print (Text (65 ∷ []) ∷ Zone ∷ Value (Number 1) ∷ []) false) ∷ []
 
 -- 10 LET A=1
 -- 20 PRINT A;

@@ -7,6 +7,7 @@ ghost use Rattle.tb_refutations.specs.Changed.{quotient_before_text, folded_to_z
 ghost use Rattle.tb_refutations.specs.Changed.{quotient_rounded_down, difference_wrapped};
 ghost use Rattle.tb_refutations.specs.Changed.{sign_not_turned};
 ghost use Rattle.tb_refutations.specs.Changed.{sign_not_looked_at};
+ghost use Rattle.tb_refutations.specs.Changed.{sign_of_rest_lost, fifth_difference_forgotten, byte_not_counted};
 ghost use Rattle.tb_refutations.specs.Changed.{zero_not_asked};
 ghost use Rattle.tb_refutations.specs.Changed.{high_byte_ignored};
 ghost use Rattle.tb_refutations.specs.Changed.{upper_byte_rounded_down};
@@ -16,7 +17,7 @@ ghost use Rattle.tb_refutations.specs.Changed.{high_byte_for_low, poll_at_jump_a
 ghost use Rattle.tb_refutations.specs.Programs.{ends, goto_itself, prints_two, prints_variable, prints_and_faults};
 ghost use Rattle.tb_refutations.specs.Programs.{prints_negative_quotient, compares_far};
 ghost use Rattle.tb_refutations.specs.Programs.{prints_if_below_256};
-ghost use Rattle.tb_refutations.specs.Programs.{prints_rest};
+ghost use Rattle.tb_refutations.specs.Programs.{prints_rest, prints_rest_by_three, prints_rest_of_bytes, prints_in_zones};
 ghost use Rattle.tb_refutations.specs.Programs.{prints_if_positive};
 ghost use Rattle.tb_refutations.specs.Programs.{prints_if_256};
 ghost use Rattle.tb_refutations.specs.Programs.{prints_quotient_by_256};
@@ -111,6 +112,21 @@ pub fn negative_is_above_constant()
 /// What is left over of -1 is 3.
 pub fn remainder_without_its_sign()
     ensures { IsRefuted sign_not_looked_at prints_rest }
+{}
+
+/// What is left over of -1 by 3 is 1.
+pub fn remainder_by_three_without_its_sign()
+    ensures { IsRefuted sign_of_rest_lost prints_rest_by_three }
+{}
+
+/// What is left over of 25 by 4 is 9.
+pub fn remainder_after_four_differences()
+    ensures { IsRefuted fifth_difference_forgotten prints_rest_of_bytes }
+{}
+
+/// A byte alone does not count for the zones.
+pub fn byte_in_no_column()
+    ensures { IsRefuted byte_not_counted prints_in_zones }
 {}
 
 /// A byte is kept where the ROM's interrupts may write.

@@ -1,7 +1,8 @@
 -- Renamed lines make the renamed program.
 use Rattle.std.proofs.Common.{◌≡◌, ℕ, ◌+◌, Bool, true, false, cond, List, [], ◌∷◌, map, Ok, refl, ap, sym, ◌∙◌, subst, nat_lt, ◌==◌}
 use Rattle.tb_syntax.specs.Source.{Statement, Program}
-use Rattle.tb_parser.specs.Files.{LinesAre, at_end, edited, end, good, line_at, with_line, without_line}
+use Rattle.tb_parser.specs.declared.notation.Notation.{Notation}
+use Rattle.tb_parser.specs.Files.{LinesIn, at_end, edited, end, good, line_at, with_line, without_line}
 use Rattle.tb_parser.specs.Readings.{Edit, Nothing, Sets, Deletes}
 use Rattle.tb_source_names.specs.Lines.{does}
 use Rattle.tb_source_names.specs.Sources.{edits_of, made_of, program_of}
@@ -47,15 +48,15 @@ pub renamed_made : (f : ℕ → ℕ) (es : List Edit) → program_of (map (renam
 renamed_made f es = made f [] es
 
 -- the same of what the lines of a text make, from a line on
-lines_make : (letters : Letters) (n : ℕ) (p : Program) (ls : List SourceLine) → AreRenamed letters ls
-    → LinesAre n p (map (text_after letters) ls) (at_end (made_of p (map (renamed_edit (renamed_letter letters)) (edits_of ls))))
-lines_make letters n p [] are = end n p
-lines_make letters n p (l ∷ ls) (is, are) =
+lines_make : (notation : Notation) (letters : Letters) (n : ℕ) (p : Program) (ls : List SourceLine) → AreRenamed notation letters ls
+    → LinesIn notation n p (map (text_after letters) ls) (at_end (made_of p (map (renamed_edit (renamed_letter letters)) (edits_of ls))))
+lines_make notation letters n p [] are = end n p
+lines_make notation letters n p (l ∷ ls) (is, are) =
     let e = renamed_edit (renamed_letter letters) (does l.edit) in
-    good n p (text_after letters l) (map (text_after letters) ls) e _ is (lines_make letters (n + 1) (edited e p) ls are)
+    good n p (text_after letters l) (map (text_after letters) ls) e _ is (lines_make notation letters (n + 1) (edited e p) ls are)
 
 -- what the lines of the renamed text make
-pub text_makes : (letters : Letters) (ls : List SourceLine) → AreRenamed letters ls
-    → LinesAre 1 [] (map (text_after letters) ls) (at_end (renamed_program (renamed_letter letters) (program_of (edits_of ls))))
-text_makes letters ls are =
-    subst (λ p. LinesAre 1 [] (map (text_after letters) ls) (at_end p)) (renamed_made (renamed_letter letters) (edits_of ls)) (lines_make letters 1 [] ls are)
+pub text_makes : (notation : Notation) (letters : Letters) (ls : List SourceLine) → AreRenamed notation letters ls
+    → LinesIn notation 1 [] (map (text_after letters) ls) (at_end (renamed_program (renamed_letter letters) (program_of (edits_of ls))))
+text_makes notation letters ls are =
+    subst (λ p. LinesIn notation 1 [] (map (text_after letters) ls) (at_end p)) (renamed_made (renamed_letter letters) (edits_of ls)) (lines_make notation letters 1 [] ls are)

@@ -5,8 +5,9 @@ use Rattle.std.specs.Str.{is_utf8}
 use Rattle.serde_json.specs.Data.{Data, member, no_members, null, object, string}
 use Rattle.serde_json.specs.View.{view}
 use Rattle.serde_json.specs.declared.value.Value.{Value}
-use Rattle.tb_parser.specs.Files.{LinesAre, at_end}
-use Rattle.tb_parser.specs.Readings.{LineIs}
+use Rattle.tb_parser.specs.Files.{LinesIn, at_end}
+use Rattle.tb_parser.specs.Readings.{LineIn}
+use Rattle.tb_parser.specs.declared.notation.Notation.{Notation}
 use Rattle.tb_parser.specs.declared.lexer.Token.{Token}
 use Rattle.tb_places.specs.Spans.{piece}
 use Rattle.tb_place_values.specs.Ranges.{range_of}
@@ -94,41 +95,42 @@ abbrev pub edits_of : Letters → List SourceLine → List Data
 edits_of letters lines =
     if letters.old == letters.new then [] else edits_at (spelled (letters.new ∷ [])) (occurrences (name.Variable letters.old) false lines)
 
--- what becomes of a line reads as what the line does, renamed
-abbrev pub IsRenamed : Letters → SourceLine → Type 0
-IsRenamed letters l = LineIs (text_after letters l) (Ok (renamed_edit (renamed_letter letters) (does l.edit)))
+-- what becomes of a line reads as what the line does, renamed, in a notation
+abbrev pub IsRenamed : Notation → Letters → SourceLine → Type 0
+IsRenamed notation letters l = LineIn notation (text_after letters l) (Ok (renamed_edit (renamed_letter letters) (does l.edit)))
 
 -- the same of each line
-abbrev pub AreRenamed : Letters → List SourceLine → Type 0
-AreRenamed letters [] = Unit {0}
-AreRenamed letters (l ∷ ls) = IsRenamed letters l × AreRenamed letters ls
+abbrev pub AreRenamed : Notation → Letters → List SourceLine → Type 0
+AreRenamed notation letters [] = Unit {0}
+AreRenamed notation letters (l ∷ ls) = IsRenamed notation letters l × AreRenamed notation letters ls
 
 -- The answer: the edits of all places; the new text reads, line by line, as the lines renamed, and what its lines make is
 -- the program of the good lines, renamed.
-pub record IsRenaming (uri : List ℕ) (letters : Letters) (lines : List SourceLine) (v : Data) : Type 0 where
+pub record IsRenaming (notation : Notation) (uri : List ℕ) (letters : Letters) (lines : List SourceLine) (v : Data) : Type 0 where
   pub edits : v ≡ changes uri (edits_of letters lines)
-  pub reads : AreRenamed letters lines
-  pub makes : LinesAre 1 [] (map (text_after letters) lines) (at_end (renamed_program (renamed_letter letters) (program_of (all_edits lines))))
+  pub reads : AreRenamed notation letters lines
+  pub makes : LinesIn notation 1 [] (map (text_after letters) lines) (at_end (renamed_program (renamed_letter letters) (program_of (all_edits lines))))
 
 -- a renaming, or that the new text would read otherwise
-abbrev pub Changes : List ℕ → Letters → List SourceLine → Result Value Refusal → Type 0
-Changes uri letters lines (Ok v) = IsRenaming uri letters lines (view v)
-Changes uri letters lines (Err refusal) = refusal ≡ ReadsOtherwise
+abbrev pub Changes : Notation → List ℕ → Letters → List SourceLine → Result Value Refusal → Type 0
+Changes notation uri letters lines (Ok v) = IsRenaming notation uri letters lines (view v)
+Changes notation uri letters lines (Err refusal) = refusal ≡ ReadsOtherwise
 
 -- the same by why a text is not renamed
-abbrev pub ChangesBy : Option Refusal → List ℕ → Letters → List SourceLine → Result Value Refusal → Type 0
-ChangesBy None uri letters lines r = Changes uri letters lines r
-ChangesBy (Some refusal) uri letters lines r = r ≡ Err refusal
+abbrev pub ChangesBy : Option Refusal → Notation → List ℕ → Letters → List SourceLine → Result Value Refusal → Type 0
+ChangesBy None notation uri letters lines r = Changes notation uri letters lines r
+ChangesBy (Some refusal) notation uri letters lines r = r ≡ Err refusal
 
 -- the answer by the letters
-abbrev pub RenamesLetters : List ℕ → Letters → List SourceLine → Result Value Refusal → Type 0
-RenamesLetters uri letters lines r = ChangesBy (refusal_of letters lines) uri letters lines r
+abbrev pub RenamesLetters : Notation → List ℕ → Letters → List SourceLine → Result Value Refusal → Type 0
+RenamesLetters notation uri letters lines r = ChangesBy (refusal_of letters lines) notation uri letters lines r
 
 -- the same, or why there are none
-abbrev pub RenamesBy : Result Letters Refusal → List ℕ → List SourceLine → Result Value Refusal → Type 0
-RenamesBy (Ok letters) uri lines r = RenamesLetters uri letters lines r
-RenamesBy (Err refusal) uri lines r = r ≡ Err refusal
+abbrev pub RenamesBy : Result Letters Refusal → Notation → List ℕ → List SourceLine → Result Value Refusal → Type 0
+RenamesBy (Ok letters) notation uri lines r = RenamesLetters notation uri letters lines r
+RenamesBy (Err refusal) notation uri lines r = r ≡ Err refusal
 
--- the answer: why the variable at a place isn't renamed, in the order of the checks, or how it is
-abbrev pub Renames : List ℕ → ℕ → ℕ → Option ℕ → List SourceLine → Result Value Refusal → Type 0
-Renames uri line character letter lines r = RenamesBy (letters_of (name_at line character lines) letter) uri lines r
+-- the answer for lines of a notation: why the variable at a place isn't renamed, in the order of the checks, or how it
+-- is
+abbrev pub Renames : Notation → List ℕ → ℕ → ℕ → Option ℕ → List SourceLine → Result Value Refusal → Type 0
+Renames notation uri line character letter lines r = RenamesBy (letters_of (name_at line character lines) letter) notation uri lines r

@@ -1,6 +1,6 @@
 //! The new lines of a text in which a variable is renamed, and whether they read so.
 ghost use Rattle.std.specs.Prelude.{◌≡◌, IfOk, IsTrue, Ok};
-ghost use Rattle.tb_parser.specs.Readings.{LineIs};
+ghost use Rattle.tb_parser.specs.Readings.{LineIn};
 ghost use Rattle.tb_source_names.specs.Lines.{does};
 ghost use Rattle.tb_rename.specs.Rename.{AreRenamed, IsRenamed};
 ghost use Rattle.tb_rename.specs.Renamed as spec;
@@ -8,7 +8,7 @@ ghost use Rattle.tb_rename.specs.Renamed as spec;
 use crate::comparing::is_renamed_edit;
 use crate::letters::Letters;
 use std::alloc::{AllocError, Global};
-use tb_parser::{SourceErrorKind, read_line};
+use tb_parser::{Notation, SourceErrorKind, read_line_in};
 use tb_source_names::{Line, Source, Variable, variables_of};
 
 // Writes the new letter in place of a variable, if it is the one that is renamed.
@@ -50,16 +50,17 @@ fn text_after(alloc: Global, letters: Letters, line: &Line<'_>) -> Result<Vec<u8
 // Whether a text reads as a line, renamed.
 fn reads_renamed(
     alloc: Global,
+    notation: Notation,
     letters: Letters,
     line: &Line<'_>,
     text: &[u8],
 ) -> Result<bool, AllocError>
-    ensures { IfOk result (λ is. IsTrue is → LineIs text.now (Ok (spec.renamed_edit (spec.renamed_letter letters) (does line.now.edit)))) }
+    ensures { IfOk result (λ is. IsTrue is → LineIn notation text.now (Ok (spec.renamed_edit (spec.renamed_letter letters) (does line.now.edit)))) }
 {
     let Some(old) = &line.edit else {
         return Ok(false);
     };
-    match read_line(alloc, text) {
+    match read_line_in(alloc, notation, text) {
         Ok(new) => Ok(is_renamed_edit(letters, old, &new)),
         Err(fault) => match fault.kind {
             SourceErrorKind::NoMemory => Err(AllocError),
@@ -69,19 +70,25 @@ fn reads_renamed(
 }
 
 // Whether what becomes of a line reads as the line, renamed.
-fn is_renamed(alloc: Global, letters: Letters, line: &Line<'_>) -> Result<bool, AllocError>
-    ensures { IfOk result (λ is. IsTrue is → IsRenamed letters line.now) }
+fn is_renamed(
+    alloc: Global,
+    notation: Notation,
+    letters: Letters,
+    line: &Line<'_>,
+) -> Result<bool, AllocError>
+    ensures { IfOk result (λ is. IsTrue is → IsRenamed notation letters line.now) }
 {
     let text = text_after(alloc, letters, line)?;
-    reads_renamed(alloc, letters, line, text.as_slice())
+    reads_renamed(alloc, notation, letters, line, text.as_slice())
 }
 
-/// Whether what becomes of each line reads as the line, renamed. Fails only if memory runs out.
+/// Whether what becomes of each line reads as the line, renamed, in the source's notation. Fails only if memory runs
+/// out.
 pub fn are_renamed(alloc: Global, letters: Letters, source: &Source<'_>) -> Result<bool, AllocError>
-    ensures { IfOk result (λ are. IsTrue are → AreRenamed letters source.now.lines.items) }
+    ensures { IfOk result (λ are. IsTrue are → AreRenamed source.now.notation letters source.now.lines.items) }
 {
     for line in &source.lines {
-        if !is_renamed(alloc, letters, line)? {
+        if !is_renamed(alloc, source.notation, letters, line)? {
             return Ok(false);
         }
     }

@@ -115,7 +115,7 @@ fn changes(
     source: &Source<'_>,
     letters: Letters,
 ) -> Result<Result<Value, Refusal>, AllocError>
-    ensures { IfOk result (spec.Changes uri.now letters source.now.lines.items) }
+    ensures { IfOk result (spec.Changes source.now.notation uri.now letters source.now.lines.items) }
 {
     if !are_renamed(alloc, letters, source)? {
         return Ok(Err(Refusal::ReadsOtherwise));
@@ -131,7 +131,7 @@ fn rename_letters(
     source: &Source<'_>,
     letters: Letters,
 ) -> Result<Result<Value, Refusal>, AllocError>
-    ensures { IfOk result (spec.RenamesLetters uri.now letters source.now.lines.items) }
+    ensures { IfOk result (spec.RenamesLetters source.now.notation uri.now letters source.now.lines.items) }
 {
     match refusal_of(alloc, source, letters)? {
         Some(refusal) => Ok(Err(refusal)),
@@ -149,7 +149,7 @@ pub fn rename(
     character: usize,
     letter: Option<u8>,
 ) -> Result<Result<Value, Refusal>, AllocError>
-    ensures { IfOk result (spec.Renames uri.now line character letter source.now.lines.items) }
+    ensures { IfOk result (spec.Renames source.now.notation uri.now line character letter source.now.lines.items) }
 {
     match letters_of(name_at(source, line, character), letter) {
         Ok(letters) => rename_letters(alloc, uri, source, letters),

@@ -7,7 +7,8 @@ use Rattle.tb_parser.specs.declared.errors.SourceError.{SourceError}
 use Rattle.tb_parser.specs.declared.errors.SourceErrorKind.{SourceErrorKind}
 use Rattle.tb_parser.specs.declared.errors.SourceErrorKind.TheVariants as kind
 use Rattle.tb_parser.specs.Answers.{refusal_of}
-use Rattle.tb_parser.specs.Files.{LinesAre, refused_at}
+use Rattle.tb_parser.specs.declared.notation.Notation.{Notation}
+use Rattle.tb_parser.specs.Files.{LinesIn, refused_at}
 use Rattle.tb_parser.specs.Lines.{lines_of_file}
 use Rattle.tb_renumbering.specs.Jumps.{first_fault}
 use Rattle.tb_renumbering.specs.Renumbered.{are_low, new_number, renumbered}
@@ -26,9 +27,9 @@ by_kind _ e = Source e
 abbrev pub of_source : SourceError → Refusal
 of_source e = by_kind e.kind e
 
--- what the lines of a text make is this program
-abbrev pub IsProgramOf : List ℕ → Program → Type 0
-IsProgramOf text program = LinesAre 1 [] (lines_of_file text) (Ok program)
+-- what the lines of a text make in a notation is this program
+abbrev pub IsProgramOf : Notation → List ℕ → Program → Type 0
+IsProgramOf notation text program = LinesIn notation 1 [] (lines_of_file text) (Ok program)
 
 -- each jump goes to a line by a constant, and no line gets a number above the highest
 abbrev pub IsMovable : (first step : ℕ) → Program → Type 0
@@ -59,27 +60,27 @@ of_text _ = Other
 
 -- The answer for a program whose source has these lines: its new text, no line of which is too long, and which reads as
 -- the program renumbered, which has the program's runs; or why there is none, where the new text is looked at last.
-abbrev pub RenumbersLines : (first step : ℕ) → List ℕ → List SourceLine → Program → Result (Vec ℕ Global) Refusal → Type 0
-RenumbersLines first step source lines program (Ok text) =
+abbrev pub RenumbersLines : Notation → (first step : ℕ) → List ℕ → List SourceLine → Program → Result (Vec ℕ Global) Refusal → Type 0
+RenumbersLines notation first step source lines program (Ok text) =
     IsMovable first step program × (text.items ≡ new_text (new_number first step (numbers program)) lines source)
     × (first_long (new_number first step (numbers program)) lines ≡ None)
-    × IsProgramOf text.items (renumbered first step program) × RunAlike (new_number first step (numbers program)) program (renumbered first step program)
-RenumbersLines first step source lines program (Err (Source e)) = ⊥
-RenumbersLines first step source lines program (Err (Jump n fault)) = Refuses first step program (Jump n fault)
-RenumbersLines first step source lines program (Err AboveHighest) = Refuses first step program AboveHighest
-RenumbersLines first step source lines program (Err (LineTooLong n)) =
+    × IsProgramOf notation text.items (renumbered first step program) × RunAlike (new_number first step (numbers program)) program (renumbered first step program)
+RenumbersLines notation first step source lines program (Err (Source e)) = ⊥
+RenumbersLines notation first step source lines program (Err (Jump n fault)) = Refuses first step program (Jump n fault)
+RenumbersLines notation first step source lines program (Err AboveHighest) = Refuses first step program AboveHighest
+RenumbersLines notation first step source lines program (Err (LineTooLong n)) =
     IsMovable first step program × (first_long (new_number first step (numbers program)) lines ≡ Some n)
-RenumbersLines first step source lines program (Err Other) =
+RenumbersLines notation first step source lines program (Err Other) =
     IsMovable first step program × (first_long (new_number first step (numbers program)) lines ≡ None)
-RenumbersLines first step source lines program (Err NoMemory) = Unit {0}
+RenumbersLines notation first step source lines program (Err NoMemory) = Unit {0}
 
 -- the same, by lines that the source has
-abbrev pub RenumbersProgram : (first step : ℕ) → List ℕ → Program → Result (Vec ℕ Global) Refusal → Type 0
-RenumbersProgram first step source program result =
-    (lines : List SourceLine) × AreLinesOf source lines × RenumbersLines first step source lines program result
+abbrev pub RenumbersProgram : Notation → (first step : ℕ) → List ℕ → Program → Result (Vec ℕ Global) Refusal → Type 0
+RenumbersProgram notation first step source program result =
+    (lines : List SourceLine) × AreLinesOf notation source lines × RenumbersLines notation first step source lines program result
 
 -- the answer for a source: the parser's refusal, or that for its program
-abbrev pub Renumbers : (first step : ℕ) → List ℕ → Result (Vec ℕ Global) Refusal → Type 0
-Renumbers first step source (Err (Source e)) = IfSome (refusal_of e.kind e.column) (λ r. LinesAre 1 [] (lines_of_file source) (Err (refused_at e.line r)))
-Renumbers first step source (Err NoMemory) = Unit {0}
-Renumbers first step source result = (program : Program) × IsProgramOf source program × RenumbersProgram first step source program result
+abbrev pub Renumbers : Notation → (first step : ℕ) → List ℕ → Result (Vec ℕ Global) Refusal → Type 0
+Renumbers notation first step source (Err (Source e)) = IfSome (refusal_of e.kind e.column) (λ r. LinesIn notation 1 [] (lines_of_file source) (Err (refused_at e.line r)))
+Renumbers notation first step source (Err NoMemory) = Unit {0}
+Renumbers notation first step source result = (program : Program) × IsProgramOf notation source program × RenumbersProgram notation first step source program result

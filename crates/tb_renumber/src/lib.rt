@@ -11,4 +11,5 @@ mod texts;
 
 pub use refusals::Refusal;
 pub use renumbering::renumber;
+pub use tb_parser::Notation;
 pub use tb_renumbering::{JumpFault, Numbering};

@@ -15,7 +15,7 @@ pub enum Refusal {
     AboveHighest,
     /// A line, by its old number, would have more than 255 bytes.
     LineTooLong(u16),
-    /// The new text would be another program.
+    /// The new text would be another program, or none: a line with signs may stand for more than 255 bytes.
     Other,
     /// Memory ran out.
     NoMemory,

@@ -9,7 +9,7 @@ ghost use Rattle.tb_renumber.specs.Answers.{IsMovable, IsOther, IsProgramOf, Ref
 use crate::refusals::Refusal;
 use crate::texts::renumbered_text;
 use std::alloc::Global;
-use tb_parser::{Program, SourceError, SourceErrorKind, parse};
+use tb_parser::{Notation, Program, SourceError, SourceErrorKind, parse_in};
 use tb_renumbering::{Numbering, is_renumbered, jump_fault};
 use tb_source_names::{Source, read_source};
 
@@ -37,17 +37,18 @@ fn of_text(e: SourceError) -> Refusal
     }
 }
 
-// Reads the new text again: it is to be the program renumbered.
+// Reads the new text again, in the same notation: it is to be the program renumbered.
 fn read_again(
     alloc: Global,
+    notation: Notation,
     program: &Program,
     numbering: Numbering,
     text: &[u8],
 ) -> Result<(), Refusal>
-    ensures { MatchResult result (λ _. IsProgramOf text.now (renumbered numbering.first numbering.step (lines_of program.now))
+    ensures { MatchResult result (λ _. IsProgramOf notation text.now (renumbered numbering.first numbering.step (lines_of program.now))
         × Rises 1 32768 (numbers (renumbered numbering.first numbering.step (lines_of program.now)))) IsOther }
 {
-    let new = match parse(alloc, text) {
+    let new = match parse_in(alloc, notation, text) {
         Ok(new) => new,
         Err(e) => return Err(of_text(e)),
     };
@@ -60,27 +61,34 @@ fn read_again(
 // A source with these lines, of this program, renumbered.
 fn renumber_lines(
     alloc: Global,
+    notation: Notation,
     text: &[u8],
     source: &Source<'_>,
     program: &Program,
     numbering: Numbering,
 ) -> Result<Vec<u8>, Refusal>
     requires rising { Rises 1 32768 (numbers (lines_of program.now)) }
-    requires lines { AreLinesOf text.now source.now.lines.items }
-    ensures { RenumbersLines numbering.first numbering.step text.now source.now.lines.items (lines_of program.now) result }
+    requires lines { AreLinesOf notation text.now source.now.lines.items }
+    ensures { RenumbersLines notation numbering.first numbering.step text.now source.now.lines.items (lines_of program.now) result }
 {
     check(program, numbering)?;
     let new = renumbered_text(alloc, text, source, program, numbering)?;
-    read_again(alloc, program, numbering, new.as_slice())?;
+    read_again(alloc, notation, program, numbering, new.as_slice())?;
     Ok(new)
 }
 
-/// The text of a source with its lines renumbered, and its jumps with them. Refused, in this order: a text that is no
-/// program, a jump that can't be renumbered, a number above 32,767, a line of more than 255 bytes; or memory runs out.
-pub fn renumber(alloc: Global, source: &[u8], numbering: Numbering) -> Result<Vec<u8>, Refusal>
-    ensures { Renumbers numbering.first numbering.step source.now result }
+/// The text of a source, whose texts are read in a notation, with its lines renumbered, and its jumps with them.
+/// Refused, in this order: a text that is no program, a jump that can't be renumbered, a number above 32,767, a line of
+/// more than 255 bytes; or memory runs out.
+pub fn renumber(
+    alloc: Global,
+    notation: Notation,
+    source: &[u8],
+    numbering: Numbering,
+) -> Result<Vec<u8>, Refusal>
+    ensures { Renumbers notation numbering.first numbering.step source.now result }
 {
-    let program = parse(alloc, source)?;
-    let read = read_source(alloc, source)?;
-    renumber_lines(alloc, source, &read, &program, numbering)
+    let program = parse_in(alloc, notation, source)?;
+    let read = read_source(alloc, notation, source)?;
+    renumber_lines(alloc, notation, source, &read, &program, numbering)
 }

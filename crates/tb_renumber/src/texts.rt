@@ -1,10 +1,11 @@
 //! A source's text with other numbers.
-ghost use Rattle.std.specs.Prelude.{◌≡◌, true, IfOk, MatchResult, None, OnOk};
+ghost use Rattle.std.specs.Prelude.{◌≡◌, true, IfOk, map, MatchResult, None, OnOk};
 ghost use Rattle.tb_syntax.specs.PlainData.{lines_of};
 ghost use Rattle.tb_syntax.specs.Source.{numbers};
 ghost use Rattle.tb_renumbering.specs.Renumbered.{are_low, new_number};
+ghost use Rattle.tb_parser.specs.Lines.{lines_of_file};
 ghost use Rattle.tb_source_names.specs.Lines.{does};
-ghost use Rattle.tb_source_names.specs.Sources.{AreLinesOf, edits_of};
+ghost use Rattle.tb_source_names.specs.Sources.{edits_of};
 ghost use Rattle.tb_renumber.specs.Answers.{IsLong};
 ghost use Rattle.tb_renumber.specs.Texts as spec;
 
@@ -123,7 +124,7 @@ pub fn renumbered_text(
     numbering: Numbering,
 ) -> Result<Vec<u8>, Refusal>
     requires low { are_low numbering.first numbering.step (numbers (lines_of program.now)) ≡ true }
-    requires lines { AreLinesOf text.now source.now.lines.items }
+    requires lines { map (λ l. l.text.now) source.now.lines.items ≡ lines_of_file text.now }
     ensures { MatchResult result
         (λ new. (new.items ≡ spec.new_text (new_number numbering.first numbering.step (numbers (lines_of program.now))) source.now.lines.items text.now)
         × (spec.first_long (new_number numbering.first numbering.step (numbers (lines_of program.now))) source.now.lines.items ≡ None))

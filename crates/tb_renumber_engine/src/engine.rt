@@ -2,12 +2,14 @@
 ghost use Rattle.std.specs.Prelude.{◌≡◌};
 ghost use Rattle.tb_streams.specs.Failures.{failures_of};
 ghost use Rattle.tb_streams.specs.Uses.{use_of, TakesInput};
-ghost use Rattle.tb_renumber_engine.specs.Renumbers.{of_refusal, ReadsRenumbered, WriteFaults, Writes};
+ghost use Rattle.tb_renumber_engine.specs.Renumbers.{of_refusal, ReadsRenumbered, settings_of, WriteFaults, Writes};
 
 use crate::outcome::RenumberOutcome;
 use std::alloc::Global;
 use std::io::{Read, Write};
-use tb_driver::{CompileSettings, End, Outcome, Tracked, read_source, write_output};
+use tb_driver::{
+    CompileSettings, End, Notation, Outcome, SizeLimit, Tracked, read_source, write_output,
+};
 use tb_renumber::{Numbering, Refusal, renumber};
 
 // A seed changes nothing of what is refused.
@@ -29,21 +31,33 @@ fn of_refusal(refusal: Refusal) -> RenumberOutcome
     }
 }
 
+// How a source is compiled: refused by the cost.
+fn settings_of(notation: Notation) -> CompileSettings
+    ensures { result ≡ settings_of notation }
+{
+    CompileSettings {
+        seed: ANY_SEED,
+        size: SizeLimit::Cost,
+        notation,
+    }
+}
+
 impl RenumberedSource {
-    /// All that a reader gives, a source that is compiled, with other line numbers.
+    /// All that a reader gives, a source that is compiled, its texts read in a notation, with other line numbers.
     pub fn read<R: Read>(
         alloc: Global,
         reader: &mut Tracked<R>,
+        notation: Notation,
         numbering: Numbering,
     ) -> Result<RenumberedSource, RenumberOutcome>
-        ensures answers { ReadsRenumbered numbering.first numbering.step result (use_of R.remaining reader.old reader.new) }
+        ensures answers { ReadsRenumbered notation numbering.first numbering.step result (use_of R.remaining reader.old reader.new) }
         ensures taken { TakesInput (use_of R.remaining reader.old reader.new) }
     {
-        let source = match read_source(alloc, reader, CompileSettings::by_cost(ANY_SEED)) {
+        let source = match read_source(alloc, reader, settings_of(notation)) {
             Ok(source) => source,
             Err(outcome) => return Err(RenumberOutcome::Engine(outcome)),
         };
-        match renumber(alloc, source.text.as_slice(), numbering) {
+        match renumber(alloc, notation, source.text.as_slice(), numbering) {
             Ok(text) => Ok(RenumberedSource { text }),
             Err(refusal) => Err(of_refusal(refusal)),
         }

@@ -6,4 +6,4 @@ mod outcome;
 
 pub use engine::RenumberedSource;
 pub use outcome::RenumberOutcome;
-pub use tb_renumber::Numbering;
+pub use tb_renumber::{Notation, Numbering};

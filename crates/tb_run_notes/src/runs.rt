@@ -115,7 +115,7 @@ fn run_compiled<O: Outside, W: Watch>(
     watch: &mut W,
 ) -> Ran
     ensures machine { Makes (RunsPrg (settings_of O.gives outside.old keyboard limit) (prg_of program.now)) result.made }
-    ensures output { (settings : CompileSettings) (source : List ℕ) → KeepsSource settings.seed source (prg_of program.now)
+    ensures output { (settings : CompileSettings) (source : List ℕ) → KeepsSource settings source (prg_of program.now)
         → Makes (RunsSource settings keyboard.text.items keyboard.answers.items source) result.made }
     ensures note { NotesEnd (settings_of O.gives outside.old keyboard limit) program.now result.note }
 {

@@ -34,12 +34,12 @@ after_space (b ∷ text) other = if b == 32 then text else other
 abbrev pub after_count : List ℕ → List ℕ
 after_count inside = after_space (after_digits inside) inside
 
--- the letters and digits at the front
-abbrev pub word : List ℕ → List ℕ
-word [] = []
-word (b ∷ text) = if is_ascii_alphanumeric b then b ∷ word text else []
+-- the letters and digits at the front: what is written as a name
+abbrev pub written_name : List ℕ → List ℕ
+written_name [] = []
+written_name (b ∷ text) = if is_ascii_alphanumeric b then b ∷ written_name text else []
 
 -- the name nearest to that of a sign, by what follows its brace: of at most half as many edits as the sign has letters
 abbrev pub near_name : List ℕ → Option (List ℕ)
 near_name inside =
-    let letters = map to_ascii_lowercase (word (after_count inside)) in nearest letters (length letters / 2 + 1) controls
+    let letters = map to_ascii_lowercase (written_name (after_count inside)) in nearest letters (length letters / 2 + 1) controls

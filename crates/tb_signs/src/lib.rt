@@ -11,6 +11,6 @@ mod near;
 mod texts;
 
 pub use characters::{Character, read_character};
-pub use names::byte_named;
-pub use near::near_name;
+pub use names::{byte_named, name_of};
+pub use near::{after_count, near_name, written_name};
 pub use texts::{read_text, write_text};

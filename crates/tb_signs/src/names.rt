@@ -64,19 +64,19 @@ fn is_name(written: &[u8], name: &[u8]) -> bool
 }
 
 /// The name of a byte, in lower case, if it has one.
-pub(crate) fn name_of(byte: u8) -> Option<&'static [u8]>
+pub fn name_of(byte: u8) -> Option<&'static str>
     ensures { option_map (λ n. n.now) result ≡ spec.name_of byte }
 {
     first_with(&CONTROLS, byte)
 }
 
-fn first_with(controls: &[Control], byte: u8) -> Option<&'static [u8]>
+fn first_with(controls: &[Control], byte: u8) -> Option<&'static str>
     ensures { option_map (λ n. n.now) result
         ≡ spec.first_with byte (map (λ c. spec.control c.0.now c.1) controls.now) }
 {
     for control in controls {
         if control.1 == byte {
-            return Some(control.0.as_bytes());
+            return Some(control.0);
         }
     }
     None

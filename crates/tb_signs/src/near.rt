@@ -15,12 +15,12 @@ use strsim::generic_levenshtein;
 pub fn near_name(alloc: Global, inside: &[u8]) -> Result<Option<&'static [u8]>, AllocError>
     ensures { IfOk result (λ name. option_map (λ n. n.now) name ≡ spec.near_name inside.now) }
 {
-    let word = word(after_count(inside)).to_ascii_lowercase(alloc)?;
-    nearest(alloc, &word, &CONTROLS)
+    let name = written_name(after_count(inside)).to_ascii_lowercase(alloc)?;
+    nearest(alloc, &name, &CONTROLS)
 }
 
-// What follows a count: digits and a space, if a text begins with them.
-fn after_count(inside: &[u8]) -> &[u8]
+/// What follows a count: digits and a space, if a text begins with them.
+pub fn after_count(inside: &[u8]) -> &[u8]
     ensures { result.now ≡ spec.after_count inside.now }
 {
     match after_digits(inside) {
@@ -39,9 +39,9 @@ fn after_digits(text: &[u8]) -> &[u8]
     }
 }
 
-// The letters and digits at the front.
-fn word(text: &[u8]) -> &[u8]
-    ensures { result.now ≡ spec.word text.now }
+/// The letters and digits at the front: what is written as a name.
+pub fn written_name(text: &[u8]) -> &[u8]
+    ensures { result.now ≡ spec.written_name text.now }
 {
     for (i, byte) in text.iter().enumerate() {
         if !byte.is_ascii_alphanumeric() {

@@ -61,7 +61,7 @@ fn push_written(text: &mut Vec<u8>, byte: u8) -> Result<(), AllocError>
     }
     text.push(b'{')?;
     match name_of(byte) {
-        Some(name) => text.extend_from_slice(name)?,
+        Some(name) => text.extend_from_slice(name.as_bytes())?,
         None => {
             let [_, _, high, low] = hex_digits(u16::from(byte));
             text.extend_from_slice(&[high, low])?;

@@ -1,5 +1,5 @@
 -- The templates as instructions at their addresses, with each label's number put in.
-use Rattle.std.specs.Prelude.{Bool, true, false, ℕ, ◌+◌, ◌/◌, ◌%◌, ◌≤◌, List, [], ◌∷◌, length, nat_lt, if◌then◌else◌}
+use Rattle.std.specs.Prelude.{Bool, true, false, Option, Some, None, ℕ, ◌+◌, ◌/◌, ◌%◌, ◌≤◌, List, [], ◌∷◌, length, nat_lt, if◌then◌else◌}
 use Rattle.tb_reaching.specs.View.{Part}
 use Rattle.tb_reaching.specs.View.{Bytes}
 use Rattle.tb_reaching.proofs.Instr.{Instr, ins, Stands, instr_bytes}
@@ -7,8 +7,8 @@ use Rattle.tb_words.specs.Words.{word}
 use Rattle.tb_meaning.specs.Control.{has_line, highest, next_after}
 use Rattle.tb_lower.specs.Slots as slots
 use Rattle.tb_kernal.specs.declared.rom.TheConstants.{CHROUT}
-use Rattle.tb_runtime16.specs.Addresses.{POINTER, RESULT, TABLE, COUNT, WANTED, LENGTH, COLUMN, TEXT_AT, ZONE_AT, INPUT_AT, SEARCH_AT, FAULT_LINE_AT, POLL_AT}
-use Rattle.tb_templates.specs.Templates.{var_at, slot_at}
+use Rattle.tb_runtime16.specs.Addresses.{POINTER, RESULT, TABLE, COUNT, WANTED, LENGTH, COLUMN, SEND_AT, TEXT_AT, ZONE_AT, INPUT_AT, SEARCH_AT, FAULT_LINE_AT, POLL_AT}
+use Rattle.tb_templates.specs.Templates.{only_byte, var_at, slot_at}
 use Rattle.tb_opcodes.specs.Bytes.{AreBytes}
 use Rattle.tb_simulation.specs.Layout.{Layout, place_address}
 
@@ -84,6 +84,15 @@ abbrev pub jump_to : Layout → ℕ → Bool → ℕ → List Piece
 jump_to ly n true target = Code (jump (ly.start target)) ∷ []
 jump_to ly n false target = Code (faulting n 1) ∷ []
 
+-- a byte in line, sent
+abbrev pub byte_sent : ℕ → List Instr
+byte_sent b = ins 0xA9 b ∷ ins 0x20 SEND_AT ∷ []
+
+-- a text, by its only byte, if it has one byte alone
+abbrev pub sent : ℕ → Option ℕ → List ℕ → List Piece
+sent at (Some b) t = Code (byte_sent b) ∷ []
+sent at None t = Code (text_call TEXT_AT (at + 19) (length t)) ∷ Code (jump (at + 19 + length t)) ∷ Text t ∷ []
+
 -- the code of an instruction of line n, at an address. An instruction of another kind of group, or with branches, has none here.
 abbrev pub template : Layout → ℕ → ℕ → slots.Instr → List Piece
 template ly n at (slots.Put k w) = Code (constant (word w) (slot_at k)) ∷ []
@@ -92,7 +101,7 @@ template ly n at (slots.Store x) = []
 template ly n at (slots.Negate k) = []
 template ly n at (slots.Compute op k) = []
 template ly n at (slots.Random k) = []
-template ly n at (slots.SendText t) = Code (text_call TEXT_AT (at + 19) (length t)) ∷ Code (jump (at + 19 + length t)) ∷ Text t ∷ []
+template ly n at (slots.SendText t) = sent at (only_byte t) t
 template ly n at slots.SendNumber = []
 template ly n at slots.SendZone = Code (call ZONE_AT) ∷ []
 template ly n at slots.SendNewline = Code newline ∷ []

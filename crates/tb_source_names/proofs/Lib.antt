@@ -1,5 +1,7 @@
 -- what reading a line answers
 mod Reading
+-- lines that are read in one notation
+mod ReadIn
 -- which line stands, while lines are read
 mod Standing
 -- the line that stands gives the program its line

@@ -5,7 +5,8 @@ use Rattle.tb_parser.specs.declared.edits.LineEdit.{LineEdit}
 use Rattle.tb_parser.specs.declared.errors.LineFault.{LineFault}
 use Rattle.tb_parser.specs.declared.errors.SourceErrorKind.{SourceErrorKind}
 use Rattle.tb_parser.specs.declared.errors.SourceErrorKind.TheVariants.{NoMemory, Syntax}
-use Rattle.tb_parser.specs.Readings.{LineIs, Refusal, at_column}
+use Rattle.tb_parser.specs.declared.notation.Notation.{Notation}
+use Rattle.tb_parser.specs.Readings.{LineIn, Refusal, at_column}
 use Rattle.tb_source_names.specs.Lines.{Does}
 
 refused : (kind : SourceErrorKind) (column : ℕ) (Is : Refusal → Type 0) → kind ≢ NoMemory → IfSome (refusal_of kind column) Is → (r : Refusal) × Is r
@@ -14,9 +15,10 @@ refused Syntax column Is ne h = (record { kind = Syntax; column = None }, h)
 refused kind column Is ne h = (at_column kind column, h)
 
 -- a line that is read does what it says
-pub good_if : (line : List ℕ) (edit : LineEdit) → Says edit_of (Ok edit) (LineIs line) → Does line (Some edit)
-good_if line edit h = h
+pub good_if : (notation : Notation) (line : List ℕ) (edit : LineEdit) → Says edit_of (Ok edit) (LineIn notation line) → Does notation line (Some edit)
+good_if notation line edit h = h
 
 -- one with a fault that is not want of memory is refused
-pub bad_if : (line : List ℕ) (fault : LineFault) → Says edit_of (Err fault) (LineIs line) → fault.kind ≢ NoMemory → Does line None
-bad_if line fault h ne = refused fault.kind fault.column (λ r. LineIs line (Err r)) ne h
+pub bad_if : (notation : Notation) (line : List ℕ) (fault : LineFault) → Says edit_of (Err fault) (LineIn notation line) → fault.kind ≢ NoMemory
+    → Does notation line None
+bad_if notation line fault h ne = refused fault.kind fault.column (λ r. LineIn notation line (Err r)) ne h

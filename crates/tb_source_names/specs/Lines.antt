@@ -2,13 +2,14 @@
 use Rattle.std.specs.Prelude.{ℕ, List, Option, Some, None, Ok, Err}
 use Rattle.tb_syntax.specs.Source.{Statement}
 use Rattle.tb_parser.specs.Answers.{edit_of}
-use Rattle.tb_parser.specs.Readings.{Edit, Nothing, Sets, Deletes, LineIs, Refusal}
+use Rattle.tb_parser.specs.Readings.{Edit, Nothing, Sets, Deletes, LineIn, Refusal}
 use Rattle.tb_parser.specs.declared.edits.LineEdit.{LineEdit}
+use Rattle.tb_parser.specs.declared.notation.Notation.{Notation}
 
--- what a line is found to do: something to the program, or it is refused
-abbrev pub Does : List ℕ → Option LineEdit → Type 0
-Does text (Some e) = LineIs text (Ok (edit_of e))
-Does text None = (r : Refusal) × LineIs text (Err r)
+-- what a line is found to do in a notation: something to the program, or it is refused
+abbrev pub Does : Notation → List ℕ → Option LineEdit → Type 0
+Does notation text (Some e) = LineIn notation text (Ok (edit_of e))
+Does notation text None = (r : Refusal) × LineIn notation text (Err r)
 
 -- what it does; a bad line does nothing
 abbrev pub does : Option LineEdit → Edit

@@ -1,16 +1,17 @@
 -- Which lines of a source give the program its lines.
-use Rattle.std.specs.Prelude.{ℕ, ◌≡◌, ◌+◌, Bool, false, List, [], ◌∷◌, map, slice_get, Option, Some, None, ◌==◌, if◌then◌else◌}
+use Rattle.std.specs.Prelude.{ℕ, ◌≡◌, ◌+◌, Bool, false, List, [], ◌∷◌, map, All, slice_get, Option, Some, None, ◌==◌, if◌then◌else◌}
 use Rattle.tb_syntax.specs.Source.{Statement, Program}
 use Rattle.tb_meaning.specs.Control.{content_at}
 use Rattle.tb_parser.specs.Files.{edited}
 use Rattle.tb_parser.specs.Lines.{lines_of_file}
 use Rattle.tb_parser.specs.Readings.{Edit, Nothing, Sets, Deletes}
+use Rattle.tb_parser.specs.declared.notation.Notation.{Notation}
 use Rattle.tb_source_names.specs.Lines.{does}
 use Rattle.tb_source_names.specs.declared.lines.Line.{Line}
 
--- these are the lines of a source
-abbrev pub AreLinesOf : List ℕ → List Line → Type 0
-AreLinesOf source lines = map (λ l. l.text.now) lines ≡ lines_of_file source
+-- these are the lines of a source, each read in the notation
+abbrev pub AreLinesOf : Notation → List ℕ → List Line → Type 0
+AreLinesOf notation source lines = (map (λ l. l.text.now) lines ≡ lines_of_file source) × All (λ l. l.notation ≡ notation) lines
 
 -- what lines do
 abbrev pub edits_of : List Line → List Edit

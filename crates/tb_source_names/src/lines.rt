@@ -5,27 +5,33 @@ ghost use Rattle.tb_syntax.specs.PlainData.{statement_of};
 ghost use Rattle.tb_source_names.specs.Lines.{Does, does, number_in, statement_in};
 
 use std::alloc::{AllocError, Global};
-use tb_parser::{LineEdit, SourceErrorKind, Token, tokens};
+use tb_parser::{LineEdit, Notation, SourceErrorKind, Token, read_line_in, tokens};
 use tb_syntax::Statement;
 
 /// A line of a source.
 #[derive(Drop)]
 pub struct Line<'a> {
+    /// How its texts are read.
+    pub notation: Notation,
     /// As it was written.
     pub text: &'a [u8],
     /// What it does to the program; `None` where it is bad.
     pub edit: Option<LineEdit>,
     pub tokens: Vec<Token<'a>>,
-    ghost edit_is: { ∥ Does text.now edit ∥₁ },
+    ghost edit_is: { ∥ Does notation text.now edit ∥₁ },
     ghost tokens_are: { ∥ AreTokens text.now 0 tokens.items ∥₁ },
 }
 
 // What a line does to the program; `None` where it is bad.
 #[tactic(auto, using(crate::proofs::Reading::good_if, crate::proofs::Reading::bad_if))]
-fn edit_of_line(alloc: Global, text: &[u8]) -> Result<Option<LineEdit>, AllocError>
-    ensures { IfOk result (Does text.now) }
+fn edit_of_line(
+    alloc: Global,
+    notation: Notation,
+    text: &[u8],
+) -> Result<Option<LineEdit>, AllocError>
+    ensures { IfOk result (Does notation text.now) }
 {
-    match tb_parser::read_line(alloc, text) {
+    match read_line_in(alloc, notation, text) {
         Ok(edit) => Ok(Some(edit)),
         Err(fault) => match fault.kind {
             SourceErrorKind::NoMemory => Err(AllocError),
@@ -34,13 +40,19 @@ fn edit_of_line(alloc: Global, text: &[u8]) -> Result<Option<LineEdit>, AllocErr
     }
 }
 
-/// Reads a line. Fails only if memory runs out.
-pub fn read_line(alloc: Global, text: &[u8]) -> Result<Line<'_>, AllocError>
-    ensures { IfOk result (λ line. line.text.now ≡ text.now) }
+/// Reads a line in a notation. Fails only if memory runs out.
+pub fn read_line(alloc: Global, notation: Notation, text: &[u8]) -> Result<Line<'_>, AllocError>
+    ensures written { IfOk result (λ line. line.text.now ≡ text.now) }
+    ensures notation { IfOk result (λ line. line.notation ≡ notation) }
 {
-    let edit = edit_of_line(alloc, text)?;
+    let edit = edit_of_line(alloc, notation, text)?;
     let tokens = tokens(alloc, text)?;
-    Ok(Line { text, edit, tokens })
+    Ok(Line {
+        notation,
+        text,
+        edit,
+        tokens,
+    })
 }
 
 impl Line<'_> {

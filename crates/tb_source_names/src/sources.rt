@@ -1,5 +1,5 @@
 //! A source: its lines, and which of them give the program its lines.
-ghost use Rattle.std.specs.Prelude.{◌≡◌, ℕ, IfOk};
+ghost use Rattle.std.specs.Prelude.{◌≡◌, ℕ, All, IfOk};
 ghost use Rattle.std.specs.BTreeMap as tree;
 ghost use Rattle.std.specs.Ordering.{nat_cmp};
 ghost use Rattle.tb_source_names.specs.Sources.{AreLinesOf, Gives, edits_of, joined, standing, stands};
@@ -7,25 +7,29 @@ ghost use Rattle.tb_source_names.specs.Sources.{AreLinesOf, Gives, edits_of, joi
 use crate::lines::{Line, read_line};
 use std::alloc::{AllocError, Global};
 use std::collections::BTreeMap;
-use tb_parser::{LineEdit, next_line};
+use tb_parser::{LineEdit, Notation, next_line};
 
 /// A source.
 #[derive(Drop)]
 pub struct Source<'a> {
+    /// How the texts of its lines are read.
+    pub notation: Notation,
     pub lines: Vec<Line<'a>>,
     // For each number that a good line has, the place of the last one among the lines, if that has a statement.
     places: BTreeMap<u16, Option<usize>>,
     ghost places_are: { (n : ℕ) → joined (tree.get nat_cmp places n) ≡ standing n (edits_of lines.items) },
+    ghost lines_are: { All (λ l. l.notation ≡ notation) lines.items },
 }
 
 // The lines of a source.
-fn lines_of(alloc: Global, source: &[u8]) -> Result<Vec<Line<'_>>, AllocError>
-    ensures { IfOk result (λ lines. AreLinesOf source.now lines.items) }
+#[tactic(auto, using(crate::proofs::ReadIn::all_read))]
+fn lines_of(alloc: Global, notation: Notation, source: &[u8]) -> Result<Vec<Line<'_>>, AllocError>
+    ensures { IfOk result (λ lines. AreLinesOf notation source.now lines.items) }
 {
     let mut lines = Vec::new(alloc);
     let mut rest = source;
     while let Some((text, behind)) = next_line(rest) {
-        lines.push(read_line(alloc, text)?)?;
+        lines.push(read_line(alloc, notation, text)?)?;
         rest = behind;
     }
     Ok(lines)
@@ -50,13 +54,22 @@ fn places_of(alloc: Global, lines: &[Line<'_>]) -> Result<BTreeMap<u16, Option<u
     Ok(places)
 }
 
-/// Reads a source. Fails only if memory runs out.
-pub fn read_source(alloc: Global, source: &[u8]) -> Result<Source<'_>, AllocError>
-    ensures { IfOk result (λ read. AreLinesOf source.now read.lines.items) }
+/// Reads a source in a notation. Fails only if memory runs out.
+pub fn read_source(
+    alloc: Global,
+    notation: Notation,
+    source: &[u8],
+) -> Result<Source<'_>, AllocError>
+    ensures lines { IfOk result (λ read. AreLinesOf notation source.now read.lines.items) }
+    ensures notation { IfOk result (λ read. read.notation ≡ notation) }
 {
-    let lines = lines_of(alloc, source)?;
+    let lines = lines_of(alloc, notation, source)?;
     let places = places_of(alloc, &lines)?;
-    Ok(Source { lines, places })
+    Ok(Source {
+        notation,
+        lines,
+        places,
+    })
 }
 
 impl Source<'_> {

@@ -25,6 +25,7 @@ use Rattle.tb_kernal.specs.declared.status.Status.TheVariants.{Running, Waits}
 use Rattle.tb_kernal.proofs.Typing.{status_kept}
 use Rattle.tb_prg.specs.Prg.{content_of}
 use Rattle.tb_prg.specs.declared.PrgError.{PrgError}
+use Rattle.tb_parser.specs.declared.notation.Notation.{Notation}
 use Rattle.tb_streams.specs.HostForm.{host_form_of}
 use Rattle.tb_debug_adapter.specs.Dialogue.{IsSession, Moment, Says, TakesHeard, TakesMessage, Talks, Written, after, given, is_end, more as goes_on, none as begins}
 use Rattle.tb_debug_adapter.specs.Dialogue as dialogue
@@ -279,9 +280,9 @@ no_keys : (machine : Machine) (rom : Rom) → first_point (state_of machine) rom
 no_keys machine rom =
     ap (λ text. record (first_point (state_of machine) rom) { state = record (state_of machine) { text = text } }) (sym (append-nil (state_of machine).text))
 
-begun_so : (source : CompiledSource) (path : List ℕ) (machine : Machine) (rom : Rom) (plan : Plan) (a : Moment) → machine.sent ≡ []
-    → IsSession path source machine rom plan a.session → ToldTo source machine rom a.session.debugger.starts a a
-begun_so source path machine rom plan a unsent h =
+begun_so : (source : CompiledSource) (notation : Notation) (path : List ℕ) (machine : Machine) (rom : Rom) (plan : Plan) (a : Moment) → machine.sent ≡ []
+    → IsSession path source notation machine rom plan a.session → ToldTo source machine rom a.session.debugger.starts a a
+begun_so source notation path machine rom plan a unsent h =
     let first : (point_at a.session.debugger.starts (run_of machine rom []) 0).state.sent ≡ [] =
     ap (λ p. p.state.sent) (at_start a.session.debugger.starts (run_of machine rom [])) ∙ unsent in (
       [],
@@ -300,10 +301,10 @@ begun_so source path machine rom plan a unsent h =
     )
 
 pub what_is_told_is_of_the_run : WhatIsToldIsOfTheRun
-what_is_told_is_of_the_run path source text answers machine rom plan a b starts h talks =
+what_is_told_is_of_the_run path source notation text answers machine rom plan a b starts h talks =
     let unsent = nothing_sent text answers (prg_of source.program) machine starts in
     let (keys, told, farthest, tells, stands) =
-    talked source machine rom a.session.debugger.starts a b (begun_so source path machine rom plan a unsent h) talks in (
+    talked source machine rom a.session.debugger.starts a b (begun_so source notation path machine rom plan a unsent h) talks in (
       keys,
       told,
       farthest,

@@ -25,6 +25,7 @@ use Rattle.tb_kernal.specs.declared.machine.Machine.{Machine}
 use Rattle.tb_memmap.specs.Regions.{BASIC_START}
 use Rattle.tb_play.specs.Lines.{keys_of_text}
 use Rattle.tb_simulation.specs.Theorem.{Starts}
+use Rattle.tb_parser.specs.declared.notation.Notation.{Notation}
 use Rattle.tb_streams.specs.HostForm.{host_form_of}
 use Rattle.tb_syntax.specs.Source.{Program}
 use Rattle.tb_debug_adapter.specs.Asking.{Evaluation, expression, question_in, typed}
@@ -196,8 +197,8 @@ OutputIsTold machine rom keys told farthest s =
 -- In each dialogue with a program that was launched, what is told is of the run on all keys so far.
 abbrev pub WhatIsToldIsOfTheRun : Type 0
 WhatIsToldIsOfTheRun =
-    (path : List ℕ) (source : CompiledSource) (text answers : List ℕ) (machine : Machine) (rom : Rom) (plan : Plan) (a b : Moment)
-    → StartsPrg text answers (prg_of source.program) (Ok machine) → IsSession path source machine rom plan a.session → Talks a b
+    (path : List ℕ) (source : CompiledSource) (notation : Notation) (text answers : List ℕ) (machine : Machine) (rom : Rom) (plan : Plan) (a b : Moment)
+    → StartsPrg text answers (prg_of source.program) (Ok machine) → IsSession path source notation machine rom plan a.session → Talks a b
     → (keys : List ℕ) × (told : List Saying) × (farthest : ℕ) × Tells a b keys told farthest × IsOnRun source machine rom keys b.session
     × OutputIsTold machine rom keys told farthest b.session
     × (b.session.stage ≡ Started → b.session.debugger.present.events ≤ farthest)

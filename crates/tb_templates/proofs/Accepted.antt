@@ -14,16 +14,16 @@ use Rattle.tb_syntax.specs.declared.expressions.Operator.TheVariants.{Add, Subtr
 use Rattle.tb_asm.specs.declared.items.Operand.TheVariants.{Byte, Word}
 use Rattle.tb_asm.specs.Layout.{Entry, instr, label, bytes, word, suits, has_mode}
 use Rattle.tb_meaning.specs.Control.{has_line}
-use Rattle.tb_lower.specs.Slots.{Instr, Load, JumpTo, CallTo, SlotCode}
+use Rattle.tb_lower.specs.Slots.{Instr, SendText, Load, JumpTo, CallTo, SlotCode}
 use Rattle.tb_selection.specs.Groups.{Conversion, Negated, Drawn, Usage, AsNumber, AsLine, AsSubroutine, Constant, Variable, Divisibility, Divisible}
 use Rattle.tb_selection.specs.Groups.{Indivisible, Group, Calculate, Stepped, Convert, Move, Use, Test, TestGo, Divides, Remains, Single, contrary, denied}
 use Rattle.tb_selection.specs.Groups.{slot_of}
 use Rattle.tb_selection.specs.Select.{select}
 use Rattle.tb_runtime16.specs.Addresses.{LEFT, RIGHT, RESULT, LINE, MULTIPLY_AT, DIVIDE_AT, RANDOM_AT}
-use Rattle.tb_templates.specs.declared.labels.Inner.TheVariants.{Behind, Skip}
+use Rattle.tb_templates.specs.declared.labels.Inner.TheVariants.{Behind, Skip, Text}
 use Rattle.tb_templates.specs.declared.labels.Target.{Target}
 use Rattle.tb_templates.specs.declared.labels.Target.TheVariants.{Inside, Line}
-use Rattle.tb_templates.specs.Templates.{branch, here, slot_at, var_at, on, template, faulted, jump_to, call_to, next_line, call, copied, constant}
+use Rattle.tb_templates.specs.Templates.{branch, byte_sent, here, only_byte, sent, slot_at, var_at, on, template, faulted, jump_to, call_to, next_line, call, copied, constant}
 use Rattle.tb_templates.specs.Sources.{Source, FixedWord, AtAddress, source_of, tested_source, home_at, destination_at}
 use Rattle.tb_templates.specs.GroupTemplates.{brought, summed, taken, handed, multiplied, divided, calculated, computed, changed_or, converted, used, equal}
 use Rattle.tb_templates.specs.GroupTemplates.{unequal, tested, gone, may_fault, group_template, lined, may_be_zero, may_have_none, left_over, unless}
@@ -31,7 +31,10 @@ use Rattle.tb_templates.specs.GroupTemplates.{divided_by, divided_gone, divides,
 use Rattle.tb_templates.specs.Scaled.{scaling, times, shifts, shifted}
 use Rattle.tb_templates.specs.InPlace.{Change, Increment, Decrement, Raise, Lower, Halve, Double, change_of, changed}
 use Rattle.tb_templates.specs.Masks.{mask}
+use Rattle.tb_templates.specs.Reduced.{doublings, reduced_rest}
 use Rattle.tb_templates.proofs.Divided.{asked_rest_plain, left_over_plain}
+use Rattle.tb_templates.proofs.Multiples.{reduced_plain}
+use Rattle.tb_templates.proofs.Sent.{byte_plain}
 use Rattle.tb_templates.specs.Orders.{Side, Below, NotBelow, Order, BySign, ByPositive, ByConstant, ByDifference, lifted, positive, ordered_by, signed, unless_carry, unless_negative, wanted_side, weighed}
 use Rattle.tb_templates.specs.Program.{rest_code, list_code, line_code, lines_code, past_code, rows_code, table_code, program_code}
 use Rattle.tb_templates.specs.Breaks.{polled, behind}
@@ -102,6 +105,11 @@ call_forms ns n i to false e = rw e refl
 
 template_forms : (ns : List ℕ) (n i : ℕ) (c : Instr) → list_all has_form (template ns n i c) ≡ true
 template_forms ns n i (Load k x) = copied_forms (var_at x) (slot_at k)
+template_forms ns n i (SendText bs) = text_forms (only_byte bs)
+  where
+    text_forms : (o : Option ℕ) → list_all has_form (sent o (Inside Text n i) (Inside Behind n i) bs) ≡ true
+    text_forms (Some b) = plain_forms (byte_sent b) (byte_plain b)
+    text_forms None = refl
 template_forms ns n i (JumpTo to) = jump_forms ns n to (has_line ns to) refl
 template_forms ns n i (CallTo to) = call_forms ns n i to (has_line ns to) refl
 template_forms ns n i _ = refl
@@ -240,10 +248,11 @@ divides_forms ns n how a b (Some to) = by (has_line ns to)
     by true = divided_by_forms n (contrary how) a b (Line to)
     by false = forms_append (divided_by n how a b (next_line ns n)) (faulted n 1) (divided_by_forms n how a b (next_line ns n)) refl
 
-remains_forms : (n : ℕ) (o : Option ℕ) (skip : Target) (a b : Source) (to : ℕ) → list_all has_form (rest_by n o skip a b to) ≡ true
-remains_forms n (Some bits) skip (FixedWord w) b to = refl
-remains_forms n (Some bits) skip (AtAddress p) b to = refl
-remains_forms n None skip a b to =
+remains_forms : (n : ℕ) (o : Option ℕ) (r : Option (ℕ × ℕ)) (skip : Target) (a b : Source) (to : ℕ) → list_all has_form (rest_by n o r skip a b to) ≡ true
+remains_forms n (Some bits) r skip (FixedWord w) b to = refl
+remains_forms n (Some bits) r skip (AtAddress p) b to = refl
+remains_forms n None (Some r) skip a b to = plain_forms (reduced_rest r.0 r.1 a to) (reduced_plain r.0 r.1 a to)
+remains_forms n None None skip a b to =
     forms_append (asked_rest n a b) (signed_rest skip a to) (plain_forms (asked_rest n a b) (asked_rest_plain n a b)) (by a)
   where
     by : (a : Source) → list_all has_form (signed_rest skip a to) ≡ true
@@ -266,7 +275,7 @@ group_forms ns seed n i (Test rel a b) = tested_forms rel (tested_source a) (sou
 group_forms ns seed n i (TestGo rel a b to) =
     gone_forms n rel (tested_source a) (source_of 0 b) (Inside Skip n i) (next_line ns n) (has_line ns to) to
 group_forms ns seed n i (Remains x d to) =
-    remains_forms n (mask (source_of (slot_of to + 2) d)) (Inside Skip n i) (AtAddress (var_at x)) (source_of (slot_of to + 2) d) (destination_at to)
+    remains_forms n (mask (source_of (slot_of to + 2) d)) (doublings (source_of (slot_of to + 2) d)) (Inside Skip n i) (AtAddress (var_at x)) (source_of (slot_of to + 2) d) (destination_at to)
 group_forms ns seed n i (Divides how x d side to) = divides_forms ns n how (source_of 0 (Variable x)) (source_of 1 d) to
 group_forms ns seed n i (Single c) = single_forms (may_fault c) ns n i c
 

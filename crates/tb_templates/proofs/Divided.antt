@@ -12,6 +12,7 @@ use Rattle.tb_templates.specs.Sources.{Source, FixedWord, AtAddress}
 use Rattle.tb_templates.specs.GroupTemplates.{asked_rest, brought, left_over, lined, may_be_zero, remainder, told}
 use Rattle.tb_templates.specs.Masks.{mask}
 use Rattle.tb_templates.proofs.Factors.{one_of}
+use Rattle.tb_templates.proofs.Subtractions.{tried_plain}
 use Rattle.tb_templates.proofs.Plain.{IsPlain, ArePlain, Is, ◌▹◌, plain_append, immediate, absolute, zero_page, low_byte, high_byte}
 
 -- ── plain items ──
@@ -47,7 +48,7 @@ left_over_plain n None a b = lined_plain (may_be_zero b) n (remainder a b) (rema
 
 -- the items that compute a remainder with its size are plain
 pub asked_rest_plain : (n : ℕ) (a b : Source) → ArePlain (asked_rest n a b)
-asked_rest_plain n a b = lined_plain (may_be_zero b) n _ (asked_plain a b)
+asked_rest_plain n a b = lined_plain (may_be_zero b) n _ (tried_plain a b _ (asked_plain a b))
 
 -- the items that copy a word are plain
 pub copied_plain : (from to : ℕ) → ArePlain (copied from to)

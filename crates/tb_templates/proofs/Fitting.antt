@@ -19,24 +19,27 @@ use Rattle.tb_meaning.specs.Control.{has_line}
 use Rattle.tb_meaning.specs.Cost.{nodes, item_cost, statement_cost, cost}
 use Rattle.tb_lower.specs.Lowered.{value_code, or_constant, target_code, item_code, items_code, inputs_code, newline_code, statement_code, program_code}
 use Rattle.tb_meaning.specs.Values.{constant}
-use Rattle.tb_lower.specs.Slots.{Instr, Put, Load, Store, Negate, Compute, Random, SendNumber, Hold, LeaveUnless, Jump, Call, JumpTo, CallTo}
+use Rattle.tb_lower.specs.Slots.{Instr, Put, Load, Store, Negate, Compute, Random, SendNumber, SendText, Hold, LeaveUnless, Jump, Call, JumpTo, CallTo}
 use Rattle.tb_selection.specs.Groups.{Conversion, Negated, Drawn, Usage, AsNumber, AsLine, AsSubroutine, Constant, Variable as OfVariable, InSlot, Operand}
 use Rattle.tb_selection.specs.Groups.{Divisibility, Group, Calculate, Stepped, Convert, Move, Use, Test, TestGo, OnLeft, OnRight, Divides, Remains, Single}
-use Rattle.tb_selection.specs.Groups.{compared, contrary, multiple, onward, Home, IntoVariable, IntoHeld, slot_of, fetch, keep, kept, held, convert, use_of}
+use Rattle.tb_selection.specs.Groups.{compared, contrary, multiple, onward, Home, IntoVariable, IntoHeld, slot_of, fetch, keep, kept, held, convert, use_of, Destination}
 use Rattle.tb_selection.specs.Groups.{denied, expand, expand_all}
 use Rattle.tb_selection.specs.Select.{select}
 use Rattle.tb_selection.proofs.Bracketed.{brackets}
 use Rattle.tb_runtime16.specs.Addresses.{LEFT, RIGHT, RESULT, MULTIPLY_AT, DIVIDE_AT, RANDOM_AT}
+use Rattle.tb_templates.specs.declared.labels.Inner.TheVariants as inner
 use Rattle.tb_templates.specs.declared.labels.Inner.TheVariants.{Behind, Skip}
 use Rattle.tb_templates.specs.declared.labels.Target.{Target}
 use Rattle.tb_templates.specs.declared.labels.Target.TheVariants.{Inside, Line}
-use Rattle.tb_templates.specs.Templates.{branch, const, here, next_line, call, copied, faulted, slot_at, var_at, on}
+use Rattle.tb_templates.specs.Templates.{branch, const, here, next_line, call, copied, faulted, only_byte, sent, slot_at, var_at, on}
 use Rattle.tb_templates.specs.Sources.{Source, FixedWord, AtAddress, source_of, tested_source, home_at, destination_at}
 use Rattle.tb_templates.specs.GroupTemplates.{low_of, high_of, brought, joined, handed, multiplied, divided, calculated, computed, changed_or, converted, used}
 use Rattle.tb_templates.specs.GroupTemplates.{unless_none, low_against, high_against, low_matched, high_matched, equal, unequal, tested, gone, group_template, lined}
 use Rattle.tb_templates.specs.GroupTemplates.{may_be_zero, may_have_none, told, remainder}
 use Rattle.tb_templates.specs.GroupTemplates.{left_over as beyond, unless, divided_by, divided_gone, divides, asked_rest, signed_rest, rest_by}
 use Rattle.tb_templates.specs.Masks.{mask}
+use Rattle.tb_templates.specs.Reduced.{doublings}
+use Rattle.tb_templates.proofs.Multiples.{IsReducing, by_multiples, by_routine as by_division, reduced_size, reducing_is}
 use Rattle.tb_templates.specs.Orders.{Side, Below, NotBelow, Order, BySign, ByPositive, ByConstant, ByDifference, ordered_by, positive, wanted_side, lifted, lifted_both, lifted_high}
 use Rattle.tb_templates.specs.Orders.{unless_carry}
 use Rattle.tb_templates.specs.Scaled.{at_zero, on_a, rounded, raised, halved, halvings, high_first, cut, widened, lowered, shifts, shifted, by_bit, by_bits, bits_size, is_factor}
@@ -47,6 +50,8 @@ use Rattle.tb_templates.specs.Program.{rest_code, list_code}
 use Rattle.tb_settling.specs.Settled.{most_of, most}
 use Rattle.tb_settling.proofs.Forms.{most_append}
 use Rattle.tb_templates.specs.Sizes.{room, list_room, lines_room, rest_room, items_cost, AreApart, IsSpaced, AreSpaced}
+use Rattle.tb_templates.specs.Subtracted.{tried}
+use Rattle.tb_templates.proofs.Subtractions.{tried_size}
 use Rattle.tb_templates.proofs.Listed.{by_poll, tested_by}
 use Rattle.tb_templates.proofs.Factors.{IsScaling, by_right, by_left, by_routine, scaling_is, IsShifting, by_shifts, by_call, shifting_is}
 
@@ -74,8 +79,14 @@ call_fits : (ns : List ℕ) (seed n i to : ℕ) (t : Bool) → has_line ns to �
 call_fits ns seed n i to true e = rw e (omega arith)
 call_fits ns seed n i to false e = rw e (omega arith)
 
+-- a byte in line takes no more than a call with a text
+sent_fits : (of behind : Target) (bs : List ℕ) (o : Option ℕ) → most (sent o of behind bs) ≤ 19 + length bs
+sent_fits of behind bs (Some b) = omega arith
+sent_fits of behind bs None = omega arith
+
 single_fits : (ns : List ℕ) (seed n i : ℕ) (c : Instr) → most (group_template ns seed n i (Single c)) ≤ room c
 single_fits ns seed n i (Load k x) = copied_fits (var_at x) (slot_at k)
+single_fits ns seed n i (SendText bs) = sent_fits (Inside inner.Text n i) (Inside Behind n i) bs (only_byte bs)
 single_fits ns seed n i (JumpTo to) = jump_fits ns seed n i to (has_line ns to) refl
 single_fits ns seed n i (CallTo to) = call_fits ns seed n i to (has_line ns to) refl
 single_fits ns seed n i _ = omega arith
@@ -286,21 +297,29 @@ divides_fits ns n how a b (Some to) = by (has_line ns to)
     by true = let h = divided_by_fits n (contrary how) a b (Line to) in omega (arith, h)
     by false = let h = divided_by_fits n how a b (next_line ns n) in let e = most_append (divided_by n how a b (next_line ns n)) (faulted n 1) in omega (arith, h, e)
 
-remains_fits : (n : ℕ) (o : Option ℕ) (skip : Target) (a b : Source) (to : ℕ) → most (rest_by n o skip a b to) ≤ 70
-remains_fits n (Some bits) skip a b to = let l = low_most Lda a in let h = high_most Ldy a in omega (arith, l, h)
-remains_fits n None skip a b to =
+remains_fits : (n : ℕ) (o : Option ℕ) (r : Option (ℕ × ℕ)) (skip : Target) (a b : Source) (to : ℕ) → IsReducing b r → most (rest_by n o r skip a b to) ≤ 227
+remains_fits n (Some bits) r skip a b to h = let l = low_most Lda a in let h = high_most Ldy a in omega (arith, l, h)
+remains_fits n None _ skip a b to (by_multiples w k e few over below) = reduced_size k w a to few below
+remains_fits n None _ skip a b to by_division =
     let called = brought a LEFT ++ (brought b RIGHT ++ (call DIVIDE_AT ∷ [])) in
     let e = most_append (asked_rest n a b) (signed_rest skip a to) in
-    let l = lined_most (may_be_zero b) n called in
+    let l = lined_most (may_be_zero b) n (tried a b called) in
+    let t = tried_size a b called in
     let f = most_append (brought a LEFT) (brought b RIGHT ++ (call DIVIDE_AT ∷ [])) in
     let g = most_append (brought b RIGHT) (call DIVIDE_AT ∷ []) in
     let p = left_fits a in let q = right_fits b in let h = high_most Lda a in let c = copied_fits RESULT to in
-    omega (arith, e, l, f, g, p, q, h, c)
+    omega (arith, e, l, t, f, g, p, q, h, c)
 
 multiple_room : (k x : ℕ) (d : Operand) (is : List Instr) → 70 ≤ list_room (multiple k x d is)
 multiple_room k x (Constant w) is = omega arith
 multiple_room k x (OfVariable y) is = omega arith
 multiple_room k x InSlot is = omega arith
+
+-- the rest of a remainder's instructions are worth a difference and a load more
+remains_room : (x : ℕ) (d : Operand) (to : Destination) → 227 ≤ list_room (expand (Remains x d to))
+remains_room x (Constant w) to = omega arith
+remains_room x (OfVariable y) to = omega arith
+remains_room x InSlot to = omega arith
 
 keep_room : (home : Home) → room (keep home) ≡ 12
 keep_room (IntoVariable x) = refl
@@ -345,8 +364,9 @@ group_fits ns seed n i (Divides how x d OnLeft to) =
 group_fits ns seed n i (Divides how x d OnRight to) =
     let h = divides_fits ns n how (source_of 0 (OfVariable x)) (source_of 1 d) to in let m = multiple_room 0 x d (LeaveUnless (compared how) ∷ onward to) in omega (arith, h, m)
 group_fits ns seed n i (Remains x d to) =
-    let h = remains_fits n (mask (source_of (slot_of to + 2) d)) (Inside Skip n i) (AtAddress (var_at x)) (source_of (slot_of to + 2) d) (destination_at to) in
-    let m = multiple_room (slot_of to + 1) x d (Compute Subtract (slot_of to) ∷ kept to) in
+    let h = remains_fits n (mask (source_of (slot_of to + 2) d)) (doublings (source_of (slot_of to + 2) d)) (Inside Skip n i) (AtAddress (var_at x)) (source_of (slot_of to + 2) d) (destination_at to)
+    (reducing_is (source_of (slot_of to + 2) d)) in
+    let m = remains_room x d to in
     omega (arith, h, m)
 group_fits ns seed n i (Single c) = let h = single_fits ns seed n i c in omega (arith, h)
 

@@ -25,6 +25,12 @@ pub mod Ranged
 pub mod Reached
 -- lists of items whose labels rise
 pub mod Rising
+-- remainders by a constant's multiples
+pub mod Multiples
+-- remainders of bytes by differences
+pub mod Subtractions
+-- texts of one byte
+pub mod Sent
 -- worked rows: the items of lines
 pub mod Rows
 -- the binary search in line numbers

@@ -21,7 +21,7 @@ use Rattle.tb_templates.specs.declared.labels.Inner.TheVariants as inner
 use Rattle.tb_templates.specs.Labels.{label_of, letter_of}
 use Rattle.tb_templates.specs.declared.labels.Target.{Target}
 use Rattle.tb_templates.specs.declared.labels.Target.TheVariants.{Line, Inside, Polled, Find, Table}
-use Rattle.tb_templates.specs.Templates.{branch, here, var_at, template, faulted, called, jump_to, next_line, target_of, call, copied, constant}
+use Rattle.tb_templates.specs.Templates.{branch, byte_sent, here, only_byte, sent, var_at, template, faulted, called, jump_to, next_line, target_of, call, copied, constant}
 use Rattle.tb_templates.specs.Sources.{Source, FixedWord, AtAddress, source_of, tested_source, home_at, destination_at}
 use Rattle.tb_templates.specs.GroupTemplates.{brought, joined, handed, multiplied, divided, calculated, computed, changed_or, converted, used, equal, unequal}
 use Rattle.tb_templates.specs.GroupTemplates.{tested, gone, may_fault, group_template, lined, may_be_zero, may_have_none, left_over, unless, divided_by}
@@ -29,7 +29,10 @@ use Rattle.tb_templates.specs.GroupTemplates.{divided_gone, divides, asked_rest,
 use Rattle.tb_templates.specs.Scaled.{scaling, times, shifts, shifted}
 use Rattle.tb_templates.specs.InPlace.{Change, Increment, Decrement, Raise, Lower, Halve, Double, change_of, changed}
 use Rattle.tb_templates.specs.Masks.{mask}
+use Rattle.tb_templates.specs.Reduced.{doublings, reduced_rest}
 use Rattle.tb_templates.proofs.Divided.{asked_rest_plain, copied_plain, left_over_plain}
+use Rattle.tb_templates.proofs.Multiples.{reduced_plain}
+use Rattle.tb_templates.proofs.Sent.{byte_plain}
 use Rattle.tb_templates.specs.Orders.{Below, NotBelow, positive}
 use Rattle.tb_templates.specs.Orders.{Side, Order, BySign, ByPositive, ByConstant, ByDifference, lifted, ordered_by, signed, unless_carry, wanted_side, weighed}
 use Rattle.tb_templates.specs.Program.{rest_code, list_code, line_code, lines_code, past_code, rows_code, table_code, program_code, AreCodable}
@@ -169,8 +172,9 @@ module _ (ns : List ℕ) (seed n i : ℕ) (small : n < 65536) (index : i < 65536
   call_rises to true = (let s = keyed inner.Skip in omega (arith, s), (let s = keyed inner.Skip in let u = keyed inner.Behind in omega (arith, s, u), let u = keyed inner.Behind in omega (arith, u)))
   call_rises to false = up
 
-  template_rises : (c : Instr) → Rising (base n i) (template ns n i c) (base n (i + 1))
-  template_rises (SendText bs) = (
+  text_rises : (bs : List ℕ) (o : Option ℕ) → Rising (base n i) (sent o (Inside inner.Text n i) (Inside inner.Behind n i) bs) (base n (i + 1))
+  text_rises bs (Some b) = plain_rises (base n i) (base n (i + 1)) (byte_sent b) up (byte_plain b)
+  text_rises bs None = (
     let t = keyed inner.Text in omega (arith, t),
     (
       let t = keyed inner.Text in let u = keyed inner.Behind in
@@ -178,6 +182,9 @@ module _ (ns : List ℕ) (seed n i : ℕ) (small : n < 65536) (index : i < 65536
       let u = keyed inner.Behind in omega (arith, u),
     ),
   )
+
+  template_rises : (c : Instr) → Rising (base n i) (template ns n i c) (base n (i + 1))
+  template_rises (SendText bs) = text_rises bs (only_byte bs)
   template_rises (JumpTo to) = jump_rises ns n to (base n i) (base n (i + 1)) (has_line ns to) refl up
   template_rises (CallTo to) = call_rises to (has_line ns to)
   template_rises Return = (let u = keyed inner.Behind in omega (arith, u), let u = keyed inner.Behind in omega (arith, u))
@@ -194,10 +201,11 @@ module _ (ns : List ℕ) (seed n i : ℕ) (small : n < 65536) (index : i < 65536
   changes_rise low high skip above below None op a b to = calculated_rises low high n op a b to (omega (arith, above, below))
 
   -- the label of a remainder's sign
-  remains_rise : (o : Option ℕ) (a b : Source) (to : ℕ) → Rising (base n i) (rest_by n o (Inside inner.Skip n i) a b to) (base n (i + 1))
-  remains_rise (Some bits) (FixedWord w) b to = let s = keyed inner.Skip in (omega (arith, s), omega (arith, s))
-  remains_rise (Some bits) (AtAddress p) b to = let s = keyed inner.Skip in (omega (arith, s), omega (arith, s))
-  remains_rise None a b to =
+  remains_rise : (o : Option ℕ) (r : Option (ℕ × ℕ)) (a b : Source) (to : ℕ) → Rising (base n i) (rest_by n o r (Inside inner.Skip n i) a b to) (base n (i + 1))
+  remains_rise (Some bits) r (FixedWord w) b to = let s = keyed inner.Skip in (omega (arith, s), omega (arith, s))
+  remains_rise (Some bits) r (AtAddress p) b to = let s = keyed inner.Skip in (omega (arith, s), omega (arith, s))
+  remains_rise None (Some r) a b to = plain_rises (base n i) (base n (i + 1)) (reduced_rest r.0 r.1 a to) up (reduced_plain r.0 r.1 a to)
+  remains_rise None None a b to =
       rising_append (base n i) (base n i) (base n (i + 1)) (asked_rest n a b) (signed_rest (Inside inner.Skip n i) a to)
       (plain_rises (base n i) (base n i) (asked_rest n a b) (omega arith) (asked_rest_plain n a b)) (by a)
     where
@@ -249,7 +257,7 @@ module _ (ns : List ℕ) (seed n i : ℕ) (small : n < 65536) (index : i < 65536
   group_rises (Use how a) = used_rises (base n i) (base n (i + 1)) n (next_line ns n) how (source_of 0 a) up
   group_rises (Test rel a b) = test_rises rel (tested_source a) (source_of 0 b) (next_line ns n)
   group_rises (TestGo rel a b to) = gone_rises rel (tested_source a) (source_of 0 b) (has_line ns to) to
-  group_rises (Remains x d to) = remains_rise (mask (source_of (slot_of to + 2) d)) (AtAddress (var_at x)) (source_of (slot_of to + 2) d) (destination_at to)
+  group_rises (Remains x d to) = remains_rise (mask (source_of (slot_of to + 2) d)) (doublings (source_of (slot_of to + 2) d)) (AtAddress (var_at x)) (source_of (slot_of to + 2) d) (destination_at to)
   group_rises (Divides how x d side to) = divides_rises (base n i) (base n (i + 1)) ns n how (source_of 0 (Variable x)) (source_of 1 d) to up
   group_rises (Single c) = single_rises (may_fault c) c
 

@@ -72,7 +72,8 @@ Is n m = is_some (find_opcode rows n m) ≡ true
 formed : (b : Bool) → b ≡ true → (b && true) ≡ true
 formed b h = ap (λ b. b && true) h
 
-implied : (n : Mnemonic) → Is n Implied → IsPlain (alone n)
+-- an instruction without an operand is plain
+pub implied : (n : Mnemonic) → Is n Implied → IsPlain (alone n)
 implied n h = record { form = formed (is_some (find_opcode rows n Implied)) h; straight = refl; known = λ l. refl; rises = λ low high es h. h }
 
 accumulator : (n : Mnemonic) → Is n Accumulator → IsPlain (on_a n)

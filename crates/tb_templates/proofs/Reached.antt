@@ -27,7 +27,7 @@ use Rattle.tb_templates.specs.declared.labels.Target.{Target}
 use Rattle.tb_templates.specs.declared.labels.Target.TheVariants as target
 use Rattle.tb_templates.specs.Labels.{label_of}
 use Rattle.tb_templates.specs.Layout.{LabelsAt}
-use Rattle.tb_templates.specs.Templates.{branch, here, slot_at, var_at, on, template, jump, faulted, called, returned, find, return_address, jump_through, target_of, next_line, call, copied, constant}
+use Rattle.tb_templates.specs.Templates.{branch, byte_sent, here, only_byte, sent, slot_at, var_at, on, template, jump, faulted, called, returned, find, return_address, jump_through, target_of, next_line, call, copied, constant}
 use Rattle.tb_templates.specs.Sources.{Source, FixedWord, AtAddress, source_of, tested_source, home_at, destination_at}
 use Rattle.tb_templates.specs.GroupTemplates.{low_of, high_of, brought, joined, handed, multiplied, divided, calculated, computed, changed_or, converted}
 use Rattle.tb_templates.specs.GroupTemplates.{searched, used, equal, unequal, tested, gone, may_fault, group_template, lined, may_be_zero, may_have_none}
@@ -36,7 +36,10 @@ use Rattle.tb_templates.specs.GroupTemplates.{high_matched}
 use Rattle.tb_templates.specs.Scaled.{scaling, times, shifts, shifted}
 use Rattle.tb_templates.specs.InPlace.{Change, Increment, Decrement, Raise, Lower, Halve, Double, change_of, changed}
 use Rattle.tb_templates.specs.Masks.{mask}
+use Rattle.tb_templates.specs.Reduced.{doublings, reduced_rest}
 use Rattle.tb_templates.proofs.Divided.{asked_rest_plain, left_over_plain}
+use Rattle.tb_templates.proofs.Multiples.{reduced_plain}
+use Rattle.tb_templates.proofs.Sent.{byte_plain}
 use Rattle.tb_templates.specs.Orders.{Below, NotBelow, positive}
 use Rattle.tb_templates.specs.Orders.{Side, Order, BySign, ByPositive, ByConstant, ByDifference, lifted, ordered_by, unless_carry, wanted_side, weighed}
 use Rattle.tb_templates.specs.Program.{rest_code, list_code, line_code, lines_code, past_code, rows_code, table_code, block_code, program_code}
@@ -127,8 +130,10 @@ module _ (labels : List (Name × ℕ)) (ns : List ℕ) (known : Known labels ns)
       (refl ▹ to_label over behind ▹ refl ▹ to_label over behind ▹ refl ▹ refl ▹ refl ▹ refl ▹ refl ▹ refl ▹ refl ▹ refl ▹
       refl ▹ refl ▹ refl ▹ refl ▹ refl ▹ refl ▹ tt)
 
-  text_known : (n i a : ℕ) (bs : List ℕ) → LabelsAt labels a (template ns n i (SendText bs)) → AllKnown labels (template ns n i (SendText bs))
-  text_known n i a bs h =
+  text_known : (n i a : ℕ) (bs : List ℕ) (o : Option ℕ) → LabelsAt labels a (sent o (target.Inside inner.Text n i) (target.Inside inner.Behind n i) bs)
+      → AllKnown labels (sent o (target.Inside inner.Text n i) (target.Inside inner.Behind n i) bs)
+  text_known n i a bs (Some b) h = plain_known labels (byte_sent b) (byte_plain b)
+  text_known n i a bs None h =
       let of : Stands labels (target.Inside inner.Text n i) = ap is_some h.1.1.1.1.1.1.1.1.0 in
       let behind : Stands labels (target.Inside inner.Behind n i) = ap is_some h.1.1.1.1.1.1.1.1.1.1.0 in
       (low_label (target.Inside inner.Text n i) of ▹ refl ▹ high_label (target.Inside inner.Text n i) of ▹ refl ▹ refl ▹ refl ▹ refl ▹
@@ -148,7 +153,7 @@ module _ (labels : List (Name × ℕ)) (ns : List ℕ) (known : Known labels ns)
   template_known : (n i a : ℕ) (c : Instr) → LabelsAt labels a (template ns n i c) → AllKnown labels (template ns n i c)
   template_known n i a (Put k w) h = (refl ▹ refl ▹ refl ▹ refl ▹ tt)
   template_known n i a (Load k x) h = copied_known (var_at x) (slot_at k)
-  template_known n i a (SendText bs) h = text_known n i a bs h
+  template_known n i a (SendText bs) h = text_known n i a bs (only_byte bs) h
   template_known n i a SendZone h = (refl ▹ tt)
   template_known n i a SendNewline h = (refl ▹ refl ▹ refl ▹ refl ▹ tt)
   template_known n i a (Input x) h = (refl ▹ refl ▹ refl ▹ refl ▹ refl ▹ tt)
@@ -301,12 +306,13 @@ module _ (labels : List (Name × ℕ)) (ns : List ℕ) (known : Known labels ns)
       by true e = divided_by_known n (contrary how) a b (target.Line to) (known.lines to e)
       by false e = known_append labels (divided_by n how a b (next_line ns n)) (faulted n 1) (divided_by_known n how a b (next_line ns n) (next_known n)) (refl ▹ refl ▹ refl ▹ refl ▹ tt)
 
-  remains_known : (n at : ℕ) (o : Option ℕ) (skip : Target) (a b : Source) (to : ℕ) → LabelsAt labels at (rest_by n o skip a b to)
-      → AllKnown labels (rest_by n o skip a b to)
-  remains_known n at (Some bits) skip a b to h =
+  remains_known : (n at : ℕ) (o : Option ℕ) (r : Option (ℕ × ℕ)) (skip : Target) (a b : Source) (to : ℕ) → LabelsAt labels at (rest_by n o r skip a b to)
+      → AllKnown labels (rest_by n o r skip a b to)
+  remains_known n at (Some bits) r skip a b to h =
       (low_known Lda a ▹ refl ▹ refl ▹ high_known Ldy a ▹ to_label skip (ap is_some h.1.1.1.1.1.1.1.1.1.1.1.1.1.1.1.0)
       ▹ refl ▹ refl ▹ refl ▹ refl ▹ refl ▹ refl ▹ refl ▹ refl ▹ refl ▹ refl ▹ refl ▹ refl ▹ refl ▹ tt)
-  remains_known n at None skip a b to h =
+  remains_known n at None (Some r) skip a b to h = plain_known labels (reduced_rest r.0 r.1 a to) (reduced_plain r.0 r.1 a to)
+  remains_known n at None None skip a b to h =
       known_append labels (asked_rest n a b) (signed_rest skip a to) (plain_known labels (asked_rest n a b) (asked_rest_plain n a b))
       (by a (labels_split labels at (asked_rest n a b) (signed_rest skip a to) h).1)
     where
@@ -333,7 +339,7 @@ module _ (labels : List (Name × ℕ)) (ns : List ℕ) (known : Known labels ns)
   group_known seed n i at (TestGo rel a b to) h =
       gone_known n at rel (tested_source a) (source_of 0 b) (target.Inside inner.Skip n i) (next_line ns n) (has_line ns to) to refl (next_known n) h
   group_known seed n i at (Remains x d to) h =
-      remains_known n at (mask (source_of (slot_of to + 2) d)) (target.Inside inner.Skip n i) (AtAddress (var_at x)) (source_of (slot_of to + 2) d) (destination_at to) h
+      remains_known n at (mask (source_of (slot_of to + 2) d)) (doublings (source_of (slot_of to + 2) d)) (target.Inside inner.Skip n i) (AtAddress (var_at x)) (source_of (slot_of to + 2) d) (destination_at to) h
   group_known seed n i at (Divides how x d side to) h = divides_known n how (source_of 0 (Variable x)) (source_of 1 d) to
   group_known seed n i at (Single c) h = single_known n i at (may_fault c) c h
 

@@ -1,17 +1,20 @@
 -- Worked rows: the items of lines.
 use Rattle.std.specs.Prelude.{◌≡◌, ℕ, true, List, [], ◌∷◌, ◌++◌, refl, false, Some, None}
-use Rattle.tb_opcodes.specs.declared.Mnemonic.TheVariants.{Adc, Bcc, Bcs, Bmi, Bne, Bpl, Bvc, Clc, Cmp, Eor, Dec, Inc, Jmp, Lda, Ldx, Ldy, Rts, Sbc, Sec, Sta, Stx, And, Asl, Rol, Ror, Tax, Tay, Txa, Tya, Beq, Ora}
+use Rattle.tb_opcodes.specs.declared.Mnemonic.TheVariants.{Adc, Bcc, Bcs, Bmi, Bne, Bpl, Bvc, Clc, Cmp, Cpx, Eor, Dec, Inc, Jmp, Lda, Ldx, Ldy, Rts, Sbc, Sec, Sta, Stx, And, Asl, Rol, Ror, Tax, Tay, Txa, Tya, Beq, Ora}
 use Rattle.tb_words.specs.declared.Rel.TheVariants.{Eq, Ge, Gt, Le, Lt, Ne}
 use Rattle.tb_syntax.specs.declared.expressions.Operator.TheVariants.{Add, Subtract, Divide, Multiply}
-use Rattle.tb_syntax.specs.Source.{Number, Variable, Negate, Random, Value, Binary, Statement, Let, Print, If, Goto, Gosub, End}
+use Rattle.tb_syntax.specs.Source.{Number, Variable, Negate, Random, Text, Value, Binary, Statement, Let, Print, If, Goto, Gosub, End}
 use Rattle.tb_lower.specs.Lowered as lowered
-use Rattle.tb_asm.specs.Layout.{Entry}
-use Rattle.tb_runtime16.specs.Addresses.{LEFT, DIVIDE_AT, RANDOM_AT, NUMBER_AT, PUSH_AT, FAULT_LINE_AT}
+use Rattle.tb_opcodes.specs.Opcodes as opcodes
+use Rattle.tb_asm.specs.declared.items.Operand.TheVariants.{Word}
+use Rattle.tb_asm.specs.Layout.{Entry, word}
+use Rattle.tb_runtime16.specs.Addresses.{LEFT, DIVIDE_AT, RANDOM_AT, NUMBER_AT, PUSH_AT, SEND_AT, FAULT_LINE_AT}
 use Rattle.tb_templates.specs.declared.labels.Inner.TheVariants.{Behind, Skip}
 use Rattle.tb_templates.specs.declared.labels.Target.TheVariants.{Line, Inside, Polled}
 use Rattle.tb_templates.specs.Templates.{at, const, alone, branch, here, call, address, find, jump_through}
 use Rattle.tb_templates.specs.Scaled.{at_zero, is_factor, on_a, shifts_of}
 use Rattle.tb_templates.specs.Masks.{mask_of}
+use Rattle.tb_templates.specs.Reduced.{doublings_of, rounds}
 use Rattle.tb_templates.specs.Program.{line_code}
 
 -- the items of a line of a program with the lines 10, 20 and 30
@@ -199,10 +202,10 @@ stepped : items 10 (Let 0 (Binary Add (Binary Add (Variable 1) (Variable 2)) (Nu
     ∷ at Inc 0xC000 ∷ branch Bne (Inside Behind 10 1) ∷ at Inc 0xC001 ∷ here (Inside Behind 10 1) ∷ [])
 stepped = refl
 
--- 10 LET A=B-B/3*3: the remainder's size is left at $C066, and is negated if B is below 0
-remainder : items 10 (Let 0 (Binary Subtract (Variable 1) (Binary Multiply (Binary Divide (Variable 1) (Number 3)) (Number 3))))
+-- 10 LET A=B-B/1025*1025: the remainder's size is left at $C066, and is negated if B is below 0
+remainder : items 10 (Let 0 (Binary Subtract (Variable 1) (Binary Multiply (Binary Divide (Variable 1) (Number 1025)) (Number 1025))))
     ≡ here (Line 10) ∷ going 10
-    (at Lda 0xC002 ∷ at_zero Sta 0xFB ∷ at Lda 0xC003 ∷ at_zero Sta 0xFC ∷ const Lda 3 ∷ at_zero Sta 0xFD ∷ const Lda 0 ∷ at_zero Sta 0xFE ∷ call DIVIDE_AT
+    (at Lda 0xC002 ∷ at_zero Sta 0xFB ∷ at Lda 0xC003 ∷ at_zero Sta 0xFC ∷ const Lda 1 ∷ at_zero Sta 0xFD ∷ const Lda 4 ∷ at_zero Sta 0xFE ∷ call DIVIDE_AT
     ∷ at Lda 0xC003 ∷ branch Bpl (Inside Skip 10 1) ∷ alone Sec ∷ const Lda 0 ∷ at Sbc 0xC066 ∷ at Sta 0xC066 ∷ const Lda 0 ∷ at Sbc 0xC067 ∷ at Sta 0xC067
     ∷ here (Inside Skip 10 1) ∷ at Lda 0xC066 ∷ at Sta 0xC000 ∷ at Lda 0xC067 ∷ at Sta 0xC001 ∷ [])
 remainder = refl
@@ -213,6 +216,52 @@ masked_remainder : items 10 (Let 0 (Binary Subtract (Variable 1) (Binary Multipl
     (at Lda 0xC002 ∷ const And 3 ∷ const Ldx 0 ∷ at Ldy 0xC003 ∷ branch Bpl (Inside Skip 10 1) ∷ alone Clc ∷ const Adc 3 ∷ const And 3 ∷ alone Sec ∷ const Sbc 3
     ∷ alone Tay ∷ const Lda 0 ∷ const Sbc 0 ∷ alone Tax ∷ alone Tya ∷ here (Inside Skip 10 1) ∷ at Sta 0xC000 ∷ at Stx 0xC001 ∷ [])
 masked_remainder = refl
+
+-- which divisors are taken away by multiples, and how often they are doubled to come above 512
+doubled : (doublings_of 2 ≡ None) × (doublings_of 3 ≡ Some 8) × (doublings_of 4 ≡ None) × (doublings_of 10 ≡ Some 6) × (doublings_of 511 ≡ Some 1)
+    × (doublings_of 512 ≡ None) × (doublings_of 1023 ≡ Some 0) × (doublings_of 1024 ≡ None)
+doubled = (refl, refl, refl, refl, refl, refl, refl, refl)
+
+-- the word in A and X is negated
+below_none : List Entry
+below_none = const Eor 255 ∷ alone Clc ∷ const Adc 1 ∷ alone Tay ∷ alone Txa ∷ const Eor 255 ∷ const Adc 0 ∷ alone Tax ∷ alone Tya ∷ []
+
+-- a multiple with this high and this low byte is taken away
+away : (high low : ℕ) → List Entry
+away high low =
+    const Cpx high ∷ word (Word 0x0E90) ∷ word (Word 0x04D0) ∷ const Cmp low ∷ word (Word 0x0890) ∷ const Sbc low ∷ alone Tay ∷ alone Txa ∷ const Sbc high
+    ∷ alone Tax ∷ alone Tya ∷ []
+
+-- 10 LET A=B-B/700*700: 22400, 11200, 5600, 2800, 1400 and 700 are taken away; a byte goes past that
+multiples : items 10 (Let 0 (Binary Subtract (Variable 1) (Binary Multiply (Binary Divide (Variable 1) (Number 700)) (Number 700))))
+    ≡ here (Line 10) ∷ going 10
+    (at Lda 0xC002 ∷ at Ldx 0xC003 ∷ word (Word 0x7BF0) ∷ word (Word 0x0D10) ∷ (below_none ++ (away 87 128 ++ (away 43 192 ++ (away 21 224 ++ (away 10 240
+    ++ (away 5 120 ++ (away 2 188 ++ (at Ldy 0xC003 ∷ word (Word 0x0D10) ∷ (below_none ++ (at Sta 0xC000 ∷ at Stx 0xC001 ∷ [])))))))))))
+unfolding below_none away opcodes.encoded
+multiples = refl
+
+-- the last three rounds for a divisor of 50: for 200, which may have a high byte above it, and for 100 and 50
+bytes : rounds 3 50 ≡ away 0 200 ++ (const Cmp 100 ∷ word (Word 0x0290) ∷ const Sbc 100 ∷ const Cmp 50 ∷ word (Word 0x0290) ∷ const Sbc 50 ∷ [])
+unfolding away opcodes.encoded
+bytes = refl
+
+-- 10 LET A=B-B/C*C: the line's number; then, if both are bytes and C is not 0, up to four differences, or else the call
+differences : items 10 (Let 0 (Binary Subtract (Variable 1) (Binary Multiply (Binary Divide (Variable 1) (Variable 2)) (Variable 2))))
+    ≡ here (Line 10) ∷ going 10
+    (const Lda 10 ∷ at Sta 0xC03A ∷ const Lda 0 ∷ at Sta 0xC03B
+    ∷ at Lda 0xC003 ∷ at Ora 0xC005 ∷ word (Word 0x37D0) ∷ at Ldx 0xC004 ∷ word (Word 0x32F0) ∷ at Lda 0xC002
+    ∷ at Cmp 0xC004 ∷ word (Word 0x2090) ∷ at Sbc 0xC004 ∷ at Cmp 0xC004 ∷ word (Word 0x1890) ∷ at Sbc 0xC004
+    ∷ at Cmp 0xC004 ∷ word (Word 0x1090) ∷ at Sbc 0xC004 ∷ at Cmp 0xC004 ∷ word (Word 0x0890) ∷ at Sbc 0xC004
+    ∷ at Cmp 0xC004 ∷ word (Word 0x0AB0) ∷ at Sta 0xC066 ∷ const Lda 0 ∷ at Sta 0xC067 ∷ word (Word 0x17F0)
+    ∷ at Lda 0xC002 ∷ at_zero Sta 0xFB ∷ at Lda 0xC003 ∷ at_zero Sta 0xFC ∷ at Lda 0xC004 ∷ at_zero Sta 0xFD ∷ at Lda 0xC005 ∷ at_zero Sta 0xFE ∷ call DIVIDE_AT
+    ∷ at Lda 0xC003 ∷ branch Bpl (Inside Skip 10 1) ∷ alone Sec ∷ const Lda 0 ∷ at Sbc 0xC066 ∷ at Sta 0xC066 ∷ const Lda 0 ∷ at Sbc 0xC067 ∷ at Sta 0xC067
+    ∷ here (Inside Skip 10 1) ∷ at Lda 0xC066 ∷ at Sta 0xC000 ∷ at Lda 0xC067 ∷ at Sta 0xC001 ∷ [])
+unfolding opcodes.encoded
+differences = refl
+
+-- 10 PRINT "*";: a byte alone is sent in line
+one_byte : items 10 (Print (Text (42 ∷ []) ∷ []) false) ≡ here (Line 10) ∷ going 10 (const Lda 42 ∷ call SEND_AT ∷ [])
+one_byte = refl
 
 -- 20 IF A=A/2*2 GOTO 10: the multiple may be on the right too
 even : items 20 (If (Variable 0) Eq (Binary Multiply (Binary Divide (Variable 0) (Number 2)) (Number 2)) (Goto (Number 10)))

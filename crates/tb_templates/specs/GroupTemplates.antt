@@ -23,6 +23,8 @@ use Rattle.tb_templates.specs.Scaled.{scaling, times, shifts, shifted}
 use Rattle.tb_templates.specs.Orders.{Below, NotBelow, ordered}
 use Rattle.tb_templates.specs.InPlace.{Change, change_of, changed}
 use Rattle.tb_templates.specs.Masks.{mask, lowest_bits, masked_rest}
+use Rattle.tb_templates.specs.Reduced.{doublings, reduced_rest}
+use Rattle.tb_templates.specs.Subtracted.{tried}
 
 -- ── words ──
 -- a word to an address
@@ -183,22 +185,27 @@ divides numbers n how a b None = divided_by n how a b (next_line numbers n)
 divides numbers n how a b (Some to) = divided_gone n how a b (next_line numbers n) (has_line numbers to) to
 
 -- ── remainders ──
--- the routine divides a word of line n by another one, and leaves the remainder's size
+-- the routine divides a word of line n by another one, and leaves the remainder's size; of bytes it may be made by differences
 abbrev pub asked_rest : ℕ → Source → Source → List Entry
-asked_rest n a b = lined (may_be_zero b) n (brought a LEFT ++ (brought b RIGHT ++ (call DIVIDE_AT ∷ [])))
+asked_rest n a b = lined (may_be_zero b) n (tried a b (brought a LEFT ++ (brought b RIGHT ++ (call DIVIDE_AT ∷ []))))
 
 -- the remainder goes to an address, with the sign of the word that was divided
 abbrev pub signed_rest : Target → Source → ℕ → List Entry
 signed_rest skip a to = high_of Lda a ∷ branch Bpl skip ∷ (taken (FixedWord 0) (AtAddress RESULT) RESULT ++ (here skip ∷ copied RESULT to))
 
--- a remainder with the word's sign: by the word's lowest bits if the divisor is a power of two; any other by the routine
-abbrev pub rest_by : ℕ → Option ℕ → Target → Source → Source → ℕ → List Entry
-rest_by n (Some bits) skip a b to = masked_rest bits skip a to
-rest_by n None skip a b to = asked_rest n a b ++ signed_rest skip a to
+-- a remainder with the word's sign: by a constant's multiples, if the divisor is such a constant, or else by the routine
+abbrev pub other_rest : ℕ → Option (ℕ × ℕ) → Target → Source → Source → ℕ → List Entry
+other_rest n (Some r) skip a b to = reduced_rest r.0 r.1 a to
+other_rest n None skip a b to = asked_rest n a b ++ signed_rest skip a to
+
+-- by the word's lowest bits if the divisor is a power of two up to 256
+abbrev pub rest_by : ℕ → Option ℕ → Option (ℕ × ℕ) → Target → Source → Source → ℕ → List Entry
+rest_by n (Some bits) r skip a b to = masked_rest bits skip a to
+rest_by n None r skip a b to = other_rest n r skip a b to
 
 -- the remainder of a word by a divisor, with the word's sign, in line n
 abbrev pub remains : ℕ → Target → Source → Source → ℕ → List Entry
-remains n skip a b to = rest_by n (mask b) skip a b to
+remains n skip a b to = rest_by n (mask b) (doublings b) skip a b to
 
 -- ── templates ──
 -- whether a routine that a single instruction calls in any case may fault: then the line's number is set first

@@ -12,6 +12,10 @@ pub mod Scaled
 pub mod InPlace
 -- multiples of a power of two, by the lowest bits
 pub mod Masks
+-- remainders by a constant, by its multiples
+pub mod Reduced
+-- remainders of bytes, by differences
+pub mod Subtracted
 -- the order of two signed words
 pub mod Orders
 -- ── groups and programs ──

@@ -1,5 +1,5 @@
 -- The code of single slot instructions, as items of the assembler.
-use Rattle.std.specs.Prelude.{ℕ, ◌+◌, ◌*◌, ◌/◌, ◌%◌, List, [], ◌∷◌, ◌++◌, length, nat_lt, if◌then◌else◌}
+use Rattle.std.specs.Prelude.{ℕ, Option, Some, None, ◌+◌, ◌*◌, ◌/◌, ◌%◌, List, [], ◌∷◌, ◌++◌, length, nat_lt, if◌then◌else◌}
 use Rattle.tb_opcodes.specs.declared.Mnemonic.{Mnemonic}
 use Rattle.tb_opcodes.specs.declared.Mnemonic.TheVariants.{Beq, Bne, Dex, Inc, Jmp, Jsr, Lda, Ldx, Ldy, Rts, Sta, Stx}
 use Rattle.tb_opcodes.specs.declared.Mode.{Mode}
@@ -11,7 +11,7 @@ use Rattle.tb_words.specs.Words.{word}
 use Rattle.tb_meaning.specs.Control.{Place, At, Past, next_after, has_line}
 use Rattle.tb_lower.specs.Slots.{Instr, Put, Load, Store, Negate, Compute, Random, SendText, SendNumber, SendZone, SendNewline, Input, Poll, Hold, LeaveUnless, Jump, Call, JumpTo, CallTo, Return, End}
 use Rattle.tb_kernal.specs.declared.rom.TheConstants.{CHROUT}
-use Rattle.tb_runtime16.specs.Addresses.{POINTER, LENGTH, LEFT, RESULT, LINE, NOTES, RETURN_LOW, RETURN_HIGH, VARS, SLOTS, COLUMN, TEXT_AT, ZONE_AT, INPUT_AT, PUSH_AT, POP_AT, FAULT_LINE_AT, POLL_AT}
+use Rattle.tb_runtime16.specs.Addresses.{POINTER, LENGTH, LEFT, RESULT, LINE, NOTES, RETURN_LOW, RETURN_HIGH, VARS, SLOTS, COLUMN, SEND_AT, TEXT_AT, ZONE_AT, INPUT_AT, PUSH_AT, POP_AT, FAULT_LINE_AT, POLL_AT}
 use Rattle.tb_templates.specs.declared.labels.Inner.TheVariants as inner
 use Rattle.tb_templates.specs.declared.labels.Target.{Target}
 use Rattle.tb_templates.specs.declared.labels.Target.TheVariants as target
@@ -143,6 +143,20 @@ inline of behind bs = jump behind ∷ here of ∷ bytes bs ∷ here behind ∷ [
 abbrev pub text : Target → Target → List ℕ → List Entry
 text of behind bs = address of POINTER ++ (text_call (length bs) ++ inline of behind bs)
 
+-- the byte of a text that has one byte alone
+abbrev pub only_byte : List ℕ → Option ℕ
+only_byte (b ∷ []) = if nat_lt b 256 then Some b else None
+only_byte bs = None
+
+-- a byte in line, sent
+abbrev pub byte_sent : ℕ → List Entry
+byte_sent b = const Lda b ∷ call SEND_AT ∷ []
+
+-- a text, sent: its only byte in line, or all of it by the call
+abbrev pub sent : Option ℕ → Target → Target → List ℕ → List Entry
+sent (Some b) of behind bs = byte_sent b
+sent None of behind bs = text of behind bs
+
 -- ── templates ──
 -- the label of a place: its line, or what follows the last one
 abbrev pub target_of : Place → Target
@@ -184,7 +198,7 @@ template numbers n i (Store x) = []
 template numbers n i (Negate k) = []
 template numbers n i (Compute op k) = []
 template numbers n i (Random k) = []
-template numbers n i (SendText bs) = text (target.Inside inner.Text n i) (target.Inside inner.Behind n i) bs
+template numbers n i (SendText bs) = sent (only_byte bs) (target.Inside inner.Text n i) (target.Inside inner.Behind n i) bs
 template numbers n i SendNumber = []
 template numbers n i SendZone = call ZONE_AT ∷ []
 template numbers n i SendNewline = newline

@@ -13,13 +13,17 @@ ghost use Rattle.tb_templates.specs.Sources.{AreWhole, IsWhole};
 ghost use Rattle.tb_runtime16.specs.Addresses as places;
 ghost use Rattle.tb_templates.specs.GroupTemplates as groups;
 ghost use Rattle.tb_templates.specs.Masks as masks;
+ghost use Rattle.tb_templates.specs.Reduced as reduced;
 
 use crate::groups::{may_be_zero, put_brought, put_lined, put_taken};
 use crate::labels::Target;
 use crate::pieces::{
-    put_alone, put_at, put_branch, put_call, put_const, put_copied, put_faulted, put_here,
+    put_alone, put_at, put_both_stored, put_branch, put_call, put_const, put_copied, put_faulted,
+    put_here,
 };
+use crate::reduced::{doublings, put_reduced_rest};
 use crate::sources::{Source, Words, against_none, put_high, put_low};
+use crate::subtracted::put_tried;
 use crate::templates::{NO_LINE, Spot, has_number};
 use std::alloc::AllocError;
 use tb_asm::Item;
@@ -216,6 +220,7 @@ fn put_asked_rest(items: &mut Vec<Item>, line: u16, words: Words) -> Result<(), 
     ensures { Puts result items.old items.new (groups.asked_rest line words.left words.right) }
 {
     put_lined(items, may_be_zero(words.right), line)?;
+    put_tried(items, words)?;
     put_called(items, words)?;
     Ok(())
 }
@@ -288,15 +293,6 @@ fn put_rest_below(items: &mut Vec<Item>, bits: u8) -> Result<(), AllocError>
     put_alone(items, Mnemonic::Tya)
 }
 
-// A word in A and X to an address.
-fn put_both_stored(items: &mut Vec<Item>, to: u16) -> Result<(), AllocError>
-    requires { to < 65535 }
-    ensures { Puts result items.old items.new (masks.both_stored to) }
-{
-    put_at(items, Mnemonic::Sta, to)?;
-    put_at(items, Mnemonic::Stx, to + 1)
-}
-
 // The remainder of a word by a power of two, with that word's sign.
 fn put_masked_rest(
     items: &mut Vec<Item>,
@@ -316,6 +312,23 @@ fn put_masked_rest(
     Ok(())
 }
 
+// The remainder by another divisor than a power of two up to 256.
+fn put_other_rest(
+    items: &mut Vec<Item>,
+    spot: Spot,
+    words: Words,
+    to: u16,
+) -> Result<(), AllocError>
+    requires { AreWhole words × (to < 65535) }
+    ensures { Puts result items.old items.new (groups.other_rest spot.line (reduced.doublings words.right)
+        (Inside Skip spot.line spot.index) words.left words.right to) }
+{
+    match doublings(words.right) {
+        Some((count, divisor)) => put_reduced_rest(items, count, divisor, words.left, to),
+        None => put_routine_rest(items, spot, words, to),
+    }
+}
+
 /// The remainder of a word by a divisor, with that word's sign.
 pub fn put_remains(
     items: &mut Vec<Item>,
@@ -328,6 +341,6 @@ pub fn put_remains(
 {
     match mask(words.right) {
         Some(bits) => put_masked_rest(items, bits, spot.skip(), words.left, to),
-        None => put_routine_rest(items, spot, words, to),
+        None => put_other_rest(items, spot, words, to),
     }
 }

@@ -11,9 +11,11 @@ mod labels;
 mod orders;
 mod pieces;
 mod program;
+mod reduced;
 mod scaled;
 mod search;
 mod sources;
+mod subtracted;
 mod templates;
 
 pub use labels::{Inner, Target, label};

@@ -2,6 +2,7 @@
 ghost use Rattle.std.specs.Prelude.{◌≡◌, ◌+◌, ◌<◌, [], ◌∷◌, OnOk, vec_capacity, vec_len};
 ghost use Rattle.tb_asm.specs.Layout.{entry_of};
 ghost use Rattle.tb_templates.specs.Putting.{Puts};
+ghost use Rattle.tb_templates.specs.Masks as masks;
 ghost use Rattle.tb_templates.specs.Templates as templates;
 ghost use Rattle.tb_runtime16.specs.Addresses as places;
 
@@ -218,4 +219,13 @@ pub fn put_faulted(items: &mut Vec<Item>, line: u16, number: u8) -> Result<(), A
     put_const(items, Mnemonic::Ldy, (line / 256) as u8)?;
     put_const(items, Mnemonic::Lda, number)?;
     put_at(items, Mnemonic::Jmp, entry(Routine::FaultLine))
+}
+
+/// A word in A and X to an address.
+pub fn put_both_stored(items: &mut Vec<Item>, to: u16) -> Result<(), AllocError>
+    requires { to < 65535 }
+    ensures { Puts result items.old items.new (masks.both_stored to) }
+{
+    put_at(items, Mnemonic::Sta, to)?;
+    put_at(items, Mnemonic::Stx, to + 1)
 }

@@ -25,7 +25,7 @@ use tb_kernal::CHROUT;
 use tb_lower::SlotInstr;
 use tb_opcodes::Mnemonic;
 use tb_runtime16::{
-    COLUMN, LENGTH, LINE, NOTES, POINTER, RESULT, RETURN_HIGH, RETURN_LOW, Routine,
+    COLUMN, LENGTH, LINE, NOTES, POINTER, RESULT, RETURN_HIGH, RETURN_LOW, Routine, SEND_AT,
 };
 
 /// The fault of a line that does not exist.
@@ -79,6 +79,30 @@ fn put_text(
     put_text_call(items, text.len() as u8)?;
     put_inline(items, of, behind, text)?;
     Ok(())
+}
+
+// A byte in line, sent.
+fn put_byte_sent(items: &mut Vec<Item>, byte: u8) -> Result<(), AllocError>
+    ensures { Puts result items.old items.new (templates.byte_sent byte) }
+{
+    put_const(items, Mnemonic::Lda, byte)?;
+    put_at(items, Mnemonic::Jsr, SEND_AT)
+}
+
+// A text, sent: its only byte in line, or all of it by the call.
+fn put_sent(
+    items: &mut Vec<Item>,
+    of: Target,
+    behind: Target,
+    text: &[u8],
+) -> Result<(), AllocError>
+    requires { length text.now < 256 }
+    ensures { Puts result items.old items.new (templates.sent (templates.only_byte text.now) of behind text.now) }
+{
+    match text {
+        [byte] => put_byte_sent(items, *byte),
+        _ => put_text(items, of, behind, text),
+    }
 }
 
 // The call that sends a text of that length.
@@ -299,7 +323,7 @@ pub fn put_instruction(
         SlotInstr::SendText(text) => {
             let of = Target::Inside(Inner::Text, spot.line, spot.index);
             let behind = Target::Inside(Inner::Behind, spot.line, spot.index);
-            put_text(items, of, behind, text)
+            put_sent(items, of, behind, text)
         }
         SlotInstr::SendZone => put_call(items, Routine::Zone),
         SlotInstr::SendNewline => put_newline(items),

@@ -1,5 +1,6 @@
 //! Worked rows at the edges of the words for which code was made faster: what is typed, and what is shown. Quotients,
-//! comparisons, draws, digits, remainders by powers of two, numbers of each length, and computed jumps.
+//! comparisons, draws, digits, remainders by powers of two and other constants, numbers of each length, texts, and
+//! computed jumps.
 use crate::jumps::shows;
 use crate::limits::row_searches;
 use crate::rows::{PLAIN, Row};
@@ -14,8 +15,8 @@ type Typed = (&'static str, &'static str);
 const DIVIDING: &str =
     "10 INPUT A,B\n20 PRINT A/B;\" \";A-A/B*B\n30 IF A/B*B=A PRINT \"E\"\n40 END";
 
-// Of each sign and size: bytes over bytes, words over bytes, words over words.
-static DIVIDED: [Typed; 59] = [
+// Of each sign and size: bytes over bytes, also about four times them, words over bytes, words over words.
+static DIVIDED: [Typed; 79] = [
     ("0,1\r", "0 0\nE\n"),
     ("0,-1\r", "0 0\nE\n"),
     ("0,32767\r", "0 0\nE\n"),
@@ -70,6 +71,26 @@ static DIVIDED: [Typed; 59] = [
     ("-32768,-256\r", "128 0\nE\n"),
     ("-32768,32767\r", "-1 -1\n"),
     ("-32768,-32768\r", "1 0\nE\n"),
+    ("3,1\r", "3 0\nE\n"),
+    ("4,1\r", "4 0\nE\n"),
+    ("5,1\r", "5 0\nE\n"),
+    ("1,255\r", "0 1\n"),
+    ("19,4\r", "4 3\n"),
+    ("20,4\r", "5 0\nE\n"),
+    ("16,4\r", "4 0\nE\n"),
+    ("15,4\r", "3 3\n"),
+    ("24,5\r", "4 4\n"),
+    ("25,5\r", "5 0\nE\n"),
+    ("254,51\r", "4 50\n"),
+    ("255,51\r", "5 0\nE\n"),
+    ("255,64\r", "3 63\n"),
+    ("254,63\r", "4 2\n"),
+    ("252,63\r", "4 0\nE\n"),
+    ("256,64\r", "4 0\nE\n"),
+    ("255,85\r", "3 0\nE\n"),
+    ("-20,4\r", "-5 0\nE\n"),
+    ("-19,4\r", "-4 -3\n"),
+    ("20,-4\r", "-5 0\nE\n"),
     ("0,0\r", "\n!2 AT 20\n"),
     ("1,0\r", "\n!2 AT 20\n"),
     ("-1,0\r", "\n!2 AT 20\n"),
@@ -293,6 +314,52 @@ static LOWEST_BITS: [Typed; 24] = [
     ("-86\r", "0 -2 -6 -6 -22 -22 -86 -86\n"),
 ];
 
+// What is left over constants whose multiples are taken away.
+const REDUCING: &str = "10 INPUT A\n20 PRINT A-A/3*3;\" \";\n30 PRINT A-A/5*5;\" \";\n\
+    40 PRINT A-A/10*10;\" \";\n50 PRINT A-A/100*100;\" \";\n60 PRINT A-A/127*127;\" \";\n\
+    70 PRINT A-A/129*129;\" \";\n80 PRINT A-A/255*255;\" \";\n90 PRINT A-A/257*257;\" \";\n\
+    100 PRINT A-A/511*511;\" \";\n110 PRINT A-A/1000*1000;\" \";\n120 PRINT A-A/1023*1023\n\
+    130 END";
+
+// Words of each sign, and about the divisors and their largest multiples.
+static MULTIPLES: [Typed; 35] = [
+    ("0\r", "0 0 0 0 0 0 0 0 0 0 0\n"),
+    ("1\r", "1 1 1 1 1 1 1 1 1 1 1\n"),
+    ("-1\r", "-1 -1 -1 -1 -1 -1 -1 -1 -1 -1 -1\n"),
+    ("127\r", "1 2 7 27 0 127 127 127 127 127 127\n"),
+    ("-127\r", "-1 -2 -7 -27 0 -127 -127 -127 -127 -127 -127\n"),
+    ("128\r", "2 3 8 28 1 128 128 128 128 128 128\n"),
+    ("-128\r", "-2 -3 -8 -28 -1 -128 -128 -128 -128 -128 -128\n"),
+    ("255\r", "0 0 5 55 1 126 0 255 255 255 255\n"),
+    ("-255\r", "0 0 -5 -55 -1 -126 0 -255 -255 -255 -255\n"),
+    ("256\r", "1 1 6 56 2 127 1 256 256 256 256\n"),
+    ("-256\r", "-1 -1 -6 -56 -2 -127 -1 -256 -256 -256 -256\n"),
+    ("32767\r", "1 2 7 67 1 1 127 128 63 767 31\n"),
+    ("-32767\r", "-1 -2 -7 -67 -1 -1 -127 -128 -63 -767 -31\n"),
+    ("-32768\r", "-2 -3 -8 -68 -2 -2 -128 -129 -64 -768 -32\n"),
+    ("2\r", "2 2 2 2 2 2 2 2 2 2 2\n"),
+    ("3\r", "0 3 3 3 3 3 3 3 3 3 3\n"),
+    ("-3\r", "0 -3 -3 -3 -3 -3 -3 -3 -3 -3 -3\n"),
+    ("9\r", "0 4 9 9 9 9 9 9 9 9 9\n"),
+    ("10\r", "1 0 0 10 10 10 10 10 10 10 10\n"),
+    ("-10\r", "-1 0 0 -10 -10 -10 -10 -10 -10 -10 -10\n"),
+    ("99\r", "0 4 9 99 99 99 99 99 99 99 99\n"),
+    ("100\r", "1 0 0 0 100 100 100 100 100 100 100\n"),
+    ("511\r", "1 1 1 11 3 124 1 254 0 511 511\n"),
+    ("512\r", "2 2 2 12 4 125 2 255 1 512 512\n"),
+    ("1000\r", "1 0 0 0 111 97 235 229 489 0 1000\n"),
+    ("-1000\r", "-1 0 0 0 -111 -97 -235 -229 -489 0 -1000\n"),
+    ("1022\r", "2 2 2 22 6 119 2 251 0 22 1022\n"),
+    ("1023\r", "0 3 3 23 7 120 3 252 1 23 0\n"),
+    ("-1023\r", "0 -3 -3 -23 -7 -120 -3 -252 -1 -23 0\n"),
+    ("24575\r", "2 0 5 75 64 65 95 160 47 575 23\n"),
+    ("24576\r", "0 1 6 76 65 66 96 161 48 576 24\n"),
+    ("25600\r", "1 0 0 0 73 58 100 157 50 600 25\n"),
+    ("32735\r", "2 0 5 35 96 98 95 96 31 735 1022\n"),
+    ("32736\r", "0 1 6 36 97 99 96 97 32 736 0\n"),
+    ("-32736\r", "0 -1 -6 -36 -97 -99 -96 -97 -32 -736 0\n"),
+];
+
 // A number and its opposite, and the zones behind them.
 const SENDING: &str = "10 INPUT A\n20 PRINT A;\"/\";-A,A,\"X\"\n30 END";
 
@@ -346,6 +413,13 @@ static NUMBERS: [Typed; 47] = [
     ("-1000\r", "-1000/1000      -1000   X\n"),
     ("-10000\r", "-10000/10000    -10000  X\n"),
 ];
+
+// Texts of no byte, of one and of more, and the zones behind them.
+const TEXTS: &str =
+    "10 PRINT \"\";\"A\";\"BC\";\"D\",\"E\",1;\"F\"\n20 PRINT \"*\";\n30 PRINT \"1234567\";\"8\",\"G\"\n\
+    40 PRINT \" \",\"HIJ\";\"K\"\n50 PRINT \"Z\"\n60 END";
+
+const SHOWN: &str = "ABCD    E       1F\n*12345678       G\n        HIJK\nZ\n";
 
 // Lines to jump to: some have the same low byte, and some the same high byte.
 const TARGETS: &str =
@@ -459,6 +533,21 @@ fn digits_at_edges(rt: HostRuntime) -> Result<(), Fail> {
 #[test]
 fn lowest_bits_at_edges(rt: HostRuntime) -> Result<(), Fail> {
     try_rows(&rt, MASKING, &LOWEST_BITS)
+}
+
+#[test]
+fn multiples_at_edges(rt: HostRuntime) -> Result<(), Fail> {
+    try_rows(&rt, REDUCING, &MULTIPLES)
+}
+
+#[test]
+fn texts_of_one_byte(rt: HostRuntime) -> Result<(), Fail> {
+    let row = Row {
+        source: TEXTS,
+        ..PLAIN
+    };
+    assert!(rt; shows(rt.alloc(), &row, SHOWN.as_bytes())?);
+    Ok(())
 }
 
 #[test]

@@ -4,52 +4,52 @@ use std::test::Fail;
 use tb_command_line::{Failure, job, room_for_screen};
 
 /// Words, and the job that they become.
-static JOBS: [(&[&str], &str); 25] = [
+static JOBS: [(&[&str], &str); 28] = [
     (
         &["build", "a", "b"],
-        "Ok(Build { source: \"a\", out: \"b\", seed: 1, fit: false, beside: BuildExtras { labels: None, listing: None, dialect: None, map: None, watch: None } })",
+        "Ok(Build { source: \"a\", out: \"b\", seed: 1, fit: false, notation: Plain, beside: BuildExtras { labels: None, listing: None, dialect: None, map: None, watch: None } })",
     ),
     (
         &["build", "f.d/a.bas"],
-        "Ok(Build { source: \"f.d/a.bas\", out: \"f.d/a.prg\", seed: 1, fit: false, beside: BuildExtras { labels: None, listing: None, dialect: None, map: None, watch: None } })",
+        "Ok(Build { source: \"f.d/a.bas\", out: \"f.d/a.prg\", seed: 1, fit: false, notation: Plain, beside: BuildExtras { labels: None, listing: None, dialect: None, map: None, watch: None } })",
     ),
     (
         &["build", "a.BAS"],
-        "Ok(Build { source: \"a.BAS\", out: \"a.BAS.prg\", seed: 1, fit: false, beside: BuildExtras { labels: None, listing: None, dialect: None, map: None, watch: None } })",
+        "Ok(Build { source: \"a.BAS\", out: \"a.BAS.prg\", seed: 1, fit: false, notation: Plain, beside: BuildExtras { labels: None, listing: None, dialect: None, map: None, watch: None } })",
     ),
     (
         &["build", "a"],
-        "Ok(Build { source: \"a\", out: \"a.prg\", seed: 1, fit: false, beside: BuildExtras { labels: None, listing: None, dialect: None, map: None, watch: None } })",
+        "Ok(Build { source: \"a\", out: \"a.prg\", seed: 1, fit: false, notation: Plain, beside: BuildExtras { labels: None, listing: None, dialect: None, map: None, watch: None } })",
     ),
     (
         &["build", "-"],
-        "Ok(Build { source: \"-\", out: \"-\", seed: 1, fit: false, beside: BuildExtras { labels: None, listing: None, dialect: None, map: None, watch: None } })",
+        "Ok(Build { source: \"-\", out: \"-\", seed: 1, fit: false, notation: Plain, beside: BuildExtras { labels: None, listing: None, dialect: None, map: None, watch: None } })",
     ),
     (
         &["build", "a", "-o", "b"],
-        "Ok(Build { source: \"a\", out: \"b\", seed: 1, fit: false, beside: BuildExtras { labels: None, listing: None, dialect: None, map: None, watch: None } })",
+        "Ok(Build { source: \"a\", out: \"b\", seed: 1, fit: false, notation: Plain, beside: BuildExtras { labels: None, listing: None, dialect: None, map: None, watch: None } })",
     ),
     (
         &["build", "-ob", "-"],
-        "Ok(Build { source: \"-\", out: \"b\", seed: 1, fit: false, beside: BuildExtras { labels: None, listing: None, dialect: None, map: None, watch: None } })",
+        "Ok(Build { source: \"-\", out: \"b\", seed: 1, fit: false, notation: Plain, beside: BuildExtras { labels: None, listing: None, dialect: None, map: None, watch: None } })",
     ),
     (
         &["build", "--seed", "65535", "a", "b"],
-        "Ok(Build { source: \"a\", out: \"b\", seed: 65535, fit: false, beside: BuildExtras { labels: None, listing: None, dialect: None, map: None, watch: None } })",
+        "Ok(Build { source: \"a\", out: \"b\", seed: 65535, fit: false, notation: Plain, beside: BuildExtras { labels: None, listing: None, dialect: None, map: None, watch: None } })",
     ),
     (
         &[
             "build", "a", "b", "--map=m", "--labels", "v", "--watch", "w", "--list", "s",
         ],
-        "Ok(Build { source: \"a\", out: \"b\", seed: 1, fit: false, beside: BuildExtras { labels: Some(\"v\"), listing: Some(\"s\"), dialect: None, map: Some(\"m\"), watch: Some(\"w\") } })",
+        "Ok(Build { source: \"a\", out: \"b\", seed: 1, fit: false, notation: Plain, beside: BuildExtras { labels: Some(\"v\"), listing: Some(\"s\"), dialect: None, map: Some(\"m\"), watch: Some(\"w\") } })",
     ),
     (
         &["build", "--fit", "a", "b"],
-        "Ok(Build { source: \"a\", out: \"b\", seed: 1, fit: true, beside: BuildExtras { labels: None, listing: None, dialect: None, map: None, watch: None } })",
+        "Ok(Build { source: \"a\", out: \"b\", seed: 1, fit: true, notation: Plain, beside: BuildExtras { labels: None, listing: None, dialect: None, map: None, watch: None } })",
     ),
     (
         &["run", "a"],
-        "Ok(Run { what: Source(\"a\"), settings: Settings { seed: 1, fit: false, keys: Digits(\"\"), answers: \"\", limit: Limit { events: 10000000 } }, rude: None, labels: None })",
+        "Ok(Run { what: Source(\"a\"), settings: Settings { seed: 1, fit: false, notation: Plain, keys: Digits(\"\"), answers: \"\", limit: Limit { events: 10000000 } }, rude: None, labels: None })",
     ),
     (
         &[
@@ -63,37 +63,37 @@ static JOBS: [(&[&str], &str); 25] = [
             "--rude",
             "65535",
         ],
-        "Ok(Run { what: Source(\"a\"), settings: Settings { seed: 1, fit: false, keys: Digits(\"330d\"), answers: \"00\", limit: Limit { events: 1000000000 } }, rude: Some(65535), labels: None })",
+        "Ok(Run { what: Source(\"a\"), settings: Settings { seed: 1, fit: false, notation: Plain, keys: Digits(\"330d\"), answers: \"00\", limit: Limit { events: 1000000000 } }, rude: Some(65535), labels: None })",
     ),
     (
         &["run", "--prg", "p", "--seed", "0", "--limit", "1"],
-        "Ok(Run { what: Prg(\"p\"), settings: Settings { seed: 0, fit: false, keys: Digits(\"\"), answers: \"\", limit: Limit { events: 1 } }, rude: None, labels: None })",
+        "Ok(Run { what: Prg(\"p\"), settings: Settings { seed: 0, fit: false, notation: Plain, keys: Digits(\"\"), answers: \"\", limit: Limit { events: 1 } }, rude: None, labels: None })",
     ),
     (
         &["run", "--prg", "p", "--labels", "v"],
-        "Ok(Run { what: Prg(\"p\"), settings: Settings { seed: 1, fit: false, keys: Digits(\"\"), answers: \"\", limit: Limit { events: 10000000 } }, rude: None, labels: Some(\"v\") })",
+        "Ok(Run { what: Prg(\"p\"), settings: Settings { seed: 1, fit: false, notation: Plain, keys: Digits(\"\"), answers: \"\", limit: Limit { events: 10000000 } }, rude: None, labels: Some(\"v\") })",
     ),
     (
         &["run", "a", "--keys-file", "k", "--answers", "03"],
-        "Ok(Run { what: Source(\"a\"), settings: Settings { seed: 1, fit: false, keys: File(\"k\"), answers: \"03\", limit: Limit { events: 10000000 } }, rude: None, labels: None })",
+        "Ok(Run { what: Source(\"a\"), settings: Settings { seed: 1, fit: false, notation: Plain, keys: File(\"k\"), answers: \"03\", limit: Limit { events: 10000000 } }, rude: None, labels: None })",
     ),
     (
         &["play", "a"],
-        "Ok(Play { what: Source(\"a\"), seed: 1, fit: false, limit: Limit { events: 1000000000 }, record: None, screen: false })",
+        "Ok(Play { what: Source(\"a\"), seed: 1, fit: false, notation: Plain, limit: Limit { events: 1000000000 }, record: None, screen: false })",
     ),
     (
         &[
             "play", "--prg=p", "--seed", "9", "--limit", "5", "--record", "r",
         ],
-        "Ok(Play { what: Prg(\"p\"), seed: 9, fit: false, limit: Limit { events: 5 }, record: Some(\"r\"), screen: false })",
+        "Ok(Play { what: Prg(\"p\"), seed: 9, fit: false, notation: Plain, limit: Limit { events: 5 }, record: Some(\"r\"), screen: false })",
     ),
     (
         &["play", "a", "--fit"],
-        "Ok(Play { what: Source(\"a\"), seed: 1, fit: true, limit: Limit { events: 1000000000 }, record: None, screen: false })",
+        "Ok(Play { what: Source(\"a\"), seed: 1, fit: true, notation: Plain, limit: Limit { events: 1000000000 }, record: None, screen: false })",
     ),
     (
         &["play", "--screen", "a"],
-        "Ok(Play { what: Source(\"a\"), seed: 1, fit: false, limit: Limit { events: 1000000000 }, record: None, screen: true })",
+        "Ok(Play { what: Source(\"a\"), seed: 1, fit: false, notation: Plain, limit: Limit { events: 1000000000 }, record: None, screen: true })",
     ),
     (
         &["asm", "a", "b", "--at", "c00"],
@@ -119,10 +119,22 @@ static JOBS: [(&[&str], &str); 25] = [
         &["assemble", "-", "--list=s"],
         "Ok(Assemble { text: \"-\", out: \"-\", at: None, long: false, labels: None, listing: Some(\"s\") })",
     ),
+    (
+        &["build", "--petscii", "a"],
+        "Ok(Build { source: \"a\", out: \"a.prg\", seed: 1, fit: false, notation: Signs, beside: BuildExtras { labels: None, listing: None, dialect: None, map: None, watch: None } })",
+    ),
+    (
+        &["run", "a", "--petscii", "--fit"],
+        "Ok(Run { what: Source(\"a\"), settings: Settings { seed: 1, fit: true, notation: Signs, keys: Digits(\"\"), answers: \"\", limit: Limit { events: 10000000 } }, rude: None, labels: None })",
+    ),
+    (
+        &["play", "a", "--petscii", "--screen"],
+        "Ok(Play { what: Source(\"a\"), seed: 1, fit: false, notation: Signs, limit: Limit { events: 1000000000 }, record: None, screen: true })",
+    ),
 ];
 
 /// The same, of commands that look at programs or at sources.
-static TOOL_JOBS: [(&[&str], &str); 29] = [
+static TOOL_JOBS: [(&[&str], &str); 37] = [
     (&["dis", "a"], "Ok(Dis { prg: \"a\", dialect: None })"),
     (
         &["dis", "a", "--for", "64tass"],
@@ -138,11 +150,11 @@ static TOOL_JOBS: [(&[&str], &str); 29] = [
     ),
     (
         &["build", "a", "b", "--list", "s", "--for", "xa"],
-        "Ok(Build { source: \"a\", out: \"b\", seed: 1, fit: false, beside: BuildExtras { labels: None, listing: Some(\"s\"), dialect: Some(Xa), map: None, watch: None } })",
+        "Ok(Build { source: \"a\", out: \"b\", seed: 1, fit: false, notation: Plain, beside: BuildExtras { labels: None, listing: Some(\"s\"), dialect: Some(Xa), map: None, watch: None } })",
     ),
     (
         &["debug", "a"],
-        "Ok(Debug { what: Source(\"a\"), settings: Settings { seed: 1, fit: false, keys: Digits(\"\"), answers: \"\", limit: Limit { events: 10000000 } }, rude: None, labels: None })",
+        "Ok(Debug { what: Source(\"a\"), settings: Settings { seed: 1, fit: false, notation: Plain, keys: Digits(\"\"), answers: \"\", limit: Limit { events: 10000000 } }, rude: None, labels: None })",
     ),
     (
         &[
@@ -155,19 +167,19 @@ static TOOL_JOBS: [(&[&str], &str); 29] = [
             "--limit",
             "9",
         ],
-        "Ok(Debug { what: Source(\"a\"), settings: Settings { seed: 1, fit: false, keys: File(\"k\"), answers: \"\", limit: Limit { events: 9 } }, rude: Some(7), labels: None })",
+        "Ok(Debug { what: Source(\"a\"), settings: Settings { seed: 1, fit: false, notation: Plain, keys: File(\"k\"), answers: \"\", limit: Limit { events: 9 } }, rude: Some(7), labels: None })",
     ),
     (
         &["debug", "--prg", "a", "--type", "b"],
-        "Ok(Debug { what: Prg(\"a\"), settings: Settings { seed: 1, fit: false, keys: Text(\"b\"), answers: \"\", limit: Limit { events: 10000000 } }, rude: None, labels: None })",
+        "Ok(Debug { what: Prg(\"a\"), settings: Settings { seed: 1, fit: false, notation: Plain, keys: Text(\"b\"), answers: \"\", limit: Limit { events: 10000000 } }, rude: None, labels: None })",
     ),
     (
         &["debug", "--labels=v", "--prg=a"],
-        "Ok(Debug { what: Prg(\"a\"), settings: Settings { seed: 1, fit: false, keys: Digits(\"\"), answers: \"\", limit: Limit { events: 10000000 } }, rude: None, labels: Some(\"v\") })",
+        "Ok(Debug { what: Prg(\"a\"), settings: Settings { seed: 1, fit: false, notation: Plain, keys: Digits(\"\"), answers: \"\", limit: Limit { events: 10000000 } }, rude: None, labels: Some(\"v\") })",
     ),
     (
         &["profile", "a"],
-        "Ok(Profile { what: Source(\"a\"), settings: Settings { seed: 1, fit: false, keys: Digits(\"\"), answers: \"\", limit: Limit { events: 10000000 } }, rude: None, html: None })",
+        "Ok(Profile { what: Source(\"a\"), settings: Settings { seed: 1, fit: false, notation: Plain, keys: Digits(\"\"), answers: \"\", limit: Limit { events: 10000000 } }, rude: None, html: None })",
     ),
     (
         &[
@@ -181,11 +193,11 @@ static TOOL_JOBS: [(&[&str], &str); 29] = [
             "--limit",
             "9",
         ],
-        "Ok(Profile { what: Source(\"a\"), settings: Settings { seed: 1, fit: false, keys: File(\"k\"), answers: \"\", limit: Limit { events: 9 } }, rude: Some(7), html: Some(\"p\") })",
+        "Ok(Profile { what: Source(\"a\"), settings: Settings { seed: 1, fit: false, notation: Plain, keys: File(\"k\"), answers: \"\", limit: Limit { events: 9 } }, rude: Some(7), html: Some(\"p\") })",
     ),
     (
         &["profile", "--prg=a", "--rude", "7"],
-        "Ok(Profile { what: Prg(\"a\"), settings: Settings { seed: 1, fit: false, keys: Digits(\"\"), answers: \"\", limit: Limit { events: 10000000 } }, rude: Some(7), html: None })",
+        "Ok(Profile { what: Prg(\"a\"), settings: Settings { seed: 1, fit: false, notation: Plain, keys: Digits(\"\"), answers: \"\", limit: Limit { events: 10000000 } }, rude: Some(7), html: None })",
     ),
     (
         &["disk", "o", "a"],
@@ -201,23 +213,23 @@ static TOOL_JOBS: [(&[&str], &str); 29] = [
     ),
     (
         &["check", "a"],
-        "Ok(Check { sources: [\"a\"], fit: false })",
+        "Ok(Check { sources: [\"a\"], fit: false, notation: Plain })",
     ),
     (
         &["format", "a"],
-        "Ok(Format { source: \"a\", target: Output })",
+        "Ok(Format { source: \"a\", notation: Plain, target: Output })",
     ),
     (
         &["format", "--in-place", "a"],
-        "Ok(Format { source: \"a\", target: InPlace })",
+        "Ok(Format { source: \"a\", notation: Plain, target: InPlace })",
     ),
     (
         &["format", "a", "--check"],
-        "Ok(Format { source: \"a\", target: Check })",
+        "Ok(Format { source: \"a\", notation: Plain, target: Check })",
     ),
     (
         &["renumber", "a"],
-        "Ok(Renumber { source: \"a\", first: 10, step: 10, in_place: false })",
+        "Ok(Renumber { source: \"a\", notation: Plain, first: 10, step: 10, in_place: false })",
     ),
     (
         &[
@@ -229,29 +241,55 @@ static TOOL_JOBS: [(&[&str], &str); 29] = [
             "--in-place",
             "a",
         ],
-        "Ok(Renumber { source: \"a\", first: 1, step: 32767, in_place: true })",
+        "Ok(Renumber { source: \"a\", notation: Plain, first: 1, step: 32767, in_place: true })",
     ),
-    (&["lsp"], "Ok(Lsp)"),
-    (&["dap"], "Ok(Dap)"),
+    (&["lsp"], "Ok(Lsp { notation: Plain })"),
+    (&["dap"], "Ok(Dap { notation: Plain })"),
+    (
+        &["step", "--petscii", "a"],
+        "Ok(Step { what: Source(\"a\"), settings: Settings { seed: 1, fit: false, notation: Signs, keys: Digits(\"\"), answers: \"\", limit: Limit { events: 10000000 } } })",
+    ),
+    (
+        &["debug", "a", "--petscii"],
+        "Ok(Debug { what: Source(\"a\"), settings: Settings { seed: 1, fit: false, notation: Signs, keys: Digits(\"\"), answers: \"\", limit: Limit { events: 10000000 } }, rude: None, labels: None })",
+    ),
+    (
+        &["profile", "a", "--petscii"],
+        "Ok(Profile { what: Source(\"a\"), settings: Settings { seed: 1, fit: false, notation: Signs, keys: Digits(\"\"), answers: \"\", limit: Limit { events: 10000000 } }, rude: None, html: None })",
+    ),
+    (
+        &["check", "--petscii", "a"],
+        "Ok(Check { sources: [\"a\"], fit: false, notation: Signs })",
+    ),
+    (
+        &["format", "--petscii", "--check", "a"],
+        "Ok(Format { source: \"a\", notation: Signs, target: Check })",
+    ),
+    (
+        &["renumber", "a", "--petscii"],
+        "Ok(Renumber { source: \"a\", notation: Signs, first: 10, step: 10, in_place: false })",
+    ),
+    (&["lsp", "--petscii"], "Ok(Lsp { notation: Signs })"),
+    (&["dap", "--petscii"], "Ok(Dap { notation: Signs })"),
     (
         &["check", "a", "b", "--", "-c"],
-        "Ok(Check { sources: [\"a\", \"b\", \"-c\"], fit: false })",
+        "Ok(Check { sources: [\"a\", \"b\", \"-c\"], fit: false, notation: Plain })",
     ),
     (
         &["step", "a", "--fit", "--seed", "2"],
-        "Ok(Step { what: Source(\"a\"), settings: Settings { seed: 2, fit: true, keys: Digits(\"\"), answers: \"\", limit: Limit { events: 10000000 } } })",
+        "Ok(Step { what: Source(\"a\"), settings: Settings { seed: 2, fit: true, notation: Plain, keys: Digits(\"\"), answers: \"\", limit: Limit { events: 10000000 } } })",
     ),
     (
         &["step", "--prg", "a", "--seed", "2", "--fit", "--type", "b"],
-        "Ok(Step { what: Prg(\"a\"), settings: Settings { seed: 2, fit: true, keys: Text(\"b\"), answers: \"\", limit: Limit { events: 10000000 } } })",
+        "Ok(Step { what: Prg(\"a\"), settings: Settings { seed: 2, fit: true, notation: Plain, keys: Text(\"b\"), answers: \"\", limit: Limit { events: 10000000 } } })",
     ),
     (
         &["step", "a"],
-        "Ok(Step { what: Source(\"a\"), settings: Settings { seed: 1, fit: false, keys: Digits(\"\"), answers: \"\", limit: Limit { events: 10000000 } } })",
+        "Ok(Step { what: Source(\"a\"), settings: Settings { seed: 1, fit: false, notation: Plain, keys: Digits(\"\"), answers: \"\", limit: Limit { events: 10000000 } } })",
     ),
     (
         &["step", "--keys-file=k", "a"],
-        "Ok(Step { what: Source(\"a\"), settings: Settings { seed: 1, fit: false, keys: File(\"k\"), answers: \"\", limit: Limit { events: 10000000 } } })",
+        "Ok(Step { what: Source(\"a\"), settings: Settings { seed: 1, fit: false, notation: Plain, keys: File(\"k\"), answers: \"\", limit: Limit { events: 10000000 } } })",
     ),
     (
         &[
@@ -266,12 +304,14 @@ static TOOL_JOBS: [(&[&str], &str); 29] = [
             "--seed",
             "7",
         ],
-        "Ok(Step { what: Source(\"a\"), settings: Settings { seed: 7, fit: false, keys: Digits(\"31\"), answers: \"03\", limit: Limit { events: 5 } } })",
+        "Ok(Step { what: Source(\"a\"), settings: Settings { seed: 7, fit: false, notation: Plain, keys: Digits(\"31\"), answers: \"03\", limit: Limit { events: 5 } } })",
     ),
 ];
 
 /// Words that are refused.
-static REFUSED: [&[&str]; 53] = [
+static REFUSED: [&[&str]; 55] = [
+    &["run", "a", "--petscii=yes"],
+    &["dis", "a", "--petscii"],
     &["renumber", "a", "--from", "0"],
     &["renumber", "a", "--step", "32768"],
     &["renumber", "--in-place"],

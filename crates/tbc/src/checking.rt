@@ -5,8 +5,8 @@ use crate::host::Host;
 use std::alloc::Global;
 use std::io;
 use std::rt::Files;
-use tb_check_engine::{CheckOutcome, Sources, check_sources};
-use tb_driver::{InputError, Outcome, SizeLimit, Tracked, read_input};
+use tb_check_engine::{CheckOutcome, CheckSettings, Sources, check_sources};
+use tb_driver::{InputError, Outcome, Tracked, read_input};
 use tb_file_engine::opened;
 
 impl<R: Files + Print + Input + AllocGlobal> Sources for Host<'_, R> {
@@ -21,13 +21,13 @@ impl<R: Files + Print + Input + AllocGlobal> Sources for Host<'_, R> {
     }
 }
 
-/// Checks sources, whose programs are too large by this limit, and writes what there is to say of them.
+/// Checks sources by these settings, and writes what there is to say of them.
 pub fn check_files<R: Files + Print + Input + AllocGlobal>(
     host: &mut Host<'_, R>,
     paths: &[String],
-    size: SizeLimit,
+    settings: CheckSettings,
 ) -> CheckOutcome {
     let rt = host.rt;
     let mut screen = Tracked::new(io::writer(rt));
-    check_sources(rt.alloc(), host, paths, &mut screen, size)
+    check_sources(rt.alloc(), host, paths, &mut screen, settings)
 }

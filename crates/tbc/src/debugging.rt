@@ -33,7 +33,11 @@ pub fn debug_source<R: Files + Clock + Print + Eprint + Input + AllocGlobal>(
     setting: Setting,
 ) -> Outcome {
     let rt = host.rt;
-    match read_warned(host, path, settings_of(settings.seed, settings.fit)) {
+    match read_warned(
+        host,
+        path,
+        settings_of(settings.seed, settings.fit, settings.notation),
+    ) {
         Ok(source) => debug(
             rt.alloc(),
             &source,

@@ -3,20 +3,21 @@ use crate::host::Host;
 use std::io;
 use std::rt::Files;
 use tb_command_line::FormatTarget;
-use tb_driver::{Outcome, Tracked};
+use tb_driver::{Notation, Outcome, Tracked};
 use tb_file_engine::{format_in_place, opened};
 use tb_format_engine::{FormatOutcome, Formatted};
 
-/// Formats a source's file.
+/// Formats a source's file, whose texts are read in a notation.
 pub fn format_file<R: Files + Print + Input + AllocGlobal>(
     host: &mut Host<'_, R>,
     path: &str,
+    notation: Notation,
     target: FormatTarget,
 ) -> FormatOutcome {
     if target == FormatTarget::InPlace {
-        return format_in_place(host.rt.alloc(), host, path);
+        return format_in_place(host.rt.alloc(), host, path, notation);
     }
-    let formatted = match read(host, path) {
+    let formatted = match read(host, path, notation) {
         Ok(formatted) => formatted,
         Err(outcome) => return outcome,
     };
@@ -31,9 +32,10 @@ pub fn format_file<R: Files + Print + Input + AllocGlobal>(
 fn read<R: Files + Print + Input + AllocGlobal>(
     host: &mut Host<'_, R>,
     path: &str,
+    notation: Notation,
 ) -> Result<Formatted, FormatOutcome> {
     match opened(host, path) {
-        Ok(mut file) => Formatted::read(host.rt.alloc(), &mut file),
+        Ok(mut file) => Formatted::read(host.rt.alloc(), &mut file, notation),
         Err(Outcome::NoMemory) => Err(FormatOutcome::NoMemory),
         Err(_) => Err(FormatOutcome::ReadFault),
     }

@@ -83,7 +83,7 @@ fn profile_source<R: Files + Clock + Print + Eprint + Input + AllocGlobal, O: Ou
         &named,
         &mut file,
         &mut Tracked::new(io::writer(rt)),
-        settings_of(settings.seed, settings.fit),
+        settings_of(settings.seed, settings.fit, settings.notation),
         keyboard,
         settings.limit.events,
         outside,

@@ -1,7 +1,9 @@
 //! Sources that are read and compiled, of which a person is warned before they run.
 use crate::host::Host;
 use std::rt::Files;
-use tb_driver::{CompileSettings, CompiledSource, Outcome, SizeLimit, Warnings, read_source};
+use tb_driver::{
+    CompileSettings, CompiledSource, Notation, Outcome, SizeLimit, Warnings, read_source,
+};
 use tb_file_engine::opened;
 
 /// When a program is too large: by what it costs, or only if it doesn't fit the memory.
@@ -14,10 +16,11 @@ pub fn size_limit(fit: bool) -> SizeLimit {
 }
 
 /// How a source is compiled.
-pub fn settings_of(seed: u16, fit: bool) -> CompileSettings {
+pub fn settings_of(seed: u16, fit: bool, notation: Notation) -> CompileSettings {
     CompileSettings {
         seed,
         size: size_limit(fit),
+        notation,
     }
 }
 

@@ -1,13 +1,16 @@
 //! Notes on a source or a text that is refused: the line with its place, and what helps.
 use crate::host::{Host, Source};
 use crate::noting::say;
+use crate::reading::settings_of;
 use std::alloc::AllocError;
 use std::fmt;
 use std::rt::Files;
 use tb_asm_reasons::{item_text, line_text};
 use tb_check_engine::refusal_text;
 use tb_command_line::{Job, Runnable, Settings, USUAL_SEED};
-use tb_driver::{CompileError, Refusal, Tracked, bytes_to_fit, read_input};
+use tb_driver::{
+    CompileError, CompileSettings, Refusal, SizeLimit, Tracked, bytes_to_fit, read_input,
+};
 use tb_file_engine::opened;
 use tb_files::{FileSystem, Place};
 
@@ -15,8 +18,7 @@ use tb_files::{FileSystem, Place};
 #[derive(Clone, Copy, Drop)]
 struct Compiles<'a> {
     source: &'a str,
-    seed: u16,
-    fit: bool,
+    settings: CompileSettings,
 }
 
 /// Says what helps with a source that is refused.
@@ -31,9 +33,16 @@ pub fn note_source<R: Files + Print + Eprint + Input + AllocGlobal>(
     if let CompileError::TooLarge(_) = error {
         note_fit(host, &compiles);
     } else if let Some(source) = read_again(host, compiles.source) {
+        let notation = compiles.settings.notation;
         show(
             host,
-            refusal_text(host.rt.alloc(), compiles.source, source.as_slice(), error),
+            refusal_text(
+                host.rt.alloc(),
+                compiles.source,
+                source.as_slice(),
+                notation,
+                error,
+            ),
         );
     }
 }
@@ -63,13 +72,13 @@ fn note_fit<R: Files + Print + Eprint + Input + AllocGlobal>(
     host: &mut Host<'_, R>,
     compiles: &Compiles<'_>,
 ) {
-    if compiles.fit {
+    if compiles.settings.size == SizeLimit::Memory {
         return;
     }
     let Some(mut file) = opened_again(host, compiles.source) else {
         return;
     };
-    if let Some(bytes) = bytes_to_fit(host.rt.alloc(), &mut file, compiles.seed) {
+    if let Some(bytes) = bytes_to_fit(host.rt.alloc(), &mut file, compiles.settings) {
         say(host.rt, Fits(bytes));
     }
 }
@@ -122,23 +131,27 @@ fn compiled_by(job: &Job) -> Option<Compiles<'_>> {
             source,
             seed,
             fit,
+            notation,
             ..
         }
         | Job::Play {
             what: Runnable::Source(source),
             seed,
             fit,
+            notation,
             ..
         } => Some(Compiles {
             source: source.as_str(),
-            seed: *seed,
-            fit: *fit,
+            settings: settings_of(*seed, *fit, *notation),
         }),
         // (a source that costs too much is not renumbered, so nothing is said of `--fit`)
-        Job::Renumber { source, .. } => Some(Compiles {
+        Job::Renumber {
+            source,
+            notation,
+            ..
+        } => Some(Compiles {
             source: source.as_str(),
-            seed: USUAL_SEED,
-            fit: true,
+            settings: settings_of(USUAL_SEED, true, *notation),
         }),
         Job::Run {
             what: Runnable::Source(source),
@@ -166,7 +179,6 @@ fn compiled_by(job: &Job) -> Option<Compiles<'_>> {
 fn compiled_with<'a>(source: &'a str, settings: &Settings) -> Compiles<'a> {
     Compiles {
         source,
-        seed: settings.seed,
-        fit: settings.fit,
+        settings: settings_of(settings.seed, settings.fit, settings.notation),
     }
 }

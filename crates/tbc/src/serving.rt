@@ -5,22 +5,24 @@ use std::io;
 use std::rt::Files;
 use tb_command_line::VERSION;
 use tb_debug_adapter::AdapterOutcome;
-use tb_driver::Tracked;
+use tb_driver::{Notation, Tracked};
 use tb_language_server::ServerOutcome;
 
-/// Serves an editor as its language server.
-pub fn serve_editor<R: Print + Input + AllocGlobal>(rt: &R) -> ServerOutcome {
+/// Serves an editor as its language server, which reads the texts of sources in a notation.
+pub fn serve_editor<R: Print + Input + AllocGlobal>(rt: &R, notation: Notation) -> ServerOutcome {
     let mut messages = Tracked::new(rt.reader());
     let mut answers = Tracked::new(io::writer(rt));
-    tb_language_server::serve(rt.alloc(), VERSION, &mut messages, &mut answers)
+    tb_language_server::serve(rt.alloc(), VERSION, notation, &mut messages, &mut answers)
 }
 
-/// Serves an editor as its debug adapter. The source that it launches is opened when that is asked for.
+/// Serves an editor as its debug adapter. The source that it launches is opened when that is asked for; its texts are read
+/// in this notation, if nothing else is asked for.
 pub fn serve_debugger<R: Files + Print + Input + AllocGlobal>(
     host: &mut Host<'_, R>,
+    notation: Notation,
 ) -> AdapterOutcome {
     let rt = host.rt;
     let mut messages = Tracked::new(rt.reader());
     let mut answers = Tracked::new(io::writer(rt));
-    tb_debug_adapter::serve(rt.alloc(), host, &mut messages, &mut answers)
+    tb_debug_adapter::serve(rt.alloc(), notation, host, &mut messages, &mut answers)
 }

@@ -17,6 +17,7 @@ use std::io;
 use std::rt::{Env, Files};
 use std::time::Clock;
 use tb_assembly_engine::TextNames;
+use tb_check_engine::CheckSettings;
 use tb_command_line::{BuildExtras, Dialect, Failure, Job, Runnable, Settings, Typed, typed_keys};
 use tb_dialect_engine::dis_text_for;
 use tb_driver::{
@@ -61,12 +62,13 @@ fn run_job<R: Files + Env + Clock + Print + Eprint + Input + AllocGlobal>(
             what,
             seed,
             fit,
+            notation,
             limit,
             record,
             screen,
         } => {
             let playing = Playing {
-                settings: settings_of(*seed, *fit),
+                settings: settings_of(*seed, *fit, *notation),
                 limit: u64::from(limit.events),
                 record: name_of(record),
                 screen: *screen,
@@ -95,8 +97,8 @@ fn run_job<R: Files + Env + Clock + Print + Eprint + Input + AllocGlobal>(
         | Job::Check { .. }
         | Job::Format { .. }
         | Job::Renumber { .. }
-        | Job::Lsp
-        | Job::Dap
+        | Job::Lsp { .. }
+        | Job::Dap { .. }
         | Job::Show { .. } => return Ok(None),
     }))
 }
@@ -113,8 +115,12 @@ fn other_job<R: Files + Print + Input + AllocGlobal>(
             out,
             seed,
             fit,
+            notation,
             beside,
-        } => Ok(build(host, source, out, settings_of(*seed, *fit), beside)),
+        } => {
+            let settings = settings_of(*seed, *fit, *notation);
+            Ok(build(host, source, out, settings, beside))
+        }
         Job::Asm { text, out, at } => assemble_at(host, text, out, at),
         Job::Assemble {
             text,
@@ -135,13 +141,28 @@ fn other_job<R: Files + Print + Input + AllocGlobal>(
         Job::Disk { out, files } => {
             Ok(Ending::Disk(disk_file(rt.alloc(), host, out, files.as_slice())))
         }
-        Job::Check { sources, fit } => {
-            let checked = check_files(host, sources.as_slice(), size_limit(*fit));
-            Ok(Ending::Check(checked))
+        Job::Check {
+            sources,
+            fit,
+            notation,
+        } => {
+            let settings = CheckSettings {
+                size: size_limit(*fit),
+                notation: *notation,
+            };
+            Ok(Ending::Check(check_files(host, sources.as_slice(), settings)))
         }
-        Job::Format { source, target } => Ok(Ending::Format(format_file(host, source, *target))),
+        Job::Format {
+            source,
+            notation,
+            target,
+        } => {
+            let formatted = format_file(host, source, *notation, *target);
+            Ok(Ending::Format(formatted))
+        }
         Job::Renumber {
             source,
+            notation,
             first,
             step,
             in_place,
@@ -150,10 +171,11 @@ fn other_job<R: Files + Print + Input + AllocGlobal>(
                 first: *first,
                 step: *step,
             };
-            Ok(Ending::Renumber(renumber_file(host, source, numbering, *in_place)))
+            let renumbered = renumber_file(host, source, *notation, numbering, *in_place);
+            Ok(Ending::Renumber(renumbered))
         }
-        Job::Lsp => Ok(Ending::Server(serve_editor(rt))),
-        Job::Dap => Ok(Ending::Adapter(serve_debugger(host))),
+        Job::Lsp { notation } => Ok(Ending::Server(serve_editor(rt, *notation))),
+        Job::Dap { notation } => Ok(Ending::Adapter(serve_debugger(host, *notation))),
         Job::Show { text } => Ok(plain_ending(rt, show(rt, text))),
         Job::Run { .. }
         | Job::Play { .. }
@@ -366,7 +388,7 @@ fn run_file<R: Files + Clock + Print + Eprint + Input + AllocGlobal, O: Outside>
                 alloc,
                 &mut file,
                 &mut screen,
-                settings_of(settings.seed, settings.fit),
+                settings_of(settings.seed, settings.fit, settings.notation),
                 keyboard,
                 limit,
                 outside,
@@ -416,7 +438,7 @@ fn step_file<R: Files + Print + Input + AllocGlobal>(
                 &mut file,
                 &mut commands,
                 &mut screen,
-                settings_of(settings.seed, settings.fit),
+                settings_of(settings.seed, settings.fit, settings.notation),
                 keyboard,
                 limit,
             )

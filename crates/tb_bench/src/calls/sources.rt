@@ -3,7 +3,7 @@ use crate::failure::Failure;
 use std::alloc::Global;
 use std::fmt::Debug;
 use tb_check::bad_lines;
-use tb_codegen::{Compiled, Options, compile};
+use tb_codegen::{Compiled, Notation, Options, compile};
 use tb_driver::{host_form, key_list};
 use tb_listing::{Made, make};
 use tb_lower::{SlotCode, lower};
@@ -134,13 +134,13 @@ fn show_made(program: &Compiled, made: &Made, text: &mut String) -> Result<(), F
 
 fn show_make_of(alloc: Global, source: &[u8], text: &mut String) -> Result<(), Failure> {
     let program = compile(alloc, source, Options { seed: 1 })?;
-    let made = make(alloc, source, &program)?;
+    let made = make(alloc, source, Notation::Plain, &program)?;
     show_made(&program, &made, text)
 }
 
 /// Shows what `bad_lines` finds.
 pub fn show_bad_lines(alloc: Global, text: &mut String) -> Result<(), Failure> {
-    let found = bad_lines(alloc, BAD)?;
+    let found = bad_lines(alloc, BAD, Notation::Plain)?;
     show_each(text, &found)
 }
 

@@ -112,7 +112,7 @@ below_rest k few x h le = below_eight (λ k. Below k x) one two three four five 
 
 -- ---- addresses
 -- an address after one that is known
-next : (p q k : ℕ) → p ≡ q → q + k < 65536 → (p + k) % 65536 ≡ q + k
+pub next : (p q k : ℕ) → p ≡ q → q + k < 65536 → (p + k) % 65536 ≡ q + k
 next p q k e r = ap (λ p. (p + k) % 65536) e ∙ omega (arith, r)
 
 -- the address after the ten instructions for a word below 0
@@ -141,7 +141,7 @@ pub record Looked (at a x : ℕ) (n : Bool) (bs : List ℕ) (m : ℕ → ℕ) (t
 
 module _ (f : Setup) (room : ℕ) (fits : Fits f room) (at : ℕ) (bs : List ℕ) (m : ℕ → ℕ) (text answers : List ℕ) (small : leb (length bs) room ≡ true) where
   -- whatever the other registers and flags
-  whatever_both : (a x : ℕ) (q : View → Type 0) (t : List ℕ) (l : ℕ) → ((y : ℕ) (n v i z c : Bool) → Comes f (view a x y n v i z c at bs m text answers) q t l)
+  pub whatever_both : (a x : ℕ) (q : View → Type 0) (t : List ℕ) (l : ℕ) → ((y : ℕ) (n v i z c : Bool) → Comes f (view a x y n v i z c at bs m text answers) q t l)
       → Moves f (Both at a x bs m text answers) q t l
   whatever_both a x q t l h w e =
       known f w at bs text answers q t l e.here.pc e.here.stack e.here.binary e.here.text e.here.answers

@@ -1,8 +1,9 @@
 -- The law of a variable's remainder: its slot instructions and its code give the remainder's size with its sign.
-use Rattle.std.proofs.Common.{◌≡◌, ◌≢◌, ℕ, ◌+◌, ◌-◌, ◌*◌, ◌/◌, ◌%◌, ◌^◌, ◌<◌, Bool, true, false, List, [], ◌∷◌, ◌++◌}
-use Rattle.std.proofs.Common.{length, refl, sym, ap, ◌∙◌, subst, arith, bit_and, ⊎_elim, Option, Some, None, length-set}
+use Rattle.std.proofs.Common.{◌≡◌, ◌≢◌, ℕ, ◌+◌, ◌-◌, ◌*◌, ◌/◌, ◌%◌, ◌^◌, ◌<◌, ◌≤◌, Bool, true, false, List, [], ◌∷◌, ◌++◌}
+use Rattle.std.proofs.Common.{length, refl, sym, ap, ◌∙◌, subst, arith, bit_and, leb, ⊎_elim, Option, Some, None, length-set}
+use Rattle.std.proofs.Math.Nat.{mod-le}
 use Rattle.std.specs.Prelude.{if◌then◌else◌, slice_index, nat_lt}
-use Rattle.std.proofs.lemmas.Bool.{cases_eq, eq-eqb, leb-true, lt-leb, ltb-false, ltb-true, ne_eqb}
+use Rattle.std.proofs.lemmas.Bool.{cases_eq, cases_lt, eq-eqb, le-ltb, leb-true, lt-leb, ltb-false, ltb-true, ne_eqb}
 use Rattle.tb_cpu.specs.Effects.{has_bit}
 use Rattle.tb_words.specs.Words.{is_negative, magnitude, quotient, word}
 use Rattle.tb_syntax.specs.declared.expressions.Operator.TheVariants as op
@@ -13,11 +14,12 @@ use Rattle.tb_meaning.specs.Steps.{Step, Goes, Stops, Faulted}
 use Rattle.tb_meaning.specs.Values.{apply, given}
 use Rattle.tb_reaching.proofs.Comes.{chained, looser}
 use Rattle.tb_reaching.specs.Start.{IsHome}
-use Rattle.tb_reaching.specs.View.{Comes, Fits, View}
+use Rattle.tb_reaching.specs.View.{Comes, Fits, Setup, View}
 use Rattle.tb_runtime16.specs.Addresses.{DIVIDE_AT, LEFT, RESULT, RIGHT}
 use Rattle.tb_runtime16.specs.Routines.{Here, Moves, WordAt}
 use Rattle.tb_runtime16.proofs.StatePlaces.{not_argument}
 use Rattle.tb_simulation.proofs.Frames.{word_put}
+use Rattle.tb_simulation.proofs.Pieces.{InData, put_word}
 use Rattle.tb_simulation.proofs.Joins.{sent_in}
 use Rattle.tb_simulation.proofs.Pieces.{moves_looser}
 use Rattle.tb_simulation.proofs.Resolved.{Code, Lies, Piece, call, copied, pieces_size, size}
@@ -29,6 +31,8 @@ use Rattle.tb_templates.specs.declared.sources.Source.{Source}
 use Rattle.tb_templates.specs.declared.sources.Source.TheVariants.{FixedWord, AtAddress}
 use Rattle.tb_templates.specs.GroupTemplates.{may_be_zero}
 use Rattle.tb_templates.specs.Masks.{mask}
+use Rattle.tb_templates.specs.Reduced.{doublings}
+use Rattle.tb_templates.proofs.Multiples.{IsReducing, below_product, by_multiples, by_routine, reducing_is, some_power as power_some}
 use Rattle.tb_templates.proofs.Divided.{IsMasking, by_bits, by_division, masking_is}
 use Rattle.tb_selection.specs.Select.{omits_only_dead, select}
 use Rattle.tb_templates.specs.Sources.{destination_at, source_of}
@@ -36,7 +40,7 @@ use Rattle.tb_templates.specs.Templates.{var_at}
 use Rattle.tb_correctness.proofs.Arithmetic.Calculations.{subtracted_word}
 use Rattle.tb_correctness.proofs.Arithmetic.MaskedRests.{Both, Looked, above_rest, below_high, below_low, below_rest, looks_both, stores_both, turns_below}
 use Rattle.tb_correctness.proofs.CodeBytes.GroupCode.{GroupsLie, Negative, RestReachesBy, both_stored, brought, over_at, rest_and_sign, rest_asked, rest_at}
-use Rattle.tb_correctness.proofs.CodeBytes.GroupCode.{rest_below, rest_code, rest_turned, sign_looked_at, signed_rest, way_size}
+use Rattle.tb_correctness.proofs.CodeBytes.GroupCode.{rest_below, rest_code, rest_turned, sign_looked_at, signed_rest, tried, way_size}
 use Rattle.tb_correctness.proofs.Arithmetic.Constants.{constant_is, never_zero}
 use Rattle.tb_correctness.proofs.Pieces.Halves.{power_size}
 use Rattle.tb_correctness.proofs.Alone.Handed.{asks_by, comes_back, result_gives}
@@ -50,6 +54,8 @@ use Rattle.tb_correctness.proofs.Testing.LeftOver.{pieces_append}
 use Rattle.tb_correctness.proofs.Testing.Orders.{WithN, loads_sign}
 use Rattle.tb_correctness.proofs.Pieces.Sources.{At}
 use Rattle.tb_correctness.proofs.Relation.Ready.{Ready, here}
+use Rattle.tb_correctness.proofs.Arithmetic.Reductions.{reduced_end, reduces}
+use Rattle.tb_correctness.proofs.Arithmetic.Subtractions.{stored, tries}
 use Rattle.tb_correctness.proofs.Arithmetic.Remainders.{rest_is, some_power, turned_size}
 use Rattle.tb_correctness.proofs.Slots.SlotSide.{IsDead, Lasting, StandsIn, ends, fetch_held, fetch_reads, fetched, fetched_behind, fetches, landed, line, other_slot, same_slot, slots_landed}
 use Rattle.tb_correctness.proofs.Pieces.Sums.{Grounded, copies, differs}
@@ -202,8 +208,53 @@ sign_bit x h = by (nat_lt 32767 x) refl
     by true e = eq-eqb (x / 256 / 128 % 2) 1 (omega (arith, h, ltb-true 32767 x e))
     by false e = ne_eqb (x / 256 / 128 % 2) 1 (λ q. omega (arith, q, ltb-false 32767 x e))
 
+-- ---- differences before the call
+-- the bytes of that code
+abbrev tried_size : Source → ℕ
+tried_size (FixedWord w) = 0
+tried_size (AtAddress q) = 63
+
+-- a call after it
+abbrev called : Source → Source → List Piece
+called a b = Code (brought a LEFT) ∷ Code (brought b RIGHT) ∷ Code (call DIVIDE_AT) ∷ []
+
+-- the call is there, and ends where that code leads past it
+pub called_lies : (f : Setup) (p at : ℕ) (b : Source) → Lies f.code at (tried (AtAddress p) b (called (AtAddress p) b)) → Lies f.code (at + tried_size b) (called (AtAddress p) b)
+called_lies f p at (FixedWord w) lies = subst (λ a. Lies f.code a (called (AtAddress p) (FixedWord w))) (let e : at ≡ at + 0 = omega arith in e) lies
+called_lies f p at (AtAddress q) lies = lies.2
+
+pub called_end : (p at : ℕ) (b : Source) → at + pieces_size (tried (AtAddress p) b (called (AtAddress p) b)) ≡ at + tried_size b + size (brought (AtAddress p) LEFT) + size (brought b RIGHT) + 3
+called_end p at (FixedWord w) = omega arith
+called_end p at (AtAddress q) = omega arith
+
+-- bytes leave their remainder in the result, past the call; other words come to it
+tried_then : (f : Setup) (fits : Fits f 16) (at middle p x y : ℕ) (b : Source) (own : List ℕ) (m : ℕ → ℕ) (text answers : List ℕ) → leb (length own) 16 ≡ true → InData p
+    → Grounded b RIGHT → SourceHolds m (AtAddress p) x → SourceHolds m b y → Lies f.code at (tried (AtAddress p) b (called (AtAddress p) b))
+    → at + pieces_size (tried (AtAddress p) b (called (AtAddress p) b)) ≡ middle → (goal : View → Type 0) (t : List ℕ) (l : ℕ)
+    → (x < 256 → y < 256 → y ≢ 0 → (s : View → Type 0) → Moves f s (Here middle own (put_word m RESULT (x % y) 0) text answers) [] 4 → Moves f s goal t (4 + l))
+    → Moves f (Here (at + tried_size b) own m text answers) goal t l → Moves f (Here at own m text answers) goal t (24 + l)
+tried_then f fits at middle p x y (FixedWord w) own m text answers small there gb hx hy lies end goal t l done on =
+    moves_looser f _ _ _ t l (24 + l) (omega arith) (λ u g. g) (subst (λ a. Moves f (Here a own m text answers) goal t l) (let e : at + 0 ≡ at = omega arith in e) on)
+tried_then f fits at middle p x y (AtAddress q) own m text answers small there gb hx hy lies end goal t l done on =
+    let room = lies.2.2.2.0 in
+    ⊎_elim
+    (λ byte. tries f 16 fits own m text answers small p q at there gb.0 (omega (arith, room)) lies.1 (let e = hx.low_byte in omega (arith, e)) goal t l
+    (λ high high' some. let ex : m p ≡ x = (let e = hx.low_byte in omega (arith, e, byte)) in
+    let yb : y < 256 = (let e = hy.high_byte in let s = hy.small in omega (arith, e, s, high')) in
+    let ey : m q ≡ y = (let e = hy.low_byte in omega (arith, e, yb)) in
+    done byte yb (λ z. some (ey ∙ z)) _
+    (moves_looser f _ _ _ [] 4 4 (omega arith)
+    (λ u g. subst (λ v. Here middle own (put_word m RESULT v 0) text answers u) (λ i. ex i % ey i)
+    (subst (λ a. Here a own (put_word m RESULT (m p % m q) 0) text answers u) (let e : at + 86 ≡ middle = omega (arith, end) in e) g))
+    (stored f 16 fits own m text answers small p q at there gb.0 (omega (arith, room)) lies.1 (m p % m q))))
+    on)
+    (λ word. tries f 16 fits own m text answers small p q at there gb.0 (omega (arith, room)) lies.1 (let e = hx.low_byte in omega (arith, e)) goal t l
+    (λ high high' some. absurd (let e = hx.high_byte in let s = hx.small in omega (arith, e, s, high, word)))
+    on)
+    (cases_lt x 256)
+
 -- ---- the law
-module _ (around : Surroundings) (fits : Fits around.f 16) (code : SlotCode) (limit : ℕ) (rs : Serves around limit) (n v : ℕ) (d : Operand)
+module _ (around : Surroundings) (fits : Fits around.f 16) (code : SlotCode) (limit : ℕ) (rs : Serves around limit) (wide : 200 ≤ limit) (n v : ℕ) (d : Operand)
     (to : Destination) (is : List Instr) (s : State) (r : Slots) (w : View) (h : Ready around n (Remains v d to) (spread_remains v d to is) is s r w) where
   open around use {ly, f, lo, hi}
 
@@ -257,7 +308,14 @@ module _ (around : Surroundings) (fits : Fits around.f 16) (code : SlotCode) (li
   open going_on h risky use {at, m, c}
 
   abbrev asking : List Piece
-  asking = Code (brought a LEFT) ∷ Code (brought b RIGHT) ∷ Code (call DIVIDE_AT) ∷ []
+  asking = called a b
+
+  -- the call, and what comes before it
+  abbrev trying : List Piece
+  trying = tried a b asking
+
+  abbrev asking_at : ℕ
+  asking_at = at + tried_size b
 
   -- after the call
   abbrev middle : ℕ
@@ -280,19 +338,22 @@ module _ (around : Surroundings) (fits : Fits around.f 16) (code : SlotCode) (li
   abbrev signing : List Piece
   signing = signed_rest h.first middle a dest
 
-  module _ (lies : Lies f.code w.regs.pc (rest_code None h.first n w.regs.pc a b dest)) (reach : RestReachesBy None h.first n w.regs.pc a b)
-      (rest : GroupsLie ly f.code n (w.regs.pc + pieces_size (rest_code None h.first n w.regs.pc a b dest)) (select is)) where
+  module _ (lies : Lies f.code w.regs.pc (rest_code None None h.first n w.regs.pc a b dest)) (reach : RestReachesBy None None h.first n w.regs.pc a b)
+      (rest : GroupsLie ly f.code n (w.regs.pc + pieces_size (rest_code None None h.first n w.regs.pc a b dest)) (select is)) where
     parts : Lies f.code w.regs.pc (rest_asked n a b) × Lies f.code middle signing
     parts = lies_parts f.code w.regs.pc (rest_asked n a b) signing lies
 
-    asking_lies : Lies f.code at asking
-    asking_lies = lies_by h risky asking parts.0
+    trying_lies : Lies f.code at trying
+    trying_lies = lies_by h risky trying parts.0
+
+    asking_lies : Lies f.code asking_at asking
+    asking_lies = called_lies f (var_at v) at b trying_lies
 
     b_apart : Grounded b RIGHT
     b_apart = operand_apart (k + 2) d RIGHT (omega arith) (let room = fit.room in omega (arith, room)) fit.divisor
 
-    middle_is : at + size (brought a LEFT) + size (brought b RIGHT) + 3 ≡ middle
-    middle_is = let e = end_by h risky asking in omega (arith, e)
+    middle_is : asking_at + size (brought a LEFT) + size (brought b RIGHT) + 3 ≡ middle
+    middle_is = sym (called_end (var_at v) at b) ∙ end_by h risky trying
 
     -- the remainder's size is in RESULT
     record Told (u : View) : Type 0 where
@@ -300,19 +361,39 @@ module _ (around : Surroundings) (fits : Fits around.f 16) (code : SlotCode) (li
       result : WordAt u.mem RESULT rest_size
       kept : Kept around (live js) s r u.mem
 
-    asks_rest : y ≢ 0 → Comes f w Told [] (13 + limit)
+    -- by differences
+    left_of_bytes : x < 256 → y < 256 → y ≢ 0 → rest_size ≡ x % y
+    left_of_bytes p q some =
+        let e : is_negative x ≡ false = le-ltb 32767 x (omega (arith, p)) in let g : is_negative y ≡ false = le-ltb 32767 y (omega (arith, q)) in
+        λ i. (if e i then 65536 - x else x) % (if g i then 65536 - y else y)
+
+    told_left : x < 256 → y < 256 → y ≢ 0 → (u : View) → Here middle own (put_word m RESULT (x % y) 0) w.text w.answers u → Told u
+    told_left p q some u g =
+        let same = left_of_bytes p q some in
+        let less = mod-le x y in
+        let low : x % y ≡ rest_size % 256 = omega (arith, less, p, same) in
+        let high : 0 ≡ rest_size / 256 = omega (arith, less, p, same) in
+        record {
+          here = subst (λ m. Here middle own m w.text w.answers u) (sym g.mem) g;
+          result = subst (λ m. WordAt m RESULT rest_size) (sym g.mem) (word_put m RESULT (x % y) 0 rest_size low high (omega (arith, less, p, same)));
+          kept = subst (Kept around (live js) s r) (sym g.mem) (kept_put around (live js) s r m RESULT _ _ h.some_read refl refl c);
+        }
+
+    asks_rest : y ≢ 0 → Comes f w Told [] (37 + limit)
     asks_rest some =
-        looser f w _ _ [] (4 + (9 + limit)) (13 + limit) (omega arith) (λ u z. z)
-        (lines_by fits h risky asking parts.0 _ [] (9 + limit)
-        (asks_by fits h DIVIDE_AT at a b [] m c asking_lies x y a_apart b_apart (a_holds m c) b_holds _ [] limit
+        looser f w _ _ [] (4 + (24 + (9 + limit))) (37 + limit) (omega arith) (λ u z. z)
+        (lines_by fits h risky trying parts.0 _ [] (24 + (9 + limit))
+        (tried_then f fits at middle (var_at v) x y b own m w.text w.answers refl a_apart.0 b_apart (a_holds m c) (b_holds m c) trying_lies (end_by h risky trying) Told [] (9 + limit)
+        (λ p q some' s' before. moves_looser f _ _ _ [] 4 (4 + (9 + limit)) (omega arith) (told_left p q some') before)
+        (asks_by fits h DIVIDE_AT asking_at a b [] m c asking_lies x y a_apart b_apart (a_holds m c) b_holds _ [] limit
         (λ m' g u e.
         looser f u _ _ [] limit limit (omega arith)
         (λ z q. record {
-          here = back_here _ _ w.text w.answers _ z q (comes_back fits h DIVIDE_AT at a b [] m c asking_lies x y a_apart b_apart (a_holds m c) b_holds ∙ middle_is);
+          here = back_here _ _ w.text w.answers _ z q (comes_back fits h DIVIDE_AT asking_at a b [] m c asking_lies x y a_apart b_apart (a_holds m c) b_holds ∙ middle_is);
           result = q.memory.rest;
           kept = kept_scratch around (live js) s r m' z.mem h.some_read (λ p o. q.memory.others p (not_argument p o)) g.kept;
         })
-        (rs.divide _ _ m' w.text w.answers x y g.left g.right some u e))))
+        (rs.divide _ _ m' w.text w.answers x y g.left g.right some u e)))))
 
     -- ---- its sign
     abbrev Fork : Type 0
@@ -326,7 +407,7 @@ module _ (around : Surroundings) (fits : Fits around.f 16) (code : SlotCode) (li
     copy_at = over_at h.first middle (sign_looked_at a) rest_turned
 
     abbrev end : ℕ
-    end = w.regs.pc + pieces_size (rest_code None h.first n w.regs.pc a b dest)
+    end = w.regs.pc + pieces_size (rest_code None None h.first n w.regs.pc a b dest)
 
     end_is : copy_at + size (copied RESULT dest) ≡ end
     end_is = let e = fork.end_is in let q = pieces_append (rest_asked n a b) signing in omega (arith, e, q)
@@ -375,18 +456,20 @@ module _ (around : Surroundings) (fits : Fits around.f 16) (code : SlotCode) (li
             (kept_put around (live js) s r u.mem RESULT _ _ h.some_read refl refl told.kept) q l))
 
     -- ---- by 0
-    faults : y ≡ 0 → Comes f w (IsHome f) (fault_text 2 n) (13 + limit)
+    faults : y ≡ 0 → Comes f w (IsHome f) (fault_text 2 n) (37 + limit)
     faults zero =
-        looser f w _ _ (fault_text 2 n) (4 + (9 + limit)) (13 + limit) (omega arith) (λ u z. z)
-        (lines_by fits h risky asking parts.0 _ (fault_text 2 n) (9 + limit)
-        (asks_by fits h DIVIDE_AT at a b [] m c asking_lies x y a_apart b_apart (a_holds m c) b_holds _ (fault_text 2 n) limit
+        looser f w _ _ (fault_text 2 n) (4 + (24 + (9 + limit))) (37 + limit) (omega arith) (λ u z. z)
+        (lines_by fits h risky trying parts.0 _ (fault_text 2 n) (24 + (9 + limit))
+        (tried_then f fits at middle (var_at v) x y b own m w.text w.answers refl a_apart.0 b_apart (a_holds m c) (b_holds m c) trying_lies (end_by h risky trying) (IsHome f) (fault_text 2 n)
+        (9 + limit) (λ p q some. absurd (some zero))
+        (asks_by fits h DIVIDE_AT asking_at a b [] m c asking_lies x y a_apart b_apart (a_holds m c) b_holds _ (fault_text 2 n) limit
         (λ m' g. rs.divide_by_zero _ _ m' w.text w.answers x n g.left (subst (WordAt m' RIGHT) zero g.right)
-        (g.line (number_set h risky (λ e. never_zero w.mem y b (b_holds w.mem first) e zero))) g.kept.homed)))
+        (g.line (number_set h risky (λ e. never_zero w.mem y b (b_holds w.mem first) e zero))) g.kept.homed))))
 
   -- ---- by the lowest bits
-  module _ (j : ℕ) (few : j < 8) (power : y ≡ 2 ^ (j + 1)) (lies : Lies f.code w.regs.pc (rest_code (Some (2 ^ (j + 1) - 1)) h.first n w.regs.pc a b dest))
-      (reach : RestReachesBy (Some (2 ^ (j + 1) - 1)) h.first n w.regs.pc a b)
-      (rest : GroupsLie ly f.code n (w.regs.pc + pieces_size (rest_code (Some (2 ^ (j + 1) - 1)) h.first n w.regs.pc a b dest)) (select is)) where
+  module _ (j : ℕ) (o : Option (ℕ × ℕ)) (few : j < 8) (power : y ≡ 2 ^ (j + 1)) (lies : Lies f.code w.regs.pc (rest_code (Some (2 ^ (j + 1) - 1)) o h.first n w.regs.pc a b dest))
+      (reach : RestReachesBy (Some (2 ^ (j + 1) - 1)) o h.first n w.regs.pc a b)
+      (rest : GroupsLie ly f.code n (w.regs.pc + pieces_size (rest_code (Some (2 ^ (j + 1) - 1)) o h.first n w.regs.pc a b dest)) (select is)) where
     abbrev bits : ℕ
     bits = 2 ^ (j + 1) - 1
 
@@ -455,26 +538,74 @@ module _ (around : Surroundings) (fits : Fits around.f 16) (code : SlotCode) (li
           negative = g.negative ∙ ap (λ b. has_bit b 128) x_of.high_byte ∙ sign_bit x x_of.small;
         }))
 
+  -- ---- by a constant's multiples
+  module _ (j d' : ℕ) (few : j < 9) (over : 512 < d' * 2 ^ j) (below : d' * 2 ^ j < 1024) (same : y ≡ d')
+      (lies : Lies f.code w.regs.pc (rest_code None (Some (j, d')) h.first n w.regs.pc a b dest))
+      (rest : GroupsLie ly f.code n (w.regs.pc + pieces_size (rest_code None (Some (j, d')) h.first n w.regs.pc a b dest)) (select is)) where
+    abbrev after : ℕ
+    after = w.regs.pc + pieces_size (rest_code None (Some (j, d')) h.first n w.regs.pc a b dest)
+
+    x_there : SourceHolds w.mem a x
+    x_there = a_holds w.mem first
+
+    -- the divisor is no negative word, and not 0
+    small_divisor : (d' < 1024) × (1 ≤ d')
+    small_divisor = by (2 ^ j) (power_some j) over below
+      where
+        by : (q : ℕ) → 1 ≤ q → 512 < d' * q → d' * q < 1024 → (d' < 1024) × (1 ≤ d')
+        by q some more less = (below_product d' q 1024 some less, ⊎_elim (λ z. absurd (omega (arith, more, none d' q z))) (λ n. omega (arith, n)) (cases_eq d' 0))
+          where
+            none : (d q : ℕ) → d ≡ 0 → d * q ≡ 0
+            none d q z = ap (λ d. d * q) z ∙ (let e : 0 * q ≡ 0 = grind arith in e)
+
+    not_none : y ≢ 0
+    not_none e = let s = small_divisor.1 in omega (arith, s, same, e)
+
+    size_is : magnitude y ≡ d'
+    size_is =
+        let s = small_divisor.0 in
+        let plain : is_negative y ≡ false = lt-leb 32768 y (omega (arith, s, same)) in
+        ap (λ t. if t then 65536 - y else y) plain ∙ same
+
+    value_is : value ≡ turned_size (is_negative x) (magnitude x % d')
+    value_is = rest_is x y x_there.small (b_holds w.mem first).small not_none ∙ ap (λ m. turned_size (is_negative x) (magnitude x % m)) size_is
+
+    reduced_goes : Comes f w Ends [] (11 * (j + 6) + 26)
+    reduced_goes =
+        let e = sym value_is in
+        let sizes = reduced_end (var_at v) dest j d' in
+        looser f w _ _ [] (11 * (j + 6) + 26) (11 * (j + 6) + 26) (omega arith)
+        (λ z g. word_lands around code n h.small (live js) to is s r last value _ _ after w.mem w.text w.answers (ap (λ v. v % 256) e) (ap (λ v. v / 256) e) value_small fit.dest
+        (remains_lasting v d to is code n s r h.read.all_words fit.room h.free) rest first h.text h.answers h.short z
+        (subst (λ p. Here p own (put_word w.mem dest (turned_size (is_negative x) (magnitude x % d') % 256) (turned_size (is_negative x) (magnitude x % d') / 256)) w.text w.answers z)
+        (omega (arith, sizes)) g))
+        (reduces f 16 fits own w.mem w.text w.answers refl (var_at v) dest j d' x w.regs.pc a_apart.0 (dest_in_data to fit.dest) x_there.low_byte x_there.high_byte x_there.small
+        over (let l = lies.0 in omega (arith, l)) lies.1 w (here h))
+
   abbrev pub RemainsLeads : Step SlotState → Type 0
   RemainsLeads z = Comes f w (Target around z) (sent_in z) (34 + (limit + limit))
 
   -- the law of a remainder, by how it is computed
-  law_by : (o : Option ℕ) → IsMasking b o → Lies f.code w.regs.pc (rest_code o h.first n w.regs.pc a b dest) → RestReachesBy o h.first n w.regs.pc a b
-      → GroupsLie ly f.code n (w.regs.pc + pieces_size (rest_code o h.first n w.regs.pc a b dest)) (select is)
+  law_by : (o : Option ℕ) (o' : Option (ℕ × ℕ)) → IsMasking b o → IsReducing b o' → Lies f.code w.regs.pc (rest_code o o' h.first n w.regs.pc a b dest)
+      → RestReachesBy o o' h.first n w.regs.pc a b → GroupsLie ly f.code n (w.regs.pc + pieces_size (rest_code o o' h.first n w.regs.pc a b dest)) (select is)
       → RemainsLeads (steps code (expand (Remains v d to)) (line code n js s r))
-  law_by _ (by_bits c j e few p) lies reach rest =
+  law_by _ o' (by_bits c j e few p) g lies reach rest =
       let same = constant_is w.mem c y b e (b_holds w.mem first) in
       let power : y ≡ 2 ^ (j + 1) = sym same.0 ∙ p in
       subst RemainsLeads (sym (remains_goes code n v d to is s r h.read.all_words fit.room (λ zero. some_power j few (sym power ∙ zero))))
-      (looser f w _ _ [] 18 (34 + (limit + limit)) (omega arith) (λ u z. z) (masked_goes j few power lies reach rest))
-  law_by _ by_division lies reach rest = ⊎_elim
+      (looser f w _ _ [] 18 (34 + (limit + limit)) (omega arith) (λ u z. z) (masked_goes j o' few power lies reach rest))
+  law_by _ _ by_division (by_multiples c j e few over below) lies reach rest =
+      let same = sym (constant_is w.mem c y b e (b_holds w.mem first)).0 in
+      subst RemainsLeads (sym (remains_goes code n v d to is s r h.read.all_words fit.room (not_none j c few over below same lies rest)))
+      (looser f w _ _ [] (11 * (j + 6) + 26) (34 + (limit + limit)) (omega (arith, wide, few)) (λ u z. z) (reduced_goes j c few over below same lies rest))
+  law_by _ _ by_division by_routine lies reach rest = ⊎_elim
       (λ zero. subst RemainsLeads (sym (remains_fails code n v d to is s r h.read.all_words fit.room zero))
-      (looser f w _ _ (fault_text 2 n) (13 + limit) (34 + (limit + limit)) (omega arith) (λ u z. z) (faults lies reach rest zero)))
+      (looser f w _ _ (fault_text 2 n) (37 + limit) (34 + (limit + limit)) (omega arith) (λ u z. z) (faults lies reach rest zero)))
       (λ some. subst RemainsLeads (sym (remains_goes code n v d to is s r h.read.all_words fit.room some))
-      (looser f w _ _ [] (13 + limit + 14) (34 + (limit + limit)) (omega arith) (λ u z. z)
-      (chained f w _ _ [] [] (13 + limit) 14 (asks_rest lies reach rest some) (signs lies reach rest some))))
+      (looser f w _ _ [] (37 + limit + 14) (34 + (limit + limit)) (omega arith) (λ u z. z)
+      (chained f w _ _ [] [] (37 + limit) 14 (asks_rest lies reach rest some) (signs lies reach rest some))))
       (cases_eq y 0)
 
   -- the law of a remainder
   pub remains_law : RemainsLeads (steps code (expand (Remains v d to)) (line code n js s r))
-  remains_law = law_by (mask b) (masking_is b) h.lies h.reach h.rest
+  remains_law = law_by (mask b) (doublings b) (masking_is b) (reducing_is b) h.lies h.reach h.rest

@@ -1,6 +1,6 @@
 -- The bytes of calculations, also of those that change a word in place, whatever the way of the branch.
 use Rattle.std.proofs.Common.{◌≡◌, ℕ, ◌+◌, ◌/◌, ◌%◌, ◌<◌, Bool, true, false, List, [], ◌∷◌, ◌++◌, map, refl, sym, ap, ◌∙◌, subst, arith, Option}
-use Rattle.std.specs.Prelude.{◌&&◌, ◌-◌, ◌^◌, None}
+use Rattle.std.specs.Prelude.{◌&&◌, ◌-◌, ◌^◌, None, Some}
 use Rattle.std.specs.List.{list_all}
 use Rattle.tb_opcodes.specs.Opcodes as opcodes
 use Rattle.tb_opcodes.specs.declared.Mnemonic.TheVariants.{Adc, Asl, Clc, Dec, Inc, Lda, Ldy, Ror, Sbc, Sec, Sta}
@@ -23,6 +23,9 @@ use Rattle.tb_templates.specs.InPlace as in_place
 use Rattle.tb_templates.specs.InPlace.{change_of}
 use Rattle.tb_templates.specs.Masks as masks
 use Rattle.tb_templates.specs.Masks.{mask}
+use Rattle.tb_templates.specs.Reduced as reduced
+use Rattle.tb_templates.specs.Reduced.{doublings}
+use Rattle.tb_templates.proofs.Multiples.{IsReducing, by_multiples, by_routine, reduced_plain, reducing_is, six_more}
 use Rattle.tb_templates.proofs.Divided.{IsMasking, asked_rest_plain, by_bits, by_division, masking_is}
 use Rattle.tb_templates.proofs.Plain.{plain_straight}
 use Rattle.tb_runtime16.specs.Addresses.{RESULT}
@@ -37,7 +40,7 @@ use Rattle.tb_correctness.proofs.CodeBytes.Emits.{Emits, block, branch_by, branc
 use Rattle.tb_correctness.proofs.CodeBytes.ItemBytes.{AllEncode, IsWord, Rest, all_made, asked_emits, behind_branch, behind_straight, calculated_emits}
 use Rattle.tb_correctness.proofs.CodeBytes.ItemBytes.{both_stored_bytes, calculated_straight, copied_made, copied_straight, cut, cut_branch, gets_there}
 use Rattle.tb_correctness.proofs.CodeBytes.ItemBytes.{high_made, high_straight, low_straight, rest_and_sign_bytes, rest_below_bytes}
-use Rattle.tb_correctness.proofs.CodeBytes.ItemBytes.{label_here, rest_before, rest_behind, taken_bytes, value_of}
+use Rattle.tb_correctness.proofs.CodeBytes.ItemBytes.{label_here, reduced_bytes, rest_before, rest_behind, taken_bytes, value_of}
 
 module _ (labels : List (Name × ℕ)) where
   -- ---- code with a branch over a part of it
@@ -200,21 +203,30 @@ module _ (labels : List (Name × ℕ)) where
       }
 
   -- ---- remainders
-  pub record RestEmitted (o : Option ℕ) (n at : ℕ) (a b : Source) (to : ℕ) (fs : List Form) : Type 0 where
+  pub record RestEmitted (o : Option ℕ) (o' : Option (ℕ × ℕ)) (n at : ℕ) (a b : Source) (to : ℕ) (fs : List Form) : Type 0 where
     pub first : Way
-    pub emits : Emits labels at fs (coded.rest_code o first n at a b to)
-    pub reach : coded.RestReachesBy o first n at a b
+    pub emits : Emits labels at fs (coded.rest_code o o' first n at a b to)
+    pub reach : coded.RestReachesBy o o' first n at a b
 
   -- the forms of a remainder emit its code
-  rest_emitted : (n at : ℕ) (o : Option ℕ) (skip : Target) (a b : Source) (to : ℕ) → IsMasking b o → n < 65536 → IsWord a → IsWord b → (fs : List Form)
-      → AreFormsOf (items.rest_by n o skip a b to) fs → Rest labels at fs → RestEmitted o n at a b to fs
-  rest_emitted n at _ skip a b to (by_bits w k e few p) small u v fs h r =
+  rest_emitted : (n at : ℕ) (o : Option ℕ) (o' : Option (ℕ × ℕ)) (skip : Target) (a b : Source) (to : ℕ) → IsMasking b o → IsReducing b o' → n < 65536
+      → IsWord a → IsWord b → (fs : List Form) → AreFormsOf (items.rest_by n o o' skip a b to) fs → Rest labels at fs → RestEmitted o o' n at a b to fs
+  rest_emitted n at _ o' skip a b to (by_bits w k e few p) g small u v fs h r =
       let bits = 2 ^ (k + 1) - 1 in
       let e = over_emitted (masks.rest_and_sign bits a) (masks.rest_below bits) (masks.both_stored to) (coded.rest_and_sign bits a) (coded.rest_below bits)
       (coded.both_stored to) Negative false (label_of skip) (λ i. low_straight Lda a i && (high_straight Ldy a i && true)) refl refl
       (rest_and_sign_bytes labels k a few u) (rest_below_bytes labels k few) (both_stored_bytes labels to) at fs h r in
       record { first = e.first; emits = e.emits; reach = e.reach }
-  rest_emitted n at _ skip a b to by_division small u v fs h r =
+  rest_emitted n at _ _ skip a b to by_division (by_multiples w k e few over below) small u v fs h r =
+      let es = reduced.reduced_rest k w a to in
+      let is : fs ≡ map kept es = straight_forms es fs (plain_straight es (reduced_plain k w a to)) h in
+      record {
+        first = Short;
+        emits = subst (λ fs. Emits labels at fs (coded.rest_code None (Some (k, w)) Short n at a b to)) (sym is)
+            (all_made labels es (coded.reduced k w a to) (reduced_bytes labels k w a to (six_more k w below) u));
+        reach = tt;
+      }
+  rest_emitted n at _ _ skip a b to by_division by_routine small u v fs h r =
       let s = split (items.asked_rest n a b) (items.signed_rest skip a to) fs h in
       let parts = subst (Rest labels at) s.are r in
       let front : s.front ≡ map kept (items.asked_rest n a b) = straight_forms (items.asked_rest n a b) s.front (plain_straight (items.asked_rest n a b) (asked_rest_plain n a b)) s.of_front in
@@ -227,10 +239,10 @@ module _ (labels : List (Name × ℕ)) where
       (copied_made labels RESULT to) next s.back s.of_back back in
       record {
         first = e.first;
-        emits = subst (λ fs. Emits labels at fs (coded.rest_code None e.first n at a b to)) (sym s.are) (emits_append labels asks e.emits);
+        emits = subst (λ fs. Emits labels at fs (coded.rest_code None None e.first n at a b to)) (sym s.are) (emits_append labels asks e.emits);
         reach = e.reach;
       }
 
   pub remains_emitted : (n at : ℕ) (skip : Target) (a b : Source) (to : ℕ) → n < 65536 → IsWord a → IsWord b → (fs : List Form)
-      → AreFormsOf (items.remains n skip a b to) fs → Rest labels at fs → RestEmitted (mask b) n at a b to fs
-  remains_emitted n at skip a b to small u v fs h r = rest_emitted n at (mask b) skip a b to (masking_is b) small u v fs h r
+      → AreFormsOf (items.remains n skip a b to) fs → Rest labels at fs → RestEmitted (mask b) (doublings b) n at a b to fs
+  remains_emitted n at skip a b to small u v fs h r = rest_emitted n at (mask b) (doublings b) skip a b to (masking_is b) (reducing_is b) small u v fs h r

@@ -1,6 +1,6 @@
 -- The code of groups as instructions at their addresses.
 use Rattle.std.specs.Prelude.{◌≡◌, ℕ, zero, suc, ◌+◌, ◌/◌, ◌%◌, ◌≤◌, ◌<◌, List, [], ◌∷◌, ◌++◌, length, Bool, cond, true}
-use Rattle.std.specs.Prelude.{false, not, if◌then◌else◌, bit_xor, nat_eq, nat_lt, Option, Some, None}
+use Rattle.std.specs.Prelude.{false, not, if◌then◌else◌, bit_xor, nat_eq, nat_lt, Option, Some, None, ◌*◌}
 use Rattle.tb_asm.specs.Layout.{distance, is_near}
 use Rattle.tb_syntax.specs.Source.{numbers, Rises}
 use Rattle.tb_reaching.specs.View.{Part}
@@ -28,6 +28,7 @@ use Rattle.tb_templates.specs.declared.in_place.Change.{Change}
 use Rattle.tb_templates.specs.declared.in_place.Change.TheVariants.{Increment, Decrement, Raise, Lower, Halve, Double}
 use Rattle.tb_templates.specs.InPlace.{change_of}
 use Rattle.tb_templates.specs.Masks.{mask}
+use Rattle.tb_templates.specs.Reduced.{doublings}
 use Rattle.tb_templates.specs.Search.{compares}
 use Rattle.tb_templates.specs.Templates.{var_at}
 use Rattle.tb_templates.specs.Sources.{source_of, tested_source, home_at, destination_at}
@@ -38,7 +39,7 @@ use Rattle.tb_selection.specs.Groups.{Conversion, Negated, Drawn, Usage, AsNumbe
 use Rattle.tb_selection.specs.Groups.{Indivisible, Group, Calculate, Stepped, Convert, Move, Use, Test, TestGo, Divides, Remains, Single, contrary, denied}
 use Rattle.tb_selection.specs.Groups.{slot_of, expand_all}
 use Rattle.tb_selection.specs.Select.{select}
-use Rattle.tb_correctness.proofs.Pieces.Sources.{Byte, Fixed, At, lda, adc, sbc, cmp, ldy, ora}
+use Rattle.tb_correctness.proofs.Pieces.Sources.{Byte, Fixed, At, lda, adc, sbc, cmp, ldx, ldy, ora}
 
 -- its bytes
 abbrev pub low : Source → Byte
@@ -461,9 +462,33 @@ DividesReach ly n at first a b None = DividedReaches n at first a b (next_at ly 
 DividesReach ly n at first a b (Some to) = DividedGoes ly n at first a b (has_line ly.numbers to) to
 
 -- ---- remainders
+-- a byte is taken away from A, unless A is below it: then that is left out with n bytes more
+abbrev pub less_once : (place n : ℕ) → List Instr
+less_once place n = ins 0xCD place ∷ ins 0x90 n ∷ ins 0xED place ∷ []
+
+-- both words are bytes and the divisor is not 0; A is the remainder
+abbrev pub bytes_asked : (dividend divisor : ℕ) → List Instr
+bytes_asked dividend divisor =
+    ins 0xAD (dividend + 1) ∷ ins 0x0D (divisor + 1) ∷ ins 0xD0 55 ∷ ins 0xAE divisor ∷ ins 0xF0 50 ∷ ins 0xAD dividend ∷ []
+
+abbrev pub all_taken : ℕ → List Instr
+all_taken divisor = ins 0xCD divisor ∷ ins 0xB0 10 ∷ ins 0x8D RESULT ∷ ins 0xA9 0 ∷ ins 0x8D (RESULT + 1) ∷ ins 0xF0 23 ∷ []
+
+-- the remainder of bytes by up to four differences
+abbrev pub differences : ℕ → List Instr
+differences divisor = less_once divisor 32 ++ (less_once divisor 24 ++ (less_once divisor 16 ++ less_once divisor 8))
+
+abbrev pub subtracted : (dividend divisor : ℕ) → List Instr
+subtracted dividend divisor = bytes_asked dividend divisor ++ (differences divisor ++ all_taken divisor)
+
+-- that before a call, if neither word is a constant
+abbrev pub tried : Source → Source → List Piece → List Piece
+tried (AtAddress p) (AtAddress q) ps = Code (subtracted p q) ∷ ps
+tried a b ps = ps
+
 -- a word divided by another one, by the routine
 abbrev pub rest_asked : ℕ → Source → Source → List Piece
-rest_asked n a b = lined_code (may_be_zero b) n (Code (brought a LEFT) ∷ Code (brought b RIGHT) ∷ Code (call DIVIDE_AT) ∷ [])
+rest_asked n a b = lined_code (may_be_zero b) n (tried a b (Code (brought a LEFT) ∷ Code (brought b RIGHT) ∷ Code (call DIVIDE_AT) ∷ []))
 
 -- the sign of a word goes to N; what is negated if it is set; and what is copied after it
 abbrev pub sign_looked_at : Source → List Instr
@@ -489,20 +514,60 @@ rest_below bits =
 abbrev pub both_stored : ℕ → List Instr
 both_stored to = ins 0x8D to ∷ ins 0x8E (to + 1) ∷ []
 
--- a remainder with the word's sign: by the word's lowest bits if the divisor is a power of two; and that its branch reaches
-abbrev pub rest_code : Option ℕ → Way → (n at : ℕ) → Source → Source → ℕ → List Piece
-rest_code (Some bits) first n at a b to = over_code first at (rest_and_sign bits a) Negative false (rest_below bits) (both_stored to)
-rest_code None first n at a b to = rest_asked n a b ++ signed_rest first (rest_at n at a b) a to
+-- a multiple is taken away from a byte in A that is not below it; the same of a word in A and X, which is compared first
+abbrev pub byte_round : ℕ → List Instr
+byte_round k = ins 0xC9 k ∷ ins 0x90 2 ∷ ins 0xE9 k ∷ []
 
-abbrev pub RestReachesBy : Option ℕ → Way → (n at : ℕ) → Source → Source → Type 0
-RestReachesBy (Some bits) first n at a b = OverReaches first at (rest_and_sign bits a) (rest_below bits)
-RestReachesBy None first n at a b = OverReaches first (rest_at n at a b) (sign_looked_at a) rest_turned
+abbrev pub high_compared : ℕ → List Instr
+high_compared k = ins 0xE0 (k / 256) ∷ ins 0x90 14 ∷ ins 0xD0 4 ∷ []
+
+abbrev pub low_compared : ℕ → List Instr
+low_compared k = ins 0xC9 (k % 256) ∷ ins 0x90 8 ∷ []
+
+abbrev pub taken_away : ℕ → List Instr
+taken_away k = ins 0xE9 (k % 256) ∷ ins 0xA8 0 ∷ ins 0x8A 0 ∷ ins 0xE9 (k / 256) ∷ ins 0xAA 0 ∷ ins 0x98 0 ∷ []
+
+abbrev pub round : ℕ → List Instr
+round k = if nat_lt k 128 then byte_round k else high_compared k ++ (low_compared k ++ taken_away k)
+
+-- n of these, the last one for k
+abbrev pub rounds : ℕ → ℕ → List Instr
+rounds zero k = []
+rounds (suc n) k = rounds n (2 * k) ++ round k
+
+-- the word in A and X is negated
+abbrev pub negated : List Instr
+negated = ins 0x49 255 ∷ ins 0x18 0 ∷ ins 0x69 1 ∷ ins 0xA8 0 ∷ ins 0x8A 0 ∷ ins 0x49 255 ∷ ins 0x69 0 ∷ ins 0xAA 0 ∷ ins 0x98 0 ∷ []
+
+-- a word goes to A and X; from 0 to 255 it goes past six rounds, and below 0 it is negated
+abbrev pub both_loaded : Source → List Instr
+both_loaded a = lda (low a) ∷ ldx (high a) ∷ ins 0xF0 123 ∷ ins 0x10 13 ∷ []
+
+-- what is in A and X is negated unless a word's sign is clear, and is stored
+abbrev pub sign_tested : Source → List Instr
+sign_tested a = ldy (high a) ∷ ins 0x10 13 ∷ []
+
+-- the remainder of a word by a divisor that n doublings bring above 512
+abbrev pub reduced : (n d : ℕ) → Source → ℕ → List Instr
+reduced n d a to = both_loaded a ++ (negated ++ (rounds (n + 6) d ++ (sign_tested a ++ (negated ++ both_stored to))))
+
+-- a remainder with the word's sign: by the word's lowest bits if the divisor is a power of two, by a constant's multiples or by
+-- the routine; and that its branch reaches
+abbrev pub rest_code : Option ℕ → Option (ℕ × ℕ) → Way → (n at : ℕ) → Source → Source → ℕ → List Piece
+rest_code (Some bits) o first n at a b to = over_code first at (rest_and_sign bits a) Negative false (rest_below bits) (both_stored to)
+rest_code None (Some r) first n at a b to = Code (reduced r.0 r.1 a to) ∷ []
+rest_code None None first n at a b to = rest_asked n a b ++ signed_rest first (rest_at n at a b) a to
+
+abbrev pub RestReachesBy : Option ℕ → Option (ℕ × ℕ) → Way → (n at : ℕ) → Source → Source → Type 0
+RestReachesBy (Some bits) o first n at a b = OverReaches first at (rest_and_sign bits a) (rest_below bits)
+RestReachesBy None (Some r) first n at a b = Unit {0}
+RestReachesBy None None first n at a b = OverReaches first (rest_at n at a b) (sign_looked_at a) rest_turned
 
 abbrev pub remains_code : Way → (n at : ℕ) → Source → Source → ℕ → List Piece
-remains_code first n at a b to = rest_code (mask b) first n at a b to
+remains_code first n at a b to = rest_code (mask b) (doublings b) first n at a b to
 
 abbrev pub RestReaches : Way → (n at : ℕ) → Source → Source → Type 0
-RestReaches first n at a b = RestReachesBy (mask b) first n at a b
+RestReaches first n at a b = RestReachesBy (mask b) (doublings b) first n at a b
 
 -- ---- a result that goes on by a constant
 -- the address of that second calculation

@@ -1,13 +1,13 @@
 -- The bytes of items without a branch, and forms cut after such items and after a branch.
-use Rattle.std.proofs.Common.{◌≡◌, ℕ, ◌+◌, ◌/◌, ◌%◌, ◌≤◌, ◌<◌, Bool, true, false, ◌&&◌, List, [], ◌∷◌, ◌++◌, map}
+use Rattle.std.proofs.Common.{◌≡◌, ◌≢◌, ℕ, ◌+◌, ◌*◌, ◌/◌, ◌%◌, ◌≤◌, ◌<◌, Bool, true, false, ◌&&◌, List, [], ◌∷◌, ◌++◌, map}
 use Rattle.std.proofs.Common.{refl, sym, ap, ◌∙◌, subst, arith, Some, append_assoc, true≢false}
 use Rattle.std.specs.Prelude.{zero, suc, ◌-◌, ◌^◌, if◌then◌else◌, nat_eq, nat_lt, unwrap_or, Option, None}
 use Rattle.std.proofs.lemmas.List.{append-nil}
 use Rattle.std.specs.List.{list_all}
-use Rattle.std.proofs.lemmas.Bool.{and_parts}
+use Rattle.std.proofs.lemmas.Bool.{and_parts, ltb-true}
 use Rattle.tb_opcodes.specs.Opcodes as opcodes
 use Rattle.tb_opcodes.specs.declared.Mnemonic.{Mnemonic}
-use Rattle.tb_opcodes.specs.declared.Mnemonic.TheVariants.{Adc, Asl, Clc, Cmp, Lda, Ldy, Ora, Rol, Sbc, Sec, Sta}
+use Rattle.tb_opcodes.specs.declared.Mnemonic.TheVariants.{Adc, Asl, Beq, Bpl, Clc, Cmp, Lda, Ldx, Ldy, Ora, Rol, Sbc, Sec, Sta}
 use Rattle.tb_opcodes.specs.declared.Mode.TheVariants.{Absolute, Relative, ZeroPage}
 use Rattle.tb_asm.specs.declared.names.Name.{Name}
 use Rattle.tb_asm.specs.declared.items.Operand.TheVariants.{Byte, Label, Word}
@@ -36,11 +36,17 @@ use Rattle.tb_templates.specs.Scaled.{scaling, shifts}
 use Rattle.tb_templates.proofs.Factors.{IsScaling, by_right, by_left, by_routine, scaling_is, IsShifting, by_shifts, by_call, shifting_is}
 use Rattle.tb_templates.specs.Masks.{lowest_bits}
 use Rattle.tb_templates.specs.Masks as masks
+use Rattle.tb_templates.specs.Reduced as reduced
+use Rattle.tb_templates.specs.Subtracted as subtracted
+use Rattle.tb_templates.proofs.Multiples.{doubled_below, twice}
 use Rattle.tb_templates.proofs.Divided.{IsMasking, by_bits, by_division}
+use Rattle.tb_templates.specs.declared.labels.Inner.TheVariants as inside
+use Rattle.tb_templates.specs.declared.labels.Target.TheVariants as target
+use Rattle.tb_templates.proofs.Sent.{byte_plain}
 use Rattle.tb_templates.proofs.Plain.{plain_straight, low_matched_plain, high_matched_plain, times_plain, shifted_plain}
 use Rattle.tb_simulation.proofs.Resolved as resolved
 use Rattle.tb_simulation.proofs.Resolved.{Piece, Code, highest_code}
-use Rattle.tb_correctness.proofs.Pieces.Sources.{Fixed, lda, adc, sbc, cmp, ldy, ora}
+use Rattle.tb_correctness.proofs.Pieces.Sources.{Fixed, lda, adc, sbc, cmp, ldx, ldy, ora}
 use Rattle.tb_correctness.proofs.CodeBytes.GroupCode as coded
 use Rattle.tb_correctness.proofs.CodeBytes.GroupCode.{low, high, matched, difference, Way, way_size, BranchReaches}
 use Rattle.tb_correctness.proofs.Pieces.Halves.{power_size}
@@ -153,9 +159,14 @@ jump_straight : (ns : List ℕ) (n to : ℕ) (t : Bool) → has_line ns to ≡ t
 jump_straight ns n to true e = rw e refl
 jump_straight ns n to false e = rw e refl
 
+text_straight : (n i : ℕ) (t : List ℕ) (o : Option ℕ) → list_all is_straight (product.sent o (target.Inside inside.Text n i) (target.Inside inside.Behind n i) t) ≡ true
+text_straight n i t (Some b) = plain_straight (product.byte_sent b) (byte_plain b)
+text_straight n i t None = refl
+
 -- the template of an instruction alone has no branch, if the instruction has none
 pub template_straight : (ns : List ℕ) (n i : ℕ) (c : slots.Instr) → coded.has_branches c ≡ false → list_all is_straight (product.template ns n i c) ≡ true
 template_straight ns n i (slots.Load k x) b = copied_straight (product.var_at x) (product.slot_at k)
+template_straight ns n i (slots.SendText t) b = text_straight n i t (product.only_byte t)
 template_straight ns n i (slots.JumpTo to) b = jump_straight ns n to (has_line ns to) refl
 template_straight ns n i (slots.CallTo to) b = absurd (true≢false b)
 template_straight ns n i slots.Return b = absurd (true≢false b)
@@ -494,9 +505,49 @@ module _ (labels : List (Name × ℕ)) where
       (block labels (items.brought t RIGHT) (coded.brought t RIGHT) ((brought_bytes t RIGHT k).same _)
       (block labels (product.call DIVIDE_AT ∷ []) (resolved.call DIVIDE_AT) refl (ends labels)))
 
+  once_bytes : (q n : ℕ) → n < 256 → AllEncode (subtracted.less_once q n) (coded.less_once q n)
+  unfolding opcodes.encoded
+  once_bytes q n small =
+      let low : (0x90 + 256 * n) % 256 ≡ 0x90 = omega arith in
+      let high : (0x90 + 256 * n) / 256 ≡ n = omega arith in
+      record { same = λ a. refl } ▹ record { same = λ a. λ j. low j ∷ high j ∷ [] } ▹ record { same = λ a. refl } ▹ none
+
+  bytes_asked_bytes : (p q : ℕ) → AllEncode (subtracted.bytes_asked p q) (coded.bytes_asked p q)
+  unfolding opcodes.encoded
+  bytes_asked_bytes p q = record { same = λ a. refl }
+
+  all_taken_bytes : (q : ℕ) → AllEncode (subtracted.all_taken q) (coded.all_taken q)
+  unfolding opcodes.encoded
+  all_taken_bytes q = record { same = λ a. refl }
+
+  differences_bytes : (q : ℕ) → AllEncode (subtracted.differences q) (coded.differences q)
+  differences_bytes q =
+      let last = made_append (subtracted.less_once q 16) (subtracted.less_once q 8) (coded.less_once q 16) (coded.less_once q 8)
+      (once_bytes q 16 (omega arith)) (once_bytes q 8 (omega arith)) in
+      let three = made_append (subtracted.less_once q 24) (subtracted.less_once q 16 ++ subtracted.less_once q 8) (coded.less_once q 24)
+      (coded.less_once q 16 ++ coded.less_once q 8) (once_bytes q 24 (omega arith)) last in
+      made_append (subtracted.less_once q 32) (subtracted.less_once q 24 ++ (subtracted.less_once q 16 ++ subtracted.less_once q 8)) (coded.less_once q 32)
+      (coded.less_once q 24 ++ (coded.less_once q 16 ++ coded.less_once q 8)) (once_bytes q 32 (omega arith)) three
+
+  subtracted_bytes : (p q : ℕ) → AllEncode (subtracted.subtracted p q) (coded.subtracted p q)
+  subtracted_bytes p q =
+      made_append (subtracted.bytes_asked p q) (subtracted.differences q ++ subtracted.all_taken q) (coded.bytes_asked p q) (coded.differences q ++ coded.all_taken q)
+      (bytes_asked_bytes p q) (made_append (subtracted.differences q) (subtracted.all_taken q) (coded.differences q) (coded.all_taken q) (differences_bytes q) (all_taken_bytes q))
+
+  tried_emits : (at : ℕ) (s t : Source) (es : List Entry) (ps : List Piece) → ((b : ℕ) → Emits labels b (map kept es) ps)
+      → Emits labels at (map kept (subtracted.tried s t es)) (coded.tried s t ps)
+  tried_emits at (AtAddress p) (AtAddress q) es ps e = subst (λ k. Emits labels at k (Code (coded.subtracted p q) ∷ ps)) (sym (map_append (subtracted.subtracted p q) es))
+      (block labels (subtracted.subtracted p q) (coded.subtracted p q) ((subtracted_bytes p q).same at) (e (at + resolved.size (coded.subtracted p q))))
+    where
+      map_append : (xs ys : List Entry) → map kept (xs ++ ys) ≡ map kept xs ++ map kept ys
+      map_append [] ys = refl
+      map_append (x ∷ xs) ys = ap (λ l. kept x ∷ l) (map_append xs ys)
+  tried_emits at (AtAddress p) (FixedWord w) es ps e = e at
+  tried_emits at (FixedWord v) t es ps e = e at
+
   -- a remainder by the routine emits its code
   pub asked_emits : (n at : ℕ) (s t : Source) → n < 65536 → IsWord s → IsWord t → Emits labels at (map kept (items.asked_rest n s t)) (coded.rest_asked n s t)
-  asked_emits n at s t l h k = lined_emits at (items.may_be_zero t) n l _ _ (λ b. called_emits {at = b} s t h k)
+  asked_emits n at s t l h k = lined_emits at (items.may_be_zero t) n l _ _ (λ b. tried_emits b s t _ _ (λ c. called_emits {at = c} s t h k))
 
   -- the bytes of ORA with a word's low byte
   pub joined_made : (s : Source) → AllEncode (items.low_of Ora s ∷ []) (ora (low s) ∷ [])
@@ -530,6 +581,67 @@ module _ (labels : List (Name × ℕ)) where
   pub both_stored_bytes : (to : ℕ) → AllEncode (masks.both_stored to) (coded.both_stored to)
   unfolding opcodes.encoded
   both_stored_bytes to = store to ▹ record { same = λ a. refl } ▹ none
+
+  ldx_high : (s : Source) → IsWord s → Encodes (items.high_of Ldx s) (ldx (high s))
+  unfolding opcodes.encoded
+  ldx_high (FixedWord w) h = record { same = λ a. ap (λ b. 0xa2 ∷ b ∷ []) (high_byte w h) }
+  ldx_high (AtAddress p) h = record { same = λ a. refl }
+
+  round_bytes : (k : ℕ) → k < 65536 → AllEncode (reduced.round k) (coded.round k)
+  unfolding opcodes.encoded
+  round_bytes k small = by (nat_lt k 128) refl
+    where
+      high_part : k / 256 % 256 ≡ k / 256
+      high_part = omega (arith, small)
+
+      low_part : k % 256 % 256 ≡ k % 256
+      low_part = omega arith
+
+      by : (t : Bool) → nat_lt k 128 ≡ t → AllEncode (if t then reduced.byte_round k else reduced.word_round k)
+          (if t then coded.byte_round k else coded.high_compared k ++ (coded.low_compared k ++ coded.taken_away k))
+      by true e =
+          let same : k % 256 ≡ k = omega (arith, ltb-true k 128 e) in
+          record { same = λ a. ap (λ b. 0xc9 ∷ b ∷ []) same } ▹ record { same = λ a. refl } ▹ record { same = λ a. ap (λ b. 0xe9 ∷ b ∷ []) same } ▹ none
+      by false e =
+          record { same = λ a. ap (λ b. 0xe0 ∷ b ∷ []) high_part } ▹ record { same = λ a. refl } ▹ record { same = λ a. refl }
+          ▹ record { same = λ a. ap (λ b. 0xc9 ∷ b ∷ []) low_part } ▹ record { same = λ a. refl } ▹ record { same = λ a. ap (λ b. 0xe9 ∷ b ∷ []) low_part }
+          ▹ record { same = λ a. refl } ▹ record { same = λ a. refl } ▹ record { same = λ a. ap (λ b. 0xe9 ∷ b ∷ []) high_part } ▹ record { same = λ a. refl }
+          ▹ record { same = λ a. refl } ▹ none
+
+  rounds_bytes : (n k : ℕ) → k * 2 ^ n < 65536 → AllEncode (reduced.rounds n k) (coded.rounds n k)
+  rounds_bytes zero k h = none
+  rounds_bytes (suc n) k h =
+      let some : suc n ≢ 0 = λ e. omega (arith, e) in
+      let d = doubled_below (suc n) k 65536 some h in
+      made_append (reduced.rounds n (2 * k)) (reduced.round k) (coded.rounds n (2 * k)) (coded.round k)
+      (rounds_bytes n (2 * k) (subst (λ p. p < 65536) (sym (twice k n)) h)) (round_bytes k (omega (arith, d)))
+
+  negated_bytes : AllEncode reduced.negated coded.negated
+  unfolding opcodes.encoded
+  negated_bytes = record { same = λ a. refl }
+
+  loaded_bytes : (s : Source) → IsWord s
+      → AllEncode (items.low_of Lda s ∷ items.high_of Ldx s ∷ reduced.over Beq 123 ∷ reduced.over Bpl 13 ∷ []) (coded.both_loaded s)
+  unfolding opcodes.encoded
+  loaded_bytes s h = lda_low s ▹ ldx_high s h ▹ record { same = λ a. refl } ▹ record { same = λ a. refl } ▹ none
+
+  tested_bytes : (s : Source) → IsWord s → AllEncode (items.high_of Ldy s ∷ reduced.over Bpl 13 ∷ []) (coded.sign_tested s)
+  unfolding opcodes.encoded
+  tested_bytes s h = ldy_high s h ▹ record { same = λ a. refl } ▹ none
+
+  -- the bytes of a remainder by a constant's multiples
+  pub reduced_bytes : (n d : ℕ) (s : Source) (to : ℕ) → d * 2 ^ (n + 6) < 65536 → IsWord s → AllEncode (reduced.reduced_rest n d s to) (coded.reduced n d s to)
+  reduced_bytes n d s to small h =
+      let stored = made_append reduced.negated (masks.both_stored to) coded.negated (coded.both_stored to) negated_bytes (both_stored_bytes to) in
+      let signed = made_append (items.high_of Ldy s ∷ reduced.over Bpl 13 ∷ []) (reduced.negated ++ masks.both_stored to) (coded.sign_tested s)
+      (coded.negated ++ coded.both_stored to) (tested_bytes s h) stored in
+      let rest = made_append (reduced.rounds (n + 6) d) (reduced.with_sign s to) (coded.rounds (n + 6) d) (coded.sign_tested s ++ (coded.negated ++ coded.both_stored to))
+      (rounds_bytes (n + 6) d small) signed in
+      let turned = made_append reduced.negated (reduced.rounds (n + 6) d ++ reduced.with_sign s to) coded.negated
+      (coded.rounds (n + 6) d ++ (coded.sign_tested s ++ (coded.negated ++ coded.both_stored to))) negated_bytes rest in
+      made_append (items.low_of Lda s ∷ items.high_of Ldx s ∷ reduced.over Beq 123 ∷ reduced.over Bpl 13 ∷ [])
+      (reduced.negated ++ (reduced.rounds (n + 6) d ++ reduced.with_sign s to)) (coded.both_loaded s)
+      (coded.negated ++ (coded.rounds (n + 6) d ++ (coded.sign_tested s ++ (coded.negated ++ coded.both_stored to)))) (loaded_bytes s h) turned
 
   -- a remainder for a test emits its code
   pub left_over_emits : (n at : ℕ) (o : Option ℕ) (s t : Source) → IsMasking t o → n < 65536 → IsWord s → IsWord t

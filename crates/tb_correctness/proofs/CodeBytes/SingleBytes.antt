@@ -1,6 +1,6 @@
 -- The bytes of the code of single instructions.
 use Rattle.std.proofs.Common.{◌≡◌, ℕ, ◌+◌, ◌/◌, ◌%◌, ◌≤◌, ◌<◌, Bool, true, false, List, [], ◌∷◌, ◌++◌, length, refl}
-use Rattle.std.proofs.Common.{sym, ap, ◌∙◌, arith, Some, true≢false}
+use Rattle.std.proofs.Common.{sym, ap, ◌∙◌, arith, Option, Some, true≢false}
 use Rattle.std.specs.Prelude.{if◌then◌else◌, unwrap_or}
 use Rattle.tb_opcodes.specs.Opcodes as opcodes
 use Rattle.tb_asm.specs.declared.names.Name.{Name}
@@ -10,18 +10,19 @@ use Rattle.tb_words.specs.Words.{word}
 use Rattle.tb_meaning.specs.Control.{has_line}
 use Rattle.tb_lower.specs.Slots as slots
 use Rattle.tb_lower.specs.Ranges.{IsInRange}
-use Rattle.tb_runtime16.specs.Addresses.{POINTER, LENGTH, TEXT_AT}
+use Rattle.tb_runtime16.specs.Addresses.{POINTER, LENGTH, SEND_AT, TEXT_AT}
 use Rattle.tb_templates.specs.declared.labels.Inner.TheVariants as inside
 use Rattle.tb_templates.specs.declared.labels.Target.TheVariants as target
 use Rattle.tb_templates.specs.Labels.{label_of}
 use Rattle.tb_templates.specs.Layout.{LabelsAt}
 use Rattle.tb_templates.specs.Templates as product
 use Rattle.tb_templates.specs.Templates.{var_at, slot_at}
+use Rattle.tb_templates.proofs.Sent.{IsOnly, only, only_is, other}
 use Rattle.tb_simulation.specs.Layout.{Layout, label_address, layout_of}
 use Rattle.tb_simulation.proofs.Numbers.{low_of, high_of, start_of_line, constant_bytes, copied_bytes, faulted_bytes, jump_bytes}
 use Rattle.std.proofs.lemmas.List.{append-nil}
 use Rattle.tb_reaching.proofs.Instr.{flat}
-use Rattle.tb_simulation.proofs.Resolved.{Piece, copied, template, jump_to, next_at}
+use Rattle.tb_simulation.proofs.Resolved.{Piece, copied, sent, template, jump_to, next_at}
 use Rattle.tb_correctness.proofs.CodeBytes.GroupCode.{has_branches}
 use Rattle.tb_selection.specs.Groups.{Group, Calculate, Single}
 use Rattle.tb_selection.specs.Select.{alone}
@@ -37,10 +38,15 @@ module _ (labels : List (Name × ℕ)) (ns : List ℕ) (seed : ℕ) (seed_small 
   abbrev resolved : ℕ → slots.Instr → List Piece
   resolved at i = template (ly labels ns seed) n at i
 
-  text_bytes : (i at : ℕ) (t : List ℕ) → length t < 256 → at < 0xa000 → LabelsAt labels at (product.template ns n i (slots.SendText t))
-      → bytes_from labels at (product.template ns n i (slots.SendText t)) ≡ pieces_bytes (resolved at (slots.SendText t))
+  text_bytes : (i at : ℕ) (t : List ℕ) (o : Option ℕ) → IsOnly t o → length t < 256
+      → at + size (product.sent o (target.Inside inside.Text n i) (target.Inside inside.Behind n i) t) ≤ 0xa000
+      → LabelsAt labels at (product.sent o (target.Inside inside.Text n i) (target.Inside inside.Behind n i) t)
+      → bytes_from labels at (product.sent o (target.Inside inside.Text n i) (target.Inside inside.Behind n i) t) ≡ pieces_bytes (sent at o t)
   unfolding opcodes.encoded
-  text_bytes i at t small below h =
+  text_bytes i at _ _ (only b byte) small room h =
+      let e : b % 256 ≡ b = omega (arith, byte) in λ j. 0xa9 ∷ e j ∷ 0x20 ∷ SEND_AT % 256 ∷ SEND_AT / 256 ∷ []
+  text_bytes i at t _ (other _) small room h =
+      let below : at < 0xa000 = omega (arith, room) in
       let text = target.Inside inside.Text n i in
       let over = target.Inside inside.Behind n i in
       let here : label_address labels text ≡ at + 19 = of_label labels ns seed (label_of text) _ h.1.1.1.1.1.1.1.1.0 ∙ omega arith in
@@ -73,7 +79,7 @@ module _ (labels : List (Name × ℕ)) (ns : List ℕ) (seed : ℕ) (seed_small 
   unfolding opcodes.encoded
   template_bytes i at (slots.Put k w) f q r b h = constant_bytes labels ns seed at (word w) (slot_at k) (omega arith)
   template_bytes i at (slots.Load k x) f q r b h = copied_bytes labels ns seed at (var_at x) (slot_at k) ∙ sym (append-nil (flat (copied (var_at x) (slot_at k))))
-  template_bytes i at (slots.SendText t) f q r b h = text_bytes i at t r (omega (arith, b)) h
+  template_bytes i at (slots.SendText t) f q r b h = text_bytes i at t (product.only_byte t) (only_is t) r b h
   template_bytes i at slots.SendZone f q r b h = refl
   template_bytes i at slots.SendNewline f q r b h = refl
   template_bytes i at (slots.Input x) f q r b h = refl

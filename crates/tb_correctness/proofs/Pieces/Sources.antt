@@ -51,6 +51,9 @@ ora b = on 0x09 0x0D b
 abbrev pub ldy : Byte → Instr
 ldy b = on 0xA0 0xAC b
 
+abbrev pub ldx : Byte → Instr
+ldx b = on 0xA2 0xAE b
+
 abbrev pub len : Instr → ℕ
 len i = length (instr_bytes i)
 

@@ -234,7 +234,7 @@ module _ (around : Surroundings) (fits : Fits around.f 16) (limit : ℕ) (code :
     -- the law of a remainder
     pub leaves_over : (x : ℕ) (d : Operand) (to : Destination) → GroupLaw (Remains x d to)
     leaves_over x d to = by_steps (Remains x d to) (34 + (limit + limit)) (omega arith) (bracketed (Remains x d to) (34 + (limit + limit))
-        (spread_remains x d to) (spread_remains_is x d to) (λ is n s r w h. remains_law around fits code limit rs n x d to is s r w h))
+        (spread_remains x d to) (spread_remains_is x d to) (λ is n s r w h. remains_law around fits code limit rs wide_enough n x d to is s r w h))
 
     module _ (closed : AreClosed code) (laid : GroupsLaid ly f.code f.whole code) where
       -- the law of RND

@@ -6,8 +6,9 @@ use crate::page::Page;
 use std::alloc::{AllocError, Global};
 use std::io::Write;
 use std::str;
+use tb_check::CheckSettings;
 use tb_check_engine::{CheckOutcome, Sources, check_sources};
-use tb_codegen::SizeLimit;
+use tb_codegen::{Notation, SizeLimit};
 use tb_streams::{InputError, Tracked, read_input};
 use tb_test_support::FailingReader;
 
@@ -114,7 +115,13 @@ pub fn check_folder<W: Write>(
     size: SizeLimit,
 ) -> CheckOutcome {
     match folder.names(alloc) {
-        Ok(names) => check_sources(alloc, &mut folder, names.as_slice(), writer, size),
+        Ok(names) => {
+            let settings = CheckSettings {
+                size,
+                notation: Notation::Plain,
+            };
+            check_sources(alloc, &mut folder, names.as_slice(), writer, settings)
+        }
         Err(_) => CheckOutcome::NoMemory,
     }
 }

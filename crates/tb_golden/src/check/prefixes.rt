@@ -2,8 +2,8 @@
 use crate::check::checks::File;
 use crate::page::Page;
 use std::alloc::{AllocError, Global};
-use tb_check::{Findings, SourceErrorKind, examine};
-use tb_codegen::{CompileError, CompileSettings, SizeLimit, compile_within};
+use tb_check::{CheckSettings, Findings, SourceErrorKind, examine};
+use tb_codegen::{CompileError, CompileSettings, Notation, SizeLimit, compile_within};
 use tb_lower::LowerError;
 
 /// The seed of RND, on which nothing depends here.
@@ -18,13 +18,17 @@ fn agrees(alloc: Global, source: &[u8]) -> Result<bool, AllocError> {
 }
 
 fn agrees_within(alloc: Global, source: &[u8], size: SizeLimit) -> Result<bool, AllocError> {
-    let found = examine(alloc, source, size)?.findings;
-    Ok(
-        match compile_within(alloc, source, CompileSettings { seed: SEED, size }) {
-            Ok(_) => matches!(&found, Findings::Accepted(_)),
-            Err(error) => is_refusal(&found, error),
-        },
-    )
+    let notation = Notation::Plain;
+    let found = examine(alloc, source, CheckSettings { size, notation })?.findings;
+    let settings = CompileSettings {
+        seed: SEED,
+        size,
+        notation,
+    };
+    Ok(match compile_within(alloc, source, settings) {
+        Ok(_) => matches!(&found, Findings::Accepted(_)),
+        Err(error) => is_refusal(&found, error),
+    })
 }
 
 // Whether the compiler's refusal is the first one that was found. Of lines that are too deep, any may come first.

@@ -3,8 +3,8 @@ use crate::compiler::sources::{compiled, push_lines, source_of};
 use crate::notation::{bytes_of, cut, hex_word, number, word};
 use crate::page::Page;
 use std::alloc::Global;
-use tb_codegen::{Compiled, Options, compile};
-use tb_driver::{Outcome, Tracked, build, run_prg, run_text};
+use tb_codegen::{CompileSettings, Compiled, Notation, Options, compile};
+use tb_driver::{Outcome, Tracked, build, run_prg, run_text, run_within};
 use tb_kernal::{Keyboard, Outside, Quiet, Rude};
 use tb_test_support::no_keys;
 
@@ -201,6 +201,43 @@ pub fn put_runs(page: &mut Page, source: &[u8], keys: &str) {
     let mut other = Tracked::new(Vec::new(alloc));
     let keyboard = keyboard_of(page, keys);
     let rude = ran(alloc, source, keyboard, &mut Rude::new(1), &mut other);
+    put_both(page, (&outcome, &screen.stream), (&rude, &other.stream));
+}
+
+// The same of a source whose texts have signs.
+fn ran_with_signs<O: Outside>(
+    alloc: Global,
+    source: &[u8],
+    keyboard: Keyboard,
+    outside: &mut O,
+    screen: &mut Tracked<Vec<u8>>,
+) -> Outcome {
+    let mut source = Tracked::new(source);
+    let settings = CompileSettings {
+        notation: Notation::Signs,
+        ..CompileSettings::by_cost(1)
+    };
+    let report = run_within(
+        alloc,
+        &mut source,
+        screen,
+        settings,
+        keyboard,
+        10_000_000,
+        outside,
+    );
+    report.outcome
+}
+
+/// Appends the same of a source whose texts have signs.
+pub fn put_runs_with_signs(page: &mut Page, source: &[u8], keys: &str) {
+    let alloc = page.alloc();
+    let mut screen = Tracked::new(Vec::new(alloc));
+    let keyboard = keyboard_of(page, keys);
+    let outcome = ran_with_signs(alloc, source, keyboard, &mut Quiet, &mut screen);
+    let mut other = Tracked::new(Vec::new(alloc));
+    let keyboard = keyboard_of(page, keys);
+    let rude = ran_with_signs(alloc, source, keyboard, &mut Rude::new(1), &mut other);
     put_both(page, (&outcome, &screen.stream), (&rude, &other.stream));
 }
 

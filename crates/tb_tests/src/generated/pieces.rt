@@ -25,16 +25,24 @@ const BYTE: u8 = b'?';
 /// What stands for a relation.
 const RELATION: u8 = b'~';
 
-/// What stands for a power of two from 2 to 256, and for the one chosen last.
+/// What stands for a power of two from 2 to 256.
 const POWER: u8 = b'^';
 
+/// What stands for a divisor below 1,024 that is no power of two.
+const MULTIPLE: u8 = b'&';
+
+/// What stands for the divisor chosen last.
 const AGAIN: u8 = b'@';
 
 const RELATIONS: [&str; 16] = [
     "=", "=", "=", "<>", "<>", "<>", "<", "<", "<", ">", ">", "<=", "<=", ">=", ">=", "><",
 ];
 
-const POWERS: [u16; 16] = [2, 4, 8, 16, 32, 64, 128, 256, 2, 4, 8, 16, 32, 64, 128, 256];
+static POWERS: [u16; 16] = [2, 4, 8, 16, 32, 64, 128, 256, 2, 4, 8, 16, 32, 64, 128, 256];
+
+static MULTIPLES: [u16; 16] = [
+    3, 5, 7, 10, 31, 60, 100, 127, 129, 255, 257, 365, 511, 600, 1000, 1023,
+];
 
 /// What a piece's programs are made of.
 struct Piece {
@@ -95,6 +103,28 @@ const MASKING: Piece = Piece {
         140 I=I+1\n150 IF I<4 GOTO 30\n160 A=A-A/^*@\n170 PRINT A,-A-A/^*@\n180 END\n",
     edges: [
         0, 1, 65535, 2, 3, 65533, 4, 65532, 127, 128, 255, 256, 257, 65280, 32767, 32768,
+    ],
+};
+
+/// Remainders by constants whose multiples are taken away, and what looks like them.
+const REDUCING: Piece = Piece {
+    source: b"10 A=#\n20 B=#\n30 PRINT A-A/&*@;\" \";B-B/&*@,A-A/10*10\n40 C=A-A/&*@\n50 B=B-B/&*@\n\
+        60 PRINT A+C-C/&*@,B;\" \";A-A/&*@-B\n70 IF A-A/&*@=1 PRINT \"O\";\n80 IF A-A/&*@~0 PRINT \"N\";\n\
+        90 D=A+B-(A+B)/&*@\n100 PRINT C,D;\" \";D-D/@*&\n110 A=A-A/&*@\n120 A=A+#\n130 B=A-B+#\n\
+        140 I=I+1\n150 IF I<4 GOTO 30\n160 A=A-A/&*@\n170 PRINT A,-A-A/&*@\n180 END\n",
+    edges: [
+        0, 1, 65535, 9, 10, 99, 127, 128, 255, 256, 1000, 1023, 32736, 65280, 32767, 32768,
+    ],
+};
+
+/// Remainders of bytes by variables, with quotients around 4, and of words; a division by 0 comes last.
+const SUBTRACTING: Piece = Piece {
+    source: b"10 A=?\n20 B=?\n30 C=#\n40 IF B=0 B=3\n50 IF C=0 C=B\n60 PRINT A-A/B*B;\" \";A-A/C*C,C-C/B*B\n\
+        70 D=A-A/B*B\n80 IF A-A/B*B=0 PRINT \"E\";\n90 C=C-C/B*B\n100 PRINT D,C\n110 A=D+4*B\n\
+        120 PRINT A-A/B*B;\n130 A=A+B\n140 A=A-A/B*B\n150 PRINT A\n160 A=?\n170 B=B+?\n180 C=C+#\n\
+        190 I=I+1\n200 IF I<4 GOTO 40\n210 A=A/128\n220 PRINT C-C/A*A\n230 END\n",
+    edges: [
+        0, 1, 2, 3, 4, 5, 10, 50, 51, 63, 64, 126, 127, 128, 254, 255,
     ],
 };
 
@@ -161,35 +191,44 @@ impl Draws {
 }
 
 // The word that a symbol stands for, if it stands for one.
-fn word_for(draws: &mut Draws, edges: &[u16; 16], symbol: u8, power: u16) -> Option<u16> {
+fn word_for(draws: &mut Draws, edges: &[u16; 16], symbol: u8, divisor: u16) -> Option<u16> {
     match symbol {
         WORD => Some(draws.near(edges)),
         BOUND => Some((draws.near(edges) % 32768).max(1)),
         DIVISOR => Some(draws.near(edges).max(1)),
         BYTE => Some(draws.near(edges) % 256),
-        AGAIN => Some(power),
+        AGAIN => Some(divisor),
         _ => None,
     }
 }
 
-// Appends what a symbol stands for. Notes the power of two chosen last.
+// The divisors that a symbol stands for, if it stands for some.
+fn divisors_for(symbol: u8) -> Option<&'static [u16; 16]> {
+    match symbol {
+        POWER => Some(&POWERS),
+        MULTIPLE => Some(&MULTIPLES),
+        _ => None,
+    }
+}
+
+// Appends what a symbol stands for. Notes the divisor chosen last.
 fn push_for(
     alloc: Global,
     source: &mut Vec<u8>,
     draws: &mut Draws,
     piece: &Piece,
     symbol: u8,
-    power: &mut u16,
+    divisor: &mut u16,
 ) -> Result<(), AllocError> {
     let mut meant = symbol;
-    if symbol == POWER {
-        *power = draws.one_of(&POWERS);
+    if let Some(divisors) = divisors_for(symbol) {
+        *divisor = draws.one_of(divisors);
         meant = AGAIN;
     }
     if symbol == RELATION {
         let relation = RELATIONS[usize::from(draws.word() / 4096)];
         source.extend_from_slice(relation.as_bytes())?;
-    } else if let Some(word) = word_for(draws, &piece.edges, meant, *power) {
+    } else if let Some(word) = word_for(draws, &piece.edges, meant, *divisor) {
         source.extend_from_slice(format!(in alloc; "{word}")?.as_bytes())?;
     } else {
         source.push(symbol)?;
@@ -201,9 +240,9 @@ fn push_for(
 fn case_of(alloc: Global, piece: &Piece, index: u16) -> Result<Case, AllocError> {
     let mut draws = Draws::new(index);
     let mut source = Vec::new(alloc);
-    let mut power = 2;
+    let mut divisor = 2;
     for symbol in piece.source {
-        push_for(alloc, &mut source, &mut draws, piece, *symbol, &mut power)?;
+        push_for(alloc, &mut source, &mut draws, piece, *symbol, &mut divisor)?;
     }
     Ok(Case {
         source,
@@ -265,6 +304,16 @@ fn digits_of_programs_are_their_sources(rt: HostRuntime) -> Result<(), Fail> {
 #[test]
 fn lowest_bits_of_programs_are_their_sources(rt: HostRuntime) -> Result<(), Fail> {
     try_piece(&rt, &MASKING, PROGRAMS)
+}
+
+#[test]
+fn multiples_of_programs_are_their_sources(rt: HostRuntime) -> Result<(), Fail> {
+    try_piece(&rt, &REDUCING, PROGRAMS)
+}
+
+#[test]
+fn differences_of_programs_are_their_sources(rt: HostRuntime) -> Result<(), Fail> {
+    try_piece(&rt, &SUBTRACTING, 150)
 }
 
 #[test]

@@ -2,7 +2,7 @@
 use std::alloc::{AllocError, Global};
 use std::test::Fail;
 use tb_asm::{assemble, read_text};
-use tb_codegen::{Options, compile};
+use tb_codegen::{Notation, Options, compile};
 use tb_listing::{Made, make};
 use tb_words::next_seed;
 
@@ -75,7 +75,7 @@ fn has_lines(alloc: Global, made: &Made, step: u16, count: u16) -> Result<bool, 
 
 fn is_listed(alloc: Global, source: &[u8], step: u16, count: u16) -> Result<bool, Fail> {
     let program = compile(alloc, source, Options { seed: 1 })?;
-    let made = make(alloc, source, &program)?;
+    let made = make(alloc, source, Notation::Plain, &program)?;
     Ok(gives_back(alloc, program.prg(), &made)? && has_lines(alloc, &made, step, count)?)
 }
 

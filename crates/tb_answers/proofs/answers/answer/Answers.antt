@@ -5,4 +5,4 @@ use Rattle.tb_answers.proofs.answers.answer.Goals as goal
 
 pub returns : goal.returns
 returns c =
-    subst (λ asked. IfOk c.answer_if_asked.result (AnswersBy asked c.args.uri.now c.args.text.now)) c.asked_of.ensures c.answer_if_asked.ensures
+    subst (λ asked. IfOk c.answer_if_asked.result (AnswersBy c.args.notation asked c.args.uri.now c.args.text.now)) c.asked_of.ensures c.answer_if_asked.ensures

@@ -8,7 +8,7 @@ use Rattle.tb_check.proofs.judging.judge_program.Goals.{then-is_empty, else-is_e
 
 pub returns : goal.returns
 returns c =
-    let size = c.args.size in
+    let size = c.args.settings.size in
     let p = lines_of c.args.program in
     let faults = c.in_ok-faults.faults in
     let has = c.in_ok-faults.ensures in

@@ -10,22 +10,22 @@ use Rattle.tb_check.proofs.judging.overrun.Goals.{in-Ok, in-Err-TooLarge, in-Err
 pub unreachable-requires : goal.unreachable-requires
 unreachable-requires c =
     let e = c.in-Err-Source in
-    no_bad_line c.args.source.now c.by_memory.result c.by_memory.ensures e.field-0-0 e.field-0-is c.requires e.ensures.only
+    no_bad_line c.args.notation 1 c.args.source.now e.field-0-0 e.field-0-is c.requires e.ensures.only
 
 pub unreachable-requires-in-Err-Lower : goal.unreachable-requires-in-Err-Lower
 unreachable-requires-in-Err-Lower c =
     let e = c.in-Err-Lower in
-    no_deep_line c.args.source.now c.by_memory.result c.by_memory.ensures e.field-0-0 e.field-0-is c.requires e.ensures.only
+    no_deep_line c.args.notation 1 c.args.source.now e.field-0-0 e.field-0-is c.requires e.ensures.only
 
 pub returns : goal.returns
 returns c =
     let source = c.args.source.now in
     elim c.match-compile_within.branch [
-      | in-Ok w ↦ subst (λ r. IfOk r (TellsSizeOf Memory source)) (sym w.result-is)
-          (fits_all source c.by_memory.result c.by_memory.ensures w.in-Ok.field-0 w.in-Ok.ensures.only)
+      | in-Ok w ↦ subst (λ r. IfOk r (TellsSizeOf c.args.notation Memory source)) (sym w.result-is)
+          (fits_all c.args.notation 1 source w.in-Ok.field-0 w.in-Ok.ensures.only)
       | in-Err-TooLarge w ↦
           let e = w.in-Err-TooLarge in
-          subst (λ r. IfOk r (TellsSizeOf Memory source)) (sym w.result-is)
-          (takes_all source c.by_memory.result c.by_memory.ensures e.bytes e.field-0-is e.ensures.only)
-      | in-Err-NoMemory w ↦ subst (λ r. IfOk r (TellsSizeOf Memory source)) (sym w.result-is) tt
+          subst (λ r. IfOk r (TellsSizeOf c.args.notation Memory source)) (sym w.result-is)
+          (takes_all c.args.notation 1 source e.bytes e.field-0-is e.ensures.only)
+      | in-Err-NoMemory w ↦ subst (λ r. IfOk r (TellsSizeOf c.args.notation Memory source)) (sym w.result-is) tt
     ]

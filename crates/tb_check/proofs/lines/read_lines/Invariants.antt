@@ -5,7 +5,7 @@ use Rattle.tb_check.proofs.lines.read_lines.Given as goal
 
 abbrev pub invariant-loop-text : goal.invariant-loop-text
 invariant-loop-text l = record {
-  so_far : ReadTo l.source l.lines l.number l.rest;
+  so_far : ReadTo l.notation l.source l.lines l.number l.rest;
   count : l.number + length l.rest ≤ length l.source + 1;
 }
 

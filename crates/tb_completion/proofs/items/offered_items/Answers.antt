@@ -10,7 +10,7 @@ returns c = (
   c.in_ok-typed.ensures,
   (
     c.in_ok-found.found.items,
-    subst (λ cs. Offers c.in_ok-typed.typed cs c.in_ok-found.found.items) (c.deref.ensures.value ∙ c.in_ok-candidates.ensures) c.in_ok-found.ensures,
+    subst (λ cs. Offers c.args.source.now.notation c.in_ok-typed.typed cs c.in_ok-found.found.items) (c.deref.ensures.value ∙ c.in_ok-candidates.ensures) c.in_ok-found.ensures,
     c.in_ok-items.ensures ∙ (λ i. items_in (c.span_of.ensures i) (c.deref-2.ensures.value i)),
   ),
 )

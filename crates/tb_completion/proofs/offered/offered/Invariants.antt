@@ -7,4 +7,4 @@ use Rattle.tb_completion.proofs.offered.offered.Given as goal
 -- what is offered of those left comes behind what was found
 abbrev pub invariant-loop-candidate : goal.invariant-loop-candidate
 invariant-loop-candidate l =
-    (found : List Candidate) → Offers l.typed (drop l.candidate-index l.candidates) found → Offers l.typed l.candidates (l.found.items ++ found)
+    (found : List Candidate) → Offers l.notation l.typed (drop l.candidate-index l.candidates) found → Offers l.notation l.typed l.candidates (l.found.items ++ found)

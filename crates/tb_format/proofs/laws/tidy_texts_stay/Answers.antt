@@ -4,4 +4,4 @@ use Rattle.tb_format.proofs.Twice.{text_stays}
 use Rattle.tb_format.proofs.laws.tidy_texts_stay.Goals as goal
 
 pub returns : goal.returns
-returns c = λ text tidy again first second. text_stays false text tidy tidy again first second refl
+returns c = λ notation text tidy again first second. text_stays notation false text tidy tidy again first second refl

@@ -7,7 +7,7 @@ use Rattle.tb_format.proofs.lines.tidy_line.Goals as goal
 pub returns-then-not-branch : goal.returns-then-not-branch
 returns-then-not-branch c =
     let line = c.args.line.now in
-    copied line (λ (t : List ℕ). IsTidied line t) c.from_slice.result c.from_slice.ensures.items (bad (rw c.if-not-branch.true at c.in_ok-is_good.ensures))
+    copied line (λ (t : List ℕ). IsTidied c.args.notation line t) c.from_slice.result c.from_slice.ensures.items (bad (rw c.if-not-branch.true at c.in_ok-is_good.ensures))
 
 pub returns : goal.returns
-returns c = of_good c.args.line.now c.tidy_good_line.result (rw c.if-not-branch.false at c.in_ok-is_good.ensures) c.tidy_good_line.ensures
+returns c = of_good c.args.notation c.args.line.now c.tidy_good_line.result (rw c.if-not-branch.false at c.in_ok-is_good.ensures) c.tidy_good_line.ensures

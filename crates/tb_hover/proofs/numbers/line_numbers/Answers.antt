@@ -7,14 +7,14 @@ use Rattle.tb_hover.proofs.numbers.line_numbers.Goals as goal
 
 pub numbers_in-requires : goal.numbers_in-requires
 numbers_in-requires c =
-    cost_small (lines_of c.in-Ok-parse.program) (are_small (lines_of c.in-Ok-parse.program) c.in-Ok-parse.ensures.stated) c.in-Ok-parse.ensures.rising
+    cost_small (lines_of c.in-Ok-parse_in.program) (are_small (lines_of c.in-Ok-parse_in.program) c.in-Ok-parse_in.ensures.stated) c.in-Ok-parse_in.ensures.rising
 
 pub returns : goal.returns
 returns c =
-    let program = lines_of c.in-Ok-parse.program in inl (
+    let program = lines_of c.in-Ok-parse_in.program in inl (
       c.in-Ok.compiled,
       program,
       c.in-Ok.ensures.found,
-      c.in-Ok-parse.ensures.found,
+      c.in-Ok-parse_in.ensures.found,
       c.numbers_in.ensures ∙ (λ i. part_of c.args.number (c.starts-starts.ensures i) (c.table-table.ensures i) program),
     )

@@ -8,7 +8,7 @@ use Rattle.tb_profile_engine.proofs.Profiling.{profiles}
 use Rattle.tb_profile_engine.proofs.engine.make_texts.Goals as goal
 
 pub profile_program-requires : goal.profile_program-requires
-profile_program-requires g c = answer_loads c.requires.0 c.args.source.now.text.items c.args.source.now.program c.requires.1
+profile_program-requires g c = answer_loads c.args.settings c.args.source.now.text.items c.args.source.now.program c.requires
 
 pub returns-in-Ok-texts_of_run : goal.returns-in-Ok-texts_of_run
 returns-in-Ok-texts_of_run g c =
@@ -25,5 +25,5 @@ returns-in-Ok-texts_of_run g c =
     subst (λ t. Shows (said keyboard.text.items keyboard.answers.items) t ran.table texts) c.as_slice.ensures.value
     (subst (λ keys. Shows (said keys keyboard.answers.items) c.as_slice.result.now ran.table texts) copied.0
     (subst (λ answers. Shows (said typed.text.items answers) c.as_slice.result.now ran.table texts) copied.1 c.in-Ok-texts_of_run.ensures)) in
-    profiles (facts_on c.args.named.now settings run) run source.text.items source.program
-    c.requires.0 ran (record { texts = texts; end = ran.end }) c.requires.1 c.in_ok-ran.ensures shows refl
+    profiles (facts_on c.args.named.now settings run) settings run source.text.items source.program
+    ran (record { texts = texts; end = ran.end }) c.requires c.in_ok-ran.ensures shows refl

@@ -10,18 +10,18 @@ use Rattle.tb_profile_engine.proofs.Profiling.{prepared}
 use Rattle.tb_profile_engine.proofs.engine.profile_text.Goals as goal
 
 pub make_texts-requires : goal.make_texts-requires
-make_texts-requires g c = (c.args.settings, c.in-Ok.ensures.answers.1.answer.found)
+make_texts-requires g c = c.in-Ok.ensures.answers.1.answer.found
 
 pub returns-in-Err-clause-answers : goal.returns-in-Err-clause-answers
 returns-in-Err-clause-answers g c =
     nothing_made c.args.settings c.in-Err.outcome c.new.result _ _ c.in-Err.ensures.answers c.new.ensures.outcome c.new.ensures.warnings
     (λ source p. Profiles (facts_on c.args.named.now c.args.settings (settings_of g.O.Outside.gives c.args.outside.now c.args.keyboard c.args.limit))
-    (settings_of g.O.Outside.gives c.args.outside.now c.args.keyboard c.args.limit) source p c.new-in-Err.result.items)
+    c.args.settings.notation (settings_of g.O.Outside.gives c.args.outside.now c.args.keyboard c.args.limit) source p c.new-in-Err.result.items)
 
 pub returns-clause-answers : goal.returns-clause-answers
 returns-clause-answers g c =
     let profiles = λ (source : List ℕ) (p : Compiled). Profiles (facts_on c.args.named.now c.args.settings (settings_of g.O.Outside.gives c.args.outside.now c.args.keyboard c.args.limit))
-    (settings_of g.O.Outside.gives c.args.outside.now c.args.keyboard c.args.limit) source p in
+    c.args.settings.notation (settings_of g.O.Outside.gives c.args.outside.now c.args.keyboard c.args.limit) source p in
     let source = c.in-Ok.source in
     let reader = use_of g.R.Read.remaining c.args.reader.now c.read_source.new.reader in
     let writer = use_of g.W.Write.contents c.args.writer.now c.deliver.new.writer in

@@ -60,3 +60,12 @@ returns-clause-prints_if_below_256 c = lemma.prints_if_below_256
 
 pub returns-clause-prints_rest : goal.returns-clause-prints_rest
 returns-clause-prints_rest c = lemma.prints_rest
+
+pub returns-clause-prints_rest_by_three : goal.returns-clause-prints_rest_by_three
+returns-clause-prints_rest_by_three c = lemma.prints_rest_by_three
+
+pub returns-clause-prints_rest_of_bytes : goal.returns-clause-prints_rest_of_bytes
+returns-clause-prints_rest_of_bytes c = lemma.prints_rest_of_bytes
+
+pub returns-clause-prints_in_zones : goal.returns-clause-prints_in_zones
+returns-clause-prints_in_zones c = lemma.prints_in_zones

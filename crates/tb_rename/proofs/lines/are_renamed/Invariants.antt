@@ -5,4 +5,5 @@ use Rattle.tb_rename.proofs.lines.are_renamed.Given as goal
 
 -- where those left are renamed, all are
 abbrev pub invariant-loop-line : goal.invariant-loop-line
-invariant-loop-line l = AreRenamed l.letters (drop l.line-index l.source.lines.items) → AreRenamed l.letters l.source.lines.items
+invariant-loop-line l =
+    AreRenamed l.source.notation l.letters (drop l.line-index l.source.lines.items) → AreRenamed l.source.notation l.letters l.source.lines.items

@@ -16,6 +16,6 @@ returns c =
       movable,
       made.0,
       made.1,
-      subst (λ text. IsProgramOf text (renumbered first step (lines_of c.args.program.now))) c.as_slice.ensures.value read.0,
+      subst (λ text. IsProgramOf c.args.notation text (renumbered first step (lines_of c.args.program.now))) c.as_slice.ensures.value read.0,
       run_alike first step (lines_of c.args.program.now) c.requires.rising read.1 movable.0,
     )

@@ -8,4 +8,4 @@ unfolding lines_from
 at_end lines rest source none all = sym (append-nil lines) ∙ ap (λ r. lines ++ lines_from false r) (sym none) ∙ all
 
 pub returns : goal.returns
-returns c = at_end _ c.loop-text.rest.now c.args.source.now c.in_default.ensures c.loop-text.invariant
+returns c = (at_end _ c.loop-text.rest.now c.args.source.now c.in_default.ensures c.loop-text.invariant.0, c.loop-text.invariant.1)

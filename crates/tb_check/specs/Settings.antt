@@ -1,0 +1,8 @@
+-- How sources are checked.
+use Rattle.tb_parser.specs.declared.notation.Notation.{Notation}
+use Rattle.tb_codegen.specs.declared.settings.SizeLimit.TheVariants.{Cost}
+use Rattle.tb_check.specs.declared.settings.CheckSettings.{CheckSettings}
+
+-- with a notation, and too large by the cost
+abbrev pub by_cost : Notation → CheckSettings
+by_cost notation = record { size = Cost; notation = notation }

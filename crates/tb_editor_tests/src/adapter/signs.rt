@@ -1,0 +1,104 @@
+//! Sources with signs: they are launched where that is asked for, or where the adapter has that notation.
+use super::support::{answers_in, shown};
+use std::alloc::Global;
+use std::test::Fail;
+use tb_parser::Notation;
+
+/// A source with a sign.
+const SOURCE: &[u8] = b"10 PRINT \"{clr}\";\n20 PRINT \"B\"\n30 END\n";
+
+const INITIALIZE: &str = r#"{"seq":1,"type":"request","command":"initialize"}"#;
+
+/// Where it is stopped at the line with the sign, and then at its end.
+const MESSAGES: [&str; 4] = [
+    r#"{"seq":3,"type":"request","command":"setBreakpoints","arguments":{"source":{"path":"t.bas"},"breakpoints":[{"line":1}]}}"#,
+    r#"{"seq":4,"type":"request","command":"configurationDone"}"#,
+    r#"{"seq":5,"type":"request","command":"stackTrace","arguments":{"threadId":1}}"#,
+    r#"{"seq":6,"type":"request","command":"continue"}"#,
+];
+
+// What an adapter that has a notation answers, where the source is launched with these arguments too.
+fn told(alloc: Global, notation: Notation, more: &str) -> Result<Vec<u8>, Fail> {
+    let launch = format!(in alloc;
+        "{{\"seq\":2,\"type\":\"request\",\"command\":\"launch\",\"arguments\":{{\"program\":\"/a/t.bas\"{more}}}}}"
+    )?;
+    let mut messages = Vec::new(alloc);
+    messages.push(INITIALIZE)?;
+    messages.push(launch.as_str())?;
+    for message in MESSAGES {
+        messages.push(message)?;
+    }
+    answers_in(alloc, notation, SOURCE, &messages)
+}
+
+/// Launches whose source may have signs.
+const LAUNCHED: [(Notation, &str); 3] = [
+    (Notation::Plain, ",\"petscii\":true"),
+    (Notation::Signs, ""),
+    (Notation::Signs, ",\"petscii\":true"),
+];
+
+#[test]
+fn a_source_with_signs_is_debugged(rt: HostRuntime) -> Result<(), Fail> {
+    for (notation, more) in LAUNCHED {
+        let told = told(rt.alloc(), notation, more)?;
+        let told = shown(&told);
+        assert!(rt;
+            told.contains(
+                "{\"id\":10,\"line\":1,\"source\":{\"name\":\"t.bas\",\"path\":\"/a/t.bas\"},\"verified\":true}"
+            ),
+            "{told}"
+        );
+        assert!(rt;
+            told.contains("\"line\":1,\"name\":\"10 PRINT \\\"{clr}\\\";\""),
+            "{told}"
+        );
+        assert!(rt; told.contains("\"output\":\"{93}B\\n"), "{told}");
+        assert!(rt;
+            told.contains("\"description\":\"returned\",\"reason\":\"end\""),
+            "{told}"
+        );
+    }
+    Ok(())
+}
+
+/// Launches whose source may have none.
+const REFUSED: [(Notation, &str); 3] = [
+    (Notation::Plain, ""),
+    (Notation::Plain, ",\"petscii\":false"),
+    (Notation::Signs, ",\"petscii\":false"),
+];
+
+#[test]
+fn without_signs_the_source_is_refused(rt: HostRuntime) -> Result<(), Fail> {
+    for (notation, more) in REFUSED {
+        let told = told(rt.alloc(), notation, more)?;
+        let told = shown(&told);
+        assert!(rt;
+            told.contains("\"output\":\"/a/t.bas:1:11: error: bad byte"),
+            "{told}"
+        );
+        assert!(rt;
+            told.contains("\"message\":\"1:11: bad byte\",\"request_seq\":2,"),
+            "{told}"
+        );
+        assert!(rt;
+            told.contains("\"message\":\"not launched\",\"request_seq\":3,"),
+            "{told}"
+        );
+    }
+    Ok(())
+}
+
+#[test]
+fn the_flag_is_true_or_false(rt: HostRuntime) -> Result<(), Fail> {
+    for flag in ["1", "\"yes\"", "[]"] {
+        let more = format!(in rt.alloc(); ",\"petscii\":{flag}")?;
+        let told = told(rt.alloc(), Notation::Signs, more.as_str())?;
+        assert!(rt;
+            shown(&told).contains("\"message\":\"bad arguments\",\"request_seq\":2,"),
+            "{flag}"
+        );
+    }
+    Ok(())
+}
