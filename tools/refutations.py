@@ -164,7 +164,7 @@ CHANGES = [
     ]),
     Change("notes_below_s", "the low bytes of the notes from $0100 on, below S, instead of $C100", "calls_and_returns", [
         ("9d 00 c1 a9 .. 9d 00 c3", ".. .. 01" + " .." * 5),
-        ("bd 00 c1 8d 66 c0 bd 00 c3", ".. .. 01" + " .." * 6),
+        ("bd 00 c1 85 fb bd 00 c3", ".. .. 01" + " .." * 5),
     ]),
     Change("last_entry_skipped", "JMP over the last comparison, and the search is told of one line of two", "goes_to_sum", [
         ("c9 14 d0 0f e0 00 d0 0b", "4c @+19" + " .." * 5),

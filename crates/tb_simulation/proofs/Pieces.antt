@@ -1,7 +1,7 @@
 -- Pieces of code at any address, on data at any address.
 use Rattle.std.proofs.Common.{◌≡◌, ℕ, ◌+◌, ◌/◌, ◌%◌, ◌≤◌, Bool, true, false, List, [], ◌∷◌, ◌++◌, length, refl, sym, ap, subst, arith, leb, Some, None, Ok}
 use Rattle.tb_simulation.proofs.Mirrors.{Carrying}
-use Rattle.tb_simulation.proofs.Resolved.{call, constant, highest_code, jump, jump_through, pointed}
+use Rattle.tb_simulation.proofs.Resolved.{call, constant, highest_code, jump, jump_by, jump_through, pointed}
 use Rattle.tb_runtime16.specs.Routines.{Here, WithA, Moves, WordAt}
 use Rattle.tb_memmap.specs.Bytes.{with_byte}
 use Rattle.tb_opcodes.specs.declared.Mnemonic.TheVariants.{Lda, Sta}
@@ -12,7 +12,7 @@ use Rattle.tb_reaching.proofs.Placed.{changes_at, placing, reads_data, stores_at
 use Rattle.tb_reaching.specs.View.{Bytes}
 use Rattle.tb_reaching.proofs.Instr.{Stands, ins, instr_bytes}
 use Rattle.tb_reaching.specs.View.{Comes, Fits, Setup, View, is_data, view, with_s}
-use Rattle.tb_runtime16.specs.Addresses.{RESULT}
+use Rattle.tb_runtime16.specs.Addresses.{LEFT, RESULT}
 use Rattle.std.specs.Prelude.{◌==◌, if◌then◌else◌}
 use Rattle.std.proofs.lemmas.Bool.Decides.{nat_tests}
 use Rattle.tb_opcodes.specs.Opcodes.{find_row, rows}
@@ -181,6 +181,12 @@ module _ (f : Setup) (room : ℕ) (fits : Fits f room) where
     pub jumps_through : (to : ℕ) → WordAt m RESULT to → Stands f.code at jump_through → Moves f (Here at bs m text answers) (Here to bs m text answers) [] 1
     jumps_through to is st = whatever at bs m text answers _ [] 1 (λ a x y n v i z c.
         placed_last f room fits (ins 0x6C RESULT) (view a x y n v i z c at bs m text answers) _ _ small st.0 refl
+        (record { pc = omega (arith, is.low, is.high); stack = refl; binary = refl; mem = refl; text = refl; answers = refl }))
+
+    -- a jump through a word of page zero
+    pub jumps_by_left : (to : ℕ) → WordAt m LEFT to → Stands f.code at (jump_by LEFT) → Moves f (Here at bs m text answers) (Here to bs m text answers) [] 1
+    jumps_by_left to is st = whatever at bs m text answers _ [] 1 (λ a x y n v i z c.
+        placed_last f room fits (ins 0x6C LEFT) (view a x y n v i z c at bs m text answers) _ _ small st.0 refl
         (record { pc = omega (arith, is.low, is.high); stack = refl; binary = refl; mem = refl; text = refl; answers = refl }))
 
     -- a call, which returns to what follows it

@@ -49,9 +49,13 @@ call to = ins 0x20 to ∷ []
 abbrev pub jump : ℕ → List Instr
 jump to = ins 0x4C to ∷ []
 
--- on to where a word points
+-- on to where the word at a place points
+abbrev pub jump_by : ℕ → List Instr
+jump_by place = ins 0x6C place ∷ []
+
+-- on to where the result points
 abbrev pub jump_through : List Instr
-jump_through = ins 0x6C RESULT ∷ []
+jump_through = jump_by RESULT
 
 -- POINTER, LENGTH and the call of Text
 abbrev pub text_call : ℕ → ℕ → ℕ → List Instr

@@ -25,7 +25,7 @@ room Jump = 28
 room Call = 39
 room (JumpTo target) = 9
 room (CallTo target) = 59
-room Return = 51
+room Return = 49
 room End = 1
 
 -- the same for a list

@@ -91,9 +91,13 @@ constant w to = const Lda (w % 256) ∷ at Sta to ∷ const Lda (w / 256) ∷ at
 abbrev pub address : Target → ℕ → List Entry
 address of to = low_part of ∷ instr Sta ZeroPage (Byte to) ∷ high_part of ∷ instr Sta ZeroPage (Byte (to + 1)) ∷ []
 
+-- goes on at the address that stands at a place
+abbrev pub jump_by : ℕ → List Entry
+jump_by place = instr Jmp Indirect (Word place) ∷ []
+
 -- goes on at the address in the result: a return or the search's answer
 abbrev pub jump_through : List Entry
-jump_through = instr Jmp Indirect (Word RESULT) ∷ []
+jump_through = jump_by RESULT
 
 -- fault k in line n
 abbrev pub faulted : ℕ → ℕ → List Entry
@@ -123,13 +127,13 @@ carried skip = branch Bne skip ∷ at Inc (NOTES + 1) ∷ here skip ∷ []
 abbrev pub held : (next skip over : Target) → List Entry
 held next skip over = by_zero Bne (NOTES + 1) over ++ (return_stored next ++ carried skip)
 
--- X is the low byte of the count of returns: it goes down, and the newest return's two bytes go to the result
+-- X is the low byte of the count of returns: it goes down, and the newest return's two bytes go to page zero
 abbrev pub return_taken : List Entry
-return_taken = alone Dex ∷ at Stx NOTES ∷ by_x Lda RETURN_LOW ∷ at Sta RESULT ∷ by_x Lda RETURN_HIGH ∷ at Sta (RESULT + 1) ∷ []
+return_taken = alone Dex ∷ at Stx NOTES ∷ by_x Lda RETURN_LOW ∷ on Sta LEFT ∷ by_x Lda RETURN_HIGH ∷ on Sta (LEFT + 1) ∷ []
 
 -- takes the newest return in line and goes on there, if it is one of the first 255; else it goes to `over`
 abbrev pub taken_back : Target → List Entry
-taken_back over = by_zero Bne (NOTES + 1) over ++ (by_zero Beq NOTES over ++ (return_taken ++ jump_through))
+taken_back over = by_zero Bne (NOTES + 1) over ++ (by_zero Beq NOTES over ++ (return_taken ++ jump_by LEFT))
 
 -- the call that sends a text of that length
 abbrev pub text_call : ℕ → List Entry

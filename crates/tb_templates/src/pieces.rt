@@ -201,14 +201,21 @@ pub fn put_find(items: &mut Vec<Item>) -> Result<(), AllocError>
     )
 }
 
+/// Goes on at the address that stands at a place.
+pub fn put_jump_by(items: &mut Vec<Item>, place: u16) -> Result<(), AllocError>
+    ensures { Puts result items.old items.new (templates.jump_by place) }
+{
+    put(
+        items,
+        Item::Instr(Mnemonic::Jmp, Mode::Indirect, Operand::Word(place)),
+    )
+}
+
 /// Goes on at the address in the result: a return or the search's answer.
 pub fn put_jump_through(items: &mut Vec<Item>) -> Result<(), AllocError>
     ensures { Puts result items.old items.new templates.jump_through }
 {
-    put(
-        items,
-        Item::Instr(Mnemonic::Jmp, Mode::Indirect, Operand::Word(RESULT)),
-    )
+    put_jump_by(items, RESULT)
 }
 
 /// A fault of a line, by its number.

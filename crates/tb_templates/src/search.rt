@@ -135,7 +135,7 @@ fn room(instruction: &SlotInstr) -> usize
         SlotInstr::Call => 39,
         SlotInstr::JumpTo(_) => 9,
         SlotInstr::CallTo(_) => 59,
-        SlotInstr::Return => 51,
+        SlotInstr::Return => 49,
         SlotInstr::End => 1,
     }
 }

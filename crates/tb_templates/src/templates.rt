@@ -15,8 +15,8 @@ ghost use Rattle.tb_runtime16.specs.Addresses as places;
 use crate::labels::{Inner, Target};
 use crate::pieces::{
     put, put_address, put_alone, put_at, put_branch, put_by_x, put_call, put_const, put_constant,
-    put_copied, put_faulted, put_here, put_high_part, put_jump, put_jump_through, put_low_part,
-    put_return,
+    put_copied, put_faulted, put_here, put_high_part, put_jump, put_jump_by, put_jump_through,
+    put_low_part, put_on, put_return,
 };
 use crate::sources::{slot_address, variable_at};
 use std::alloc::AllocError;
@@ -25,7 +25,7 @@ use tb_kernal::CHROUT;
 use tb_lower::SlotInstr;
 use tb_opcodes::Mnemonic;
 use tb_runtime16::{
-    COLUMN, LENGTH, LINE, NOTES, POINTER, RESULT, RETURN_HIGH, RETURN_LOW, Routine, SEND_AT,
+    COLUMN, LEFT, LENGTH, LINE, NOTES, POINTER, RESULT, RETURN_HIGH, RETURN_LOW, Routine, SEND_AT,
 };
 
 /// The fault of a line that does not exist.
@@ -204,16 +204,16 @@ fn put_returned_to(
     Ok(())
 }
 
-// X is the low byte of the count of returns: it goes down, and the newest return's two bytes go to the result.
+// X is the low byte of the count of returns: it goes down, and the newest return's two bytes go to page zero.
 fn put_return_taken(items: &mut Vec<Item>) -> Result<(), AllocError>
     ensures { Puts result items.old items.new templates.return_taken }
 {
     put_alone(items, Mnemonic::Dex)?;
     put_at(items, Mnemonic::Stx, NOTES)?;
     put_by_x(items, Mnemonic::Lda, RETURN_LOW)?;
-    put_at(items, Mnemonic::Sta, RESULT)?;
+    put_on(items, Mnemonic::Sta, LEFT)?;
     put_by_x(items, Mnemonic::Lda, RETURN_HIGH)?;
-    put_at(items, Mnemonic::Sta, RESULT + 1)
+    put_on(items, Mnemonic::Sta, LEFT + 1)
 }
 
 // Takes the newest return in line and goes on there, if it is one of the first 255.
@@ -223,7 +223,7 @@ fn put_taken_back(items: &mut Vec<Item>, over: Target) -> Result<(), AllocError>
     put_by_zero(items, Mnemonic::Bne, NOTES + 1, over)?;
     put_by_zero(items, Mnemonic::Beq, NOTES, over)?;
     put_return_taken(items)?;
-    put_jump_through(items)?;
+    put_jump_by(items, LEFT)?;
     Ok(())
 }
 

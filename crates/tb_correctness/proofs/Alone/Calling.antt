@@ -11,12 +11,12 @@ use Rattle.tb_reaching.proofs.Comes.{chained, looser}
 use Rattle.tb_reaching.specs.Start.{IsHome}
 use Rattle.tb_reaching.specs.View.{Comes, Fits, View}
 use Rattle.tb_runtime16.specs.Routines.{Here, Moves, AreReturns, WordAt}
-use Rattle.tb_runtime16.specs.Addresses.{HOME_S, LEFT, LINE, NOTES, POP_AT, PUSH_AT, RESULT}
+use Rattle.tb_runtime16.specs.Addresses.{HOME_S, LEFT, LINE, NOTES, POP_AT, PUSH_AT}
 use Rattle.tb_runtime16.proofs.StatePlaces.{not_popped, not_pushed}
 use Rattle.tb_simulation.specs.Layout.{place_address}
 use Rattle.tb_simulation.proofs.Frames.{state_popped, state_pushed, word_away, word_put}
 use Rattle.tb_simulation.proofs.Mirrors.{Flagged, return_addresses}
-use Rattle.tb_simulation.proofs.Pieces.{calls, jumps, jumps_through, points, put_word, sets}
+use Rattle.tb_simulation.proofs.Pieces.{calls, jumps, jumps_by_left, jumps_through, points, put_word, sets}
 use Rattle.tb_simulation.proofs.Resolved.{Lies, highest_code, next_at}
 use Rattle.tb_simulation.proofs.Returning.{back_here, apart, behind_call, homed_kept}
 use Rattle.tb_selection.specs.Groups.{Single}
@@ -321,10 +321,10 @@ module _ (around : Surroundings) (fits : Fits around.f 16) (limit : ℕ) (rs : S
           looser f u _ _ [] 1 1 (omega arith)
           (arrived around back r (place_address ly p) _ w.text w.answers refl
           (state_popped ly s w.mem _ h.state p ps q (subst (λ k. WordAt (taken f 16 fits own w.mem w.text w.answers refl taking (w.mem NOTES) small)
-          NOTES k) left_length d.count) (λ a o n' n''. d.others a n' (apart a RESULT o refl) (apart a (RESULT + 1) o refl))) h.read.all_words
+          NOTES k) left_length d.count) (λ a o n' n''. d.others a n' (apart a LEFT o refl) (apart a (LEFT + 1) o refl))) h.read.all_words
           (homed_kept w.mem _ (d.others HOME_S (λ e. omega (arith, e)) (λ e. omega (arith, e)) (λ e. omega (arith, e))) h.homed)
           h.text h.answers h.short)
-          (jumps_through f 16 fits (taking + 16) own _ w.text w.answers refl (place_address ly p) d.result taking_lies.2.1 u e))))
+          (jumps_by_left f 16 fits (taking + 14) own _ w.text w.answers refl (place_address ly p) d.address taking_lies.2.1 u e))))
 
       -- RETURN goes on at the newest return
       pub return_law : Comes f w Returns [] (13 + limit)

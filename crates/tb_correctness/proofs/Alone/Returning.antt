@@ -12,10 +12,10 @@ use Rattle.tb_reaching.proofs.Instr.{Stands, ins, instr_bytes}
 use Rattle.tb_reaching.proofs.Memory.{put_other, put_same}
 use Rattle.tb_reaching.proofs.Placed.{placed_last, placing, reads_data, stores_at, takes_at}
 use Rattle.tb_reaching.specs.View.{Bytes, Comes, Fits, Setup, View, is_data, view, with_s}
-use Rattle.tb_runtime16.specs.Addresses.{NOTES, RETURN_HIGH, RETURN_LOW, RESULT}
+use Rattle.tb_runtime16.specs.Addresses.{LEFT, NOTES, RETURN_HIGH, RETURN_LOW}
 use Rattle.tb_runtime16.specs.Routines.{Here, Moves, AreReturns, WordAt}
 use Rattle.tb_simulation.proofs.Mirrors.{Flagged}
-use Rattle.tb_simulation.proofs.Pieces.{loads_last, stores, stores_last, whatever}
+use Rattle.tb_simulation.proofs.Pieces.{loads_last, stores_short, stores_short_last, whatever}
 use Rattle.tb_simulation.proofs.Resolved.{Code, Lies, Piece, highest_code}
 use Rattle.tb_correctness.proofs.Pieces.Branches.{branch_behind, branches, is_taken}
 use Rattle.tb_correctness.proofs.CodeBytes.GroupCode.{BranchReaches, Way, Zero, asked, branch_code, branch_on, return_stored, return_taken, way_size}
@@ -115,7 +115,7 @@ module _ (f : Setup) (room : ℕ) (fits : Fits f room) (bs : List ℕ) (m : ℕ 
       (record { pc = omega (arith, r); stack = refl; binary = refl; mem = refl; text = refl; answers = refl }))
 
   module _ (at x : ℕ) (few : x < 256) where
-    -- the count's low byte less one, and memory with it, and then with the return's bytes as the result
+    -- the count's low byte less one, and memory with it, and then with the return's bytes in page zero
     abbrev pub left : ℕ
     left = (x + 255) % 256
 
@@ -123,22 +123,22 @@ module _ (f : Setup) (room : ℕ) (fits : Fits f room) (bs : List ℕ) (m : ℕ 
     less = with_byte m NOTES left
 
     abbrev pub half_taken : ℕ → ℕ
-    half_taken = with_byte less RESULT (less (RETURN_LOW + left))
+    half_taken = with_byte less LEFT (less (RETURN_LOW + left))
 
     abbrev pub taken : ℕ → ℕ
-    taken = with_byte half_taken (RESULT + 1) (half_taken (RETURN_HIGH + left))
+    taken = with_byte half_taken (LEFT + 1) (half_taken (RETURN_HIGH + left))
 
     -- the piece that takes a return
-    pub takes_return : at + 16 ≤ highest_code → Stands f.code at return_taken → Moves f (Indexed at x) (Here (at + 16) bs taken text answers) [] 6
+    pub takes_return : at + 14 ≤ highest_code → Stands f.code at return_taken → Moves f (Indexed at x) (Here (at + 14) bs taken text answers) [] 6
     takes_return r st = whatever_x at x _ [] 6 (λ a y n v i z c.
         placing f room fits (ins 0xCA 0) (view a x y n v i z c at bs m text answers) _ _ [] 5 small st.0 refl
         (placing f room fits (ins 0x8E NOTES) (view a left y _ v i _ c ((at + 1) % 65536) bs m text answers) _ _ [] 4 small st.1.0 refl
         (loads_by_x RETURN_LOW (RETURN_LOW + left) (view a left y _ v i _ c ((((at + 1) % 65536) + 3) % 65536) bs less text answers) _ _ [] 3 small
         st.1.1.0 (omega arith) (return_there (RETURN_LOW + left) (omega arith) (omega arith)) refl
-        (stores f room fits RESULT (view _ left y _ v i _ c ((((((at + 1) % 65536) + 3) % 65536) + 3) % 65536) bs less text answers) _ [] 2 small st.1.1.1.0 refl
-        (loads_by_x RETURN_HIGH (RETURN_HIGH + left) (view _ left y _ v i _ c ((((((((at + 1) % 65536) + 3) % 65536) + 3) % 65536) + 3) % 65536) bs
+        (stores_short f room fits LEFT (view _ left y _ v i _ c ((((((at + 1) % 65536) + 3) % 65536) + 3) % 65536) bs less text answers) _ [] 2 small st.1.1.1.0 refl
+        (loads_by_x RETURN_HIGH (RETURN_HIGH + left) (view _ left y _ v i _ c ((((((((at + 1) % 65536) + 3) % 65536) + 3) % 65536) + 2) % 65536) bs
         half_taken text answers) _ _ [] 1 small st.1.1.1.1.0 (omega arith) (return_there (RETURN_HIGH + left) (omega arith) (omega arith)) refl
-        (stores_last f room fits (RESULT + 1) (view _ left y _ v i _ c ((((((((((at + 1) % 65536) + 3) % 65536) + 3) % 65536) + 3) % 65536) + 3) %
+        (stores_short_last f room fits (LEFT + 1) (view _ left y _ v i _ c ((((((((((at + 1) % 65536) + 3) % 65536) + 3) % 65536) + 2) % 65536) + 3) %
         65536) bs half_taken text answers) _ small st.1.1.1.1.1.0 refl
         (record { pc = omega (arith, r); stack = refl; binary = refl; mem = refl; text = refl; answers = refl })))))))
 
@@ -242,11 +242,11 @@ module _ (m : ℕ → ℕ) (return_address : ℕ) (ns : List ℕ) (word : return
       full : length ns + 1 ≡ 256
       full = let z : (length ns + 1) % 256 ≡ 0 = grind (arith, nat_tests, e, low_byte) in omega (arith, z, few)
 
--- memory with one return less, which is the result
+-- memory with one return less, which is in page zero
 pub record Dropped (m : ℕ → ℕ) (return_address : ℕ) (ns : List ℕ) (m' : ℕ → ℕ) : Type 0 where
-  pub result : WordAt m' RESULT return_address
+  pub address : WordAt m' LEFT return_address
   pub count : WordAt m' NOTES (length ns)
-  pub others : (a : ℕ) → a ≢ NOTES → a ≢ RESULT → a ≢ RESULT + 1 → m' a ≡ m a
+  pub others : (a : ℕ) → a ≢ NOTES → a ≢ LEFT → a ≢ LEFT + 1 → m' a ≡ m a
 
 module _ (m : ℕ → ℕ) (return_address : ℕ) (ns : List ℕ) (count : WordAt m NOTES (suc (length ns))) (held : AreReturns m (return_address ∷ ns)) (near : m (NOTES + 1) ≡ 0) where
   abbrev x : ℕ
@@ -273,25 +273,25 @@ module _ (m : ℕ → ℕ) (return_address : ℕ) (ns : List ℕ) (count : WordA
   first = with_byte m NOTES down
 
   abbrev second : ℕ → ℕ
-  second = with_byte first RESULT (first (RETURN_LOW + down))
+  second = with_byte first LEFT (first (RETURN_LOW + down))
 
   abbrev third : ℕ → ℕ
-  third = with_byte second (RESULT + 1) (second (RETURN_HIGH + down))
+  third = with_byte second (LEFT + 1) (second (RETURN_HIGH + down))
 
   low_return : first (RETURN_LOW + down) ≡ return_address % 256
   low_return = put_other m NOTES down (RETURN_LOW + down) (λ e. omega (arith, e)) ∙ ap (λ j. m (RETURN_LOW + j)) down_is ∙ held.0.low
 
   high_return : second (RETURN_HIGH + down) ≡ return_address / 256
   high_return =
-      put_other first RESULT _ (RETURN_HIGH + down) (λ e. omega (arith, e)) ∙ put_other m NOTES down (RETURN_HIGH + down) (λ e. omega (arith, e))
+      put_other first LEFT _ (RETURN_HIGH + down) (λ e. omega (arith, e)) ∙ put_other m NOTES down (RETURN_HIGH + down) (λ e. omega (arith, e))
       ∙ ap (λ j. m (RETURN_HIGH + j)) down_is ∙ held.0.high
 
   -- the newest return was dropped from the list
   pub dropped : Dropped m return_address ns third
   dropped = record {
-    result = record {
-      low = put_other second (RESULT + 1) (second (RETURN_HIGH + down)) RESULT (λ e. omega (arith, e)) ∙ put_same first RESULT (first (RETURN_LOW + down)) RESULT refl ∙ low_return;
-      high = put_same second (RESULT + 1) (second (RETURN_HIGH + down)) (RESULT + 1) refl ∙ high_return;
+    address = record {
+      low = put_other second (LEFT + 1) (second (RETURN_HIGH + down)) LEFT (λ e. omega (arith, e)) ∙ put_same first LEFT (first (RETURN_LOW + down)) LEFT refl ∙ low_return;
+      high = put_same second (LEFT + 1) (second (RETURN_HIGH + down)) (LEFT + 1) refl ∙ high_return;
       small = held.0.small;
     };
     count = record {
@@ -302,5 +302,5 @@ module _ (m : ℕ → ℕ) (return_address : ℕ) (ns : List ℕ) (count : WordA
     others = λ a n n' n''. untouched a n' n'' ∙ put_other m NOTES down a n;
   }
     where
-      untouched : (a : ℕ) → a ≢ RESULT → a ≢ RESULT + 1 → third a ≡ first a
-      untouched a n n' = put_other second (RESULT + 1) _ a n' ∙ put_other first RESULT _ a n
+      untouched : (a : ℕ) → a ≢ LEFT → a ≢ LEFT + 1 → third a ≡ first a
+      untouched a n n' = put_other second (LEFT + 1) _ a n' ∙ put_other first LEFT _ a n

@@ -90,15 +90,15 @@ module _ (labels : List (Name × ℕ)) (ns : List ℕ) (seed n : ℕ) (seed_smal
     raising_bytes = record { same = λ a. refl }
 
     abbrev taking : List Entry
-    taking = product.alone Dex ∷ product.at Stx NOTES ∷ product.by_x Lda RETURN_LOW ∷ product.at Sta RESULT ∷ product.by_x Lda RETURN_HIGH ∷ product.at Sta (RESULT + 1) ∷ []
+    taking = product.alone Dex ∷ product.at Stx NOTES ∷ product.by_x Lda RETURN_LOW ∷ product.on Sta LEFT ∷ product.by_x Lda RETURN_HIGH ∷ product.on Sta (LEFT + 1) ∷ []
 
     taking_bytes : AllEncode labels taking coded.return_taken
     unfolding opcodes.encoded
     taking_bytes = record { same = λ a. refl }
 
-    through_bytes : AllEncode labels product.jump_through resolved.jump_through
+    by_bytes : (place : ℕ) → AllEncode labels (product.jump_by place) (resolved.jump_by place)
     unfolding opcodes.encoded
-    through_bytes = record { same = λ a. refl }
+    by_bytes place = record { same = λ a. refl }
 
     call_bytes : (routine : ℕ) → AllEncode labels (product.call routine ∷ []) (resolved.call routine)
     unfolding opcodes.encoded
@@ -205,7 +205,7 @@ module _ (labels : List (Name × ℕ)) (ns : List ℕ) (seed n : ℕ) (seed_smal
       popping = product.constant n LINE ++ (product.call POP_AT ∷ product.jump_through)
 
       abbrev behind : List Entry
-      behind = taking ++ (product.jump_through ++ (label over ∷ popping))
+      behind = taking ++ (product.jump_by LEFT ++ (label over ∷ popping))
 
       abbrev returned_forms : (first second : Way) → List Form
       returned_forms first second = map kept (asked (NOTES + 1)) ++ (formed first Bne over ∷ (map kept (asked NOTES) ++ (formed second Beq over ∷ map kept behind)))
@@ -223,11 +223,11 @@ module _ (labels : List (Name × ℕ)) (ns : List ℕ) (seed n : ℕ) (seed_smal
         r4 : Rest labels (coded.some_at first at + 3 + way_size second) (map kept behind)
         r4 = behind_branch labels _ second Beq over _ r3
 
-        r5 : Rest labels (coded.some_at first at + 3 + way_size second + 16) (map kept (product.jump_through ++ (label over ∷ popping)))
+        r5 : Rest labels (coded.some_at first at + 3 + way_size second + 14) (map kept (product.jump_by LEFT ++ (label over ∷ popping)))
         r5 = behind_straight labels _ taking coded.return_taken _ taking_bytes r4
 
         r6 : Rest labels (coded.popping_at first second at) (map kept (label over ∷ popping))
-        r6 = behind_straight labels _ product.jump_through resolved.jump_through _ through_bytes r5
+        r6 = behind_straight labels _ (product.jump_by LEFT) (resolved.jump_by LEFT) _ (by_bytes LEFT) r5
 
         end_there : address_in labels over ≡ Some (coded.popping_at first second at)
         end_there = label_here labels _ over _ r6
@@ -245,11 +245,11 @@ module _ (labels : List (Name × ℕ)) (ns : List ℕ) (seed n : ℕ) (seed_smal
               (block labels (asked NOTES) (coded.asked NOTES) ((asked_bytes NOTES).same 0)
               (branches labels second Zero true over (let q = r3.below in omega (arith, q)) (value_of labels over _ end_there)
               (block labels taking coded.return_taken (taking_bytes.same 0)
-              (block labels product.jump_through resolved.jump_through (through_bytes.same 0)
+              (block labels (product.jump_by LEFT) (resolved.jump_by LEFT) ((by_bytes LEFT).same 0)
               (labelled labels over
               (block labels (product.constant n LINE) (resolved.constant n LINE) (line_set.same 0)
               (block labels (product.call POP_AT ∷ []) (resolved.call POP_AT) ((call_bytes POP_AT).same 0)
-              (block labels product.jump_through resolved.jump_through (through_bytes.same 0) (ends labels))))))))));
+              (block labels product.jump_through resolved.jump_through ((by_bytes RESULT).same 0) (ends labels))))))))));
           reach = (
             gets_there labels (at + 3) _ first Bne over _ end_there top_there r1,
             gets_there labels (coded.some_at first at + 3) _ second Beq over _ end_there top_there r3,

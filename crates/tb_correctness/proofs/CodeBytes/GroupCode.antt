@@ -33,7 +33,7 @@ use Rattle.tb_templates.specs.Search.{compares}
 use Rattle.tb_templates.specs.Templates.{var_at}
 use Rattle.tb_templates.specs.Sources.{source_of, tested_source, home_at, destination_at}
 use Rattle.tb_simulation.specs.Layout.{Layout, place_address}
-use Rattle.tb_simulation.proofs.Resolved.{Piece, Code, Lies, pieces_size, size, sta_at, copied, constant, pointed, call, faulting, jump, jump_through, template, highest_code, find_code, past_code}
+use Rattle.tb_simulation.proofs.Resolved.{Piece, Code, Lies, pieces_size, size, sta_at, copied, constant, pointed, call, faulting, jump, jump_by, jump_through, template, highest_code, find_code, past_code}
 use Rattle.tb_simulation.proofs.Resolved.{next_at}
 use Rattle.tb_selection.specs.Groups.{Conversion, Negated, Drawn, Usage, AsNumber, AsLine, AsSubroutine, Constant, Variable, Divisibility, Divisible}
 use Rattle.tb_selection.specs.Groups.{Indivisible, Group, Calculate, Stepped, Convert, Move, Use, Test, TestGo, Divides, Remains, Single, contrary, denied}
@@ -590,9 +590,9 @@ asked place = ins 0xAE place ∷ []
 abbrev pub return_stored : (low high : ℕ) → List Instr
 return_stored low high = ins 0xAE NOTES ∷ ins 0xA9 low ∷ ins 0x9D RETURN_LOW ∷ ins 0xA9 high ∷ ins 0x9D RETURN_HIGH ∷ ins 0xEE NOTES ∷ []
 
--- X is the low byte of the count of returns: it goes down, and the newest return's two bytes go to the result
+-- X is the low byte of the count of returns: it goes down, and the newest return's two bytes go to page zero
 abbrev pub return_taken : List Instr
-return_taken = ins 0xCA 0 ∷ ins 0x8E NOTES ∷ ins 0xBD RETURN_LOW ∷ ins 0x8D RESULT ∷ ins 0xBD RETURN_HIGH ∷ ins 0x8D (RESULT + 1) ∷ []
+return_taken = ins 0xCA 0 ∷ ins 0x8E NOTES ∷ ins 0xBD RETURN_LOW ∷ ins 0x85 LEFT ∷ ins 0xBD RETURN_HIGH ∷ ins 0x85 (LEFT + 1) ∷ []
 
 -- where the second branch of a call is, where the line is gone to in line, and where the routine is used
 abbrev pub counted_at : Way → ℕ → ℕ
@@ -642,7 +642,7 @@ abbrev pub some_at : Way → ℕ → ℕ
 some_at first at = at + 3 + way_size first
 
 abbrev pub popping_at : (first second : Way) → ℕ → ℕ
-popping_at first second at = some_at first at + 3 + way_size second + 16 + 3
+popping_at first second at = some_at first at + 3 + way_size second + 14 + 3
 
 -- the newest return is taken by the routine
 abbrev pub popping_code : ℕ → List Piece
@@ -650,7 +650,7 @@ popping_code n = Code (constant n LINE) ∷ Code (call POP_AT) ∷ Code jump_thr
 
 -- the newest return is taken in line
 abbrev pub taking_code : ℕ → List Piece
-taking_code n = Code return_taken ∷ Code jump_through ∷ popping_code n
+taking_code n = Code return_taken ∷ Code (jump_by LEFT) ∷ popping_code n
 
 -- a return, after the test of the count's high byte
 abbrev pub low_code : (n at : ℕ) (first second : Way) → List Piece
