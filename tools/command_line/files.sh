@@ -232,7 +232,7 @@ watch_file() { # SOURCE CHECKPOINTS OPTION..
 }
 watch_file hello.bas 249
 watch_file large.bas 249 --fit
-{ printf '1 PRINT "AAA"\n' && seq -f '%g GOSUB 32000' 10 10 5170 && printf '32000 RETURN\n'; } >whole.bas
+{ printf '1 PRINT "AAAAA"\n' && seq -f '%g GOSUB 32000' 10 10 5170 && printf '32000 RETURN\n'; } >whole.bas
 watch_file whole.bas 248 --fit
 row 3 'tbc: write fault' '' build hello.bas watched.prg --watch /dev/full
 row 3 'tbc: write fault' '' build hello.bas watched.prg --watch folder

@@ -47,7 +47,7 @@ const SHAPES: [Shape; 5] = [
         statement: b"GOSUB 32000",
         lines: 517,
         tail: b"32000 RETURN\n",
-        letters: 3,
+        letters: 5,
     },
     Shape {
         statement: b"PRINT \"AND SO ON, LINE BY LINE, TO THE LAST ONE.\"",

@@ -34,29 +34,29 @@ line20:
 
 /// What belongs to no line.
 const AFTER_LINES: &str = "past:
-  LDX #$08 ; 0CD4  A2 08
-  LDY #$0C ; 0CD6  A0 0C
-  LDA #$07 ; 0CD8  A9 07
-  JMP fault_line ; 0CDA  4C AD 0B
+  LDX #$08 ; 0CD2  A2 08
+  LDY #$0C ; 0CD4  A0 0C
+  LDA #$07 ; 0CD6  A9 07
+  JMP fault_line ; 0CD8  4C AD 0B
 find:
-  LDA #<line_table ; 0CDD  A9 F2
-  STA $FD ; 0CDF  85 FD  right
-  LDA #>line_table ; 0CE1  A9 0C
-  STA $FE ; 0CE3  85 FE  right+1
-  LDA #$04 ; 0CE5  A9 04
-  STA $C06A ; 0CE7  8D 6A C0  count
-  LDA #$00 ; 0CEA  A9 00
-  STA $C06B ; 0CEC  8D 6B C0  count+1
-  JMP search ; 0CEF  4C 92 0A
+  LDA #<line_table ; 0CDB  A9 F0
+  STA $FD ; 0CDD  85 FD  right
+  LDA #>line_table ; 0CDF  A9 0C
+  STA $FE ; 0CE1  85 FE  right+1
+  LDA #$04 ; 0CE3  A9 04
+  STA $C06A ; 0CE5  8D 6A C0  count
+  LDA #$00 ; 0CE8  A9 00
+  STA $C06B ; 0CEA  8D 6B C0  count+1
+  JMP search ; 0CED  4C 92 0A
 line_table:
-  .word $000A ; 0CF2  0A 00
-  .word line10 ; 0CF4  00 0C
-  .word $0014 ; 0CF6  14 00
-  .word line20 ; 0CF8  2F 0C
-  .word $0C00 ; 0CFA  00 0C
-  .word line3072 ; 0CFC  74 0C
-  .word $0C08 ; 0CFE  08 0C
-  .word line3080 ; 0D00  97 0C
+  .word $000A ; 0CF0  0A 00
+  .word line10 ; 0CF2  00 0C
+  .word $0014 ; 0CF4  14 00
+  .word line20 ; 0CF6  2F 0C
+  .word $0C00 ; 0CF8  00 0C
+  .word line3072 ; 0CFA  74 0C
+  .word $0C08 ; 0CFC  08 0C
+  .word line3080 ; 0CFE  97 0C
 ";
 
 const LABELS: &str = "al C:0bf3 .poll
@@ -64,7 +64,7 @@ al C:0c00 .line10
 al C:0c2f .line20
 al C:0c74 .line3072
 al C:0c97 .line3080
-al C:0cf2 .line_table
+al C:0cf0 .line_table
 al C:c000 .varA
 ";
 
@@ -73,10 +73,10 @@ block       080D    1011      64
 line 10     0C00      47      62
 line 20     0C2F      69     132
 line 3072   0C74      35     180
-line 3080   0C97      91      84
-line_table  0CF2      16       0
-sum         080D    1269     522
-left        0D02   37630   37366
+line 3080   0C97      89      84
+line_table  0CF0      16       0
+sum         080D    1267     522
+left        0D00   37632   37366
 ";
 
 fn contains(text: &[u8], part: &[u8]) -> bool {

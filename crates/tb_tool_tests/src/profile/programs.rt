@@ -73,14 +73,14 @@ static PROGRAMS: [Program; 8] = [
         limit: 100_000,
         status: 0,
         table: " line      times instructions        cycles   share  statement
-start          1          192           634   38.5%
+start          1          192           634   38.6%
    10          1            8            29    1.8%  LET A=7
    20          1           14            52    3.2%  GOSUB 100
    30          1           14            52    3.2%  GOSUB 100
    40          1            5            22    1.3%  END
-  100          2          230           748   45.4%  PRINT A*A
-  110          2           30           110    6.7%  RETURN
-  sum          8          493          1647  100.0%
+  100          2          230           748   45.5%  PRINT A*A
+  110          2           30           106    6.5%  RETURN
+  sum          8          493          1643  100.0%
 ",
     },
     Program {
