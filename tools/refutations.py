@@ -166,6 +166,9 @@ CHANGES = [
         ("9d 00 c1 a9 .. 9d 00 c3", ".. .. 01" + " .." * 5),
         ("bd 00 c1 85 fb bd 00 c3", ".. .. 01" + " .." * 5),
     ]),
+    Change("return_by_the_result", "JMP (RESULT) instead of JMP (LEFT): the return that was taken is not there", "calls_and_returns", [
+        ("85 fc 6c fb 00", ".. .. .. 66 c0"),
+    ]),
     Change("last_entry_skipped", "JMP over the last comparison, and the search is told of one line of two", "goes_to_sum", [
         ("c9 14 d0 0f e0 00 d0 0b", "4c @+19" + " .." * 5),
         ("a9 02 8d 6a c0", ".. 01 .. .. .."),

@@ -12,7 +12,7 @@ use Rattle.tb_refutations.specs.Statements.{IsRefuted}
 use Rattle.tb_refutations.specs.Changed.{end_that_loops, loop_that_returns, end_without_break, break_in_line_20, line_10_left_out}
 use Rattle.tb_refutations.specs.Changed.{end_without_cld, variables_uncleared, quotient_before_text, folded_to_zero, quotient_left_zero}
 use Rattle.tb_refutations.specs.Changed.{digit_in_rom_memory, digit_below_s, text_counted_in_x, line_dropped_at_comma, calls_by_jsr}
-use Rattle.tb_refutations.specs.Changed.{notes_below_s, last_entry_skipped, high_byte_for_low, poll_at_jump_alone, poll_after_if}
+use Rattle.tb_refutations.specs.Changed.{notes_below_s, return_by_the_result, last_entry_skipped, high_byte_for_low, poll_at_jump_alone, poll_after_if}
 use Rattle.tb_refutations.specs.Programs.{ends, goto_itself, prints_two, prints_variable, prints_and_faults, prints_quotient}
 use Rattle.tb_refutations.specs.Programs.{goes_nowhere, inputs_two, calls_itself, calls_and_returns, goes_to_sum, prints_forever}
 use Rattle.tb_refutations.specs.Programs.{prints_if_zero}
@@ -174,6 +174,11 @@ returns_kept_on_page_one = drifts_after calls_by_jsr calls_itself 1 plain refl 2
 pub returns_kept_on_page_one_below_s : IsRefuted notes_below_s calls_and_returns
 unfolding decoded
 returns_kept_on_page_one_below_s = sends_wrong notes_below_s calls_and_returns 1 plain refl (rude 0x0100 0x4d 370) refl (fault_text 0 20) refl 3 refl
+
+-- it goes to address 0
+pub return_goes_by_the_result : IsRefuted return_by_the_result calls_and_returns
+unfolding decoded
+return_goes_by_the_result = goes_wrong_after return_by_the_result calls_and_returns 1 plain refl 230 (Closed 0) refl
 
 -- it finds no line 20
 pub search_skips_last_entry : IsRefuted last_entry_skipped goes_to_sum

@@ -121,6 +121,10 @@ calls_by_jsr = changed calls_itself_image 0x0c07 (0x20 ∷ 0x00 ∷ 0x0c ∷ [])
 abbrev pub notes_below_s : List ℕ
 notes_below_s = changed (changed calls_and_returns_image 0x0c13 (0x01 ∷ [])) 0x0c6d (0x01 ∷ [])
 
+-- JMP (RESULT) instead of JMP (LEFT): the return that was taken is not there
+abbrev pub return_by_the_result : List ℕ
+return_by_the_result = changed calls_and_returns_image 0x0c76 (0x66 ∷ 0xc0 ∷ [])
+
 -- JMP over the last comparison, and the search is told of one line of two
 abbrev pub last_entry_skipped : List ℕ
 last_entry_skipped = changed (changed goes_to_sum_image 0x0c70 (0x4c ∷ 0x83 ∷ 0x0c ∷ [])) 0x0c8c (0x01 ∷ [])

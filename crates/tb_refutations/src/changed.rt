@@ -12,7 +12,7 @@ ghost use Rattle.tb_refutations.specs.Changed.{zero_not_asked};
 ghost use Rattle.tb_refutations.specs.Changed.{high_byte_ignored};
 ghost use Rattle.tb_refutations.specs.Changed.{upper_byte_rounded_down};
 ghost use Rattle.tb_refutations.specs.Changed.{digit_in_rom_memory, digit_below_s, text_counted_in_x};
-ghost use Rattle.tb_refutations.specs.Changed.{line_dropped_at_comma, calls_by_jsr, notes_below_s, last_entry_skipped};
+ghost use Rattle.tb_refutations.specs.Changed.{line_dropped_at_comma, calls_by_jsr, notes_below_s, return_by_the_result, last_entry_skipped};
 ghost use Rattle.tb_refutations.specs.Changed.{high_byte_for_low, poll_at_jump_alone, poll_after_if};
 ghost use Rattle.tb_refutations.specs.Programs.{ends, goto_itself, prints_two, prints_variable, prints_and_faults};
 ghost use Rattle.tb_refutations.specs.Programs.{prints_negative_quotient, compares_far};
@@ -157,6 +157,11 @@ pub fn returns_kept_on_page_one()
 /// GOSUB notes its return on page one below S, where interrupts may write.
 pub fn returns_kept_on_page_one_below_s()
     ensures { IsRefuted notes_below_s calls_and_returns }
+{}
+
+/// RETURN goes on by the result, where its address isn't.
+pub fn return_goes_by_the_result()
+    ensures { IsRefuted return_by_the_result calls_and_returns }
 {}
 
 /// A computed GOTO does not find the last line.
