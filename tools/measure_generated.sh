@@ -4,7 +4,8 @@
 # at each line's beginning.
 #
 #   tools/measure_generated.sh [NAME ..]    default: all; cc65 and 64tass are installed if they are not there
-#   tools/measure_generated.sh --check      ends with status 1 if docs/PERFORMANCE.md has other figures
+#   tools/measure_generated.sh --check      ends with status 1 if docs/PERFORMANCE.md has other figures, also of the
+#                                           bytes of the examples' PRG files
 #
 # For each it prints the bytes of the PRG file, the events that it takes on the test machine until it returns (quiet
 # ROM), and the cycles that sim65 counts for it, for the C program and for the floor; at the end the geometric means. In
@@ -83,8 +84,18 @@ rows() {
     awk '/^geometric means/ { printf "The geometric means are %.2f of cc65 and %.2f of the floor\n", $3, $6 }' said
 }
 
+# The examples that fit by their cost, each with the bytes of its PRG file
+examples() {
+    local source
+    for source in "$root"/examples/*.bas; do
+        "$tbc" build "$source" example.prg 2>/dev/null || continue
+        echo "$(basename "$source" .bas) $(wc -c <example.prg | sed ':next; s/\B[0-9]\{3\}\b/,&/; t next')"
+    done
+}
+
 if [ -n "$is_check" ]; then
-    rows | while read -r row; do
-        grep -qF -- "$row" "$root/docs/PERFORMANCE.md" || { echo "docs/PERFORMANCE.md does not say: $row" >&2; exit 1; }
+    tr '\n' ' ' <"$root/docs/PERFORMANCE.md" >document
+    { rows && examples; } | while read -r row; do
+        grep -qF -- "$row" document || { echo "docs/PERFORMANCE.md does not say: $row" >&2; exit 1; }
     done
 fi
