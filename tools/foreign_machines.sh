@@ -102,7 +102,7 @@ for keys in $(sed -n 's/^fit startrek //p' "$root/crates/tb_golden/data/compiler
     program "$root/examples/startrek.bas" "$(sed 's/../\\x&/g' <<<"$keys")" --fit
 done
 {
-    printf '1 PRINT "AAA"\n'
+    printf '1 PRINT "AAAAA"\n'
     seq -f '%g GOSUB 32000' 10 10 5170
     printf '32000 RETURN\n'
 } >full.bas
