@@ -5,25 +5,33 @@
 set -euo pipefail
 cd "$(dirname "${BASH_SOURCE[0]}")/.."
 
-in_file() { sed -n "s/$2/\1/p" "crates/$1"; } # FILE PATTERN: what the pattern's group is in its one line of that file
+in_file() { sed -n "s/^ *$2/\1/p" "trials/$1"; } # FILE PATTERN: what the pattern's group is in its one line of that file
+fewer() { # FILE PATTERN: the same of what a trial run has in place of that line
+    sed -n "/^file: ${1//\//\\/}$/,/^$/s/^new: $2/\1/p" trials/fewer.txt
+}
+programs() { # FILE: how many programs it generates, and in a trial run
+    local pattern='const PROGRAMS: u[a-z0-9]* = \([0-9]*\);'
+    echo "$(in_file "$1" "$pattern") ($(fewer "$1" "$pattern") in a trial run)"
+}
 
-echo "$(cat crates/tb_golden/data/{machine,source,text,compiler}/*.txt | grep -vc '^#\|^ *$') worked rows in text"
-echo "$(grep -hc '^check' crates/tb_golden/data/check/*.txt | awk '{ n += $1 } END { print n }') worked checks of sources"
-echo "$(cat crates/*/src/*.rt crates/*/src/*/*.rt | grep -c '^#\[test\]$') tests in code"
-echo "$(in_file tb_tests/src/generated/trials.rt '^const PROGRAMS: u16 = \([0-9]*\);') generated programs of each of two kinds, compared with the interpreter"
-pieces=$(grep -c '^const [A-Z]*: Piece = Piece {' crates/tb_tests/src/generated/pieces.rt)
-echo "$(in_file tb_tests/src/generated/pieces.rt '^const PROGRAMS: u16 = \([0-9]*\);') generated programs of each of $pieces pieces of fast code, compared with it"
-echo "$(in_file tb_tests/src/generated/jumping.rt '^const PROGRAMS: u16 = \([0-9]*\);') generated programs with computed jumps, compared with it"
-echo "$(grep -c '^    (' crates/tb_tests/src/edges.rt) worked rows at the edges of the words of these pieces"
-echo "$(in_file tb_tests/src/generated/played.rt '^const PROGRAMS: usize = \([0-9]*\);') generated programs that are played, compared with it"
-short=$(in_file tb_tests/src/rows.rt '^static ROWS: .*; \([0-9]*\)\] = \[')
-long=$(in_file tb_tests/src/rows.rt '.*fn rows(&self) -> \[.*; \([0-9]*\)\].*')
-seeds=$(in_file tb_tests/src/running.rt '^        for seed in 0\.\.\([0-9]*\) {')
-echo "$(((short + long) * (seeds + 2))) runs beside hostile ROMs: $((short + long)) programs, $seeds seeds of the rude ROM and two ROMs of the tests"
-echo "$(grep -c '^prefixes ' crates/tb_golden/data/text/engines.txt) inputs of these engines, cut off at each length"
-awk '/=> [0-9]+ faults, and nothing written/ { faults += $(NF - 4) } END { print faults, "readers that fail, of the engines that compile nothing" }' crates/tb_golden/stdout
-awk '/ and a prefix of it [0-9]+ times$/ { faults += $(NF - 1) } END { print faults, "writers that fail, of these engines" }' crates/tb_golden/stdout
-echo "$(find crates -path '*/must-fail/*.edit' | wc -l) edits that must be refused, in $(ls -d crates/*/must-fail | wc -l) crates"
+echo "$(cat trials/tb_golden/data/{machine,source,text,compiler}/*.txt | grep -vc '^#\|^ *$') worked rows in text"
+echo "$(grep -hc '^check' trials/tb_golden/data/check/*.txt | awk '{ n += $1 } END { print n }') worked checks of sources"
+echo "$(cat trials/*/src/*.rs trials/*/src/*/*.rs | grep -c '^#\[test\]$') tests in code"
+echo "$(programs tb_tests/src/generated/trials.rs) generated programs of each of two kinds, compared with the interpreter"
+pieces=$(grep -c '^const [A-Z]*: Piece = Piece {' trials/tb_tests/src/generated/pieces.rs)
+echo "$(programs tb_tests/src/generated/pieces.rs) generated programs of each of $pieces pieces of fast code, compared with it"
+echo "$(programs tb_tests/src/generated/jumping.rs) generated programs with computed jumps, compared with it"
+echo "$(grep -c '^    (' trials/tb_tests/src/edges.rs) worked rows at the edges of the words of these pieces"
+echo "$(programs tb_tests/src/generated/played.rs) generated programs that are played, compared with it"
+short=$(in_file tb_tests/src/rows.rs 'static ROWS: .*; \([0-9]*\)\] = \[')
+long=$(in_file tb_tests/src/rows.rs '.*fn rows(&self) -> \[.*; \([0-9]*\)\].*')
+seeds=$(in_file tb_tests/src/running.rs 'for seed in 0\.\.\([0-9]*\) {')
+seeds_of_trial=$(fewer tb_tests/src/running.rs 'for seed in 0\.\.\([0-9]*\) {')
+echo "$(((short + long) * (seeds + 2))) runs beside hostile ROMs: $((short + long)) programs, $seeds seeds of the rude ROM ($seeds_of_trial in a trial run) and two ROMs of the tests"
+echo "$(grep -c '^prefixes ' trials/tb_golden/data/text/engines.txt) inputs of these engines, cut off at each length"
+awk '/=> [0-9]+ faults, and nothing written/ { faults += $(NF - 4) } END { print faults, "readers that fail, of the engines that compile nothing" }' trials/tb_golden/stdout
+awk '/ and a prefix of it [0-9]+ times$/ { faults += $(NF - 1) } END { print faults, "writers that fail, of these engines" }' trials/tb_golden/stdout
+echo "$(find crates -path "*/must-fail/*.edit" -o -path "*/wrong/*.edit" | wc -l) edits that must be refused, in $(ls -d crates/*/must-fail crates/*/wrong | cut -d/ -f2 | sort -u | wc -l) crates"
 
 # Wrong bodies that are always there: each is an edit of that name, or a refutation.
 wrong='division_rounds_down comparison_by_wrapped_difference silent_loop_without_end returns_where_source_loops

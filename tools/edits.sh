@@ -1,11 +1,11 @@
 #!/usr/bin/env bash
-# Says for each edit that must be refused where it is refused, by what `rt ci` printed: a function, and the goal that is
+# Says for each edit of must-fail/ where it is refused, by what `rt ci` printed: a function, and the goal that is
 # not proved.
 #
 #   tools/edits.sh LOG [CRATE..]     (no CRATE: all)
 #
 # That goal is a clause of the function that the edit changes. A refusal in a written proof counts only with a control:
-# there a change that means the same is proved (tools/controls.py), so it is not refused because the proof no longer fits.
+# there a change that means the same is proved (tools/wrong.py), so it is not refused because the proof no longer fits.
 # Ends with status 1 where an edit is refused for another reason, or is not in the log.
 set -euo pipefail
 log=$(realpath "$1")
@@ -32,10 +32,11 @@ for edit in $(find crates -path '*/must-fail/*.edit' | sort); do
     goal=$(sed -n 's/^[^`]*`\([^`]*\)`.*/\1/p' <<<"$why")
     control=crates/$crate/controls/$name.edit
     case $why in
-    "note: $file:"*"it is not proved that what the function ensures"*)
-        refused=$(function_at "crates/$crate/$file" "$(cut -d: -f3 <<<"$why")")
-        # (a constant belongs to no function: one that uses it is refused)
-        [ "$refused" = "${own:-$refused}" ] && echo "$crate/$name: $refused, $goal" && continue
+    "note: src/"*"it is not proved that what the function ensures"* | "note: src/"*"(\`invariant_of-"*)
+        # (a constant belongs to no function: one that cites it is refused, or a type that does)
+        where=$(cut -d: -f2 <<<"$why" | tr -d " ")
+        refused=$(function_at "crates/$crate/$where" "$(cut -d: -f3 <<<"$why")")
+        [ "$where:$refused" = "${own:+$file:}${own:-$where:$refused}" ] && echo "$crate/$name: $refused, $goal" && continue
         ;;
     ./proofs/*)
         [ -e "$control" ] && echo "$crate/$name: ${own:-$file}, $goal in $(cut -d: -f1 <<<"${why#./}"), and it has a control" && continue

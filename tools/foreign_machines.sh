@@ -98,7 +98,7 @@ program "$root/examples/times.bas" ''
 for source in "$root"/tools/bench/*.bas; do program "$source" ''; done
 # Programs that fit only by what they take: a game, with the keys of its rows, and one that calls from each line, up to
 # the last byte of a program's memory.
-for keys in $(sed -n 's/^fit startrek //p' "$root/crates/tb_golden/data/compiler/programs.txt"); do
+for keys in $(sed -n 's/^fit startrek //p' "$root/trials/tb_golden/data/compiler/programs.txt"); do
     program "$root/examples/startrek.bas" "$(sed 's/../\\x&/g' <<<"$keys")" --fit
 done
 {

@@ -5,13 +5,13 @@
       writes what the source sends as `tbc run` shows it; status 0 if it ended, 5 after N lines (a million), 6 if it waits;
       with --petscii its texts may have signs, as {clr}
   tools/interpreter.py --check
-      plays each example with the keys of each of its rows (crates/tb_golden/data/compiler/programs.txt), and compares
-      with the stored answer (crates/tb_golden/stdout); the cost of one that is too large is worked out as well
+      plays each example with the keys of each of its rows (trials/tb_golden/data/compiler/programs.txt), and compares
+      with the stored answer (trials/tb_golden/stdout); the cost of one that is too large is worked out as well
 """
 import argparse, pathlib, re, sys
 
 TOP = pathlib.Path(__file__).resolve().parent.parent
-GOLDEN = TOP / "crates" / "tb_golden"
+GOLDEN = TOP / "trials" / "tb_golden"
 RELATIONS = {
     "=": lambda a, b: a == b, "<>": lambda a, b: a != b, "><": lambda a, b: a != b, "<": lambda a, b: a < b,
     "<=": lambda a, b: a <= b, ">": lambda a, b: a > b, ">=": lambda a, b: a >= b,

@@ -1,10 +1,10 @@
 #!/usr/bin/env bash
-# Compares crates.txt with itself and with docs/MAP.md.
-#  - crates.txt: a crate is listed below all that it needs, in a group whose heading is a line `# NAME`.
+# Compares crates.txt, and trials/list.txt after it, with themselves and with docs/MAP.md.
+#  - crates.txt and trials/list.txt: a crate is listed below all that it needs, in a group whose heading is a line `# NAME`.
 #  - The diagram of MAP.md, its first block, has the same groups with the same crates in the same order. Each line names
 #    the crates that its own crate needs directly, which are those that it doesn't need by way of another one as well.
 #  - The list of MAP.md, its tables of crates, has the same groups as headings `### NAME`, and a row for each crate. The
-#    files that a row names, as `src/code.rt` or `specs/Words`, are those of its crate.
+#    files that a row names, as `src/code.rt` or `specs/Words`, are those of its crate in crates/ or trials/.
 #
 #   tools/map.sh            compares; says what differs, and then ends with status 1
 #   tools/map.sh --print    prints the lines that the diagram should have
@@ -14,14 +14,14 @@ needs awk
 # The groups of crates.txt, and each crate with those that it needs directly, without `tb_`. A crate that is listed
 # above one that it needs is reported on stderr, and the status is then 1.
 layers() {
-    awk -F: '
+    cat "$root/crates.txt" "$root/trials/list.txt" | awk -F: '
         /^# / { print; next }
         /^tb/ {
             name = $1; count = split($2, words, " ")
             delete needed # by the crates that this one needs
             for (i = 1; i <= count; i++) if (words[i] ~ /^tb/) {
                 if (!(words[i] in all)) {
-                    print "crates.txt: " name " is listed above " words[i] ", which it needs" >"/dev/stderr"
+                    print "crates.txt or trials/list.txt: " name " is listed above " words[i] ", which it needs" >"/dev/stderr"
                     bad = 1
                 }
                 all[name] = all[name] " " words[i] " " all[words[i]]
@@ -35,7 +35,7 @@ layers() {
             gsub(/(^|[ ])tb_/, " ", line); sub(/^ /, "", line)
             print line
         }
-        END { exit bad }' "$root/crates.txt"
+        END { exit bad }'
 }
 
 # The same of the diagram, in which what a crate is about comes after two spaces or more.
@@ -51,7 +51,8 @@ list() { sed -nE 's/^### /# /p; s/^\| (tb_)?([a-z0-9_]+) \|.*/\2/p' "$root/docs/
 missing() {
     sed -nE 's/^\| (tb\w*) \|/\1 /p' "$root/docs/MAP.md" | while read -r crate row; do
         { grep -oE '`(src|specs|proofs|data)[a-zA-Z0-9_./]*`' <<<"$row" || true; } | tr -d '`' | while read -r file; do
-            [ -e "$root/crates/$crate/$file" ] || [ -e "$root/crates/$crate/$file.antt" ] || echo "$crate/$file"
+            [ -e "$root/crates/$crate/$file" ] || [ -e "$root/crates/$crate/$file.antt" ] || [ -e "$root/trials/$crate/$file" ] ||
+                echo "$crate/$file"
         done
     done
 }
@@ -72,10 +73,10 @@ bad=0
 layers >lines || bad=1
 sorted <lines >wanted
 diagram | sorted >found
-diff wanted found || { echo 'docs/MAP.md has another diagram (>) than crates.txt asks for (<)'; bad=1; }
+diff wanted found || { echo 'docs/MAP.md has another diagram (>) than crates.txt and trials/list.txt ask for (<)'; bad=1; }
 sed -E '/^#/!s/ .*//' lines >wanted
 list >found
-diff wanted found || { echo 'docs/MAP.md has another list of crates (>) than crates.txt (<)'; bad=1; }
+diff wanted found || { echo 'docs/MAP.md has another list of crates (>) than crates.txt and trials/list.txt (<)'; bad=1; }
 missing >absent
 sed 's/^/docs\/MAP.md names a file that is not there: /' absent
 [ ! -s absent ] || bad=1

@@ -1,11 +1,13 @@
 #!/usr/bin/env bash
-# Measures how long `tbc lsp` takes to answer a change of a text of 20 KB: the processor time of a dialogue with 200
-# changes, less that of one with none. Ends with status 1 if it is more than 5 ms a change.
+# Measures what `tbc lsp` takes to answer a change of a text of 20 KB: the instructions of a dialogue with 200 changes, less
+# those of one with none. Ends with status 1 if it is more than it should be.
 #
-#   tools/measure_server.sh             needs the built program
+#   tools/measure_server.sh             needs the built program and valgrind
 . "$(dirname "${BASH_SOURCE[0]}")/setup.sh"
 needs_program
 needs python3
+installs valgrind valgrind
+most=6 # million instructions a change
 
 python3 - <<'PYTHON'
 import json
@@ -37,17 +39,13 @@ for name, changes in ("none", 0), ("many", 200):
         out.write(frame(method="exit"))
 PYTHON
 
-serves() { "$tbc" lsp <"$1" >answers; }
-
-for _ in 1 2 3; do
-    for name in none many; do
-        TIMEFORMAT='%3U %3S'
-        { time serves $name; } 2>&1 | awk '{ print ($1 + $2) * 1000 }' >>$name.ms
-    done
+for name in none many; do
+    counted "$tbc" lsp <$name >$name.count
+    "$tbc" lsp <$name >answers
 done
 [ "$(grep -ao '"diagnostics":\[{"code":"replaced"' answers | wc -l)" = 200 ] || { echo "not each change is answered" >&2; exit 1; }
-awk -v none="$(sort -n none.ms | head -1)" -v many="$(sort -n many.ms | head -1)" 'BEGIN {
-    each = (many - none) / 200
-    printf "a change of a text of 20 KB: %.2f ms\n", each
-    exit each > 5
-}'
+awk -v most="$most" '{ count[NR] = $1 } END {
+    each = (count[2] - count[1]) / 200 / 1e6
+    printf "a change of a text of 20 KB: %.2f million instructions\n", each
+    exit each > most
+}' none.count many.count

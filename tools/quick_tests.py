@@ -7,15 +7,14 @@
 
 Its last line is `N passed, M failed`, and its status is 1 if anything failed.
 
-    tools/quick_tests.py [PROGRAMS]    how many programs are generated; 300 by default"""
+    tools/quick_tests.py [--programs] [COUNT]    how many programs are generated; 300 by default. With --programs the worked
+                                                 rows are left out, which tools/trials.py tries too"""
 import random
 import re
-import shutil
 import subprocess
 import sys
 import tempfile
 import threading
-import time
 from itertools import chain
 from pathlib import Path
 
@@ -24,89 +23,14 @@ sys.path[:0] = [str(TOP / "tools"), str(TOP / "tools/foreign")]
 sys.dont_write_bytecode = True
 import interpreter
 import looping_programs
+from trials import GOLDEN, SECONDS, SLOW, Tally, memory, rows, say, try_rows
 
-GOLDEN = TOP / "crates/tb_golden"
-SECONDS = "1800"  # as many as each program of a trial run gets, also on a busy machine
 KILOBYTES_SIDE_BY_SIDE = 6_000_000
 LINES = 300  # the most that a generated program takes, since a trial run is slow
 EXAMPLE_LINES = 2_000  # the most that an example takes
 OPTIONS = {"run": [], "fit": ["--fit"], "signs": ["--petscii"]}  # of a row of an example
 LIMIT = "1000000"  # of events
-# Rows of tb_golden that take long in a trial run, by how they begin: they are left to the gate.
-SLOW = ("fit startrek ", "random ", "repeated ", "check {104857", "check {99998", "cuts ", "kept ", "back_over_rude_up_to ",
-        "back_over_rude 333", "back_over_rude 999", "back_over_rude 1000", "compile_gives_up_for_memory ")
 STEP = 100  # how often it is told how far the programs are
-SHOWN = 5  # as many failures are told in full
-began = time.monotonic()
-
-
-def say(text):
-    print(f"{time.monotonic() - began:4.0f} s  {text}", flush=True)
-
-
-class Tally:
-    """What passed and what failed. Two threads add to it, each once."""
-
-    def __init__(self):
-        self.passed, self.failed = 0, 0
-
-    def add(self, what, passed, failures):
-        self.passed += passed
-        self.failed += len(failures)
-        say(f"{what}: {passed} passed, {len(failures)} failed")
-        for it in failures[:SHOWN]:
-            print(it, flush=True)
-
-
-# The worked rows.
-
-
-def rows():
-    """All rows of tb_golden, as they are written."""
-    lines = (line for file in sorted(GOLDEN.glob("data/*/*.txt")) for line in file.read_text("latin-1").splitlines())
-    return {line for line in lines if line.strip() and not line.startswith("#")}
-
-
-def answers(text, known):
-    """The answers in a page of rows: a list of rows, each with all its lines but comments and empty ones. The slow rows
-    are left out."""
-    found = []
-    for line in text.splitlines():
-        if line.partition(" =>")[0] in known:
-            found.append([])
-        if found and line and not line.startswith("#"):
-            found[-1].append(line)
-    return [it for it in found if not it[0].startswith(SLOW)]
-
-
-def copied(room, *words):
-    """The crate of a program in a copy for trial runs; that of this repository if there is no such copy."""
-    made = subprocess.run([sys.executable, TOP / "tools/trial_copy.py", room, *words], capture_output=True)
-    return (TOP if made.returncode else Path(room)) / "crates" / words[0]
-
-
-def try_rows(tally, room):
-    words = ["rt", "try", "--seconds", SECONDS]
-    shutil.copytree(GOLDEN / "data", Path(room) / "data")
-    for file in Path(room).glob("data/*/*.txt"):
-        lines = file.read_text("latin-1").splitlines(keepends=True)
-        file.write_text("".join(it for it in lines if not it.startswith(SLOW)), "latin-1")
-    for file in sorted(it for it in Path(room).glob("data/**/*") if it.is_file()):
-        words += ["--data", f"{file.relative_to(Path(room) / 'data')}={file}"]
-    ran = subprocess.run(words, cwd=copied(room, "tb_golden"), stdin=subprocess.DEVNULL, capture_output=True)
-    known = rows()
-    wanted = answers((GOLDEN / "stdout").read_text("latin-1"), known)
-    found = answers(ran.stdout.decode("latin-1"), known)
-    found += [["no answer"]] * (len(wanted) - len(found))
-    failures = [f"wanted {want}\nfound {have}" for want, have in zip(wanted, found) if want != have]
-    if len(found) > len(wanted):
-        failures.append("there are more answers than are stored")
-    if failures:
-        failures[0] += "\n" + ran.stderr.decode(errors="replace")[-2000:]
-    tally.add("worked rows, compared with the stored answers", len(wanted) - len(failures), failures)
-
-
-# Programs, compared with the interpreter.
 
 
 def jumping_program(chance):
@@ -190,12 +114,18 @@ def laid(folder, count):
     return wanted
 
 
+def program(room):
+    """The crate of the program in a copy for trial runs of `run`; that of this repository if there is no such copy."""
+    made = subprocess.run([sys.executable, TOP / "tools/trial_copy.py", room, "tbc", "run"], capture_output=True)
+    return (TOP if made.returncode else Path(room)) / "crates/tbc"
+
+
 def try_programs(tally, room, count):
     cases = Path(room) / "cases"
     cases.mkdir()
     wanted = laid(cases, count)
     words = ["rt", "try", "--seconds", SECONDS, "--cases", str(cases)]
-    crate = copied(f"{room}/copy", "tbc", "run")
+    crate = program(f"{room}/copy")
     ran = subprocess.Popen(words, cwd=crate, stdin=subprocess.DEVNULL, stdout=subprocess.DEVNULL, stderr=subprocess.PIPE)
     said, seen = [], {}
     for line in ran.stderr:
@@ -213,17 +143,14 @@ def try_programs(tally, room, count):
     tally.add(what, len(wanted) - len(failures), failures)
 
 
-def memory():
-    with open("/proc/meminfo") as file:
-        return int(re.search(r"MemAvailable: *(\d+)", file.read())[1])
-
-
-def main():
-    count = int(sys.argv[1]) if len(sys.argv) > 1 else 300
+def main(words):
+    alone = words[:1] == ["--programs"]
+    count = int(([300] + words[alone:])[-1])
     tally = Tally()
     print("This tries what can be tried without proving, by trial runs of the toolchain. It takes some minutes.", flush=True)
     with tempfile.TemporaryDirectory(prefix="tbc-test-") as room:
-        works = [lambda: try_rows(tally, f"{room}/rows"), lambda: try_programs(tally, f"{room}", count)]
+        works = [] if alone else [lambda: try_rows(tally, f"{room}/rows")]
+        works.append(lambda: try_programs(tally, room, count))
         threads = [threading.Thread(target=it) for it in works]
         for it in threads:
             it.start()
@@ -235,13 +162,14 @@ def main():
         tally.failed += 1
     else:
         tally.passed += 1
-    slow = sum(it.startswith(SLOW) for it in rows())
-    print(f"{slow} rows that take long in a trial run are left to `rt ci`.")
+    if not alone:
+        slow = sum(it.startswith(SLOW) for it in rows())
+        print(f"{slow} rows that take long in a trial run are left to `tools/trials.py --prove`.")
     print("Nothing here is proved. That compiled programs do what their sources mean, for every source, keyboard and ROM, is")
-    print("what `rt ci` proves, from nothing in about four hours of processor time: see docs/PROVED.md.")
+    print("what `rt ci` proves, from nothing: see docs/PROVED.md.")
     print(f"{tally.passed} passed, {tally.failed} failed")
     return 1 if tally.failed else 0
 
 
 if __name__ == "__main__":
-    sys.exit(main())
+    sys.exit(main(sys.argv[1:]))

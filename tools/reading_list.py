@@ -1,7 +1,8 @@
 #!/usr/bin/env python3
-"""What one has to read to believe the headline: `compile`'s clauses `keeps` and `marks`, and `output` of `run_text`.
+"""What one has to read to believe the headline: `compile`'s clauses `keeps` and `marks`, and `output` of `run_text` and
+`play_compiled`.
 
-From the name that a clause cites, each definition of a specs/ folder that is reached by names is read. What comes from
+From the names that a clause cites, each definition of a specs/ folder that is reached by names is read. What comes from
 the toolchain (`std`) or from a library is left out, and Rust types are listed apart. A file's sentence is the comment at
 its head.
 
@@ -13,11 +14,11 @@ import difflib, pathlib, re, sys
 
 TOP = pathlib.Path(__file__).resolve().parent.parent
 PAGE = TOP / "docs" / "BELIEVE.md"
-# Each clause with the definition that it cites; its table shows what it adds to those before.
+# Each clause with the functions that have it; its table shows what it adds to those before.
 CLAUSES = [
-    ("keeps", ("tb_codegen", "Theorem", "KeepsItsSource")),
-    ("marks", ("tb_codegen", "Theorem", "MarksItsLines")),
-    ("output", ("tb_driver", "Output", "RunsSource")),
+    ("keeps", [("tb_codegen/src/compiler.rt", "compile")]),
+    ("marks", [("tb_codegen/src/compiler.rt", "compile")]),
+    ("output", [("tb_driver/src/sources.rt", "run_text"), ("tb_driver/src/playing.rt", "play_compiled")]),
 ]
 # What no clause of these calls reaches: `run_text` is the instance at the limit of the cost, and these are of the other.
 NOT_REACHED = {("tb_codegen.specs.Coded", "TakesTooMuch"), ("tb_lower.specs.Lowered", "program_code")}
@@ -91,10 +92,21 @@ class Module:
                     yield name, None
 
 
-def walk(root):
+def cited_by(clause, file, function):
+    """The definitions that a clause of a function cites: each with its module."""
+    text = (TOP / "crates" / file).read_text()
+    head = text[re.search(rf"^pub fn {function}\b", text, re.M).start() :].split("\n{\n")[0]
+    said = re.search(rf"^    ensures {clause} \{{(.*?)\}}\n(?=    ensures|    //|\Z)", head + "\n", re.M | re.S)[1]
+    for path, names in re.findall(r"^ghost use Rattle\.([\w.]+?)\.\{(.*)\};$", text, re.M):
+        for name in names.split(", "):
+            if re.search(rf"(?<![\w.]){re.escape(name)}(?!\w)", said):
+                yield path, name
+
+
+def walk(clause, functions):
     """The files that are reached, with the numbers of their definitions that are, and the Rust types."""
     modules, reached, types = {}, {}, set()
-    todo = [(f"{root[0]}.specs.{root[1]}", root[2])]
+    todo = [it for function in functions for it in cited_by(clause, *function)]
     while todo:
         path, name = todo.pop()
         if (path, name) in NOT_REACHED:
@@ -151,8 +163,8 @@ def reading():
     """For each clause its name, the files that it adds in the order to read them, and the Rust types that it adds."""
     order = [line.split(":")[0] for line in (TOP / "crates.txt").read_text().split("\n")]
     known, known_types = set(), set()
-    for clause, root in CLAUSES:
-        reached, types = walk(root)
+    for clause, functions in CLAUSES:
+        reached, types = walk(clause, functions)
         key = lambda it: (it.crate, it.name)
         new = {(key(module), number): module for module, number in reached if (key(module), number) not in known}
         modules = {place: module for (place, _), module in new.items()}
@@ -167,6 +179,19 @@ def reading():
         yield clause, files, sorted(f"{crate} {kind}" for crate, kind in types - known_types)
         known |= set(new)
         known_types |= types
+
+
+def rust_lines(kind):
+    """How many lines the declaration of a Rust type takes, with the comments in it."""
+    crate, name = kind.split()
+    for path in sorted((TOP / "crates" / crate / "src").rglob("*.rt")):
+        if found := re.search(rf"^(?:pub(?:\(\w+\))? )?(?:struct|enum|type) {name}\b[^;{{]*(?:;|\{{\}}|\{{(?s:.*?)^\}})", path.read_text(), re.M):
+            return found[0].count("\n") + 1
+    sys.exit(f"no Rust type {kind} was found")
+
+
+def rust_row(types):
+    return f"Rust types: {len(types)}, {sum(map(rust_lines, types))} lines"
 
 
 def sentence(module):
@@ -190,7 +215,7 @@ def table(files, types):
     lines = sum(len(lines) for _, chosen in files for _, _, lines in chosen)
     yield f"| {len(files)} files | | {lines} | {sum(len(chosen) for _, chosen in files)} definitions |"
     if types:
-        yield f"| Rust types: {len(types)} | | | {', '.join(types)} |"
+        yield f"| {rust_row(types)} | | | {', '.join(types)} |"
 
 
 def written(page):
@@ -221,7 +246,7 @@ def main():
                 lines = sum(len(lines) for _, _, lines in chosen)
                 print(f"{module.crate}/specs/{module.name}: {lines} of {len(module.lines)} lines")
                 print(f"    {', '.join(name for name, _, _ in chosen)}")
-            print(f"{len(types)} Rust types\n    {', '.join(types)}")
+            print(f"{rust_row(types)}\n    {', '.join(types)}")
 
 
 main()

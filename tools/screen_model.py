@@ -3,14 +3,14 @@
 keeps, as the commented listings of its ROM name them, and moves as its routines do. Frames are made from it by a table
 of its own.
 
-    tools/screen_model.py --write    writes the bytes and the wanted answers of crates/tb_screen_golden
+    tools/screen_model.py --write    writes the bytes and the wanted answers of trials/tb_screen_golden
     tools/screen_model.py --check    compares these with the stored ones"""
 import hashlib
 import random
 import sys
 from pathlib import Path
 
-GOLDEN = Path(__file__).resolve().parent.parent / "crates/tb_screen_golden"
+GOLDEN = Path(__file__).resolve().parent.parent / "trials/tb_screen_golden"
 
 # The ROM's table of colour bytes, in the order of the colours.
 COLOURS = [0x90, 0x05, 0x1C, 0x9F, 0x9C, 0x1E, 0x1F, 0x9E, 0x81, 0x95, 0x96, 0x97, 0x98, 0x99, 0x9A, 0x9B]

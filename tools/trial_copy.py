@@ -4,7 +4,7 @@
 The copy has the sources of the program and of the crates below it, and no definitions: a trial run tests no contract, and
 the toolchain would read them for a hint alone. With the WORDs of a command of tbc, the matches of jobs in
 crates/tbc/src/tasks.rt keep the arms of that command and of texts. Then whatever nothing names any more is left out:
-functions, types, variants, modules and crates. What is kept is word for word what the repository has, but for one
+functions, types, variants, modules and crates; of the program, and of the crates that have its commands. What is kept is word for word what the repository has, but for one
 function: where the words are `run FILE` and no more, the copy takes the FILE without reading options, so that it doesn't
 need the reader of the command line, which is a third of all that there is to build. Ends with status 1 if there is no
 such match; whether the copy means anything is left to the compiler."""
@@ -21,7 +21,8 @@ USE = re.compile(r"(?:pub |ghost )?use |//!|#!")  # and the head of a file
 MODULE = re.compile(r"(?:pub )?mod \w+;")
 MATCH = re.compile(r"(?m)^ {4}(?:Ok\(Some\()?match job \{\n")
 OTHERS = {"fn run_job<": "return Ok(None)", "fn other_job<": "Err(Failure::NoMemory)"}  # what all other commands do there
-AT_A_TERMINAL = {"hinting", "noting", "places", "refusals"}  # modules of what is said to a person
+AT_A_TERMINAL = {"hinting", "noting"}  # modules of what is said to a person
+PARTS = ("tb_run_commands", "tb_text_commands")  # the crates of the program's commands
 # What takes the place of the function that makes a job of words, where they are `run FILE`.
 RUN_FILE = """fn job_of_words<R: Env + AllocGlobal>(rt: &R) -> Result<Job, Failure> {
     let mut words = words(rt)?;
@@ -110,14 +111,14 @@ def name_of(item):
     return found and next(it for it in found.groups() if it)
 
 
-def live(files):
-    """Leaves out the items that main does not lead to, by names."""
+def live(files, roots):
+    """Leaves out the items that the roots do not lead to, by names."""
     by_name = {}
     for items in files.values():
         for _, item in items:
             if not USE.match(item) and not MODULE.match(item):
                 by_name.setdefault(name_of(item), []).append(item)
-    reached, left = set(), ["main"]
+    reached, left = set(), list(roots)
     while left:
         name = left.pop()
         if name in by_name and name not in reached:
@@ -139,13 +140,13 @@ def imports(item, used):
     return f"{found[1] or ''}use {found[2]}::{{{', '.join(kept)}}};\n" if kept else ""
 
 
-def narrowed(files):
-    """Leaves out what is dead, and imports and modules of it."""
-    live(files)
+def narrowed(files, roots=frozenset(["main"])):
+    """Leaves out what is dead, and imports and modules of it. The roots are what others name."""
+    live(files, roots)
     without_dead_variants(files)
-    live(files)
+    live(files, roots)
     for items in files.values():
-        used = set().union(TRAITS, *(names(it) for _, it in items if not USE.match(it)))
+        used = set().union(TRAITS, roots, *(names(it) for _, it in items if not USE.match(it)))
         items[:] = [(above, imports(it, used)) for above, it in items]
         items[:] = [it for it in items if it[1]]
     empty = {file.stem for file, items in files.items() if all(USE.match(it) for _, it in items)}
@@ -165,6 +166,16 @@ def with_one_command(files, tasks, command):
     for start, other in OTHERS.items():
         files[tasks] = [(above, with_one_arm(it, command, other) if it.startswith(start) else it) for above, it in files[tasks]]
     return narrowed({file: [] if file.stem in AT_A_TERMINAL else [(above, without_notes(it)) for above, it in items] for file, items in files.items()})
+
+
+def all_names(files):
+    return set().union(*(names(it) for items in files.values() for _, it in items))
+
+
+def brought(files, crate):
+    """The names that the files bring in from a crate."""
+    text = "".join(it for items in files.values() for _, it in items)
+    return names("".join(re.findall(rf"(?m)^use {crate}::([^;]*);", text)))
 
 
 def is_plain(words):
@@ -191,8 +202,14 @@ def main(folder, program, *command):
             files = without_reader(files, source / "main.rt")
             table[program].append("tb_jobs")
         files = with_one_command(files, source / "tasks.rt", command[0])
-        used = set().union(*(names(it) for items in files.values() for _, it in items))
+        kept = {program: files}
+        used = all_names(files)
         table[program] = [it for it in table[program] if it in used]
+        for part in PARTS:
+            if part in table[program]:
+                whole = {it: items_of(it.read_text()) for it in sorted((ROOT / "crates" / part / "src").glob("*.rt"))}
+                kept[part] = narrowed(whole, brought(files, part))
+                table[part] = [it for it in table[part] if it in all_names(kept[part])]
     needed, left = set(), [program]
     while left:
         name = left.pop()
@@ -200,13 +217,14 @@ def main(folder, program, *command):
             needed.add(name)
             left += table[name]
             shutil.copytree(ROOT / "crates" / name / "src", to / "crates" / name / "src")
-    if command:
-        for file in source.glob("*.rt"):
-            copied = to / "crates" / program / "src" / file.name
+    for name, files in kept.items() if command else ():
+        for file in (ROOT / "crates" / name / "src").glob("*.rt"):
+            copied = to / "crates" / name / "src" / file.name
             copied.unlink() if file not in files else copied.write_text("".join(above + it for above, it in files[file]))
     (to / "crates.txt").write_text("".join(f"{name}: {' '.join(below)}\n" for name, below in table.items() if name in needed))
     if (ROOT / "HANDLES").exists():
         shutil.copy(ROOT / "HANDLES", to)
 
 
-main(*sys.argv[1:])
+if __name__ == "__main__":
+    main(*sys.argv[1:])

@@ -2,10 +2,14 @@
 # Tries ./tbc in copies of this repository: one that is built, one that isn't. Another rt, which only writes what the
 # toolchain would, takes the toolchain's place, except in one trial run. Prints what differs, and then ends with
 # status 1.
+#
+#   tools/wrapper.sh            what it answers, and how many lines a trial run compiles
+#   tools/wrapper.sh --times    beside that how long it takes to start, and to its first answer with nothing built
 . "$(dirname "${BASH_SOURCE[0]}")/setup.sh"
 needs_program
 needs rt python3
-slowest=16 # ./tbc may take this many times what the program takes to start; it is 20 ms if that is 1.25
+clocked=${1-}
+largest=33000 # lines of Rust that the trial run of a command may compile
 
 rows=0
 failed=0
@@ -56,6 +60,7 @@ case $1:${AS-} in
     try:answer | try:whole)
         [[ $AS != whole || $PWD != */command/* ]] || { echo 'error[some]: no such thing' >&2; exit 1; }
         cat >"$STUB/input"
+        find .. -name '*.rt' -exec cat {} + | wc -l >"$STUB/lines"
         echo SHOWN
         printf 'tbc: step limit\nchecked: ended status=5\nraces: not looked for\nrun=ended status=5 runners=1 proved=no\n' >&2
         exit 5
@@ -67,12 +72,14 @@ case $1:${AS-} in
         ;;
     try:long) echo $$ >"$STUB/pid"; exec sleep 1000 ;;
     try:*) echo 'error[some]: no such thing' >&2; exit 1 ;;
-    all:good) printf '== tb_words\nrt: tb_words: begins with what a check kept elsewhere\n'
-        printf '== tb_opcodes\nfn f: proved\nlogic=proved functions=1\n== summary\n2 of 2 crates ok\n' ;;
-    all:bad) printf '== tb_words\nfn f: not proved\nlogic=unproved\n'; exec sleep 1000 ;;
-    all:long) echo $$ >"$STUB/pid"; exec sleep 1000 ;;
-    all:slow) echo $$ >"$STUB/pid"; sleep 2; printf '== tb_words\nrt: \n== tb_opcodes\nrt: \n'; exec sleep 1000 ;;
-    run:*) cp "$TBC" out/tbc ;;
+    ci:good)
+        printf '== tb_words\nfn f: proved\nrt: tb_words proved\nrt: tb_opcodes is kept: an earlier run proved the same\n'
+        mkdir -p crates/tbc/out && cp "$TBC" crates/tbc/out/tbc
+        ;;
+    ci:bad) printf '== tb_words\nfn f: not proved\nrt: tb_words NOT PROVED\n'; exec sleep 1000 ;;
+    ci:killed) printf '== tb_words\nrt: the check was killed, most likely for memory: once more\nrt: tb_words NOT PROVED\n'; exit 1 ;;
+    ci:long) echo $$ >"$STUB/pid"; exec sleep 1000 ;;
+    ci:slow) echo $$ >"$STUB/pid"; sleep 2; printf 'rt: tb_words proved\nrt: tb_opcodes proved\n'; exec sleep 1000 ;;
 esac
 END
 chmod +x stub/rt
@@ -104,14 +111,13 @@ for word in --build --install vice; do
     row 0 '' "$(plain "$("$tbc" --help)")*--build *" built/tbc $word --help
     row 0 '' "$(plain "$("$tbc" --help)")*--build *" unbuilt/tbc $word -h
 done
-for ((i = 0; i < 21; i++)); do
-    timed program "$tbc" --version
-    timed wrapper built/tbc --version
-done
-rows=$((rows + 1))
-ratio=$(awk -v a="$(fastest wrapper)" -v b="$(fastest program)" 'BEGIN { printf "%.1f", a / b }')
-echo "the program starts in $(fastest program) us, ./tbc in $(fastest wrapper) us: $ratio times"
-awk -v a="$ratio" -v b="$slowest" 'BEGIN { exit a > b }' || { failed=$((failed + 1)) && echo "that is more than $slowest times"; }
+if [ "$clocked" = --times ]; then
+    for ((i = 0; i < 21; i++)); do
+        timed program "$tbc" --version
+        timed wrapper built/tbc --version
+    done
+    echo "the program starts in $(fastest program) us, ./tbc in $(fastest wrapper) us"
+fi
 
 # Tests, which tools/quick_tests.py does
 row 2 'tbc: --test takes no words' '' unbuilt/tbc --test now
@@ -186,6 +192,7 @@ words() { # WORD..: what the program of a trial run was started with
     echo "a trial run was started with $(tr '\n' ' ' <stub/words), wanted $*"
 }
 words run "$work/hello.bas"
+is_so "a trial run compiles $(<stub/lines) lines, which are more than $largest" test "$(<stub/lines)" -le $largest
 row 5 '*' SHOWN unbuilt/tbc run --keys 31 hello.bas --seed=3
 words run --keys 31 "$work/hello.bas" --seed=3
 row 5 '*' SHOWN unbuilt/tbc run --prg game.prg --limit 5
@@ -218,7 +225,7 @@ row 3 '' "tbc: step at a keyboard $beyond"* at_terminal unbuilt/tbc step hello.b
 # files that are gone or new; and nothing else
 mkdir -p built/crates/tb_words/proofs
 echo >>built/crates/tb_words/proofs/Lib.antt
-echo >>built/crates/tb_golden/src/main.rt
+echo >>built/crates/tb_bench/src/main.rt
 touch built/crates/tb_words/src/lib.rt
 row 0 '' HELLO built/tbc run hello.bas
 stale() { row 5 "tbc: the proved program was made from another $1 (./tbc --build): *" SHOWN built/tbc run hello.bas; } # FILE
@@ -237,14 +244,16 @@ touch built/crates/tb_words/src/new.rt
 stale crates/tb_words/src/new.rt
 rm built/crates/tb_words/src/new.rt
 
-# Building: how far it is, what it took, the first crate that fails, and no prover still running
+# Building: how far it is, what it took, the first crate that fails, no prover still running, and no copy left
+mkdir rooms
+export TMPDIR=$work/rooms
 AS=good row 0 'tbc: proving the * crates of the program, * side by side
 tbc: 2 of * crates done, *
-tbc: linking
 tbc: built in * s: */out/tbc' '' unbuilt/tbc --build
 row 0 '' HELLO unbuilt/tbc run hello.bas
 AS=good row 0 'tbc: proving the *; last time 1 of them took 0 min * s*' '' unbuilt/tbc --build
 AS=bad row 3 '*tbc: tb_words is not proved: see */out/build.log' '' unbuilt/tbc --build
+AS=killed row 3 '*tbc: the memory did not suffice for tb_words; ./tbc --build goes on there, *' '' unbuilt/tbc --build
 started() { # waits for the toolchain's pid
     for ((i = 0; i < 100; i++)); do [ -s stub/pid ] && break || sleep 0.1; done
 }
@@ -262,25 +271,18 @@ done
 rm -f stub/pid
 AS=slow unbuilt/tbc --build 2>&1 >/dev/null | head -n 1 >/dev/null
 is_so 'a build whose pipe is closed leaves a prover' test ! -d "/proc/$(<stub/pid)"
+is_so 'a build leaves its copy' test -z "$(ls rooms)"
+unset TMPDIR
 
-# Trial runs by the toolchain itself: of an example of its own, the first answer of all, and one with an option
+# Trial runs by the toolchain itself: the first answer of all, and one with an option
 PATH=$real_path
-most=2.5 # times the processor time of that example; 1.7 on a quiet machine
-mkdir -p example/crates
-cp -r "$(dirname "$(rt doc)")/rattle/examples/start_io" example/crates/example
-rm -f example/crates/example/BUILD.bazel
-echo 'example:' >example/crates.txt
-try_example() { (cd example/crates/example && rt try <stdin); }
 children_seconds() { awk 'NR == 2 { split($1, user, /[ms]/); split($2, kernel, /[ms]/); print (user[1] + kernel[1]) * 60 + user[2] + kernel[2] }' "$1"; }
 times >times_before
-is_so 'the example of the toolchain cannot be tried' try_example
-times >times_between
 row 0 "$trial" HELLO unbuilt/tbc run hello.bas
 times >times_after
-ratio=$(awk -v before="$(children_seconds times_before)" -v between="$(children_seconds times_between)" -v after="$(children_seconds times_after)" \
-    'BEGIN { printf "%.2f", (after - between) / (between - before) }')
-echo "the first answer, with nothing built, takes $ratio times what an example of the toolchain takes"
-is_so "it should take $most times that at most" awk -v ratio="$ratio" -v most="$most" 'BEGIN { exit !(ratio <= most) }'
+[ "$clocked" != --times ] ||
+    echo "the first answer, with nothing built, takes $(awk -v before="$(children_seconds times_before)" -v after="$(children_seconds times_after)" \
+        'BEGIN { printf "%.1f", after - before }') s of processor time"
 row 0 "$trial" HELLO unbuilt/tbc run --seed 1 hello.bas
 
 echo "$rows calls of ./tbc, $failed other than they should be"

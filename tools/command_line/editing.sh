@@ -122,7 +122,7 @@ done
 # vim's default errorformat reads each line that names a place, in what is written here and in all rows, and no others
 if vim --version 2>/dev/null | grep -q -e +quickfix; then
     "$tbc" check slips.bas dice.bas nowhere.bas hello.bas >places 2>/dev/null || true
-    sed -n '/^check /,/^=> /{/^check /d;/^=> /d;p;}' "$root"/crates/*/stdout >>places
+    sed -n '/^check /,/^=> /{/^check /d;/^=> /d;p;}' "$root"/trials/*/stdout >>places
     printf '%s\n' 'cgetfile places' \
         "call writefile(map(filter(getqflist(), 'v:val.valid'), {_, e -> bufname(e.bufnr) . ':' . e.lnum . ':' . (e.col ? e.col . ':' : '') . e.text}), 'entries')" \
         'qa!' >read.vim

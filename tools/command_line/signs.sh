@@ -32,6 +32,15 @@ beside_signs() { # rows: the files that tell of a program with signs
 }
 beside_signs
 
+# The map of a source that costs too much is read with its signs
+{
+    printf '10 PRINT "{clr}"\n'
+    for ((line = 20; line <= 1720; line += 10)); do printf '%d PRINT "%0170d"\n' $line 0; done
+} >dear.bas
+row 1 'tbc: program too large *' '' build --petscii dear.bas out.prg --map dear.map
+row 0 '' '' build --petscii --fit dear.bas out.prg --map fit.map
+same dear.map fit.map
+
 # Tidy lines and other numbers: texts are as they were written
 file untidy.bas '5 let  a = 1\n10 print"{clr}a [{3 DOWN}]" ; a\n20 goto 10\n'
 row 0 '' $'5 LET A=1\n10 PRINT "{clr}a \\[{3 DOWN}\\]";A\n20 GOTO 10' format --petscii untidy.bas

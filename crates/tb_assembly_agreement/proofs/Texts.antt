@@ -9,7 +9,7 @@ use Rattle.tb_asm.specs.Layout.{Entry}
 use Rattle.tb_asm.specs.Text.{begins_with_10, put, split_lines, with_line, text_items, items_of_text, line_items}
 use Rattle.tb_assembly_text.specs.Tokens.{tokens_of}
 use Rattle.tb_assembly_files.specs.declared.faults.Place.{Place}
-use Rattle.tb_assembly_files.specs.declared.faults.TheConstants.{DEEPEST}
+use Rattle.tb_assembly_files.specs.Numbers.{DEEPEST}
 use Rattle.tb_assembly_files.specs.Libraries.{Source}
 use Rattle.tb_assembly_files.specs.Expansion.{Read, Course, then_read, Including, include_in, last_include, with_said, by_include, scope_by, by_line, line_read, place_of, lines_read, including, nothing_read}
 use Rattle.tb_asm.specs.Assembled.{refusal}

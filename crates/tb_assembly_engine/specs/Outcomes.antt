@@ -1,6 +1,6 @@
 -- How assembling fails.
 use Rattle.std.specs.Prelude.{ℕ}
-use Rattle.tb_streams.specs.declared.status.TheConstants.{REFUSED, BAD_WORDS, FAULT, NO_MEMORY}
+use Rattle.tb_streams.specs.Numbers.{REFUSED, BAD_WORDS, FAULT, NO_MEMORY}
 use Rattle.tb_files.specs.declared.system.Trouble.{Trouble}
 use Rattle.tb_files.specs.declared.system.Trouble.TheVariants as trouble
 use Rattle.tb_assembly_engine.specs.declared.outcome.TextFailure.{TextFailure}

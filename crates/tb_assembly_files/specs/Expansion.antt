@@ -15,7 +15,7 @@ use Rattle.tb_assembly_files.specs.declared.faults.IncludeFault.TheVariants.{Cir
 use Rattle.tb_assembly_files.specs.declared.faults.Problem.{Problem}
 use Rattle.tb_assembly_files.specs.declared.faults.Problem.TheVariants.{Line, Include}
 use Rattle.tb_assembly_files.specs.declared.faults.BadLine.{BadLine}
-use Rattle.tb_assembly_files.specs.declared.faults.TheConstants.{MOST_LINES, DEEPEST}
+use Rattle.tb_assembly_files.specs.Numbers.{MOST_LINES, DEEPEST}
 use Rattle.tb_assembly_files.specs.declared.expanding.Included.{Included}
 use Rattle.tb_assembly_files.specs.declared.expanding.Reading.{Reading}
 use Rattle.tb_assembly_files.specs.declared.expanding.Stop.{Stop}

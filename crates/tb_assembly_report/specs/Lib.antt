@@ -8,3 +8,5 @@ pub mod Near
 pub mod Notes
 -- what there is to say of a text
 pub mod Reports
+-- the numbers that are promised
+pub mod Numbers

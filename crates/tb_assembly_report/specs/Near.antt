@@ -2,7 +2,7 @@
 use Rattle.std.specs.Prelude.{ℕ, nat_eq, nat_le, Bool, false, ◌==◌, Option, Some, None, List, [], length, map, find, if◌then◌else◌}
 use Rattle.strsim.specs.Edits.{levenshtein_row}
 use Rattle.tb_asm.specs.Names.{fold_byte}
-use Rattle.tb_assembly_report.specs.declared.near.TheConstants.{LONGEST, LONG}
+use Rattle.tb_assembly_report.specs.Numbers.{LONGEST, LONG}
 
 -- how many letters are changed, left out and added from a word to another one
 abbrev pub edits : List ℕ → List ℕ → ℕ

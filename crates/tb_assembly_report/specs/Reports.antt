@@ -7,7 +7,7 @@ use Rattle.tb_check_engine.specs.Rows.{caret_row, line_row}
 use Rattle.tb_assembly_files.specs.declared.faults.Place.{Place}
 use Rattle.tb_assembly_files.specs.Libraries.{Source, path_at}
 use Rattle.tb_assembly_report.specs.declared.causes.Finding.{Finding}
-use Rattle.tb_assembly_report.specs.declared.notes.TheConstants.{NOTED}
+use Rattle.tb_assembly_report.specs.Numbers.{NOTED}
 use Rattle.tb_assembly_report.specs.declared.reports.FileLines.{FileLines}
 use Rattle.tb_assembly_report.specs.Causes.{cause_text}
 use Rattle.tb_assembly_report.specs.Notes.{note_if}

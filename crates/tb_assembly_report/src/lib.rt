@@ -4,9 +4,11 @@
 mod causes;
 mod near;
 mod notes;
+mod numbers;
 mod reports;
 mod words;
 
 pub use causes::{Cause, Finding};
 pub use notes::NOTED;
+pub use numbers::constants_are_numbers;
 pub use reports::report;

@@ -2,7 +2,7 @@
 //!
 //! - `call NAME` makes a call on the input of its worked row, for `tools/refused_growth.sh`;
 //! - `end_states` runs the records of standard input by the processor alone, for `tools/foreign_machines.sh`;
-//! - `speed NAME EVENTS` and `speed NAME EVENTS steps` measure the machine, for `tools/measure_machine.sh`.
+//! - `speed NAME EVENTS`, with `rude` or `steps` behind it or not, measures the machine, for `tools/measure_machine.sh`.
 //!
 //! Without a word it does some of each whose answer is always the same. If memory runs out, nothing is written, and the
 //! status is 4.
@@ -43,12 +43,15 @@ fn append_end_states<R: Input + AllocGlobal>(rt: &R, text: &mut String) -> Resul
     end_states::append_lines(rt.alloc(), input.as_slice(), text)
 }
 
-// Whether the last word asks for `step` alone.
-fn is_by_steps(words: &mut Args) -> Result<bool, Failure> {
+// How the last word asks that a program is measured.
+fn way_of(words: &mut Args) -> Result<speed::Way, Failure> {
     match words.next() {
-        None => Ok(false),
-        Some(word) if word.as_str() == "steps" => Ok(true),
-        Some(_) => Err(Failure::NoSuchWord),
+        None => Ok(speed::Way::Quietly),
+        Some(word) => match word.as_str() {
+            "rude" => Ok(speed::Way::Rudely),
+            "steps" => Ok(speed::Way::BySteps),
+            _ => Err(Failure::NoSuchWord),
+        },
     }
 }
 
@@ -59,8 +62,8 @@ fn append_speed<R: Clock + AllocGlobal>(
 ) -> Result<(), Failure> {
     let name = words.next().ok_or(Failure::NoSuchWord)?;
     let events = words.next().ok_or(Failure::NoSuchWord)?;
-    let by_steps = is_by_steps(words)?;
-    speed::append_one(rt, name.as_str(), events.as_str(), by_steps, text)
+    let way = way_of(words)?;
+    speed::append_one(rt, name.as_str(), events.as_str(), way, text)
 }
 
 // Some of each.

@@ -2,14 +2,21 @@
 use crate::failure::Failure;
 use std::alloc::Global;
 use tb_cpu::Regs;
-use tb_kernal::Machine;
+use tb_kernal::{Keyboard, Machine};
 use tb_memmap::Memory;
-use tb_test_support::no_keys;
 
 // The address of the return address that a machine starts with; below, that return address less 1.
 const RETURN_PLACE: u16 = 0x01f1;
 
 const RETURN_ADDRESS: [u8; 2] = [0xff, 0xa0];
+
+// A keyboard on which nothing is typed, and that answers no poll.
+fn no_keys(alloc: Global) -> Keyboard {
+    Keyboard {
+        text: Vec::new(alloc),
+        answers: Vec::new(alloc),
+    }
+}
 
 fn load(memory: &mut Memory, at: u16, bytes: &[u8]) -> Result<(), Failure> {
     memory.load(at, bytes)?;

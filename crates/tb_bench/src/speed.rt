@@ -1,18 +1,38 @@
-//! Measures the machine: events of two endless programs with nothing outside.
+//! Measures the machine: events of three endless programs.
 use crate::failure::Failure;
 use crate::memories::{machine_with, memory_with};
 use std::rt::Clock;
 use std::time::Instant;
 use tb_cpu::step;
 use tb_engines::start_regs;
-use tb_kernal::{Quiet, run};
+use tb_kernal::{Outside, Quiet, Rude, run};
 
-// The address of the programs.
-const PLACE: u16 = 0x0c00;
+// An endless program, and where it lies.
+#[derive(Clone, Copy, Drop)]
+struct Program {
+    place: u16,
+    bytes: &'static [u8],
+}
+
+/// How a program is measured.
+#[derive(Clone, Copy, Drop)]
+pub enum Way {
+    /// Beside a ROM that changes nothing.
+    Quietly,
+    /// Beside one that writes whatever it may.
+    Rudely,
+    /// By the processor's `step` alone.
+    BySteps,
+}
 
 // INX, BNE, INY, BNE, INC, JMP: a tight loop.
 const LOOP: [u8; 12] = [
     0xe8, 0xd0, 0xfd, 0xc8, 0xd0, 0xfa, 0xee, 0x00, 0xc0, 0x4c, 0x00, 0x0c,
+];
+
+// The same at $C000, where people put their routines.
+const HIGH: [u8; 12] = [
+    0xe8, 0xd0, 0xfd, 0xc8, 0xd0, 0xfa, 0xee, 0x00, 0xc1, 0x4c, 0x00, 0xc0,
 ];
 
 // LDA, CLC, ADC, STA, LDA, ADC, STA, DEC, BNE, JMP: additions of words in memory.
@@ -37,11 +57,11 @@ fn now<R: Clock>(rt: &R) -> Result<Instant, Failure> {
 // Runs a program by `step` alone: the milliseconds that it took, and the PC after it.
 fn measure_steps<R: Clock + AllocGlobal>(
     rt: &R,
-    program: &[u8],
+    program: Program,
     steps: u64,
 ) -> Result<(u128, u16), Failure> {
-    let mut memory = memory_with(rt.alloc(), PLACE, program)?;
-    let mut regs = start_regs(PLACE);
+    let mut memory = memory_with(rt.alloc(), program.place, program.bytes)?;
+    let mut regs = start_regs(program.place);
     let start = now(rt)?;
     for _ in 0..steps {
         step(&mut regs, &mut memory).map_err(|_| Failure::Refused)?;
@@ -50,40 +70,48 @@ fn measure_steps<R: Clock + AllocGlobal>(
 }
 
 // The same for this many events of the machine.
-fn measure<R: Clock + AllocGlobal>(
+fn measure<R: Clock + AllocGlobal, O: Outside + Drop>(
     rt: &R,
-    program: &[u8],
+    program: Program,
     events: u64,
+    mut outside: O,
 ) -> Result<(u128, u16), Failure> {
-    let mut machine = machine_with(rt.alloc(), PLACE, program, start_regs(PLACE))?;
+    let mut machine = machine_with(
+        rt.alloc(),
+        program.place,
+        program.bytes,
+        start_regs(program.place),
+    )?;
     let start = now(rt)?;
-    run(&mut machine, &mut Quiet, events)?;
+    run(&mut machine, &mut outside, events)?;
     Ok((millis_since(rt, start)?, machine.regs().pc))
 }
 
 // The program of a name.
-fn program_of(name: &str) -> Result<&'static [u8], Failure> {
-    match name {
-        "loop" => Ok(&LOOP),
-        "sums" => Ok(&SUMS),
-        _ => Err(Failure::NoSuchWord),
-    }
+fn program_of(name: &str) -> Result<Program, Failure> {
+    let (place, bytes): (u16, &'static [u8]) = match name {
+        "loop" => (0x0c00, &LOOP),
+        "sums" => (0x0c00, &SUMS),
+        "high" => (0xc000, &HIGH),
+        _ => return Err(Failure::NoSuchWord),
+    };
+    Ok(Program { place, bytes })
 }
 
-/// Appends the milliseconds that this many events of a program take, or this many instructions by `step` alone.
+/// Appends the milliseconds that this many events of a program take.
 pub fn append_one<R: Clock + AllocGlobal>(
     rt: &R,
     name: &str,
     events: &str,
-    by_steps: bool,
+    way: Way,
     text: &mut String,
 ) -> Result<(), Failure> {
     let program = program_of(name)?;
     let count = events.parse().map_err(|_| Failure::NoSuchWord)?;
-    let (millis, pc) = if by_steps {
-        measure_steps(rt, program, count)?
-    } else {
-        measure(rt, program, count)?
+    let (millis, pc) = match way {
+        Way::Quietly => measure(rt, program, count, Quiet)?,
+        Way::Rudely => measure(rt, program, count, Rude::new(1))?,
+        Way::BySteps => measure_steps(rt, program, count)?,
     };
     writeln!(text, "{name}: {count} events in {millis} ms, PC {pc:04X}")?;
     Ok(())
@@ -91,8 +119,8 @@ pub fn append_one<R: Clock + AllocGlobal>(
 
 /// Appends the PC of each program after a few events, which is always the same.
 pub fn append_few<R: Clock + AllocGlobal>(rt: &R, text: &mut String) -> Result<(), Failure> {
-    for name in ["loop", "sums"] {
-        let (_, pc) = measure(rt, program_of(name)?, FEW)?;
+    for name in ["loop", "sums", "high"] {
+        let (_, pc) = measure(rt, program_of(name)?, FEW, Quiet)?;
         writeln!(text, "{name}: {FEW} events, PC {pc:04X}")?;
     }
     Ok(())

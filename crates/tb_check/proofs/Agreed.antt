@@ -14,7 +14,7 @@ use Rattle.tb_parser.specs.declared.errors.SourceError.{SourceError}
 use Rattle.tb_compile_errors.specs.declared.refusals.CompileError.TheVariants.{Source, Lower, TooLarge, NoMemory}
 use Rattle.tb_compile_errors.specs.declared.refusals.CompileError.{CompileError}
 use Rattle.tb_runtime16.specs.Addresses.{PROLOGUE_AT}
-use Rattle.tb_templates.specs.Program.{program_code}
+use Rattle.tb_program_code.specs.Program.{program_code}
 use Rattle.tb_codegen.specs.Answers.{OutcomeAnswer, ProgramAnswer}
 use Rattle.tb_codegen.specs.Coded.{TakesTooMuch, told_of}
 use Rattle.tb_codegen.specs.Compiled.{IsCompiled}

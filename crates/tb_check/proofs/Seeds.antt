@@ -12,8 +12,8 @@ use Rattle.tb_selection.specs.Select.{select}
 use Rattle.tb_runtime16.specs.Addresses.{PROLOGUE_AT, RANDOM_AT, RESULT}
 use Rattle.tb_templates.specs.Breaks.{some_leaves, polled, behind}
 use Rattle.tb_templates.specs.GroupTemplates.{group_template, handed, lined, may_have_none}
-use Rattle.tb_templates.specs.Search.{compares, find_code}
-use Rattle.tb_templates.specs.Program.{block_code, line_code, lines_code, list_code, past_code, program_code, rest_code, table_code}
+use Rattle.tb_program_code.specs.Search.{compares, find_code}
+use Rattle.tb_program_code.specs.Program.{block_code, line_code, lines_code, list_code, past_code, program_code, rest_code, table_code}
 use Rattle.tb_templates.specs.Sources.{destination_at, source_of}
 use Rattle.tb_templates.specs.Templates.{here}
 use Rattle.tb_templates.specs.declared.labels.Target.TheVariants.{Line}

@@ -31,3 +31,5 @@ pub mod Notes
 pub mod Warnings
 -- all that is told of a source
 pub mod Findings
+-- the numbers that are promised
+pub mod Numbers

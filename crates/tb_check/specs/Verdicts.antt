@@ -12,7 +12,7 @@ use Rattle.tb_parser.specs.Files.{at_end}
 use Rattle.tb_parser.specs.declared.notation.Notation.{Notation}
 use Rattle.tb_parser.specs.Lines.{lines_of_file}
 use Rattle.tb_runtime16.specs.Addresses.{PROLOGUE_AT}
-use Rattle.tb_templates.specs.Program.{program_code}
+use Rattle.tb_program_code.specs.Program.{program_code}
 use Rattle.tb_codegen.specs.Answers.{SourceMakes}
 use Rattle.tb_codegen.specs.Refusals.{IsExcess, IsTooLarge}
 use Rattle.tb_codegen.specs.declared.settings.SizeLimit.{SizeLimit}

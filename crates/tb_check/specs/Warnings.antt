@@ -16,7 +16,7 @@ use Rattle.tb_check.specs.declared.warnings.LineWarning.{LineWarning}
 use Rattle.tb_check.specs.declared.warnings.Warning.{Warning}
 use Rattle.tb_check.specs.declared.warnings.Warning.TheVariants.{NoLine, HighTarget, Replaced, TakenOut, RunsPast, EvenBound}
 use Rattle.tb_check.specs.declared.warnings.Warning.TheVariants.{BoundOfOne, BadBound, ZeroDivisor}
-use Rattle.tb_check.specs.declared.warnings.TheConstants.{HIGHEST_NUMBER, LARGEST_BOUND}
+use Rattle.tb_check.specs.Numbers.{HIGHEST_NUMBER, LARGEST_BOUND}
 use Rattle.tb_check.specs.Entries.{is_one_of}
 
 -- ── a later line ──

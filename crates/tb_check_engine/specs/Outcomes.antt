@@ -1,6 +1,6 @@
 -- The exit statuses of checks.
 use Rattle.std.specs.Prelude.{ℕ}
-use Rattle.tb_streams.specs.declared.status.TheConstants.{DONE, REFUSED, FAULT, NO_MEMORY}
+use Rattle.tb_streams.specs.Numbers.{DONE, REFUSED, FAULT, NO_MEMORY}
 use Rattle.tb_check_engine.specs.declared.outcome.CheckOutcome.{CheckOutcome}
 use Rattle.tb_check_engine.specs.declared.outcome.CheckOutcome.TheVariants.{Accepted, Refused, ReadFault, WriteFault, NoMemory}
 

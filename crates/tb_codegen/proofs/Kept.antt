@@ -14,7 +14,7 @@ use Rattle.tb_syntax.specs.Source.{Program, numbers}
 use Rattle.tb_selection.specs.Laws.{AreClosed}
 use Rattle.tb_selection.proofs.Closed.{all_closed}
 use Rattle.tb_settling.specs.Settled.{IsLaid}
-use Rattle.tb_templates.specs.Program.{program_code}
+use Rattle.tb_program_code.specs.Program.{program_code}
 use Rattle.tb_simulation.specs.Theorem.{Keeps}
 use Rattle.tb_correctness.specs.Laid.{ArePolled}
 use Rattle.tb_correctness.proofs.Whole.Compiled.{image_keeps}

@@ -17,6 +17,8 @@ pub mod Texts
 pub mod Kept
 -- what is compiled marks the lines of its program
 pub mod Marked
+-- what is compiled without signs keeps the program of a good source
+pub mod GoodSources
 -- what both calls compile is the same
 pub mod Same
 -- what linking answers is what the compiler answers

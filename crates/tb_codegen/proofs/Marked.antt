@@ -16,7 +16,7 @@ use Rattle.tb_templates.specs.declared.labels.Target.TheVariants.{Line}
 use Rattle.tb_selection.specs.Laws.{AreClosed}
 use Rattle.tb_selection.proofs.Closed.{all_closed}
 use Rattle.tb_settling.specs.Settled.{IsLaid}
-use Rattle.tb_templates.specs.Program.{program_code}
+use Rattle.tb_program_code.specs.Program.{program_code}
 use Rattle.tb_simulation.specs.Layout.{label_address}
 use Rattle.tb_simulation.specs.LineStarts.{MarksLines}
 use Rattle.tb_correctness.specs.Laid.{ArePolled}

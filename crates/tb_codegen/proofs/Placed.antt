@@ -10,9 +10,9 @@ use Rattle.tb_settling.specs.Settled.{AreFormsOf}
 use Rattle.tb_settling.proofs.Forms.{forms_size, split}
 use Rattle.tb_templates.specs.declared.labels.Target.TheVariants.{Line}
 use Rattle.tb_templates.specs.Labels.{label_of}
-use Rattle.tb_templates.specs.Layout.{LabelsAt}
-use Rattle.tb_templates.specs.Program.{line_code, lines_code}
-use Rattle.tb_templates.proofs.Settled.{labels_behind, line_at, some_bytes}
+use Rattle.tb_program_code.specs.Layout.{LabelsAt}
+use Rattle.tb_program_code.specs.Program.{line_code, lines_code}
+use Rattle.tb_program_code.proofs.Settled.{labels_behind, line_at, some_bytes}
 use Rattle.tb_codegen.specs.Compiled.{starts_in, stands_at, AreKnown, AddressesRise}
 
 -- each line has a label in the settled code of the lines

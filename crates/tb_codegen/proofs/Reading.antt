@@ -9,8 +9,8 @@ use Rattle.tb_grammar.specs.Grammar.{Part, Reads, number, variable, random, pare
 use Rattle.tb_grammar.specs.Statements.{Relates, equal, less, greater, at_most, at_least, less_or_greater, greater_or_less, MayThen, bare, then, ReadsItem}
 use Rattle.tb_grammar.specs.Statements.{value, quotation, comma, semicolon, Prints, nothing, last, next, Variables, one, more, States, let_assign, assign}
 use Rattle.tb_grammar.specs.Statements.{print, short_print, input, conditional, goto, gosub, return, end, remark}
-use Rattle.tb_templates.specs.Sizes.{items_cost, AreApart, IsSpaced}
-use Rattle.tb_templates.proofs.Fitting.{one_node, items_pay}
+use Rattle.tb_program_code.specs.Sizes.{items_cost, AreApart, IsSpaced}
+use Rattle.tb_program_code.proofs.Fitting.{one_node, items_pay}
 
 -- ── expressions ──
 -- each node takes a byte of the text, or more

@@ -12,7 +12,7 @@ use Rattle.tb_compile_errors.specs.declared.refusals.CompileError.TheVariants.{S
 use Rattle.tb_runtime16.specs.Addresses.{PROLOGUE_AT}
 use Rattle.tb_templates.specs.declared.labels.Target.TheVariants.{Table}
 use Rattle.tb_templates.specs.Labels.{label_of}
-use Rattle.tb_templates.specs.Program.{program_code}
+use Rattle.tb_program_code.specs.Program.{program_code}
 use Rattle.tb_codegen.specs.declared.compiled.Compiled.{Compiled}
 use Rattle.tb_codegen.specs.Compiled.{IsCompiled, starts_in, table_of}
 use Rattle.tb_codegen.specs.Answers.{HasOutcome, OutcomeAnswer, LinesMake, ProgramAnswer, AreSame, GivesSame}

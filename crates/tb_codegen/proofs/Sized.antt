@@ -21,18 +21,18 @@ use Rattle.tb_settling.specs.Settled.{IsLaid}
 use Rattle.tb_settling.proofs.Forms.{forms_most, items_size, kept_forms, settled_forms}
 use Rattle.tb_templates.specs.declared.labels.Target.TheVariants.{Past, Table}
 use Rattle.tb_templates.specs.Labels.{label_of}
-use Rattle.tb_templates.specs.Sizes.{room, list_room}
-use Rattle.tb_templates.specs.Program.{past_code, table_code, block_code, program_code, AreCodable}
-use Rattle.tb_templates.specs.Search.{compares, find_code}
-use Rattle.tb_templates.proofs.Fitting.{statement_room, program_fits}
-use Rattle.tb_templates.proofs.Prices.{program_price}
-use Rattle.tb_templates.proofs.Taken.{block_size, program_most}
+use Rattle.tb_program_code.specs.Sizes.{room, list_room}
+use Rattle.tb_program_code.specs.Program.{past_code, table_code, block_code, program_code, AreCodable}
+use Rattle.tb_program_code.specs.Search.{compares, find_code}
+use Rattle.tb_program_code.proofs.Fitting.{statement_room, program_fits}
+use Rattle.tb_program_code.proofs.Prices.{program_price}
+use Rattle.tb_program_code.proofs.Taken.{block_size, program_most}
 use Rattle.tb_words.specs.Words.{word_of}
 use Rattle.tb_codegen.specs.declared.compiled.Compiled.{Compiled}
 use Rattle.tb_codegen.specs.Compiled.{prg_of, starts_of, table_of, warnings_of, IsCompiled, starts_in, stands_at, AreKnown, AddressesRise, most_cost}
 use Rattle.tb_codegen.specs.Coded.{IsListed, TakesTooMuch}
 use Rattle.tb_codegen.specs.Texts.{LinesHoldTexts, offset_of}
-use Rattle.tb_templates.proofs.Settled.{Sections, sections}
+use Rattle.tb_program_code.proofs.Settled.{Sections, sections}
 use Rattle.tb_codegen.proofs.Placed.{lines_known, lines_begin_in_order, start_numbers}
 use Rattle.tb_codegen.proofs.Texts.{lines_texts}
 use Rattle.tb_codegen.proofs.SmallPrograms.{AreSmall, are_small, small_spaced, small_short, few_lines, count_numbers}

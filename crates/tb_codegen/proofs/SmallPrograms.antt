@@ -7,7 +7,7 @@ use Rattle.tb_meaning.specs.Cost.{statement_cost, cost}
 use Rattle.tb_syntax.specs.Texts.{AreShort, HasShortTexts}
 use Rattle.tb_syntax.specs.Texts.{statement_texts}
 use Rattle.tb_parser.specs.Files.{IsStated, AreStated}
-use Rattle.tb_templates.specs.Sizes.{IsSpaced, AreSpaced}
+use Rattle.tb_program_code.specs.Sizes.{IsSpaced, AreSpaced}
 use Rattle.tb_codegen.proofs.Reading.{Told, stated}
 
 -- ── a small statement ──

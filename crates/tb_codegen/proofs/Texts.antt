@@ -25,11 +25,11 @@ use Rattle.tb_templates.specs.declared.labels.Target.TheVariants as target
 use Rattle.tb_runtime16.specs.Addresses.{POINTER}
 use Rattle.tb_opcodes.specs.Opcodes as opcodes
 use Rattle.tb_templates.specs.Templates.{address, byte_sent, only_byte, sent, text_call, jump, here}
-use Rattle.tb_templates.proofs.Sent.{IsOnly, only, only_is, other}
+use Rattle.tb_program_code.proofs.Sent.{IsOnly, only, only_is, other}
 use Rattle.tb_templates.specs.GroupTemplates.{group_template}
 use Rattle.tb_templates.specs.Breaks.{polled, behind, some_leaves}
-use Rattle.tb_templates.specs.Layout.{LabelsAt}
-use Rattle.tb_templates.specs.Program.{rest_code, line_code, lines_code}
+use Rattle.tb_program_code.specs.Layout.{LabelsAt}
+use Rattle.tb_program_code.specs.Program.{rest_code, line_code, lines_code}
 use Rattle.tb_settling.specs.Settled.{AreFormsOf}
 use Rattle.tb_settling.proofs.Forms.{forms_size, items_append, items_size, size_append, split, is_straight, straight_forms}
 use Rattle.tb_selection.specs.Groups.{Operand, Constant, Variable, InSlot, Home, IntoVariable, IntoHeld, Destination, IntoSlot, IntoHome, Tested, HeldBefore}
@@ -39,7 +39,7 @@ use Rattle.tb_selection.specs.Groups.{OnRight, Remains, Stepped, multiple, compa
 use Rattle.tb_selection.specs.Select.{select}
 use Rattle.tb_selection.proofs.Bracketed.{brackets}
 use Rattle.tb_codegen.specs.Compiled.{stands_at, starts_in}
-use Rattle.tb_templates.proofs.Settled.{joined_items, labels_behind, line_at, total_size}
+use Rattle.tb_program_code.proofs.Settled.{joined_items, labels_behind, line_at, total_size}
 use Rattle.tb_codegen.specs.Texts.{TextsStand, none, text, offset_of, end_before, LinesHoldTexts}
 
 lower : (image : List ℕ) (to from from' : ℕ) (texts : List (List ℕ)) → from ≤ from' → TextsStand image to from' texts → TextsStand image to from texts

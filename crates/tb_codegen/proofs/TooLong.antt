@@ -8,7 +8,7 @@ use Rattle.tb_asm.proofs.Laws.{all_size}
 use Rattle.tb_lower.specs.Slots.{SlotCode}
 use Rattle.tb_runtime16.specs.Addresses.{PROLOGUE_AT}
 use Rattle.tb_settling.specs.Settled.{EndsFrom, IsLaid}
-use Rattle.tb_templates.specs.Program.{program_code}
+use Rattle.tb_program_code.specs.Program.{program_code}
 use Rattle.tb_codegen.specs.Coded.{TakesTooMuch, told_of}
 
 -- code whose image is longer than the room takes too much

@@ -10,7 +10,7 @@ use Rattle.tb_lower.specs.Slots.{SlotCode}
 use Rattle.tb_compile_errors.specs.declared.refusals.CompileError.{CompileError}
 use Rattle.tb_compile_errors.specs.declared.refusals.CompileError.TheVariants.{Source, Lower, TooLarge, NoMemory}
 use Rattle.tb_runtime16.specs.Addresses.{PROLOGUE_AT, LINES_AT}
-use Rattle.tb_templates.specs.Program.{AreCodable, program_code}
+use Rattle.tb_program_code.specs.Program.{AreCodable, program_code}
 
 -- slot code that can be laid out: its lists and lines can be counted, and its numbers rise
 pub record IsListed (code : SlotCode) : Type 0 where

@@ -14,8 +14,8 @@ use Rattle.tb_meaning.specs.declared.missing.Warning.{Warning}
 use Rattle.tb_runtime16.specs.Addresses.{PROLOGUE_AT, LINES_AT}
 use Rattle.tb_templates.specs.declared.labels.Target.TheVariants.{Line, Past, Table}
 use Rattle.tb_templates.specs.Labels.{label_of}
-use Rattle.tb_templates.specs.Program.{program_code}
-use Rattle.tb_codegen.specs.declared.compiler.TheConstants.{MOST_COST}
+use Rattle.tb_program_code.specs.Program.{program_code}
+use Rattle.tb_codegen.specs.Numbers.{MOST_COST}
 use Rattle.tb_codegen.specs.Texts.{LinesHoldTexts}
 use Rattle.tb_codegen.specs.declared.compiled.LineStart.{LineStart}
 use Rattle.tb_codegen.specs.declared.compiled.Compiled.{Compiled}

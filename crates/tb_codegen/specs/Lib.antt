@@ -1,7 +1,8 @@
-pub mod Settings
-pub mod Refusals
 pub mod Answers
-pub mod Compiled
 pub mod Coded
+pub mod Compiled
+pub mod Numbers
+pub mod Refusals
+pub mod Settings
 pub mod Texts
 pub mod Theorem

@@ -2,7 +2,7 @@
 use Rattle.std.specs.Prelude.{ℕ, List, Ok}
 use Rattle.tb_memmap.specs.Regions.{BASIC_START}
 use Rattle.tb_parser.specs.declared.notation.Notation.{Notation}
-use Rattle.tb_parser.specs.declared.notation.Notation.TheVariants.{Plain}
+use Rattle.tb_parser.specs.Programs.{IsProgramOf}
 use Rattle.tb_syntax.specs.Source.{Program}
 use Rattle.tb_simulation.specs.LineStarts.{MarksLines}
 use Rattle.tb_simulation.specs.Theorem.{Keeps}
@@ -26,10 +26,10 @@ KeepsSourceIn notation seed source c = (program : Program) × SourceMakes notati
 abbrev pub MarksLinesIn : Notation → ℕ → List ℕ → Compiled → Type 0
 MarksLinesIn notation seed source c = (program : Program) × SourceMakes notation source (Ok program) × MarksProgram seed program c
 
--- it keeps the program that its source makes
+-- it keeps the program of its source
 abbrev pub KeepsItsSource : ℕ → List ℕ → Compiled → Type 0
-KeepsItsSource seed source c = KeepsSourceIn Plain seed source c
+KeepsItsSource seed source c = (program : Program) × IsProgramOf source program × KeepsProgram seed program c
 
--- it marks the lines of the program that its source makes
+-- it marks the lines of the program of its source
 abbrev pub MarksItsLines : ℕ → List ℕ → Compiled → Type 0
-MarksItsLines seed source c = MarksLinesIn Plain seed source c
+MarksItsLines seed source c = (program : Program) × IsProgramOf source program × MarksProgram seed program c

@@ -1,7 +1,7 @@
 //! What a program costs: a bound on the bytes of its code and line table.
 ghost use Rattle.std.specs.Prelude.{◌≡◌, ◌+◌, ◌<◌, map};
 ghost use Rattle.tb_syntax.specs.PlainData.{expression_of, item_of, statement_of, lines_of};
-ghost use Rattle.tb_templates.specs.Sizes.{items_cost};
+ghost use Rattle.tb_program_code.specs.Sizes.{items_cost};
 ghost use Rattle.tb_meaning.specs.Cost as cost;
 
 use tb_syntax::{Expr, PrintItem, Program, Statement};

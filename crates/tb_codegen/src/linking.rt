@@ -7,7 +7,7 @@ ghost use Rattle.tb_lower.specs.PlainData.{code_of};
 ghost use Rattle.tb_runtime16.specs.Addresses.{PROLOGUE_AT};
 ghost use Rattle.tb_settling.specs.Settled.{IsLaid};
 ghost use Rattle.tb_templates.specs.Labels.{label_of};
-ghost use Rattle.tb_templates.specs.Program.{program_code};
+ghost use Rattle.tb_program_code.specs.Program.{program_code};
 ghost use Rattle.tb_codegen.specs.Compiled.{AreKnown, IsCompiled, pair_of, starts_in};
 ghost use Rattle.tb_codegen.specs.Coded.{IsListed, IsSlotCode, IsTooLong, told_of};
 ghost use Rattle.tb_codegen.specs.Theorem.{KeepsProgram, MarksProgram};
@@ -19,10 +19,11 @@ use tb_compile_errors::CompileError;
 use tb_lower::{SlotCode, SlotLine};
 use tb_meaning::warnings;
 use tb_prg::write;
+use tb_program_code::program_items;
 use tb_runtime16::{BLOCK_AT, LINES_AT};
 use tb_settling::assemble_settled;
 use tb_syntax::Program;
-use tb_templates::{Target, label, program_items};
+use tb_templates::{Target, label};
 
 /// The bytes from the block's address on up to `$9FFF`.
 const ROOM: usize = 0xA000 - BLOCK_AT as usize;

@@ -1,1 +1,6 @@
+-- the commands by their rows
 pub mod Table
+-- what is read of the arguments
+pub mod Values
+-- the job of each command
+pub mod Asked

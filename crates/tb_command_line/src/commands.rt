@@ -1,6 +1,6 @@
 //! The commands, and their table: the one place that says what each is called, how it helps and what it takes.
 ghost use Rattle.std.specs.Prelude.{◌≡◌};
-ghost use Rattle.tb_command_line.specs.Table.{NamesEach, command_of};
+ghost use Rattle.tb_command_line.specs.Table.{AreNamed, NamesEach, command_of};
 
 /// A command of `tbc`.
 #[derive(Clone, Copy)]
@@ -36,7 +36,8 @@ pub struct CommandRow {
 
 /// The rows of the commands, in the order of the help text.
 pub fn rows() -> &'static [CommandRow]
-    ensures { NamesEach result.now }
+    ensures each { NamesEach result.now }
+    ensures named { AreNamed result.now }
 {
     &COMMANDS
 }

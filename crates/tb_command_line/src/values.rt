@@ -1,4 +1,9 @@
 //! The values of arguments that the parser found.
+ghost use Rattle.std.specs.Prelude.{◌≡◌, codes, map, option_map, string_bytes, IfOk};
+ghost use Rattle.clap.specs.Words.{first_value, found_of};
+ghost use Rattle.tb_jobs.specs.Numbers.{USUAL_SEED, USUAL_STEP};
+ghost use Rattle.tb_command_line.specs.Values as spec;
+
 use crate::arguments::{
     ANSWERS, Argument, FIT, FOR, IN_PLACE, KEY_FILE, KEYS, LABELS, LIMIT, LIST, LONG, MAP,
     ONLY_CHECK, PETSCII, PRG, RUDE, SCREEN, SEED, SOURCE_OR_PRG, TYPE, WATCH,
@@ -15,7 +20,9 @@ pub fn text(
     alloc: Global,
     found: &ArgMatches<'_>,
     argument: &Argument,
-) -> Result<String, AllocError> {
+) -> Result<String, AllocError>
+    ensures { IfOk result (spec.IsText (found_of found.now) argument.now.name.now) }
+{
     String::from_str(alloc, found.get_str(argument.name).unwrap_or(""))
 }
 
@@ -24,7 +31,9 @@ pub fn optional_text(
     alloc: Global,
     found: &ArgMatches<'_>,
     argument: &Argument,
-) -> Result<Option<String>, AllocError> {
+) -> Result<Option<String>, AllocError>
+    ensures { IfOk result (spec.IsOptional (found_of found.now) argument.now.name.now) }
+{
     Ok(match found.get_str(argument.name) {
         Some(text) => Some(String::from_str(alloc, text)?),
         None => None,
@@ -37,7 +46,10 @@ pub fn first_text(
     found: &ArgMatches<'_>,
     first: &Argument,
     second: &Argument,
-) -> Result<Option<String>, AllocError> {
+) -> Result<Option<String>, AllocError>
+    ensures { IfOk result (λ text. option_map string_bytes text
+        ≡ spec.or_else (first_value (found_of found.now) first.now.name.now) (first_value (found_of found.now) second.now.name.now)) }
+{
     match optional_text(alloc, found, first)? {
         Some(text) => Ok(Some(text)),
         None => optional_text(alloc, found, second),
@@ -49,7 +61,9 @@ pub fn texts(
     alloc: Global,
     found: &ArgMatches<'_>,
     argument: &Argument,
-) -> Result<Vec<String>, AllocError> {
+) -> Result<Vec<String>, AllocError>
+    ensures { IfOk result (λ texts. map string_bytes texts.items ≡ spec.texts_in (found_of found.now) argument.now.name.now) }
+{
     let mut texts = Vec::new(alloc);
     for text in found.get_strs(argument.name).unwrap_or(&[]) {
         texts.push(String::from_str(alloc, text)?)?;
@@ -58,17 +72,25 @@ pub fn texts(
 }
 
 /// The first state of RND.
-pub fn seed_of(found: &ArgMatches<'_>) -> u16 {
+#[tactic(auto, using(crate::proofs::Found::number_read))]
+pub fn seed_of(found: &ArgMatches<'_>) -> u16
+    ensures { spec.IsNumber (found_of found.now) (codes "seed") USUAL_SEED result }
+{
     found.get_one::<u16>(SEED.name).unwrap_or(USUAL_SEED)
 }
 
 /// Whether a source is refused as too large only if it doesn't fit the memory.
-pub fn fit_of(found: &ArgMatches<'_>) -> bool {
+#[tactic(auto, using(crate::proofs::Found::flag_said))]
+pub fn fit_of(found: &ArgMatches<'_>) -> bool
+    ensures { spec.IsFlag (found_of found.now) (codes "fit") result }
+{
     found.get_flag(FIT.name)
 }
 
 /// How the texts of a source are read.
-pub fn notation_of(found: &ArgMatches<'_>) -> Notation {
+pub fn notation_of(found: &ArgMatches<'_>) -> Notation
+    ensures { spec.IsNotation (found_of found.now) result }
+{
     if found.get_flag(PETSCII.name) {
         Notation::Signs
     } else {
@@ -77,7 +99,9 @@ pub fn notation_of(found: &ArgMatches<'_>) -> Notation {
 }
 
 /// Where the tidy text of a source goes. The parser lets at most one of the two options through.
-pub fn target_of(found: &ArgMatches<'_>) -> FormatTarget {
+pub fn target_of(found: &ArgMatches<'_>) -> FormatTarget
+    ensures { spec.IsTarget (found_of found.now) result }
+{
     if in_place_of(found) {
         FormatTarget::InPlace
     } else if found.get_flag(ONLY_CHECK.name) {
@@ -88,7 +112,9 @@ pub fn target_of(found: &ArgMatches<'_>) -> FormatTarget {
 }
 
 /// The assembler that a listing is for. The parser lets no other name through.
-pub fn dialect_of(found: &ArgMatches<'_>) -> Option<Dialect> {
+pub fn dialect_of(found: &ArgMatches<'_>) -> Option<Dialect>
+    ensures { result ≡ spec.dialect_in (found_of found.now) }
+{
     match found.get_str(FOR.name)? {
         "64tass" => Some(Dialect::Tass64),
         "ca65" => Some(Dialect::Ca65),
@@ -99,32 +125,50 @@ pub fn dialect_of(found: &ArgMatches<'_>) -> Option<Dialect> {
 }
 
 /// Whether a new text takes the source's place.
-pub fn in_place_of(found: &ArgMatches<'_>) -> bool {
+#[tactic(auto, using(crate::proofs::Found::flag_said))]
+pub fn in_place_of(found: &ArgMatches<'_>) -> bool
+    ensures { spec.IsFlag (found_of found.now) (codes "in-place") result }
+{
     found.get_flag(IN_PLACE.name)
 }
 
 /// The first new line number, or the step to the next one.
-pub fn line_number_of(found: &ArgMatches<'_>, argument: &Argument) -> u16 {
+#[tactic(auto, using(crate::proofs::Found::number_read))]
+pub fn line_number_of(found: &ArgMatches<'_>, argument: &Argument) -> u16
+    ensures { spec.IsNumber (found_of found.now) argument.now.name.now USUAL_STEP result }
+{
     found.get_one::<u16>(argument.name).unwrap_or(USUAL_STEP)
 }
 
 /// The seed of rude events, if they are wanted.
-pub fn rude_of(found: &ArgMatches<'_>) -> Option<u16> {
+#[tactic(auto, using(crate::proofs::Found::number_read))]
+pub fn rude_of(found: &ArgMatches<'_>) -> Option<u16>
+    ensures { spec.IsOptionalNumber (found_of found.now) (codes "rude") result }
+{
     found.get_one::<u16>(RUDE.name)
 }
 
 /// Whether branches that don't reach are made long.
-pub fn long_of(found: &ArgMatches<'_>) -> bool {
+#[tactic(auto, using(crate::proofs::Found::flag_said))]
+pub fn long_of(found: &ArgMatches<'_>) -> bool
+    ensures { spec.IsFlag (found_of found.now) (codes "long") result }
+{
     found.get_flag(LONG.name)
 }
 
 /// Whether the machine's screen is shown.
-pub fn screen_of(found: &ArgMatches<'_>) -> bool {
+#[tactic(auto, using(crate::proofs::Found::flag_said))]
+pub fn screen_of(found: &ArgMatches<'_>) -> bool
+    ensures { spec.IsFlag (found_of found.now) (codes "screen") result }
+{
     found.get_flag(SCREEN.name)
 }
 
 /// How many events a run may take.
-pub fn limit_of(found: &ArgMatches<'_>, argument: &Argument, usual: Limit) -> Limit {
+#[tactic(auto, using(crate::proofs::Found::number_read))]
+pub fn limit_of(found: &ArgMatches<'_>, argument: &Argument, usual: Limit) -> Limit
+    ensures { spec.IsLimit (found_of found.now) argument.now.name.now usual.events result }
+{
     found
         .get_one::<u32>(argument.name)
         .and_then(Limit::new)
@@ -132,7 +176,9 @@ pub fn limit_of(found: &ArgMatches<'_>, argument: &Argument, usual: Limit) -> Li
 }
 
 /// How a program is run.
-pub fn settings_of(alloc: Global, found: &ArgMatches<'_>) -> Result<Settings, AllocError> {
+pub fn settings_of(alloc: Global, found: &ArgMatches<'_>) -> Result<Settings, AllocError>
+    ensures { IfOk result (spec.AreSettings (found_of found.now)) }
+{
     Ok(Settings {
         seed: seed_of(found),
         fit: fit_of(found),
@@ -143,7 +189,9 @@ pub fn settings_of(alloc: Global, found: &ArgMatches<'_>) -> Result<Settings, Al
     })
 }
 
-fn typed_of(alloc: Global, found: &ArgMatches<'_>) -> Result<Typed, AllocError> {
+fn typed_of(alloc: Global, found: &ArgMatches<'_>) -> Result<Typed, AllocError>
+    ensures { IfOk result (spec.IsTyped (found_of found.now)) }
+{
     if let Some(typed) = optional_text(alloc, found, &TYPE)? {
         return Ok(Typed::Text(typed));
     }
@@ -154,7 +202,9 @@ fn typed_of(alloc: Global, found: &ArgMatches<'_>) -> Result<Typed, AllocError> 
 }
 
 /// What is run.
-pub fn runnable_of(alloc: Global, found: &ArgMatches<'_>) -> Result<Runnable, AllocError> {
+pub fn runnable_of(alloc: Global, found: &ArgMatches<'_>) -> Result<Runnable, AllocError>
+    ensures { IfOk result (spec.IsRunnable (found_of found.now)) }
+{
     Ok(match optional_text(alloc, found, &PRG)? {
         Some(prg) => Runnable::Prg(prg),
         None => Runnable::Source(text(alloc, found, &SOURCE_OR_PRG)?),
@@ -162,7 +212,9 @@ pub fn runnable_of(alloc: Global, found: &ArgMatches<'_>) -> Result<Runnable, Al
 }
 
 /// The files that are written besides a PRG file.
-pub fn extras_of(alloc: Global, found: &ArgMatches<'_>) -> Result<BuildExtras, AllocError> {
+pub fn extras_of(alloc: Global, found: &ArgMatches<'_>) -> Result<BuildExtras, AllocError>
+    ensures { IfOk result (spec.AreExtras (found_of found.now)) }
+{
     Ok(BuildExtras {
         labels: optional_text(alloc, found, &LABELS)?,
         listing: optional_text(alloc, found, &LIST)?,

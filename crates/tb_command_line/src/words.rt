@@ -1,6 +1,10 @@
 //! The words of the command line, read with `clap`: they become a job.
 ghost use Rattle.std.specs.Prelude.{IfOk};
+ghost use Rattle.clap.specs.Words.{found_of};
 ghost use Rattle.tb_jobs.specs.Limits.{IsWithinLimit};
+ghost use Rattle.tb_command_line.specs.Asked.{IsAsked, IsJob, IsStem};
+ghost use Rattle.tb_command_line.specs.declared.commands.CommandName.TheVariants as command;
+ghost use Rattle.clap.specs.declared.parser.matches.Found.{Found};
 
 use crate::arguments::{
     ASSEMBLY_OUT, AT, BUILD_OUT, DISK_OUT, DISK_OUTPUT, FIRST_LINE, LABELS, LINE_STEP, LIST,
@@ -33,7 +37,8 @@ pub fn job<S: AsStr>(alloc: Global, words: &[S]) -> Result<Job, JobError>
 
 // A name that is in no row of the table is a fault of the words.
 fn with_matches(alloc: Global, matches: &ArgMatches<'_>) -> Result<Job, JobError>
-    ensures { IfOk result IsWithinLimit }
+    ensures limit { IfOk result IsWithinLimit }
+    ensures asked { IfOk result (IsAsked matches.now) }
 {
     let Some((name, found)) = matches.subcommand() else {
         return Err(JobError::Words(String::new(alloc)));
@@ -63,7 +68,8 @@ fn without_matches(alloc: Global, error: &clap::Error) -> Result<Job, JobError>
 }
 
 fn job_of(alloc: Global, command: CommandName, found: &ArgMatches<'_>) -> Result<Job, AllocError>
-    ensures { IfOk result IsWithinLimit }
+    ensures limit { IfOk result IsWithinLimit }
+    ensures asked { IfOk result (IsJob command (found_of found.now)) }
 {
     match command {
         CommandName::Build => build_job(alloc, found),
@@ -90,7 +96,8 @@ fn job_of(alloc: Global, command: CommandName, found: &ArgMatches<'_>) -> Result
 }
 
 fn build_job(alloc: Global, found: &ArgMatches<'_>) -> Result<Job, AllocError>
-    ensures { IfOk result IsWithinLimit }
+    ensures limit { IfOk result IsWithinLimit }
+    ensures asked { IfOk result (IsJob command.Build (found_of found.now)) }
 {
     let source = text(alloc, found, &SOURCE)?;
     let out = match first_text(alloc, found, &OUTPUT, &BUILD_OUT)? {
@@ -108,7 +115,8 @@ fn build_job(alloc: Global, found: &ArgMatches<'_>) -> Result<Job, AllocError>
 }
 
 fn run_job(alloc: Global, found: &ArgMatches<'_>) -> Result<Job, AllocError>
-    ensures { IfOk result IsWithinLimit }
+    ensures limit { IfOk result IsWithinLimit }
+    ensures asked { IfOk result (IsJob command.Run (found_of found.now)) }
 {
     Ok(Job::Run {
         what: runnable_of(alloc, found)?,
@@ -119,7 +127,8 @@ fn run_job(alloc: Global, found: &ArgMatches<'_>) -> Result<Job, AllocError>
 }
 
 fn play_job(alloc: Global, found: &ArgMatches<'_>) -> Result<Job, AllocError>
-    ensures { IfOk result IsWithinLimit }
+    ensures limit { IfOk result IsWithinLimit }
+    ensures asked { IfOk result (IsJob command.Play (found_of found.now)) }
 {
     Ok(Job::Play {
         what: runnable_of(alloc, found)?,
@@ -133,7 +142,8 @@ fn play_job(alloc: Global, found: &ArgMatches<'_>) -> Result<Job, AllocError>
 }
 
 fn asm_job(alloc: Global, found: &ArgMatches<'_>) -> Result<Job, AllocError>
-    ensures { IfOk result IsWithinLimit }
+    ensures limit { IfOk result IsWithinLimit }
+    ensures asked { IfOk result (IsJob command.Asm (found_of found.now)) }
 {
     Ok(Job::Asm {
         text: text(alloc, found, &TEXT)?,
@@ -143,12 +153,15 @@ fn asm_job(alloc: Global, found: &ArgMatches<'_>) -> Result<Job, AllocError>
 }
 
 // The path of an assembler text without its ending.
-fn stem_of(text: &str) -> &str {
+fn stem_of(text: &str) -> &str
+    ensures { IsStem text.now result.now }
+{
     text.strip_suffix(".asm").unwrap_or(text)
 }
 
 fn assemble_job(alloc: Global, found: &ArgMatches<'_>) -> Result<Job, AllocError>
-    ensures { IfOk result IsWithinLimit }
+    ensures limit { IfOk result IsWithinLimit }
+    ensures asked { IfOk result (IsJob command.Assemble (found_of found.now)) }
 {
     let text = text(alloc, found, &TEXT)?;
     let out = match first_text(alloc, found, &OUTPUT, &ASSEMBLY_OUT)? {
@@ -166,7 +179,8 @@ fn assemble_job(alloc: Global, found: &ArgMatches<'_>) -> Result<Job, AllocError
 }
 
 fn dis_job(alloc: Global, found: &ArgMatches<'_>) -> Result<Job, AllocError>
-    ensures { IfOk result IsWithinLimit }
+    ensures limit { IfOk result IsWithinLimit }
+    ensures asked { IfOk result (IsJob command.Dis (found_of found.now)) }
 {
     Ok(Job::Dis {
         prg: text(alloc, found, &PRG_FILE)?,
@@ -175,7 +189,8 @@ fn dis_job(alloc: Global, found: &ArgMatches<'_>) -> Result<Job, AllocError>
 }
 
 fn step_job(alloc: Global, found: &ArgMatches<'_>) -> Result<Job, AllocError>
-    ensures { IfOk result IsWithinLimit }
+    ensures limit { IfOk result IsWithinLimit }
+    ensures asked { IfOk result (IsJob command.Step (found_of found.now)) }
 {
     Ok(Job::Step {
         what: runnable_of(alloc, found)?,
@@ -184,7 +199,8 @@ fn step_job(alloc: Global, found: &ArgMatches<'_>) -> Result<Job, AllocError>
 }
 
 fn debug_job(alloc: Global, found: &ArgMatches<'_>) -> Result<Job, AllocError>
-    ensures { IfOk result IsWithinLimit }
+    ensures limit { IfOk result IsWithinLimit }
+    ensures asked { IfOk result (IsJob command.Debug (found_of found.now)) }
 {
     Ok(Job::Debug {
         what: runnable_of(alloc, found)?,
@@ -195,7 +211,8 @@ fn debug_job(alloc: Global, found: &ArgMatches<'_>) -> Result<Job, AllocError>
 }
 
 fn profile_job(alloc: Global, found: &ArgMatches<'_>) -> Result<Job, AllocError>
-    ensures { IfOk result IsWithinLimit }
+    ensures limit { IfOk result IsWithinLimit }
+    ensures asked { IfOk result (IsJob command.Profile (found_of found.now)) }
 {
     Ok(Job::Profile {
         what: runnable_of(alloc, found)?,
@@ -206,7 +223,8 @@ fn profile_job(alloc: Global, found: &ArgMatches<'_>) -> Result<Job, AllocError>
 }
 
 fn disk_job(alloc: Global, found: &ArgMatches<'_>) -> Result<Job, AllocError>
-    ensures { IfOk result IsWithinLimit }
+    ensures limit { IfOk result IsWithinLimit }
+    ensures asked { IfOk result (IsJob command.Disk (found_of found.now)) }
 {
     let first = text(alloc, found, &DISK_OUT)?;
     let mut others = texts(alloc, found, &PRG_FILES)?;
@@ -225,7 +243,8 @@ fn disk_job(alloc: Global, found: &ArgMatches<'_>) -> Result<Job, AllocError>
 }
 
 fn check_job(alloc: Global, found: &ArgMatches<'_>) -> Result<Job, AllocError>
-    ensures { IfOk result IsWithinLimit }
+    ensures limit { IfOk result IsWithinLimit }
+    ensures asked { IfOk result (IsJob command.Check (found_of found.now)) }
 {
     Ok(Job::Check {
         sources: texts(alloc, found, &SOURCES)?,
@@ -235,7 +254,8 @@ fn check_job(alloc: Global, found: &ArgMatches<'_>) -> Result<Job, AllocError>
 }
 
 fn format_job(alloc: Global, found: &ArgMatches<'_>) -> Result<Job, AllocError>
-    ensures { IfOk result IsWithinLimit }
+    ensures limit { IfOk result IsWithinLimit }
+    ensures asked { IfOk result (IsJob command.Format (found_of found.now)) }
 {
     Ok(Job::Format {
         source: text(alloc, found, &SOURCE)?,
@@ -245,7 +265,8 @@ fn format_job(alloc: Global, found: &ArgMatches<'_>) -> Result<Job, AllocError>
 }
 
 fn renumber_job(alloc: Global, found: &ArgMatches<'_>) -> Result<Job, AllocError>
-    ensures { IfOk result IsWithinLimit }
+    ensures limit { IfOk result IsWithinLimit }
+    ensures asked { IfOk result (IsJob command.Renumber (found_of found.now)) }
 {
     Ok(Job::Renumber {
         source: text(alloc, found, &SOURCE)?,
@@ -257,7 +278,8 @@ fn renumber_job(alloc: Global, found: &ArgMatches<'_>) -> Result<Job, AllocError
 }
 
 fn version_job(alloc: Global) -> Result<Job, AllocError>
-    ensures { IfOk result IsWithinLimit }
+    ensures limit { IfOk result IsWithinLimit }
+    ensures asked { (found : Found) → IfOk result (IsJob command.Version found) }
 {
     let mut text = String::from_str(alloc, "tbc ")?;
     text.push_str(VERSION)?;

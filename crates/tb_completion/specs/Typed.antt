@@ -1,5 +1,5 @@
 -- What is typed before a place of a line.
-use Rattle.std.specs.Prelude.{ℕ, zero, suc, ◌≡◌, ◌+◌, ◌-◌, Bool, true, false, ◌&&◌, ◌||◌, nat_le, nat_lt, List, [], ◌∷◌, drop, length, take, slice_get, Option, Some, None, option_map, if◌then◌else◌}
+use Rattle.std.specs.Prelude.{ℕ, zero, suc, ◌≡◌, ◌+◌, ◌-◌, Bool, true, false, ◌&&◌, ◌||◌, nat_le, List, [], ◌∷◌, drop, length, take, slice_get, Option, Some, option_map, if◌then◌else◌}
 use Rattle.tb_grammar.specs.declared.keywords.Keyword.TheVariants as keyword
 use Rattle.tb_parser.specs.Tokens.{AreTokens}
 use Rattle.tb_parser.specs.declared.lexer.Token.{Token}
@@ -44,7 +44,7 @@ is_behind_number _ = false
 
 -- the kind of the last token of a text
 abbrev pub IsKindBefore : List ℕ → Option TokenKind → Type 0
-IsKindBefore text k = (ts : List Token) × AreTokens text 0 ts × (k ≡ last_kind ts)
+IsKindBefore text k = (ts : List Token) × AreTokens text ts × (k ≡ last_kind ts)
 
 -- a text without its last bytes, so many of them
 abbrev pub without : ℕ → List ℕ → List ℕ

@@ -2,6 +2,7 @@
 #![tactic(auto)]
 
 mod candidates;
+mod continued;
 mod items;
 mod offered;
 mod typed;

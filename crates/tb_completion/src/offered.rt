@@ -4,6 +4,7 @@ ghost use Rattle.tb_completion.specs.Candidates.{spelled};
 ghost use Rattle.tb_completion.specs.Offered as spec;
 
 use crate::candidates::Candidate;
+use crate::continued::goes_on;
 use crate::typed::Typed;
 use std::alloc::{AllocError, Global};
 use tb_parser::{Notation, SourceErrorKind, read_line_in};
@@ -45,13 +46,22 @@ fn begins_line(alloc: Global, notation: Notation, line: &[u8]) -> Result<bool, A
     }
 }
 
-// Whether a text behind another one begins a line of the grammar.
-fn fits(alloc: Global, notation: Notation, base: &[u8], text: &[u8]) -> Result<bool, AllocError>
-    ensures { IfOk result (λ fits. spec.BeginsLine notation (base.now ++ text.now) fits) }
+// Whether a candidate that is spelled so fits behind a text: then it begins a line of the grammar, or goes on to one.
+fn fits(
+    alloc: Global,
+    notation: Notation,
+    base: &[u8],
+    text: &[u8],
+    candidate: Candidate,
+) -> Result<bool, AllocError>
+    ensures { IfOk result (spec.Fits notation (base.now ++ text.now) candidate) }
 {
     let mut line = Vec::from_slice(alloc, base)?;
     line.extend_from_slice(text)?;
-    begins_line(alloc, notation, line.as_slice())
+    if begins_line(alloc, notation, line.as_slice())? {
+        return Ok(true);
+    }
+    goes_on(alloc, notation, line.as_slice(), candidate)
 }
 
 // Whether a candidate goes on with a number that stands before it.
@@ -78,7 +88,7 @@ fn is_offered(
     if typed.is_closed() || joins(typed, candidate) || !begins(text, typed.part) {
         return Ok(false);
     }
-    fits(alloc, notation, typed.base, text)
+    fits(alloc, notation, typed.base, text, candidate)
 }
 
 // Appends a candidate, if it is offered.

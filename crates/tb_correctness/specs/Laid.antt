@@ -12,8 +12,8 @@ use Rattle.tb_runtime16.specs.Block.{block_bytes}
 use Rattle.tb_settling.specs.Settled.{AreFormsOf}
 use Rattle.tb_templates.specs.declared.labels.Target.TheVariants as target
 use Rattle.tb_templates.specs.Templates.{next_line}
-use Rattle.tb_templates.specs.Program.{line_code, past_code, table_code}
-use Rattle.tb_templates.specs.Search.{compares, find_code}
+use Rattle.tb_program_code.specs.Program.{line_code, past_code, table_code}
+use Rattle.tb_program_code.specs.Search.{compares, find_code}
 use Rattle.tb_reaching.specs.View.{Part, Bytes}
 use Rattle.tb_simulation.specs.Layout.{Lies, label_address, place_address, layout_of}
 

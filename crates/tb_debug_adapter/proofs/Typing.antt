@@ -1,7 +1,7 @@
 -- A line that is typed.
 use Rattle.std.proofs.Common.{rules, ◌≡◌, ◌≤◌, ◌-◌, Bool, false, nat_lt, List, ℕ, length, sym, subst}
 use Rattle.tb_play.specs.Lines.{keys_of_text}
-use Rattle.tb_debug_adapter.specs.Said.{Saying}
+use Rattle.tb_adapter_requests.specs.Said.{Saying}
 use Rattle.tb_debug_adapter.specs.Sessions.{Resumes, TakesKeys, TakesLine, Types, most_typed, status_of, waits}
 use Rattle.tb_debug_adapter.specs.declared.session.Session.{Session}
 

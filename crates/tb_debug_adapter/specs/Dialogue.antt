@@ -27,7 +27,7 @@ use Rattle.tb_source_names.specs.Sources.{AreLinesOf}
 use Rattle.tb_streams.specs.Streams.{AppendsPrefix}
 use Rattle.tb_streams.specs.declared.stream.InputError.{InputError}
 use Rattle.tb_debug_adapter.specs.Greeting.{Greets}
-use Rattle.tb_debug_adapter.specs.Said.{AreFrames, Saying, complaint_of, seen}
+use Rattle.tb_adapter_requests.specs.Said.{AreFrames, Saying, complaint_of, seen}
 use Rattle.tb_debug_adapter.specs.Sessions.{Takes, opening}
 use Rattle.tb_debug_adapter.specs.declared.dialogue.Heard.{Heard}
 use Rattle.tb_debug_adapter.specs.declared.dialogue.Heard.TheVariants as heard
@@ -36,8 +36,8 @@ use Rattle.tb_debug_adapter.specs.declared.dialogue.Turn.{Turn}
 use Rattle.tb_debug_adapter.specs.declared.dialogue.Turn.TheVariants as turn
 use Rattle.tb_debug_adapter.specs.declared.greeting.Greeting.{Greeting}
 use Rattle.tb_debug_adapter.specs.declared.greeting.Greeting.TheVariants as greeting
-use Rattle.tb_debug_adapter.specs.declared.launching.Plan.{Plan}
-use Rattle.tb_debug_adapter.specs.declared.loading.Loaded.{Loaded}
+use Rattle.tb_adapter_requests.specs.declared.launching.Plan.{Plan}
+use Rattle.tb_adapter_requests.specs.declared.loading.Loaded.{Loaded}
 use Rattle.tb_debug_adapter.specs.declared.outcome.AdapterOutcome.{AdapterOutcome}
 use Rattle.tb_debug_adapter.specs.declared.outcome.AdapterOutcome.TheVariants.{Ended, BadFrame, ReadFault, WriteFault, NoMemory}
 use Rattle.tb_debug_adapter.specs.declared.session.Session.{Session}

@@ -9,13 +9,13 @@ use Rattle.tb_adapter_values.specs.declared.requests.Command.{Command}
 use Rattle.tb_adapter_values.specs.declared.requests.Command.TheVariants as command
 use Rattle.tb_parser.specs.declared.notation.Notation.{Notation}
 use Rattle.tb_streams.specs.declared.stream.InputError.{InputError}
-use Rattle.tb_debug_adapter.specs.Launching.{Asked, is_understood, launch_in}
-use Rattle.tb_debug_adapter.specs.Loading.{Loads}
-use Rattle.tb_debug_adapter.specs.Said.{Saying, done, refused, seen}
+use Rattle.tb_adapter_requests.specs.Launching.{Asked, is_understood, launch_in}
+use Rattle.tb_adapter_requests.specs.Loading.{Loads}
+use Rattle.tb_adapter_requests.specs.Said.{Saying, done, refused, seen}
 use Rattle.tb_debug_adapter.specs.declared.greeting.Greeting.{Greeting}
 use Rattle.tb_debug_adapter.specs.declared.greeting.Greeting.TheVariants as greeting
-use Rattle.tb_debug_adapter.specs.declared.loading.Loading.{Loading}
-use Rattle.tb_debug_adapter.specs.declared.loading.Loading.TheVariants as loading
+use Rattle.tb_adapter_requests.specs.declared.loading.Loading.{Loading}
+use Rattle.tb_adapter_requests.specs.declared.loading.Loading.TheVariants as loading
 
 -- this is said, and nothing else
 abbrev pub SaysAlone : Saying → Greeting → Type 0

@@ -1,10 +1,4 @@
-pub mod Asking
 pub mod Dialogue
 pub mod Greeting
-pub mod Launching
-pub mod Loading
 pub mod Outcomes
-pub mod Said
 pub mod Sessions
-pub mod Setting
-pub mod Stops

@@ -36,16 +36,16 @@ use Rattle.tb_play.specs.Lines.{keys_of_text}
 use Rattle.tb_streams.specs.HostForm.{host_form_of}
 use Rattle.tb_words.specs.Words.{word_of}
 use Rattle.tb_words.specs.declared.Letter.{Letter}
-use Rattle.tb_debug_adapter.specs.Asking.{Evaluation, bad, code, expression, memory, question_in, stack, typed, variables, watchable}
-use Rattle.tb_debug_adapter.specs.Said.{Saying, done, event, output_of, refused}
-use Rattle.tb_debug_adapter.specs.Setting.{Asked, breakpoints_in, index_of, elsewhere_body, letters_of, lines_of, placed_body, watched_body, watches_in}
-use Rattle.tb_debug_adapter.specs.Stops.{leads_back, stop_ahead, stop_behind, stop_of}
-use Rattle.tb_debug_adapter.specs.declared.setting.Wanted.{Wanted}
+use Rattle.tb_adapter_requests.specs.Asking.{Evaluation, bad, code, expression, memory, question_in, stack, typed, variables, watchable}
+use Rattle.tb_adapter_requests.specs.Said.{Saying, done, event, output_of, refused}
+use Rattle.tb_adapter_requests.specs.Setting.{Asked, breakpoints_in, index_of, elsewhere_body, letters_of, lines_of, placed_body, watched_body, watches_in}
+use Rattle.tb_adapter_requests.specs.Stops.{leads_back, stop_ahead, stop_behind, stop_of}
+use Rattle.tb_adapter_requests.specs.declared.setting.Wanted.{Wanted}
 use Rattle.tb_debug_adapter.specs.declared.session.Session.{Session}
 use Rattle.tb_debug_adapter.specs.declared.session.Stage.{Stage}
 use Rattle.tb_debug_adapter.specs.declared.session.Stage.TheVariants.{Loaded, Started, Terminated}
-use Rattle.tb_debug_adapter.specs.declared.stops.Stop.{Stop}
-use Rattle.tb_debug_adapter.specs.declared.stops.Stop.TheVariants as stop
+use Rattle.tb_adapter_requests.specs.declared.stops.Stop.{Stop}
+use Rattle.tb_adapter_requests.specs.declared.stops.Stop.TheVariants as stop
 
 -- ---- what is barred
 

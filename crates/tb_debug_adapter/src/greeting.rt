@@ -2,16 +2,14 @@
 ghost use Rattle.std.specs.Prelude.{◌≡◌, IfOk, option_map};
 ghost use Rattle.serde_json.specs.View.{view};
 ghost use Rattle.tb_debug_adapter.specs.Greeting as spec;
-ghost use Rattle.tb_debug_adapter.specs.Launching.{asked_of};
-ghost use Rattle.tb_debug_adapter.specs.Said.{seen};
+ghost use Rattle.tb_adapter_requests.specs.Launching.{asked_of};
+ghost use Rattle.tb_adapter_requests.specs.Said.{seen};
 
-use crate::launching::{Launch, is_understood, launch_in};
-use crate::loading::{Loaded, Loading, load};
-use crate::said::Said;
 use crate::session::{alone, refused};
 use serde_json::Value;
 use std::alloc::{AllocError, Global};
 use tb_adapter_messages::Refusal;
+use tb_adapter_requests::{Launch, Loaded, Loading, Said, is_understood, launch_in, load};
 use tb_adapter_values::{Command, capabilities_body};
 use tb_check_engine::Sources;
 use tb_codegen::Notation;

@@ -3,25 +3,22 @@ ghost use Rattle.std.specs.Prelude.{◌≡◌, ◌+◌, ◌<◌, ◌^◌, ◌∷
 ghost use Rattle.serde_json.specs.View.{view};
 ghost use Rattle.tb_adapter_values.specs.Bodies as bodies;
 ghost use Rattle.tb_adapter_views.specs.Evaluation.{seen as value_seen};
-ghost use Rattle.tb_debug_adapter.specs.Asking.{asked_by, expression};
-ghost use Rattle.tb_debug_adapter.specs.Said.{done, seen};
-ghost use Rattle.tb_debug_adapter.specs.Setting.{asked_of, elsewhere_body};
-ghost use Rattle.tb_debug_adapter.specs.Setting.{indices_of};
-ghost use Rattle.tb_debug_adapter.specs.Stops.{leads_back};
+ghost use Rattle.tb_adapter_requests.specs.Asking.{asked_by, expression};
+ghost use Rattle.tb_adapter_requests.specs.Said.{done, seen};
+ghost use Rattle.tb_adapter_requests.specs.Setting.{asked_of, elsewhere_body};
+ghost use Rattle.tb_adapter_requests.specs.Setting.{indices_of};
+ghost use Rattle.tb_adapter_requests.specs.Stops.{leads_back};
 ghost use Rattle.tb_debug_adapter.specs.Sessions.{barred_move};
 ghost use Rattle.tb_debug_adapter.specs.Sessions as spec;
 
-use crate::asking::{Question, code, memory, question_in, stack, variables, watchable};
-use crate::launching::Plan;
-use crate::said::{Said, output};
-use crate::setting::{
-    Breakpoints, Wanted, breakpoints_in, letters_of, lines_of, placed_body, watched_body,
-    watches_in,
-};
-use crate::stops::{Stop, leads_back, stop_ahead, stop_behind, stop_event};
 use serde_json::Value;
 use std::alloc::{AllocError, Global};
 use tb_adapter_messages::Refusal;
+use tb_adapter_requests::{
+    Breakpoints, Plan, Question, Said, Stop, Wanted, breakpoints_in, code, elsewhere_body,
+    leads_back, letters_of, lines_of, memory, output, placed_body, question_in, stack, stop_ahead,
+    stop_behind, stop_event, variables, watchable, watched_body, watches_in,
+};
 use tb_adapter_values::{
     Command, Movement, all_continued_body, continued_body, exited_body, optional_text, scopes_body,
     threads_body, typed_body,
@@ -634,7 +631,7 @@ impl<'a> Session<'a> {
     fn place_elsewhere(&self, alloc: Global, count: usize) -> Result<Vec<Said>, AllocError>
         ensures { IfOk result (λ said. map seen said.items ≡ done (Some (elsewhere_body count)) ∷ []) }
     {
-        let body = crate::setting::elsewhere_body(alloc, count)?;
+        let body = elsewhere_body(alloc, count)?;
         alone(alloc, Said::Done(Some(body)))
     }
 

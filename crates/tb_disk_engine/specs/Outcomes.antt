@@ -1,6 +1,6 @@
 -- The exit statuses of making disks.
 use Rattle.std.specs.Prelude.{ℕ}
-use Rattle.tb_streams.specs.declared.status.TheConstants.{DONE, REFUSED, FAULT, NO_MEMORY}
+use Rattle.tb_streams.specs.Numbers.{DONE, REFUSED, FAULT, NO_MEMORY}
 use Rattle.tb_disk_engine.specs.declared.outcome.DiskOutcome.{DiskOutcome}
 use Rattle.tb_disk_engine.specs.declared.outcome.DiskOutcome.TheVariants.{Done, Refused, ReadFault, WriteFault, NoMemory}
 

@@ -3,7 +3,7 @@ use Rattle.std.specs.Prelude.{ℕ, List, Option, Result, Ok, Err}
 use Rattle.std.specs.Io.KnownBytes.{Appends, Keeps}
 use Rattle.tb_streams.specs.Streams.{Reads, AppendsPrefix}
 use Rattle.tb_streams.specs.Uses.{Use, Fails, NeverFails, MayFault}
-use Rattle.tb_streams.specs.declared.status.TheConstants.{DONE, REFUSED, FAULT, NO_MEMORY, STEP_LIMIT, WAITS_FOR_KEY, WENT_WRONG}
+use Rattle.tb_streams.specs.Numbers.{DONE, REFUSED, FAULT, NO_MEMORY, STEP_LIMIT, WAITS_FOR_KEY, WENT_WRONG}
 use Rattle.tb_engines.specs.declared.outcome.End.{End}
 use Rattle.tb_engines.specs.declared.outcome.End.TheVariants.{Done, StepLimit, WaitsForKey, WentWrong}
 use Rattle.tb_engines.specs.declared.outcome.Refusal.{Refusal}

@@ -1,6 +1,7 @@
 -- Commands that end before any file is opened.
 use Rattle.std.proofs.Common.{◌≡◌, ℕ, List, Err, inl, refl, sym, subst}
 use Rattle.tb_files.specs.Deeds.{Deed}
+use Rattle.tb_codegen.specs.declared.settings.CompileSettings.{CompileSettings}
 use Rattle.tb_codegen.specs.declared.settings.SizeLimit.{SizeLimit}
 use Rattle.tb_codegen.specs.declared.settings.SizeLimit.TheVariants.{Cost, Memory}
 use Rattle.tb_engines.specs.declared.outcome.Outcome.{Outcome}
@@ -22,13 +23,15 @@ module _ {F : Type 0} (does : F → Deed → F → Type 0) (f : F) where
   disk_unmade inputs outputs = (Err NoMemory, refl, inl (0, refl))
 
   -- there was no memory for a build, whatever limits its size
-  nothing_built : (source : List ℕ) (names : BuildNames) (size : SizeLimit) → Builds does f source names size outcome.NoMemory f
-  nothing_built source names Cost = (outcome.NoMemory, f, (Err NoMemory, refl, inl (0, refl)), (refl, refl))
-  nothing_built source names Memory = (outcome.NoMemory, f, (Err NoMemory, refl, inl (0, refl)), (refl, refl))
+  nothing_built : (source : List ℕ) (names : BuildNames) (settings : CompileSettings) (size : SizeLimit) → settings.size ≡ size
+      → Builds does f source names settings outcome.NoMemory f
+  nothing_built source names settings Cost is = (outcome.NoMemory, f, (Err NoMemory, refl, inl (0, refl)), rw is (refl, refl))
+  nothing_built source names settings Memory is = (outcome.NoMemory, f, (Err NoMemory, refl, inl (0, refl)), rw is (refl, refl))
 
-  pub not_built : (source : List ℕ) (names : BuildNames) (size : SizeLimit) (ends : Outcome) → ends ≡ outcome.NoMemory
-      → Builds does f source names size ends f
-  not_built source names size ends is = subst (λ o. Builds does f source names size o f) (sym is) (nothing_built source names size)
+  pub not_built : (source : List ℕ) (names : BuildNames) (settings : CompileSettings) (ends : Outcome) → ends ≡ outcome.NoMemory
+      → Builds does f source names settings ends f
+  not_built source names settings ends is =
+      subst (λ o. Builds does f source names settings o f) (sym is) (nothing_built source names settings settings.size refl)
 
 -- a disk was not made
 pub ruleset undone = (disk_refused, disk_unmade)

@@ -1,6 +1,10 @@
 -- What a build does with files.
-use Rattle.std.specs.Prelude.{◌≡◌, ℕ, Bool, true, false, List, [], ◌∷◌, ◌++◌, Option, Some, None, option_map, Result, Ok, Err, MatchBool}
-use Rattle.tb_files.specs.Deeds.{Deed, Transfers}
+use Rattle.std.specs.Prelude.{◌≡◌, ◌⊎◌, ℕ, Bool, true, false, List, [], ◌∷◌, ◌++◌, Option, Some, None, option_map, Result, Ok, Err, MatchBool}
+use Rattle.tb_files.specs.Deeds.{Deed, Opens, Saves, Did, Opened, Saved}
+use Rattle.tb_meaning.specs.declared.missing.Warning.{Warning}
+use Rattle.tb_build_engine.specs.Maps.{MapsSource}
+use Rattle.tb_engines.specs.Outcomes.{MadeFrom}
+use Rattle.tb_engines.specs.declared.outcome.End.{End}
 use Rattle.tb_codegen.specs.declared.settings.CompileSettings.{CompileSettings}
 use Rattle.tb_codegen.specs.declared.settings.SizeLimit.{SizeLimit}
 use Rattle.tb_codegen.specs.declared.settings.SizeLimit.TheVariants.{Cost, Memory}
@@ -76,18 +80,34 @@ ends_by refusal (Err ReadFault) = outcome.ReadFault
 ends_by refusal (Err WriteFault) = outcome.WriteFault
 ends_by refusal (Err NoMemory) = outcome.NoMemory
 
+-- a text is the map of the program of all that a reader had, by these settings
+abbrev pub IsMapOf : CompileSettings → Option (List ℕ) → List ℕ → Type 0
+IsMapOf settings had text = (warnings : List Warning) × (end : End) × MadeFrom had (MapsSource settings warnings) (Ok (text, end))
+
+-- the same settings, but that the memory limits the size
+abbrev pub sized_by_memory : CompileSettings → CompileSettings
+sized_by_memory settings = record settings { size = Memory }
+
+-- the source was opened, and then its map by these settings was written; or this broke off
+abbrev pub MapsFile : {F E : Type 0} → (F → Deed → F → Type 0) → F → List ℕ → CompileSettings → List ℕ → Result Unit E → F → Type 0
+MapsFile does f source settings map (Ok u) g =
+    (h : _) × (had : Option (List ℕ)) × (text : List ℕ) × IsMapOf settings had text × Did does f (Opens source ∷ []) h × Did does h (Saves map text ∷ []) g
+MapsFile does f source settings map (Err e) g =
+    Opened does f (source ∷ []) g
+    ⊎ ((h : _) × (had : Option (List ℕ)) × (text : List ℕ) × IsMapOf settings had text × Did does f (Opens source ∷ []) h × Saved does h (map ∷ []) (text ∷ []) g)
+
 -- the map of a source that is refused, if it is wanted, and how the build ends then
-abbrev pub Maps : {F : Type 0} → (F → Deed → F → Type 0) → F → List ℕ → Option (List ℕ) → Outcome → Outcome → F → Type 0
-Maps does f source None refusal outcome g = (outcome ≡ refusal) × (g ≡ f)
-Maps does f source (Some map) refusal outcome g =
-    (done : Result Unit (Stop Refusal)) × (outcome ≡ ends_by refusal done) × Transfers does f (source ∷ []) (map ∷ []) done g
+abbrev pub Maps : {F : Type 0} → (F → Deed → F → Type 0) → F → List ℕ → CompileSettings → Option (List ℕ) → Outcome → Outcome → F → Type 0
+Maps does f source settings None refusal outcome g = (outcome ≡ refusal) × (g ≡ f)
+Maps does f source settings (Some map) refusal outcome g =
+    (done : Result Unit (Stop Refusal)) × (outcome ≡ ends_by refusal done) × MapsFile does f source (sized_by_memory settings) map done g
 
 -- what a build did with files, by how writing all of it ended; the map is made after that, if the source costs too much
-abbrev pub Follows : {F : Type 0} → (F → Deed → F → Type 0) → F → List ℕ → BuildNames → SizeLimit → Outcome → Outcome → F → Type 0
-Follows does f source names size first outcome g =
-    MatchBool (costs_too_much size first) (Maps does f source (map_of names) first outcome g) ((outcome ≡ first) × (g ≡ f))
+abbrev pub Follows : {F : Type 0} → (F → Deed → F → Type 0) → F → List ℕ → BuildNames → CompileSettings → Outcome → Outcome → F → Type 0
+Follows does f source names settings first outcome g =
+    MatchBool (costs_too_much settings.size first) (Maps does f source settings (map_of names) first outcome g) ((outcome ≡ first) × (g ≡ f))
 
 -- what a build did with files, by how it ended
-abbrev pub Builds : {F : Type 0} → (F → Deed → F → Type 0) → F → List ℕ → BuildNames → SizeLimit → Outcome → F → Type 0
-Builds does f source names size outcome g =
-    (first : Outcome) × (h : _) × Ends does f (source ∷ []) (outputs_of names) first h × Follows does h source names size first outcome g
+abbrev pub Builds : {F : Type 0} → (F → Deed → F → Type 0) → F → List ℕ → BuildNames → CompileSettings → Outcome → F → Type 0
+Builds does f source names settings outcome g =
+    (first : Outcome) × (h : _) × Ends does f (source ∷ []) (outputs_of names) first h × Follows does h source names settings first outcome g

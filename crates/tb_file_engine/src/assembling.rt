@@ -1,5 +1,5 @@
 //! Assembling the text of a file.
-ghost use Rattle.std.specs.Prelude.{◌∷◌, []};
+ghost use Rattle.std.specs.Prelude.{◌∷◌, [], ⊤};
 ghost use Rattle.tb_file_engine.specs.Outcomes.{Ends};
 
 use crate::saving::{Stop, made_in_memory, outcome_of, unread, unwritten};
@@ -20,11 +20,15 @@ struct Assembly {
 impl Work for Assembly {
     type End = Stop<Refusal>;
 
-    fn look_at(&mut self, _path: &str) -> Result<(), Stop<Refusal>> {
+    ghost takes = { λ _ _ _ _. ⊤ };
+
+    ghost makes = { λ _ _. ⊤ };
+
+    fn look_at(&self, _path: &str) -> Result<(), Stop<Refusal>> {
         Ok(())
     }
 
-    fn take<R: Read>(&mut self, input: &mut Tracked<R>) -> Result<(), Stop<Refusal>> {
+    fn take<R: Read>(&mut self, _path: &str, input: &mut Tracked<R>) -> Result<(), Stop<Refusal>> {
         let mut image = Tracked::new(Vec::new(self.alloc));
         made_in_memory(asm_text(self.alloc, input, &mut image, self.at))?;
         match self.made.push(image.stream) {

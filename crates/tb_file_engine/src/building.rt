@@ -1,6 +1,6 @@
 //! Building a source's file: the PRG file, and the files of the texts that tell of its program.
-ghost use Rattle.std.specs.Prelude.{◌≡◌, ◌++◌, IfOk, map, option_map};
-ghost use Rattle.tb_file_engine.specs.Builds.{Builds, Maps, costs_too_much, outputs_of, wanted};
+ghost use Rattle.std.specs.Prelude.{◌≡◌, ◌++◌, ⊤, IfOk, map, option_map};
+ghost use Rattle.tb_file_engine.specs.Builds.{Builds, IsMapOf, Maps, costs_too_much, ends_by, outputs_of, wanted};
 
 use crate::saving::{Stop, made_in_memory, outcome_of, unread, unwritten};
 use std::alloc::{AllocError, Global};
@@ -112,11 +112,15 @@ impl Build<'_> {
 impl Work for Build<'_> {
     type End = Stop<Refusal>;
 
-    fn look_at(&mut self, _path: &str) -> Result<(), Stop<Refusal>> {
+    ghost takes = { λ _ _ _ _. ⊤ };
+
+    ghost makes = { λ _ _. ⊤ };
+
+    fn look_at(&self, _path: &str) -> Result<(), Stop<Refusal>> {
         Ok(())
     }
 
-    fn take<R: Read>(&mut self, input: &mut Tracked<R>) -> Result<(), Stop<Refusal>> {
+    fn take<R: Read>(&mut self, _path: &str, input: &mut Tracked<R>) -> Result<(), Stop<Refusal>> {
         let mut files = BuildFiles {
             out: Tracked::new(Vec::new(self.alloc)),
             labels: in_memory(self.alloc, self.names.labels),
@@ -169,15 +173,22 @@ struct Map {
 }
 
 impl Work for Map {
+    ghost use Rattle.std.specs.Prelude.{◌≡◌, [], ◌∷◌};
+
     type End = Stop<Refusal>;
 
-    fn look_at(&mut self, _path: &str) -> Result<(), Stop<Refusal>> {
+    ghost takes = { λ w _ had v. IsMapOf w.settings had v.made.items };
+
+    ghost makes = { λ w texts. texts ≡ w.made.items ∷ [] };
+
+    fn look_at(&self, _path: &str) -> Result<(), Stop<Refusal>> {
         Ok(())
     }
 
-    fn take<R: Read>(&mut self, input: &mut Tracked<R>) -> Result<(), Stop<Refusal>> {
+    fn take<R: Read>(&mut self, _path: &str, input: &mut Tracked<R>) -> Result<(), Stop<Refusal>> {
         let mut map = Tracked::new(Vec::new(self.alloc));
-        made_in_memory(map_source(self.alloc, input, &mut map, self.settings).outcome)?;
+        let report = map_source(self.alloc, input, &mut map, self.settings);
+        made_in_memory(report.outcome)?;
         self.made = map.stream;
         Ok(())
     }
@@ -205,21 +216,31 @@ fn map_refused<F: FileSystem>(
     alloc: Global,
     files: &mut F,
     source: &str,
-    seed: u16,
+    settings: CompileSettings,
     map: Option<&str>,
     refusal: Outcome,
 ) -> Outcome
-    ensures { Maps F.does files.old source.now (option_map (λ p. p.now) map.entry) refusal result files.new }
+    ensures { Maps F.does files.old source.now settings (option_map (λ p. p.now) map.entry) refusal result files.new }
 {
     let Some(map) = map else {
         return refusal;
     };
     let mut work = Map {
         alloc,
-        settings: CompileSettings::by_memory(seed),
+        settings: CompileSettings {
+            size: SizeLimit::Memory,
+            ..settings
+        },
         made: Vec::new(alloc),
     };
-    match transfer(files, &mut work, &[source], &[map]) {
+    ends_by(refusal, transfer(files, &mut work, &[source], &[map]))
+}
+
+// How a build ends whose source costs too much, by how its map was made and written.
+fn ends_by(refusal: Outcome, done: Result<(), Stop<Refusal>>) -> Outcome
+    ensures { result ≡ ends_by refusal done }
+{
+    match done {
         Ok(()) | Err(Stop::Refused(_)) => refusal,
         Err(stop) => outcome_of(Err(stop)),
     }
@@ -245,7 +266,7 @@ pub fn build_file<F: FileSystem>(
     settings: CompileSettings,
     names: BuildNames<'_>,
 ) -> Report
-    ensures { Builds F.does files.old source.now names.entry settings.size result.outcome files.new }
+    ensures { Builds F.does files.old source.now names.entry settings result.outcome files.new }
 {
     let Ok(paths) = paths_of(alloc, names) else {
         return Report::new(alloc, Outcome::NoMemory);
@@ -259,7 +280,7 @@ pub fn build_file<F: FileSystem>(
     };
     let outcome = outcome_of(transfer(files, &mut work, &[source], paths.as_slice()));
     if costs_too_much(settings, outcome) {
-        let outcome = map_refused(alloc, files, source, settings.seed, names.map, outcome);
+        let outcome = map_refused(alloc, files, source, settings, names.map, outcome);
         return Report::new(alloc, outcome);
     }
     match (work.told, outcome) {

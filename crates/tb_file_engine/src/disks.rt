@@ -1,44 +1,49 @@
 //! Disk images of PRG files.
-ghost use Rattle.std.specs.Prelude.{◌≡◌, ◌≢◌, ◌∷◌, [], false, map, string_bytes, IfOk};
+ghost use Rattle.std.specs.Prelude.{◌≡◌, ◌≢◌, ◌∷◌, [], false, map, string_bytes, IfOk, ⊤};
 ghost use Rattle.tb_files.specs.Names.{ends_as, image_ending, standard};
 ghost use Rattle.tb_file_engine.specs.Outcomes.{EndsDisk, disk_outcome_of};
 
 use crate::saving::{Stop, unread, unwritten};
 use std::alloc::{AllocError, Global};
 use std::io::Read;
-use tb_disk_engine::{DiskFiles, DiskOutcome, DiskRefusal, Name};
+use tb_disk_engine::{DiskFiles, DiskOutcome, DiskRefusal};
 use tb_files::{FileSystem, STANDARD, Trouble, Work, is_image_name, transfer};
 use tb_streams::Tracked;
 
-// The files for a disk that were taken in, and the name of the next one.
+// The files for a disk that were taken in.
 #[derive(Drop)]
 struct Disk<'a> {
     alloc: Global,
     out: &'a str,
     taken: Option<DiskFiles>,
-    name: Option<Name>,
 }
 
 impl Work for Disk<'_> {
     type End = Stop<DiskRefusal>;
 
+    ghost takes = { λ _ _ _ _. ⊤ };
+
+    ghost makes = { λ _ _. ⊤ };
+
     // A file's name is looked at before the file is opened.
-    fn look_at(&mut self, path: &str) -> Result<(), Stop<DiskRefusal>> {
-        if let Some(taken) = &self.taken {
-            match taken.name(self.alloc, path) {
-                Ok(name) => self.name = Some(name),
-                Err(outcome) => return Err(stop_of(outcome)),
-            }
+    fn look_at(&self, path: &str) -> Result<(), Stop<DiskRefusal>> {
+        let Some(taken) = &self.taken else {
+            return Ok(());
+        };
+        match taken.name(self.alloc, path) {
+            Ok(_) => Ok(()),
+            Err(outcome) => Err(stop_of(outcome)),
         }
-        Ok(())
     }
 
-    fn take<R: Read>(&mut self, input: &mut Tracked<R>) -> Result<(), Stop<DiskRefusal>> {
-        if let (Some(taken), Some(name)) = (self.taken.take(), self.name.take()) {
-            match taken.add(self.alloc, name, input) {
-                Ok(taken) => self.taken = Some(taken),
-                Err(outcome) => return Err(stop_of(outcome)),
-            }
+    fn take<R: Read>(
+        &mut self,
+        path: &str,
+        input: &mut Tracked<R>,
+    ) -> Result<(), Stop<DiskRefusal>> {
+        if let Some(taken) = self.taken.take() {
+            let name = taken.name(self.alloc, path).map_err(stop_of)?;
+            self.taken = Some(taken.add(self.alloc, name, input).map_err(stop_of)?);
         }
         Ok(())
     }
@@ -126,7 +131,6 @@ pub fn disk_file<F: FileSystem>(
         alloc,
         out,
         taken: Some(DiskFiles::new(alloc)),
-        name: None,
     };
     disk_outcome_of(transfer(files, &mut work, inputs.as_slice(), &[out]))
 }

@@ -1,5 +1,5 @@
 //! A source whose tidy text takes its place.
-ghost use Rattle.std.specs.Prelude.{◌≡◌};
+ghost use Rattle.std.specs.Prelude.{◌≡◌, ⊤};
 ghost use Rattle.tb_file_engine.specs.Outcomes.{EndsFormat, format_outcome_of};
 
 use std::alloc::Global;
@@ -22,11 +22,15 @@ struct Formatting {
 impl Work for Formatting {
     type End = FormatOutcome;
 
-    fn look_at(&mut self, _path: &str) -> Result<(), FormatOutcome> {
+    ghost takes = { λ _ _ _ _. ⊤ };
+
+    ghost makes = { λ _ _. ⊤ };
+
+    fn look_at(&self, _path: &str) -> Result<(), FormatOutcome> {
         Ok(())
     }
 
-    fn take<R: Read>(&mut self, input: &mut Tracked<R>) -> Result<(), FormatOutcome> {
+    fn take<R: Read>(&mut self, _path: &str, input: &mut Tracked<R>) -> Result<(), FormatOutcome> {
         let formatted = Formatted::read(self.alloc, input, self.notation)?;
         self.formatted = Some(formatted);
         Ok(())

@@ -1,5 +1,5 @@
 //! A source whose text with other line numbers takes its place.
-ghost use Rattle.std.specs.Prelude.{◌≡◌};
+ghost use Rattle.std.specs.Prelude.{◌≡◌, ⊤};
 ghost use Rattle.tb_file_engine.specs.Outcomes.{EndsRenumber, renumber_outcome_of};
 
 use std::alloc::Global;
@@ -22,11 +22,19 @@ struct Renumbering {
 impl Work for Renumbering {
     type End = RenumberOutcome;
 
-    fn look_at(&mut self, _path: &str) -> Result<(), RenumberOutcome> {
+    ghost takes = { λ _ _ _ _. ⊤ };
+
+    ghost makes = { λ _ _. ⊤ };
+
+    fn look_at(&self, _path: &str) -> Result<(), RenumberOutcome> {
         Ok(())
     }
 
-    fn take<R: Read>(&mut self, input: &mut Tracked<R>) -> Result<(), RenumberOutcome> {
+    fn take<R: Read>(
+        &mut self,
+        _path: &str,
+        input: &mut Tracked<R>,
+    ) -> Result<(), RenumberOutcome> {
         let renumbered = RenumberedSource::read(self.alloc, input, self.notation, self.numbering)?;
         match self.made.push(renumbered.into_text()) {
             Ok(()) => Ok(()),

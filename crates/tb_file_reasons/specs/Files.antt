@@ -3,7 +3,7 @@ use Rattle.std.specs.Prelude.{ℕ, nat_lt, Option, Some, None, if◌then◌else�
 use Rattle.std.specs.declared.io.ErrorKind.{ErrorKind}
 use Rattle.std.specs.declared.io.ErrorKind.TheVariants as error
 use Rattle.tb_streams.specs.Streams.{most_input}
-use Rattle.tb_streams.specs.declared.key_files.TheConstants.{MOST_KEY_FILE}
+use Rattle.tb_streams.specs.Numbers.{MOST_KEY_FILE}
 use Rattle.tb_file_reasons.specs.declared.files.Purpose.{Purpose}
 use Rattle.tb_file_reasons.specs.declared.files.Purpose.TheVariants.{Input, Keys, Output}
 use Rattle.tb_file_reasons.specs.declared.files.Told.{Told}

@@ -1,8 +1,9 @@
 -- Deeds that go on, or break off.
-use Rattle.std.proofs.Common.{◌≡◌, ◌⊎◌, inl, inr, ℕ, List, [], ◌∷◌, map, take, drop, length, ◌-◌, ◌≤◌, get_or, suc, refl, subst, sym, ap, arith, Bor, Vec, Result, Ok, Err, OnErr}
+use Rattle.std.proofs.Common.{◌≡◌, ◌⊎◌, inl, inr, ℕ, List, [], ◌∷◌, map, take, drop, length, ◌-◌, ◌≤◌, get_or, suc, refl, subst, sym, ap, arith, Bor, Vec, Option, Result, Ok, Err, OnErr}
 use Rattle.std.proofs.lemmas.List.{take_all}
+use Rattle.std.specs.Result.{IsErr}
 use Rattle.std.specs.declared.alloc.Global.{Global}
-use Rattle.tb_files.specs.Deeds.{Deed, Opens, Saves, Opened, Saved}
+use Rattle.tb_files.specs.Deeds.{Deed, Opens, Saves, Did, opened, Opened, Saved, Performs}
 
 -- what is so anyway is so on an error
 pub on_err : {A E : Type 0} {P : Type 0} (r : Result A E) → P → OnErr r P
@@ -13,6 +14,10 @@ on_err (Err e) p = p
 pub first_of : {A : Type 0} (xs : List A) (d : A) → 1 ≤ length xs → xs ≡ get_or xs 0 d ∷ take (length xs - 1) (drop 1 xs)
 first_of [] d some = absurd (omega (arith, some))
 first_of (x ∷ xs) d some = ap (λ ys. x ∷ ys) (sym (take_all (length (x ∷ xs) - 1) xs (omega arith)))
+
+-- all files were opened
+pub all_opened : {F : Type 0} (does : F → Deed → F → Type 0) (f g : F) (ps : List (List ℕ)) → Did does f (opened ps) g → Opened does f ps g
+all_opened does f g ps did = (length ps, subst (λ qs. Did does f (opened qs) g) (sym (take_all (length ps) ps (omega arith))) did)
 
 module _ {F E : Type 0} (does : F → Deed → F → Type 0) where
   -- the first file was opened or not, and nothing else was done
@@ -37,6 +42,12 @@ module _ {F E : Type 0} (does : F → Deed → F → Type 0) where
   saved_more (Err e) f h g p ps all t ts each is are first (n, others) =
       subst (λ all. Saved does f (map (λ p. p.now) all) (map (λ t. t.items) each) g) (sym is)
       (subst (λ each. Saved does f (map (λ p. p.now) (p ∷ ps)) (map (λ t. t.items) each) g) (sym are) (suc n, (h, first, others)))
+
+  -- a work broke off after its inputs were opened
+  pub performs_none : {W : Type 0} (takes : W → List ℕ → Option (List ℕ) → W → Type 0) (makes : W → List (List ℕ) → Type 0) (r : Result Unit E)
+      → IsErr r → (f g : F) (w : W) (inputs outputs : List (List ℕ)) → Did does f (opened inputs) g → Performs does takes makes f w inputs outputs r g
+  performs_none takes makes (Ok u) failed f g w inputs outputs did = absurd cc
+  performs_none takes makes (Err e) failed f g w inputs outputs did = inl (all_opened does f g inputs did)
 
 -- the first file was opened or not, and nothing else was done
 pub ruleset orders = (opened_one)

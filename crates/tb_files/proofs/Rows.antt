@@ -1,10 +1,9 @@
 -- Worked rows: which files clash. Each is worked out by hand.
-use Rattle.std.proofs.Common.{◌≡◌, ℕ, Bool, true, false, List, [], ◌∷◌, refl, Bor}
+use Rattle.std.proofs.Common.{◌≡◌, ℕ, true, false, List, [], ◌∷◌, refl}
 use Rattle.std.specs.Prelude.{codes}
 use Rattle.tb_files.specs.Places.{clashes}
 use Rattle.tb_files.specs.Names.{ends_as, source_ending, image_ending}
-use Rattle.tb_files.specs.declared.places.Place.{Place}
-use Rattle.tb_files.specs.declared.places.Place.TheVariants.{File, Missing, Elsewhere}
+use Rattle.tb_files.specs.declared.places.Place.TheVariants.{File, Elsewhere}
 use Rattle.tb_files.specs.declared.places.Named.{Named}
 
 -- a path that leads to a file

@@ -1,5 +1,5 @@
 -- What is done with files, in its order.
-use Rattle.std.specs.Prelude.{◌≡◌, ◌⊎◌, ℕ, List, [], ◌∷◌, map, take, Result, Ok, Err}
+use Rattle.std.specs.Prelude.{◌≡◌, ◌⊎◌, ℕ, List, [], ◌∷◌, map, take, Option, Result, Ok, Err}
 
 -- a file is opened for reading, or opened for writing and given these bytes
 pub data Deed : Type 0 where
@@ -36,3 +36,17 @@ Transfers does f inputs outputs (Ok u) g =
 Transfers does f inputs outputs (Err e) g =
     Opened does f inputs g
     ⊎ ((h : _) × (texts : List (List ℕ)) × Did does f (opened inputs) h × Saved does h outputs texts g)
+
+-- a work took these inputs in, one after the other, each with what its reader had, as far as that is known
+abbrev pub TakesAll : {W : Type 0} → (W → List ℕ → Option (List ℕ) → W → Type 0) → W → List (List ℕ) → W → Type 0
+TakesAll takes w [] v = v ≡ w
+TakesAll takes w (p ∷ ps) v = (had : Option (List ℕ)) × (u : _) × takes w p had u × TakesAll takes u ps v
+
+-- what a command did whose work this is: the texts are those that the work makes of the inputs
+abbrev pub Performs : {F W E : Type 0} → (F → Deed → F → Type 0) → (W → List ℕ → Option (List ℕ) → W → Type 0) → (W → List (List ℕ) → Type 0)
+    → F → W → List (List ℕ) → List (List ℕ) → Result Unit E → F → Type 0
+Performs does takes makes f w inputs outputs (Ok u) g =
+    (h : _) × (v : _) × (texts : List (List ℕ)) × TakesAll takes w inputs v × makes v texts × Did does f (opened inputs) h × Did does h (saved outputs texts) g
+Performs does takes makes f w inputs outputs (Err e) g =
+    Opened does f inputs g
+    ⊎ ((h : _) × (v : _) × (texts : List (List ℕ)) × TakesAll takes w inputs v × makes v texts × Did does f (opened inputs) h × Saved does h outputs texts g)

@@ -1,6 +1,6 @@
 //! Commands that read files and write others: nothing is opened for writing before all that is to be written was made.
-ghost use Rattle.std.specs.Prelude.{◌≡◌, ◌⊎◌, [], ◌∷◌, map, OnOk, OnErr};
-ghost use Rattle.tb_files.specs.Deeds.{Opens, Did, opened, saved, Opened, Saved, Transfers};
+ghost use Rattle.std.specs.Prelude.{◌≡◌, ◌⊎◌, ℕ, List, Option, [], ◌∷◌, map, IfOk, OnOk, OnErr};
+ghost use Rattle.tb_files.specs.Deeds.{Opens, Did, opened, saved, Opened, Saved, TakesAll, Performs, Transfers};
 
 use crate::system::{FileSystem, Trouble};
 use std::io::Read;
@@ -11,14 +11,22 @@ pub trait Work {
     /// How the command ends if it doesn't do its work.
     type End;
 
-    /// What is said of an input by its path alone, before it is opened.
-    fn look_at(&mut self, path: &str) -> Result<(), Self::End>;
+    // what it is after it took in the input at a path, by what the input's reader had, as far as that is known
+    ghost takes: { Self → List ℕ → Option (List ℕ) → Self → Type 0 };
 
-    /// Takes an input in.
-    fn take<R: Read>(&mut self, input: &mut Tracked<R>) -> Result<(), Self::End>;
+    // the texts that it makes of what it took in
+    ghost makes: { Self → List (List ℕ) → Type 0 };
+
+    /// What is said of an input by its path alone, before it is opened.
+    fn look_at(&self, path: &str) -> Result<(), Self::End>;
+
+    /// Takes the input at a path in.
+    fn take<R: Read>(&mut self, path: &str, input: &mut Tracked<R>) -> Result<(), Self::End>
+        ensures { OnOk result (takes self.old path.now (R.remaining input.old.stream) self.new) };
 
     /// Makes the texts of all outputs, in order.
-    fn make(&mut self) -> Result<Vec<Vec<u8>>, Self::End>;
+    fn make(&mut self) -> Result<Vec<Vec<u8>>, Self::End>
+        ensures { IfOk result (λ texts. makes self.old (map (λ t. t.items) texts.items)) };
 
     /// The end if an input can't be opened.
     fn unread(trouble: Trouble) -> Self::End;
@@ -31,10 +39,11 @@ pub trait Work {
 fn take_one<F: FileSystem, W: Work>(files: &mut F, work: &mut W, path: &str) -> Result<(), W::End>
     ensures done { OnOk result (F.does files.old (Opens path.now) files.new) }
     ensures broken { OnErr result ((files.new ≡ files.old) ⊎ F.does files.old (Opens path.now) files.new) }
+    ensures taken { OnOk result ((had : Option (List ℕ)) × W.takes work.old path.now had work.new) }
 {
     work.look_at(path)?;
     match files.open(path) {
-        Ok(mut input) => work.take(&mut input),
+        Ok(mut input) => work.take(path, &mut input),
         Err(trouble) => Err(W::unread(trouble)),
     }
 }
@@ -48,6 +57,7 @@ fn take_all<F: FileSystem, W: Work>(
 ) -> Result<(), W::End>
     ensures done { OnOk result (Did F.does files.old (opened (map (λ p. p.now) inputs.now)) files.new) }
     ensures broken { OnErr result (Opened F.does files.old (map (λ p. p.now) inputs.now) files.new) }
+    ensures taken { OnOk result (TakesAll W.takes work.old (map (λ p. p.now) inputs.now) work.new) }
 {
     match inputs {
         [] => Ok(()),
@@ -88,7 +98,8 @@ pub fn transfer<F: FileSystem, W: Work>(
     inputs: &[&str],
     outputs: &[&str],
 ) -> Result<(), W::End>
-    ensures { Transfers F.does files.old (map (λ p. p.now) inputs.now) (map (λ p. p.now) outputs.now) result files.new }
+    ensures deeds { Transfers F.does files.old (map (λ p. p.now) inputs.now) (map (λ p. p.now) outputs.now) result files.new }
+    ensures texts { Performs F.does W.takes W.makes files.old work.old (map (λ p. p.now) inputs.now) (map (λ p. p.now) outputs.now) result files.new }
 {
     take_all(files, work, inputs)?;
     let texts = work.make()?;
@@ -103,7 +114,8 @@ pub fn replace<F: FileSystem, W: Work>(
     work: &mut W,
     path: &str,
 ) -> Result<(), W::End>
-    ensures { Transfers F.does files.old (path.now ∷ []) (path.now ∷ []) result files.new }
+    ensures deeds { Transfers F.does files.old (path.now ∷ []) (path.now ∷ []) result files.new }
+    ensures texts { Performs F.does W.takes W.makes files.old work.old (path.now ∷ []) (path.now ∷ []) result files.new }
 {
     transfer(files, work, &[path], &[path])
 }

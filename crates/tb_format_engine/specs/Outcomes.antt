@@ -1,6 +1,6 @@
 -- How the formatting of a source ends.
 use Rattle.std.specs.Prelude.{ℕ}
-use Rattle.tb_streams.specs.declared.status.TheConstants.{DONE, REFUSED, FAULT, NO_MEMORY}
+use Rattle.tb_streams.specs.Numbers.{DONE, REFUSED, FAULT, NO_MEMORY}
 use Rattle.tb_streams.specs.declared.stream.InputError.{InputError}
 use Rattle.tb_streams.specs.declared.stream.InputError.TheVariants as input
 use Rattle.tb_format_engine.specs.declared.outcome.FormatOutcome.{FormatOutcome}

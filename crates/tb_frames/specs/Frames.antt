@@ -19,7 +19,7 @@ use Rattle.tb_frames.specs.declared.reading.Frame.{Frame}
 use Rattle.tb_frames.specs.declared.reading.Frame.TheVariants.{Content, TooLong}
 use Rattle.tb_frames.specs.declared.reading.FrameError.{FrameError}
 use Rattle.tb_frames.specs.declared.reading.FrameError.TheVariants.{Fault, Bad, NoMemory}
-use Rattle.tb_frames.specs.declared.reading.TheConstants.{MOST_CONTENT}
+use Rattle.tb_frames.specs.Numbers.{MOST_CONTENT}
 
 -- the frame of a content that is written
 abbrev pub frame_of : List ℕ → List ℕ

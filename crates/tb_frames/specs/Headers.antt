@@ -5,8 +5,8 @@ use Rattle.tb_debug_commands.specs.Parts.{number_of}
 use Rattle.tb_streams.specs.Lines.{IsLine, without_return}
 use Rattle.tb_frames.specs.declared.header.Field.{Field}
 use Rattle.tb_frames.specs.declared.header.Field.TheVariants.{Length, BadLength, Other}
-use Rattle.tb_frames.specs.declared.lines.TheConstants.{MOST_LINE}
-use Rattle.tb_frames.specs.declared.reading.TheConstants.{MOST_LINES}
+use Rattle.tb_frames.specs.Numbers.{MOST_LINE}
+use Rattle.tb_frames.specs.Numbers.{MOST_LINES}
 
 -- what stands before the number, in small letters
 abbrev pub name : List ℕ

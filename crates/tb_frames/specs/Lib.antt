@@ -1,3 +1,4 @@
-pub mod Lines
-pub mod Headers
 pub mod Frames
+pub mod Headers
+pub mod Lines
+pub mod Numbers

@@ -4,7 +4,7 @@ use Rattle.std.specs.Io.KnownBytes.{Consumes, IsAtEnd}
 use Rattle.std.specs.declared.alloc.Global.{Global}
 use Rattle.std.specs.declared.vec.Vec.{Vec}
 use Rattle.tb_streams.specs.Lines.{IsLine, TakesNothing}
-use Rattle.tb_frames.specs.declared.lines.TheConstants.{MOST_LINE}
+use Rattle.tb_frames.specs.Numbers.{MOST_LINE}
 use Rattle.tb_frames.specs.declared.reading.FrameError.{FrameError}
 use Rattle.tb_frames.specs.declared.reading.FrameError.TheVariants.{Fault, Bad, NoMemory}
 

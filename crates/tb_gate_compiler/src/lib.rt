@@ -5,5 +5,4 @@
 #![tactic(auto)]
 
 mod labels;
-mod programs;
 mod sources;

@@ -52,7 +52,7 @@ pub fn expression_of(alloc: Global, text: &[u8]) -> Result<ReadExpression, ReadE
 
 /// Calls `tokens`.
 pub fn tokens_of(alloc: Global, line: &[u8]) -> Result<Vec<Token<'_>>, AllocError>
-    ensures { IfOk result (λ v. AreTokens line.now 0 v.items) }
+    ensures { IfOk result (λ v. AreTokens line.now v.items) }
 {
     tokens(alloc, line)
 }

@@ -1,6 +1,6 @@
 //! Words and letters.
 ghost use Rattle.std.specs.Prelude.{◌≡◌, ◌≢◌, ℕ, MatchOption, [], ◌<◌, ℤ, pos, ◌-ℤ◌, IsTrue, ◌↔◌};
-ghost use Rattle.tb_words.specs.declared.TheConstants.{LETTERS};
+ghost use Rattle.tb_words.specs.Numbers.{LETTERS};
 ghost use Rattle.tb_words.specs.Signed.{wrapped, IsDivision, Holds};
 ghost use Rattle.tb_words.specs.Words.{word_of, negated, quotient};
 ghost use Rattle.tb_words.specs.Words.{holds as holds_on};

@@ -2,7 +2,7 @@
 //! each with the clauses of the call's contract that wrong bodies are tried on. The call may promise more, and a few
 //! functions here have no wrong body.
 //!
-//! As in `tb_gate_language`, the wrong bodies are in `must-fail/`, and no proof of the tools counts here: what refuses
+//! As in `tb_gate_language`, the wrong bodies are in `wrong/`, and no proof of the tools counts here: what refuses
 //! them is the promise alone.
 #![tactic(auto)]
 

@@ -3,7 +3,7 @@ use Rattle.std.specs.Prelude.{ℕ, ℤ, ◌+◌, ◌*◌, List, map}
 use Rattle.std.specs.Int.{cast_signed, w16}
 use Rattle.std.specs.List.{range_with_len}
 use Rattle.tb_cpu.specs.Operands.{word_from, word_in}
-use Rattle.tb_words.specs.declared.TheConstants.{LETTERS}
+use Rattle.tb_words.specs.Numbers.{LETTERS}
 use Rattle.tb_runtime16.specs.Addresses.{RETURN_HIGH, RETURN_LOW, VARS}
 
 -- the word of the variable at an index in the alphabet

@@ -2,7 +2,7 @@
 ghost use Rattle.std.specs.Prelude.{◌≡◌, ◌+◌, ◌<◌, ◌≤◌, map};
 ghost use Rattle.tb_memmap.specs.Bytes.{at};
 ghost use Rattle.tb_cpu.specs.Operands.{word_from, word_in};
-ghost use Rattle.tb_words.specs.declared.TheConstants.{LETTERS};
+ghost use Rattle.tb_words.specs.Numbers.{LETTERS};
 ghost use Rattle.tb_words.specs.Letters.{letter_index};
 ghost use Rattle.tb_words.specs.Words.{word_of};
 ghost use Rattle.tb_meaning.specs.Control.{deepest};

@@ -1,5 +1,6 @@
-pub mod Limits
-pub mod Statuses
 pub mod Files
-pub mod Typing
+pub mod Limits
+pub mod Numbers
+pub mod Statuses
 pub mod Terminals
+pub mod Typing

@@ -1,6 +1,6 @@
 -- The exit statuses where no engine is called.
 use Rattle.std.specs.Prelude.{ℕ}
-use Rattle.tb_streams.specs.declared.status.TheConstants.{BAD_WORDS, FAULT, NO_MEMORY, REFUSED}
+use Rattle.tb_streams.specs.Numbers.{BAD_WORDS, FAULT, NO_MEMORY, REFUSED}
 use Rattle.tb_jobs.specs.declared.failure.Failure.{Failure}
 use Rattle.tb_jobs.specs.declared.failure.Failure.TheVariants.{Words, NotUtf8, BadKeys, BadAddress, SameFile, IsSource, BadLabels, NoTerminal, SmallTerminal, ReadFault, NoMemory}
 use Rattle.tb_jobs.specs.declared.jobs.JobError.{JobError}

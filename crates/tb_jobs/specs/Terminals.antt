@@ -1,6 +1,6 @@
 -- Where the machine's screen can be shown.
 use Rattle.std.specs.Prelude.{ℕ, Bool, false, ◌||◌, nat_lt, Option, Some, None, Result, Ok, Err, if◌then◌else◌}
-use Rattle.tb_screen.specs.declared.screen.TheConstants.{COLUMNS, ROWS}
+use Rattle.tb_screen.specs.Numbers.{COLUMNS, ROWS}
 use Rattle.tb_jobs.specs.declared.failure.Failure.{Failure}
 use Rattle.tb_jobs.specs.declared.failure.Failure.TheVariants.{NoTerminal, SmallTerminal}
 

@@ -1,6 +1,6 @@
 //! What the words of the command line ask for.
 ghost use Rattle.std.specs.Prelude.{◌≡◌, ◌≤◌, ◌↔◌, IsSome, IfSome};
-ghost use Rattle.tb_jobs.specs.declared.jobs.TheConstants.{MOST_EVENTS, USUAL_EVENTS};
+ghost use Rattle.tb_jobs.specs.Numbers.{MOST_EVENTS, USUAL_EVENTS};
 
 use std::alloc::AllocError;
 use tb_dialects::Dialect;

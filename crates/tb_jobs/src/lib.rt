@@ -4,6 +4,7 @@
 mod failure;
 mod files;
 mod jobs;
+mod numbers;
 mod terminals;
 mod typing;
 
@@ -12,6 +13,7 @@ pub use jobs::{
     BuildExtras, FormatTarget, HIGHEST_LINE, Job, JobError, Limit, MOST_EVENTS, Runnable, Settings,
     Typed, USUAL_EVENTS, USUAL_SEED, USUAL_STEP,
 };
+pub use numbers::constants_are_numbers;
 pub use tb_dialects::Dialect;
 pub use tb_parser::Notation;
 pub use terminals::room_for_screen;

@@ -14,7 +14,7 @@ use Rattle.tb_runtime16.specs.Addresses.{PROLOGUE_AT}
 use Rattle.tb_selection.proofs.Closed.{all_closed}
 use Rattle.tb_settling.specs.Settled.{IsSettled}
 use Rattle.tb_settling.proofs.Forms.{settled_by}
-use Rattle.tb_templates.specs.Program.{program_code}
+use Rattle.tb_program_code.specs.Program.{program_code}
 use Rattle.tb_simulation.specs.Theorem.{Keeps}
 use Rattle.tb_correctness.proofs.Whole.Compiled.{image_keeps}
 use Rattle.tb_codegen.specs.declared.compiled.Compiled.{Compiled}

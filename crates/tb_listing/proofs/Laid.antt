@@ -19,11 +19,11 @@ use Rattle.tb_settling.specs.Settled.{AreFormsOf}
 use Rattle.tb_settling.proofs.Forms.{forms_size, items_size, size_append, split, settled_by}
 use Rattle.tb_templates.specs.declared.labels.Target.TheVariants.{Line}
 use Rattle.tb_templates.specs.Labels.{label_of}
-use Rattle.tb_templates.specs.Layout.{LabelsAt}
-use Rattle.tb_templates.specs.Search.{compares, find_code}
-use Rattle.tb_templates.specs.Program.{line_code, lines_code, past_code, table_code, block_code, program_code}
-use Rattle.tb_templates.proofs.Settled.{Sections, sections, labels_behind, line_at, some_bytes, total_size}
-use Rattle.tb_templates.proofs.Taken.{block_size}
+use Rattle.tb_program_code.specs.Layout.{LabelsAt}
+use Rattle.tb_program_code.specs.Search.{compares, find_code}
+use Rattle.tb_program_code.specs.Program.{line_code, lines_code, past_code, table_code, block_code, program_code}
+use Rattle.tb_program_code.proofs.Settled.{Sections, sections, labels_behind, line_at, some_bytes, total_size}
+use Rattle.tb_program_code.proofs.Taken.{block_size}
 use Rattle.tb_codegen.specs.declared.compiled.Compiled.{Compiled}
 use Rattle.tb_codegen.specs.Coded.{IsListed}
 use Rattle.tb_codegen.specs.Compiled.{IsCompiled, AddressesRise, prg_of, starts_of, table_of, starts_in, stands_at}

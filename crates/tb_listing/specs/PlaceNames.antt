@@ -3,7 +3,7 @@ use Rattle.std.specs.Prelude.{ℕ, ◌+◌, ◌-◌, ◌/◌, ◌%◌, Bool, tru
 use Rattle.std.specs.Prelude.{length, replicate, nat_lt, nat_le, eqb, get_or, set, if◌then◌else◌}
 use Rattle.std.specs.Fmt.{decimal}
 use Rattle.tb_words.specs.Hexadecimal.{four_digits}
-use Rattle.tb_kernal.specs.declared.rom.TheConstants.{CHRIN, CHROUT, GETIN}
+use Rattle.tb_kernal.specs.Numbers.{CHRIN, CHROUT, GETIN}
 use Rattle.tb_runtime16.specs.Addresses.{BYTE, COLUMN, COUNT, HELD, HOME_S, LEFT, LENGTH, LINE, LINES_AT, NOTES, OPEN, PROLOGUE_AT, RESULT, RETURN_HIGH, RETURN_LOW, RIGHT}
 use Rattle.tb_runtime16.specs.Addresses.{SCRATCH, SEED, SEEDED, SEND_AT, SLOTS, VARS, WANTED, entry_of}
 use Rattle.tb_runtime16.specs.declared.addresses.Routine.{Routine}

@@ -2,8 +2,8 @@
 use Rattle.std.specs.Prelude.{◌≡◌, ℕ, ◌+◌, ◌*◌, true, false, List, length}
 use Rattle.tb_asm.specs.Layout.{size}
 use Rattle.tb_runtime16.specs.Block.{block_bytes}
-use Rattle.tb_templates.specs.Program.{past_code, row_code}
-use Rattle.tb_templates.specs.Search.{find_code, too_many_lines}
+use Rattle.tb_program_code.specs.Program.{past_code, row_code}
+use Rattle.tb_program_code.specs.Search.{find_code, too_many_lines}
 use Rattle.tb_listing.specs.declared.sizes.TheConstants.{ASKED_SIZE, BLOCK_SIZE, COMPARED_SIZE, FAULT_SIZE, LOOK_UP_SIZE, ROW_SIZE, TOO_MANY_LINES, WORD}
 
 -- what follows the lines: fault 7, the search, and the rows of the line table, each of two words

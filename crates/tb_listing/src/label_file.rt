@@ -2,7 +2,7 @@
 ghost use Rattle.std.specs.Prelude.{◌≡◌, ◌<◌, IfOk, map};
 ghost use Rattle.std.specs.List.{range_with_len};
 ghost use Rattle.tb_words.specs.Texts.{AppendsBytes};
-ghost use Rattle.tb_words.specs.declared.TheConstants.{LETTERS};
+ghost use Rattle.tb_words.specs.Numbers.{LETTERS};
 ghost use Rattle.tb_codegen.specs.Compiled.{pair_of};
 ghost use Rattle.tb_listing.specs.Labels.{name_of, all_routines, routine_label, line_label, variable_label};
 ghost use Rattle.tb_listing.specs.Labels.{block_labels, data_labels, all_labels, label_text, labels_text};

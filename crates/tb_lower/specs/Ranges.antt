@@ -1,6 +1,6 @@
 -- Operands in their ranges: 16 slots, 26 variables, words, and texts below a limit.
 use Rattle.std.specs.Prelude.{ℕ, ◌+◌, ◌<◌, List, [], ◌∷◌, length}
-use Rattle.tb_words.specs.declared.TheConstants.{LETTERS}
+use Rattle.tb_words.specs.Numbers.{LETTERS}
 use Rattle.tb_lower.specs.Slots.{Instr, Put, Load, Store, Negate, Compute, Random, SendText, Input, JumpTo, CallTo, SlotCode}
 
 -- an operator's right operand is in the slot after its left one

@@ -2,7 +2,7 @@
 use Rattle.std.specs.Prelude.{ℕ, ◌+◌, ◌-◌, ◌%◌, Bool, false, ◌||◌, List, [], ◌∷◌, ◌++◌, length, replicate, if◌then◌else◌, nat_lt, nat_eq, Option, Some, None}
 use Rattle.tb_syntax.specs.Source.{Numbered}
 use Rattle.tb_words.specs.Words.{digits_of}
-use Rattle.tb_meaning.specs.declared.interpreter.TheConstants.{DEEPEST}
+use Rattle.tb_meaning.specs.Numbers.{DEEPEST}
 use Rattle.tb_meaning.specs.Steps.{Faulted, Step, Goes, Stops}
 
 -- where a run is: at a line, or past the last one

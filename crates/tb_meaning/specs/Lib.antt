@@ -23,3 +23,5 @@ pub mod Parts
 pub mod Turns
 -- its state and runs as those of the meaning
 pub mod Interpreted
+-- the numbers that are promised
+pub mod Numbers

@@ -1,6 +1,6 @@
 -- What a program does, line by line.
 use Rattle.std.specs.Prelude.{ℕ, true, false, List, [], ◌∷◌, replicate, if◌then◌else◌, Option, Some, None, slice_set}
-use Rattle.tb_words.specs.declared.TheConstants.{LETTERS}
+use Rattle.tb_words.specs.Numbers.{LETTERS}
 use Rattle.tb_syntax.specs.Source.{Expression, Item, Text, Value, Zone, Statement, Let, Print, Input, If, Goto, Gosub, Return, End, Remark, Program, numbers}
 use Rattle.tb_words.specs.Words.{holds, digits_of}
 use Rattle.tb_meaning.specs.Steps.{Ended, Step, Goes, Stops, and_then, Run, GoesOn, advance_by}

@@ -2,7 +2,7 @@
 use Rattle.std.specs.Prelude.{ℕ, ◌+◌, ◌-◌, List, [], ◌∷◌, ◌++◌, codes, map, nat_lt, if◌then◌else◌}
 use Rattle.std.specs.List.{range_with_len}
 use Rattle.std.specs.Fmt.{decimal}
-use Rattle.tb_kernal.specs.declared.rom.TheConstants.{CHRIN, CHROUT, GETIN}
+use Rattle.tb_kernal.specs.Numbers.{CHRIN, CHROUT, GETIN}
 use Rattle.tb_monitor.specs.declared.checkpoints.Checkpoint.{Checkpoint}
 use Rattle.tb_monitor.specs.declared.checkpoints.Checkpoint.TheVariants.{Starts, Resets, Elsewhere, Leaves, Enters, Pulls, Ends, Writes, WritesToStack, Runs}
 use Rattle.tb_monitor.specs.Checkpoints.{command_text, look_text}

@@ -5,6 +5,10 @@ pub mod FirstLine
 pub mod Steps
 -- the same of a line with signs
 pub mod SignSteps
+-- bytes that come next, and words of them
+pub mod Written
+-- the longest first word of a statement
+pub mod Longest
 -- digits at the front
 pub mod Numbers
 -- what the readers' answers say of a text
@@ -23,5 +27,11 @@ pub mod Rising
 pub mod Texts
 -- no text, line or file has two meanings
 pub mod Unique
+-- at a place there is one token, and a line has one list of tokens
+pub mod OneToken
+-- what follows REM is one token
+pub mod Remarks
 -- a line without signs is read alike in each notation
 pub mod Alike
+-- good sources are those that are not refused
+pub mod Programs

@@ -1,7 +1,9 @@
 pub mod Answers
 pub mod Files
+pub mod Kinds
 pub mod Lines
 pub mod Notations
+pub mod Programs
 pub mod Readings
 pub mod Refusals
 pub mod Scans

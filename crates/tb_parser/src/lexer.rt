@@ -1,6 +1,9 @@
 //! Tokens: a line taken apart from left to right.
-ghost use Rattle.std.specs.Prelude.{◌≡◌, ◌+◌, ◌<◌, ◌≤◌, ◌^◌, length, IfOk, IfSome, MatchOption};
-ghost use Rattle.tb_parser.specs.Tokens.{AreSpaces, AreTokens, IsNext, end_of};
+ghost use Rattle.std.specs.Prelude.{◌≡◌, ◌+◌, ◌<◌, ◌≤◌, ◌^◌, length, slice_index, true, IfOk, MatchBool, MatchOption};
+ghost use Rattle.tb_grammar.specs.Grammar.{is_digit};
+ghost use Rattle.tb_parser.specs.Kinds.{AreSpaces, FirstAt, IsAssigned, IsWord, IsWritten, LacksWord, LacksWords, LetterAt};
+ghost use Rattle.tb_parser.specs.Kinds.{NumberAt, OperandAt, RelationAt, TextAt, TokenAt, WordAt, awaited, is_pair, mark_of};
+ghost use Rattle.tb_parser.specs.Tokens.{AreTokens, BeginsWritten, IsNext, IsRemark, IsSlice, NoneComes, end_of};
 
 use std::alloc::{AllocError, Global};
 use tb_grammar::{KEYWORDS, Keyword, THEN};
@@ -50,7 +53,7 @@ pub struct Token<'a> {
 }
 
 // What a letter begins, by the token before it.
-#[derive(Clone, Copy, PartialEq, Eq)]
+#[derive(Clone, Copy)]
 enum Awaits {
     /// RND, else a variable.
     Operand,
@@ -62,7 +65,9 @@ enum Awaits {
 
 impl TokenKind {
     /// What a letter after this token begins.
-    fn awaits(self) -> Awaits {
+    fn awaits(self) -> Awaits
+        ensures { result ≡ awaited self }
+    {
         match self {
             TokenKind::Operator
             | TokenKind::Relation
@@ -95,28 +100,27 @@ impl Token<'_> {
     }
 }
 
-// The first place from `at` on that holds no space, or the line's end.
-fn skip_spaces(line: &[u8], at: usize) -> usize
-    requires { at ≤ length line.now }
-    ensures within { (at ≤ result) × (result ≤ length line.now) }
-    ensures spaces { AreSpaces line.now at result }
+// The first place from `from` on that holds no space.
+fn written_from(line: &[u8], from: usize) -> Option<usize>
+    ensures { MatchOption result (AreSpaces line.now from (length line.now)) (IsWritten line.now from) }
 {
-    let mut place = at;
-    while place < line.len() && line[place] == b' ' {
-        place += 1;
+    for place in from..line.len() {
+        if line[place] != b' ' {
+            return Some(place);
+        }
     }
-    place
+    None
 }
 
-// The place after a word's letters, if the line has them from `at` on with at most spaces between.
-fn word_end(line: &[u8], at: usize, word: &[u8]) -> Option<usize>
-    requires { at ≤ length line.now }
-    ensures { IfSome result (λ end. (at ≤ end) × (end ≤ length line.now) × (0 < length word.now → at < end)) }
+// The place after a word's letters, if the line has them from `from` on with at most spaces between.
+fn word_end(line: &[u8], from: usize, word: &[u8]) -> Option<usize>
+    requires { from ≤ length line.now }
+    ensures { MatchOption result (LacksWord line.now from word.now) (IsWord line.now from word.now) }
 {
-    let mut end = at;
+    let mut end = from;
     for letter in word {
-        let place = skip_spaces(line, end);
-        if place == line.len() || line[place].to_ascii_uppercase() != *letter {
+        let place = written_from(line, end)?;
+        if line[place].to_ascii_uppercase() != *letter {
             return None;
         }
         end = place + 1;
@@ -124,22 +128,40 @@ fn word_end(line: &[u8], at: usize, word: &[u8]) -> Option<usize>
     Some(end)
 }
 
-/// The next token from the place `at` on, if there is one.
+// The next token from the place `at` on, if there is one.
 fn next_token(line: &[u8], at: usize, awaits: Awaits) -> Option<Token<'_>>
     requires { at ≤ length line.now }
-    ensures { MatchOption result (AreSpaces line.now at (length line.now)) (λ t. IsNext line.now at t) }
+    ensures { MatchOption result (NoneComes awaits line.now at) (IsNext awaits line.now at) }
 {
-    let start = match awaits {
-        Awaits::Remark => at,
-        Awaits::Operand | Awaits::Word => skip_spaces(line, at),
-    };
-    if start == line.len() {
+    match awaits {
+        Awaits::Operand => written_token(line, at, Awaits::Operand),
+        Awaits::Word => written_token(line, at, Awaits::Word),
+        Awaits::Remark => remark_token(line, at),
+    }
+}
+
+// What is left of the line, if it isn't empty.
+fn remark_token(line: &[u8], at: usize) -> Option<Token<'_>>
+    requires { at ≤ length line.now }
+    ensures { MatchOption result (length line.now ≤ at) (λ t. IsSlice line.now t × IsRemark line.now at t) }
+{
+    if at == line.len() {
         return None;
     }
-    let (kind, end) = match awaits {
-        Awaits::Remark => (TokenKind::Remark, line.len()),
-        Awaits::Operand | Awaits::Word => token_at(line, start, awaits),
-    };
+    Some(Token {
+        kind: TokenKind::Remark,
+        text: &line[at..],
+        column: at + 1,
+    })
+}
+
+// The token that begins at the first byte from `at` on that is no space.
+fn written_token(line: &[u8], at: usize, awaits: Awaits) -> Option<Token<'_>>
+    ensures { MatchOption result (AreSpaces line.now at (length line.now))
+        (λ t. IsSlice line.now t × BeginsWritten awaits line.now at t) }
+{
+    let start = written_from(line, at)?;
+    let (kind, end) = token_at(line, start, awaits);
     Some(Token {
         kind,
         text: &line[start..end],
@@ -150,7 +172,8 @@ fn next_token(line: &[u8], at: usize, awaits: Awaits) -> Option<Token<'_>>
 // The token that begins here, with the place after it.
 fn token_at(line: &[u8], start: usize, awaits: Awaits) -> (TokenKind, usize)
     requires { start < length line.now }
-    ensures { (start < result.1) × (result.1 ≤ length line.now) }
+    ensures is { TokenAt awaits line.now start result.0 result.1 }
+    ensures within { (start < result.1) × (result.1 ≤ length line.now) }
 {
     match line[start] {
         b'0'..=b'9' => (TokenKind::Number, digits_end(line, start)),
@@ -162,7 +185,9 @@ fn token_at(line: &[u8], start: usize, awaits: Awaits) -> (TokenKind, usize)
 }
 
 // The kind of a byte that is a token alone.
-fn mark_kind(byte: u8) -> TokenKind {
+fn mark_kind(byte: u8) -> TokenKind
+    ensures { result ≡ mark_of byte }
+{
     match byte {
         b'+' | b'-' | b'*' | b'/' => TokenKind::Operator,
         b'=' => TokenKind::Relation,
@@ -176,40 +201,46 @@ fn mark_kind(byte: u8) -> TokenKind {
 
 // The place after a number that begins here.
 fn digits_end(line: &[u8], start: usize) -> usize
-    requires { start < length line.now }
-    ensures { (start < result) × (result ≤ length line.now) }
+    requires inside { start < length line.now }
+    requires digit { is_digit (slice_index line.now start) ≡ true }
+    ensures { NumberAt line.now start result }
 {
     let mut end = start + 1;
-    let mut place = skip_spaces(line, end);
-    while place < line.len() && line[place].is_ascii_digit() {
+    while let Some(place) = written_from(line, end) {
+        if !line[place].is_ascii_digit() {
+            return end;
+        }
         end = place + 1;
-        place = skip_spaces(line, end);
     }
     end
+}
+
+// Whether two bytes are one relation.
+fn is_pair(first: u8, second: u8) -> bool
+    ensures { result ≡ is_pair first second }
+{
+    matches!((first, second), (b'<', b'=' | b'>') | (b'>', b'=' | b'<'))
 }
 
 // The place after a relation that begins here: two bytes if they make one relation, else one.
 fn relation_end(line: &[u8], start: usize) -> usize
     requires { start < length line.now }
-    ensures { (start < result) × (result ≤ length line.now) }
+    ensures is { RelationAt line.now start result }
+    ensures within { (start < result) × (result ≤ length line.now) }
 {
-    let place = skip_spaces(line, start + 1);
-    if place < line.len()
-        && matches!(
-            (line[start], line[place]),
-            (b'<', b'=' | b'>') | (b'>', b'=' | b'<')
-        )
-    {
-        place + 1
-    } else {
-        start + 1
+    if let Some(place) = written_from(line, start + 1) {
+        if is_pair(line[start], line[place]) {
+            return place + 1;
+        }
     }
+    start + 1
 }
 
 // The text whose first quote is here.
 fn text_token(line: &[u8], start: usize) -> (TokenKind, usize)
     requires { start < length line.now }
-    ensures { (start < result.1) × (result.1 ≤ length line.now) }
+    ensures is { TextAt line.now start result.0 result.1 }
+    ensures within { (start < result.1) × (result.1 ≤ length line.now) }
 {
     for i in start + 1..line.len() {
         if line[i] == b'"' {
@@ -222,26 +253,57 @@ fn text_token(line: &[u8], start: usize) -> (TokenKind, usize)
 // What the letter here begins.
 fn letter_token(line: &[u8], start: usize, awaits: Awaits) -> (TokenKind, usize)
     requires { start < length line.now }
-    ensures { (start < result.1) × (result.1 ≤ length line.now) }
+    ensures is { LetterAt awaits line.now start result.0 result.1 }
+    ensures within { (start < result.1) × (result.1 ≤ length line.now) }
+{
+    match awaits {
+        Awaits::Operand => operand_token(line, start),
+        Awaits::Word | Awaits::Remark => first_token(line, start),
+    }
+}
+
+// RND, else a variable.
+fn operand_token(line: &[u8], start: usize) -> (TokenKind, usize)
+    requires { start < length line.now }
+    ensures is { OperandAt line.now start result.0 result.1 }
+    ensures within { (start < result.1) × (result.1 ≤ length line.now) }
+{
+    match word_end(line, start, b"RND") {
+        Some(end) => (TokenKind::Random, end),
+        None => (TokenKind::Variable, start + 1),
+    }
+}
+
+// Whether `=` comes next.
+fn is_assigned(line: &[u8], from: usize) -> bool
+    ensures { MatchBool result (IsAssigned line.now from) (IsAssigned line.now from → ⊥) }
+{
+    match written_from(line, from) {
+        Some(place) => line[place] == b'=',
+        None => false,
+    }
+}
+
+// A variable if `=` follows, else a word, else a stray byte.
+fn first_token(line: &[u8], start: usize) -> (TokenKind, usize)
+    requires { start < length line.now }
+    ensures is { FirstAt line.now start result.0 result.1 }
+    ensures within { (start < result.1) × (result.1 ≤ length line.now) }
 {
     let one = start + 1;
-    if awaits == Awaits::Operand {
-        return match word_end(line, start, b"RND") {
-            Some(end) => (TokenKind::Random, end),
-            None => (TokenKind::Variable, one),
-        };
-    }
-    let place = skip_spaces(line, one);
-    if place < line.len() && line[place] == b'=' {
+    if is_assigned(line, one) {
         return (TokenKind::Variable, one);
     }
-    word_token(line, start).unwrap_or((TokenKind::Stray, one))
+    match word_token(line, start) {
+        Some(word) => word,
+        None => (TokenKind::Stray, one),
+    }
 }
 
 // THEN, or the longest first word of a statement that begins here, with the place after it.
 fn word_token(line: &[u8], start: usize) -> Option<(TokenKind, usize)>
     requires { start < length line.now }
-    ensures { IfSome result (λ p. (start < p.1) × (p.1 ≤ length line.now)) }
+    ensures { MatchOption result (LacksWords line.now start) (λ p. WordAt line.now start p.0 p.1) }
 {
     if let Some(end) = word_end(line, start, THEN.as_bytes()) {
         return Some((TokenKind::Then, end));
@@ -261,7 +323,7 @@ fn word_token(line: &[u8], start: usize) -> Option<(TokenKind, usize)>
 /// variable if `=` follows, else the longest keyword there, else a stray byte. What follows REM is
 /// one token, with its spaces, if it isn't empty. Fails only if memory runs out.
 pub fn tokens(alloc: Global, line: &[u8]) -> Result<Vec<Token<'_>>, AllocError>
-    ensures { IfOk result (λ v. AreTokens line.now 0 v.items) }
+    ensures { IfOk result (λ v. AreTokens line.now v.items) }
 {
     let mut found = Vec::new(alloc);
     let mut at = 0;

@@ -8,6 +8,7 @@
 
 mod edits;
 mod errors;
+mod laws;
 mod lexer;
 mod lines;
 mod notation;
@@ -18,6 +19,7 @@ mod squeeze;
 
 pub use edits::{LineEdit, apply};
 pub use errors::{LineFault, SourceError, SourceErrorKind};
+pub use laws::{programs_are_made, remarks_are_whole, tokens_are_unique};
 pub use lexer::{Token, TokenKind, tokens};
 pub use lines::next_line;
 pub use notation::Notation;

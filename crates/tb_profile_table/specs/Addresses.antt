@@ -6,7 +6,7 @@ use Rattle.tb_words.specs.Hexadecimal.{four_digits}
 use Rattle.tb_memmap.specs.Bytes.{peek}
 use Rattle.tb_memmap.specs.declared.memory.Closed.{Closed}
 use Rattle.tb_kernal.specs.declared.events.Event.{Event}
-use Rattle.tb_kernal.specs.declared.rom.TheConstants.{CHRIN, CHROUT, GETIN}
+use Rattle.tb_kernal.specs.Numbers.{CHRIN, CHROUT, GETIN}
 use Rattle.tb_kernal.specs.Machine.{Content}
 use Rattle.tb_disasm.specs.Listing.{line_at}
 use Rattle.tb_disasm.specs.ListingText.{item_text}

@@ -1,6 +1,6 @@
 -- Numbers and words in texts.
 use Rattle.std.specs.Prelude.{ℕ, Bool, ◌+◌, ◌-◌, ◌*◌, ◌/◌, ◌%◌, List, [], ◌∷◌, ◌++◌, codes, length, replicate, ◌==◌, ◌&&◌, not, if◌then◌else◌}
-use Rattle.tb_profile_table.specs.declared.figures.TheConstants.{CYCLES_A_SECOND}
+use Rattle.tb_profile_table.specs.Numbers.{CYCLES_A_SECOND}
 use Rattle.std.specs.Fmt.{decimal}
 
 -- a word, right-aligned in n columns; a longer one takes as many as it has

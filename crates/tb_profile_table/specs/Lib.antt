@@ -1,9 +1,10 @@
-pub mod Figures
-pub mod Rows
-pub mod Lines
-pub mod Table
 pub mod About
-pub mod Cells
-pub mod Page
-pub mod Texts
 pub mod Addresses
+pub mod Cells
+pub mod Figures
+pub mod Lines
+pub mod Numbers
+pub mod Page
+pub mod Rows
+pub mod Table
+pub mod Texts

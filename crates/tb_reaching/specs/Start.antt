@@ -1,7 +1,7 @@
 -- How the view of a started program begins, and where it ends.
 use Rattle.std.specs.Prelude.{◌≡◌, ℕ, zero, suc, ◌+◌, ◌-◌, false, List, [], ◌∷◌, length}
 use Rattle.tb_memmap.specs.Regions.{CODE_START}
-use Rattle.tb_kernal.specs.declared.rom.TheConstants.{CHRIN}
+use Rattle.tb_kernal.specs.Numbers.{CHRIN}
 use Rattle.tb_kernal.specs.Machine.{State}
 use Rattle.tb_reaching.specs.View.{View, Setup, Part, back_at}
 

@@ -7,7 +7,7 @@ use Rattle.tb_asm.specs.Layout.{Entry, size, size_of, image_of, labels_from}
 use Rattle.tb_asm.specs.Settle.{Form, kept, items_from, AllReach}
 use Rattle.tb_settling.specs.Settled.{AreFormsOf, IsSettled}
 use Rattle.tb_runtime16.specs.Addresses.{PROLOGUE_AT, LINES_AT}
-use Rattle.tb_templates.specs.Program.{program_code, AreCodable}
+use Rattle.tb_program_code.specs.Program.{program_code, AreCodable}
 use Rattle.tb_syntax.specs.Source.{Program, numbers, Rises}
 use Rattle.tb_correctness.specs.Laid.{ArePolled}
 use Rattle.tb_lower.specs.Lowered as lowered

@@ -2,3 +2,5 @@
 mod Utf8
 -- renamed lines make the renamed program
 mod Made
+-- lines that read otherwise
+mod Otherwise

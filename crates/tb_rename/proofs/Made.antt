@@ -1,8 +1,8 @@
 -- Renamed lines make the renamed program.
-use Rattle.std.proofs.Common.{◌≡◌, ℕ, ◌+◌, Bool, true, false, cond, List, [], ◌∷◌, map, Ok, refl, ap, sym, ◌∙◌, subst, nat_lt, ◌==◌}
+use Rattle.std.proofs.Common.{◌≡◌, ℕ, ◌+◌, Bool, true, false, List, [], ◌∷◌, map, refl, ap, ◌∙◌, subst, nat_lt, ◌==◌}
 use Rattle.tb_syntax.specs.Source.{Statement, Program}
 use Rattle.tb_parser.specs.declared.notation.Notation.{Notation}
-use Rattle.tb_parser.specs.Files.{LinesIn, at_end, edited, end, good, line_at, with_line, without_line}
+use Rattle.tb_parser.specs.Files.{LinesIn, at_end, edited, end, good, with_line, without_line}
 use Rattle.tb_parser.specs.Readings.{Edit, Nothing, Sets, Deletes}
 use Rattle.tb_source_names.specs.Lines.{does}
 use Rattle.tb_source_names.specs.Sources.{edits_of, made_of, program_of}

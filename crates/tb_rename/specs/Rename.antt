@@ -111,10 +111,10 @@ pub record IsRenaming (notation : Notation) (uri : List ℕ) (letters : Letters)
   pub reads : AreRenamed notation letters lines
   pub makes : LinesIn notation 1 [] (map (text_after letters) lines) (at_end (renamed_program (renamed_letter letters) (program_of (all_edits lines))))
 
--- a renaming, or that the new text would read otherwise
+-- a renaming; or that the new text reads otherwise, which is told only where it does
 abbrev pub Changes : Notation → List ℕ → Letters → List SourceLine → Result Value Refusal → Type 0
 Changes notation uri letters lines (Ok v) = IsRenaming notation uri letters lines (view v)
-Changes notation uri letters lines (Err refusal) = refusal ≡ ReadsOtherwise
+Changes notation uri letters lines (Err refusal) = (refusal ≡ ReadsOtherwise) × ¬ (AreRenamed notation letters lines)
 
 -- the same by why a text is not renamed
 abbrev pub ChangesBy : Option Refusal → Notation → List ℕ → Letters → List SourceLine → Result Value Refusal → Type 0

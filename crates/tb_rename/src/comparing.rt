@@ -1,5 +1,5 @@
 //! Whether what a line does is what another one does, renamed.
-ghost use Rattle.std.specs.Prelude.{◌≡◌, IsTrue, map};
+ghost use Rattle.std.specs.Prelude.{◌≡◌, ◌↔◌, IsTrue, map};
 ghost use Rattle.tb_syntax.specs.PlainData.{expression_of, item_of, letters_of, statement_of};
 ghost use Rattle.tb_words.specs.Letters.{letter_index};
 ghost use Rattle.tb_parser.specs.Answers.{edit_of};
@@ -11,13 +11,13 @@ use tb_syntax::{Expr, PrintItem, Statement};
 use tb_words::Letter;
 
 fn is_renamed_letter(letters: Letters, old: Letter, new: Letter) -> bool
-    ensures { IsTrue result → letter_index new ≡ spec.renamed_letter letters (letter_index old) }
+    ensures { IsTrue result ↔ (letter_index new ≡ spec.renamed_letter letters (letter_index old)) }
 {
     new.index() == letters.renamed(old.index())
 }
 
 fn is_renamed_expression(letters: Letters, old: &Expr, new: &Expr) -> bool
-    ensures { IsTrue result → expression_of new.now ≡ spec.renamed_expression (spec.renamed_letter letters) (expression_of old.now) }
+    ensures { IsTrue result ↔ (expression_of new.now ≡ spec.renamed_expression (spec.renamed_letter letters) (expression_of old.now)) }
 {
     match (old, new) {
         (Expr::Number(n), Expr::Number(m)) => n == m,
@@ -34,7 +34,7 @@ fn is_renamed_expression(letters: Letters, old: &Expr, new: &Expr) -> bool
 }
 
 fn is_renamed_item(letters: Letters, old: &PrintItem, new: &PrintItem) -> bool
-    ensures { IsTrue result → item_of new.now ≡ spec.renamed_item (spec.renamed_letter letters) (item_of old.now) }
+    ensures { IsTrue result ↔ (item_of new.now ≡ spec.renamed_item (spec.renamed_letter letters) (item_of old.now)) }
 {
     match (old, new) {
         (PrintItem::Text(t), PrintItem::Text(u)) => t.as_slice() == u.as_slice(),
@@ -45,7 +45,7 @@ fn is_renamed_item(letters: Letters, old: &PrintItem, new: &PrintItem) -> bool
 }
 
 fn are_renamed_items(letters: Letters, old: &[PrintItem], new: &[PrintItem]) -> bool
-    ensures { IsTrue result → map item_of new.now ≡ map (spec.renamed_item (spec.renamed_letter letters)) (map item_of old.now) }
+    ensures { IsTrue result ↔ (map item_of new.now ≡ map (spec.renamed_item (spec.renamed_letter letters)) (map item_of old.now)) }
 {
     match old {
         [] => new.is_empty(),
@@ -59,7 +59,7 @@ fn are_renamed_items(letters: Letters, old: &[PrintItem], new: &[PrintItem]) -> 
 }
 
 fn are_renamed_letters(letters: Letters, old: &[Letter], new: &[Letter]) -> bool
-    ensures { IsTrue result → letters_of new.now ≡ map (spec.renamed_letter letters) (letters_of old.now) }
+    ensures { IsTrue result ↔ (letters_of new.now ≡ map (spec.renamed_letter letters) (letters_of old.now)) }
 {
     match old {
         [] => new.is_empty(),
@@ -74,7 +74,7 @@ fn are_renamed_letters(letters: Letters, old: &[Letter], new: &[Letter]) -> bool
 }
 
 fn is_renamed_statement(letters: Letters, old: &Statement, new: &Statement) -> bool
-    ensures { IsTrue result → statement_of new.now ≡ spec.renamed (spec.renamed_letter letters) (statement_of old.now) }
+    ensures { IsTrue result ↔ (statement_of new.now ≡ spec.renamed (spec.renamed_letter letters) (statement_of old.now)) }
 {
     match (old, new) {
         (Statement::Let(x, e), Statement::Let(y, f)) => {
@@ -101,7 +101,7 @@ fn is_renamed_statement(letters: Letters, old: &Statement, new: &Statement) -> b
 
 /// Whether what the second line does is what the first one does, renamed.
 pub fn is_renamed_edit(letters: Letters, old: &LineEdit, new: &LineEdit) -> bool
-    ensures { IsTrue result → edit_of new.now ≡ spec.renamed_edit (spec.renamed_letter letters) (edit_of old.now) }
+    ensures { IsTrue result ↔ (edit_of new.now ≡ spec.renamed_edit (spec.renamed_letter letters) (edit_of old.now)) }
 {
     match (old, new) {
         (LineEdit::Nothing, LineEdit::Nothing) => true,

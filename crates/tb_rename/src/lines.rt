@@ -1,8 +1,8 @@
 //! The new lines of a text in which a variable is renamed, and whether they read so.
-ghost use Rattle.std.specs.Prelude.{◌≡◌, IfOk, IsTrue, Ok};
+ghost use Rattle.std.specs.Prelude.{◌≡◌, ◌↔◌, false, IfOk, IsTrue, Ok, is_none};
 ghost use Rattle.tb_parser.specs.Readings.{LineIn};
 ghost use Rattle.tb_source_names.specs.Lines.{does};
-ghost use Rattle.tb_rename.specs.Rename.{AreRenamed, IsRenamed};
+ghost use Rattle.tb_rename.specs.Rename.{AreRenamed, IsRenamed, has_bad_line};
 ghost use Rattle.tb_rename.specs.Renamed as spec;
 
 use crate::comparing::is_renamed_edit;
@@ -47,7 +47,8 @@ fn text_after(alloc: Global, letters: Letters, line: &Line<'_>) -> Result<Vec<u8
     lettered(alloc, letters, line.text, &variables)
 }
 
-// Whether a text reads as a line, renamed.
+// Whether a text reads as a good line, renamed.
+#[tactic(auto, using(crate::proofs::Otherwise::refused_if))]
 fn reads_renamed(
     alloc: Global,
     notation: Notation,
@@ -55,10 +56,11 @@ fn reads_renamed(
     line: &Line<'_>,
     text: &[u8],
 ) -> Result<bool, AllocError>
-    ensures { IfOk result (λ is. IsTrue is → LineIn notation text.now (Ok (spec.renamed_edit (spec.renamed_letter letters) (does line.now.edit)))) }
+    requires { is_none line.now.edit ≡ false }
+    ensures { IfOk result (λ is. IsTrue is ↔ LineIn notation text.now (Ok (spec.renamed_edit (spec.renamed_letter letters) (does line.now.edit)))) }
 {
     let Some(old) = &line.edit else {
-        return Ok(false);
+        unreachable!()
     };
     match read_line_in(alloc, notation, text) {
         Ok(new) => Ok(is_renamed_edit(letters, old, &new)),
@@ -69,23 +71,25 @@ fn reads_renamed(
     }
 }
 
-// Whether what becomes of a line reads as the line, renamed.
+// Whether what becomes of a good line reads as the line, renamed.
 fn is_renamed(
     alloc: Global,
     notation: Notation,
     letters: Letters,
     line: &Line<'_>,
 ) -> Result<bool, AllocError>
-    ensures { IfOk result (λ is. IsTrue is → IsRenamed notation letters line.now) }
+    requires { is_none line.now.edit ≡ false }
+    ensures { IfOk result (λ is. IsTrue is ↔ IsRenamed notation letters line.now) }
 {
     let text = text_after(alloc, letters, line)?;
     reads_renamed(alloc, notation, letters, line, text.as_slice())
 }
 
-/// Whether what becomes of each line reads as the line, renamed, in the source's notation. Fails only if memory runs
-/// out.
+/// Whether what becomes of each line, all of them good, reads as the line, renamed, in the source's notation. Fails only
+/// if memory runs out.
 pub fn are_renamed(alloc: Global, letters: Letters, source: &Source<'_>) -> Result<bool, AllocError>
-    ensures { IfOk result (λ are. IsTrue are → AreRenamed source.now.notation letters source.now.lines.items) }
+    requires { has_bad_line source.now.lines.items ≡ false }
+    ensures { IfOk result (λ are. IsTrue are ↔ AreRenamed source.now.notation letters source.now.lines.items) }
 {
     for line in &source.lines {
         if !is_renamed(alloc, source.notation, letters, line)? {

@@ -1,5 +1,5 @@
 //! Renaming a variable.
-ghost use Rattle.std.specs.Prelude.{◌≡◌, ◌∷◌, ◌++◌, [], IfOk, OnOk, map};
+ghost use Rattle.std.specs.Prelude.{◌≡◌, ◌∷◌, ◌++◌, [], false, IfOk, OnOk, map};
 ghost use Rattle.serde_json.specs.View.{view};
 ghost use Rattle.tb_edit_values.specs.Edits.{edit_value};
 ghost use Rattle.tb_rename.specs.Rename as spec;
@@ -108,13 +108,14 @@ fn edits_of(alloc: Global, source: &Source<'_>, letters: Letters) -> Result<Vec<
     edits_at(alloc, &found, spelled(&letter))
 }
 
-// The changes that rename a variable, if the new text reads so.
+// The changes that rename a variable, if the new text reads so. No line is bad.
 fn changes(
     alloc: Global,
     uri: &str,
     source: &Source<'_>,
     letters: Letters,
 ) -> Result<Result<Value, Refusal>, AllocError>
+    requires { spec.has_bad_line source.now.lines.items ≡ false }
     ensures { IfOk result (spec.Changes source.now.notation uri.now letters source.now.lines.items) }
 {
     if !are_renamed(alloc, letters, source)? {
@@ -125,6 +126,7 @@ fn changes(
 }
 
 // The changes that rename a variable, or why it isn't renamed.
+#[tactic(auto, using(crate::proofs::Otherwise::none_bad))]
 fn rename_letters(
     alloc: Global,
     uri: &str,
@@ -140,7 +142,8 @@ fn rename_letters(
 }
 
 /// The changes of a text that give the variable at a place a new letter, in all good lines. Refused, in this order: no
-/// variable, no letter, a bad line, a letter that another variable has; or memory runs out.
+/// variable, no letter, a bad line, a letter that another variable has, a line that would read otherwise; or memory runs
+/// out.
 pub fn rename(
     alloc: Global,
     uri: &str,

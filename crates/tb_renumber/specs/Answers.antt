@@ -28,8 +28,8 @@ abbrev pub of_source : SourceError → Refusal
 of_source e = by_kind e.kind e
 
 -- what the lines of a text make in a notation is this program
-abbrev pub IsProgramOf : Notation → List ℕ → Program → Type 0
-IsProgramOf notation text program = LinesIn notation 1 [] (lines_of_file text) (Ok program)
+abbrev pub IsProgramIn : Notation → List ℕ → Program → Type 0
+IsProgramIn notation text program = LinesIn notation 1 [] (lines_of_file text) (Ok program)
 
 -- each jump goes to a line by a constant, and no line gets a number above the highest
 abbrev pub IsMovable : (first step : ℕ) → Program → Type 0
@@ -47,11 +47,11 @@ IsLong found (LineTooLong n) = found ≡ Some n
 IsLong found NoMemory = Unit {0}
 IsLong found _ = ⊥
 
--- a refusal by reading the new text again: it would be another program, or want of memory
-abbrev pub IsOther : Refusal → Type 0
-IsOther Other = Unit {0}
-IsOther NoMemory = Unit {0}
-IsOther _ = ⊥
+-- a refusal by reading the new text again, which was to be a program: it is another one, or none; or want of memory
+abbrev pub IsOther : Notation → List ℕ → Program → Refusal → Type 0
+IsOther notation text program Other = ¬ (IsProgramIn notation text program)
+IsOther notation text program NoMemory = Unit {0}
+IsOther notation text program _ = ⊥
 
 -- why a new text is refused that doesn't read: want of memory is no fault of the text
 abbrev pub of_text : SourceErrorKind → Refusal
@@ -59,12 +59,13 @@ of_text kind.NoMemory = NoMemory
 of_text _ = Other
 
 -- The answer for a program whose source has these lines: its new text, no line of which is too long, and which reads as
--- the program renumbered, which has the program's runs; or why there is none, where the new text is looked at last.
+-- the program renumbered, which has the program's runs; or why there is none. That the new text reads as another
+-- program, or as none, is told only where it does.
 abbrev pub RenumbersLines : Notation → (first step : ℕ) → List ℕ → List SourceLine → Program → Result (Vec ℕ Global) Refusal → Type 0
 RenumbersLines notation first step source lines program (Ok text) =
     IsMovable first step program × (text.items ≡ new_text (new_number first step (numbers program)) lines source)
     × (first_long (new_number first step (numbers program)) lines ≡ None)
-    × IsProgramOf notation text.items (renumbered first step program) × RunAlike (new_number first step (numbers program)) program (renumbered first step program)
+    × IsProgramIn notation text.items (renumbered first step program) × RunAlike (new_number first step (numbers program)) program (renumbered first step program)
 RenumbersLines notation first step source lines program (Err (Source e)) = ⊥
 RenumbersLines notation first step source lines program (Err (Jump n fault)) = Refuses first step program (Jump n fault)
 RenumbersLines notation first step source lines program (Err AboveHighest) = Refuses first step program AboveHighest
@@ -72,6 +73,7 @@ RenumbersLines notation first step source lines program (Err (LineTooLong n)) =
     IsMovable first step program × (first_long (new_number first step (numbers program)) lines ≡ Some n)
 RenumbersLines notation first step source lines program (Err Other) =
     IsMovable first step program × (first_long (new_number first step (numbers program)) lines ≡ None)
+    × ¬ (IsProgramIn notation (new_text (new_number first step (numbers program)) lines source) (renumbered first step program))
 RenumbersLines notation first step source lines program (Err NoMemory) = Unit {0}
 
 -- the same, by lines that the source has
@@ -83,4 +85,4 @@ RenumbersProgram notation first step source program result =
 abbrev pub Renumbers : Notation → (first step : ℕ) → List ℕ → Result (Vec ℕ Global) Refusal → Type 0
 Renumbers notation first step source (Err (Source e)) = IfSome (refusal_of e.kind e.column) (λ r. LinesIn notation 1 [] (lines_of_file source) (Err (refused_at e.line r)))
 Renumbers notation first step source (Err NoMemory) = Unit {0}
-Renumbers notation first step source result = (program : Program) × IsProgramOf notation source program × RenumbersProgram notation first step source program result
+Renumbers notation first step source result = (program : Program) × IsProgramIn notation source program × RenumbersProgram notation first step source program result

@@ -1,10 +1,10 @@
 //! Renumbering a source.
-ghost use Rattle.std.specs.Prelude.{◌≡◌, MatchResult};
+ghost use Rattle.std.specs.Prelude.{◌≡◌, true, MatchResult};
 ghost use Rattle.tb_syntax.specs.PlainData.{lines_of};
 ghost use Rattle.tb_syntax.specs.Source.{numbers, Rises};
-ghost use Rattle.tb_renumbering.specs.Renumbered.{renumbered};
+ghost use Rattle.tb_renumbering.specs.Renumbered.{are_low, renumbered};
 ghost use Rattle.tb_source_names.specs.Sources.{AreLinesOf};
-ghost use Rattle.tb_renumber.specs.Answers.{IsMovable, IsOther, IsProgramOf, Refuses, Renumbers, RenumbersLines, of_text};
+ghost use Rattle.tb_renumber.specs.Answers.{IsMovable, IsOther, IsProgramIn, Refuses, Renumbers, RenumbersLines, of_text};
 
 use crate::refusals::Refusal;
 use crate::texts::renumbered_text;
@@ -37,7 +37,7 @@ fn of_text(e: SourceError) -> Refusal
     }
 }
 
-// Reads the new text again, in the same notation: it is to be the program renumbered.
+// Reads the new text again, in the same notation: it is to be the program renumbered, whose numbers are low.
 fn read_again(
     alloc: Global,
     notation: Notation,
@@ -45,8 +45,10 @@ fn read_again(
     numbering: Numbering,
     text: &[u8],
 ) -> Result<(), Refusal>
-    ensures { MatchResult result (λ _. IsProgramOf notation text.now (renumbered numbering.first numbering.step (lines_of program.now))
-        × Rises 1 32768 (numbers (renumbered numbering.first numbering.step (lines_of program.now)))) IsOther }
+    requires { are_low numbering.first numbering.step (numbers (lines_of program.now)) ≡ true }
+    ensures { MatchResult result (λ _. IsProgramIn notation text.now (renumbered numbering.first numbering.step (lines_of program.now))
+        × Rises 1 32768 (numbers (renumbered numbering.first numbering.step (lines_of program.now))))
+        (IsOther notation text.now (renumbered numbering.first numbering.step (lines_of program.now))) }
 {
     let new = match parse_in(alloc, notation, text) {
         Ok(new) => new,
@@ -79,7 +81,7 @@ fn renumber_lines(
 
 /// The text of a source, whose texts are read in a notation, with its lines renumbered, and its jumps with them.
 /// Refused, in this order: a text that is no program, a jump that can't be renumbered, a number above 32,767, a line of
-/// more than 255 bytes; or memory runs out.
+/// more than 255 bytes, a new text that is another program; or memory runs out.
 pub fn renumber(
     alloc: Global,
     notation: Notation,

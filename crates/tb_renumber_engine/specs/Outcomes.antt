@@ -1,6 +1,6 @@
 -- How the renumbering of a source ends.
 use Rattle.std.specs.Prelude.{ℕ}
-use Rattle.tb_streams.specs.declared.status.TheConstants.{REFUSED}
+use Rattle.tb_streams.specs.Numbers.{REFUSED}
 use Rattle.tb_engines.specs.Outcomes as engine
 use Rattle.tb_renumber_engine.specs.declared.outcome.RenumberOutcome.{RenumberOutcome}
 use Rattle.tb_renumber_engine.specs.declared.outcome.RenumberOutcome.TheVariants.{Engine, Refused}

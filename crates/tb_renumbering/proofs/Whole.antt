@@ -1,6 +1,6 @@
 -- Whole runs.
 use Rattle.std.proofs.Common.{◌≡◌, ℕ, zero, suc, List, [], ◌++◌, map, replicate, None, refl, sym, ap, ◌∙◌, subst, append_assoc}
-use Rattle.tb_words.specs.declared.TheConstants.{LETTERS}
+use Rattle.tb_words.specs.Numbers.{LETTERS}
 use Rattle.tb_syntax.specs.Source.{Program, numbers, Rises}
 use Rattle.tb_meaning.specs.Steps.{Ended, Faulted, Waits, Step, Goes, Stops, Run, GoesOn, Over, joined, advance, advance_by}
 use Rattle.tb_meaning.specs.Control.{Place, State, first_place, fault_text}

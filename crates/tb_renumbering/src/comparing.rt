@@ -1,8 +1,8 @@
 //! Whether a program is another one renumbered.
-ghost use Rattle.std.specs.Prelude.{◌≡◌, IsTrue, OnOk};
+ghost use Rattle.std.specs.Prelude.{◌≡◌, true, IfSome, IsSome, IsTrue};
 ghost use Rattle.tb_syntax.specs.PlainData.{expression_of, statement_of, lines_of};
 ghost use Rattle.tb_syntax.specs.Source.{numbers};
-ghost use Rattle.tb_renumbering.specs.Renumbered.{moved, moved_target, new_number, renumbered};
+ghost use Rattle.tb_renumbering.specs.Renumbered.{are_low, moved, moved_target, new_number, renumbered};
 
 use crate::equality::{same_expressions, same_items, same_letters};
 use crate::numbering::Numbering;
@@ -11,14 +11,17 @@ use tb_syntax::{Expr, Program, Statement};
 
 /// Whether the second program is the first one renumbered.
 pub fn is_renumbered(numbering: &Numbering, old: &Program, new: &Program) -> bool
-    ensures { IsTrue result → lines_of new.now ≡ renumbered numbering.now.first numbering.now.step (lines_of old.now) }
+    ensures sound { IsTrue result → lines_of new.now ≡ renumbered numbering.now.first numbering.now.step (lines_of old.now) }
+    // True comes wherever it is, if no line gets a number above the highest.
+    ensures whole { are_low numbering.now.first numbering.now.step (numbers (lines_of old.now)) ≡ true
+        → lines_of new.now ≡ renumbered numbering.now.first numbering.now.step (lines_of old.now) → IsTrue result }
 {
     let mut rest = new.lines();
     for (number, statement) in old.lines() {
         let Some((new_number, new_statement)) = rest.next() else {
             return false;
         };
-        if numbering.new_number(old, *number) != Some(*new_number)
+        if moved(numbering, old, *number) != Some(*new_number)
             || !is_moved(numbering, old, statement, new_statement)
         {
             return false;
@@ -27,10 +30,28 @@ pub fn is_renumbered(numbering: &Numbering, old: &Program, new: &Program) -> boo
     rest.next().is_none()
 }
 
+// The new number of a line, where it is not above the highest. A number of no line stays.
+fn moved(numbering: &Numbering, program: &Program, number: u16) -> Option<u16>
+    ensures value { IfSome result
+        (λ new. new ≡ new_number numbering.now.first numbering.now.step (numbers (lines_of program.now)) number) }
+    ensures found { are_low numbering.now.first numbering.now.step (numbers (lines_of program.now)) ≡ true → IsSome result }
+{
+    match numbering.new_number(program, number) {
+        Some(new) => Some(new),
+        None => if numbering.fits(program) {
+            Some(number)
+        } else {
+            None
+        },
+    }
+}
+
 // Whether the second statement is the first one, of a program, with its jump's target renumbered.
 fn is_moved(numbering: &Numbering, program: &Program, old: &Statement, new: &Statement) -> bool
-    ensures { IsTrue result → statement_of new.now ≡ moved
+    ensures sound { IsTrue result → statement_of new.now ≡ moved
         (new_number numbering.now.first numbering.now.step (numbers (lines_of program.now))) (statement_of old.now) }
+    ensures whole { are_low numbering.now.first numbering.now.step (numbers (lines_of program.now)) ≡ true → statement_of new.now ≡ moved
+        (new_number numbering.now.first numbering.now.step (numbers (lines_of program.now))) (statement_of old.now) → IsTrue result }
 {
     match (old, new) {
         (Statement::Let(x, e), Statement::Let(y, f)) => x == y && same_expressions(f, e),
@@ -53,16 +74,19 @@ fn is_moved(numbering: &Numbering, program: &Program, old: &Statement, new: &Sta
     }
 }
 
-// Whether the second expression is the new number of the line that the first one, a constant, is the old number of.
+// Whether the second expression is the new number of the line that the first one is the old number of. One that is not
+// constant stays.
 fn is_moved_target(numbering: &Numbering, program: &Program, old: &Expr, new: &Expr) -> bool
-    ensures { IsTrue result → expression_of new.now ≡ moved_target
+    ensures sound { IsTrue result → expression_of new.now ≡ moved_target
         (new_number numbering.now.first numbering.now.step (numbers (lines_of program.now))) (expression_of old.now) }
+    ensures whole { are_low numbering.now.first numbering.now.step (numbers (lines_of program.now)) ≡ true → expression_of new.now ≡ moved_target
+        (new_number numbering.now.first numbering.now.step (numbers (lines_of program.now))) (expression_of old.now) → IsTrue result }
 {
     let Some(target) = constant(old) else {
-        return false;
+        return same_expressions(new, old);
     };
     let Expr::Number(number) = new else {
         return false;
     };
-    numbering.new_number(program, target) == Some(*number)
+    moved(numbering, program, target) == Some(*number)
 }

@@ -1,5 +1,5 @@
 //! Whether two trees are the same.
-ghost use Rattle.std.specs.Prelude.{◌≡◌, IsTrue, map};
+ghost use Rattle.std.specs.Prelude.{◌≡◌, ◌↔◌, IsTrue, map};
 ghost use Rattle.tb_syntax.specs.PlainData.{expression_of, item_of, letters_of};
 
 use tb_syntax::{Expr, PrintItem};
@@ -7,7 +7,7 @@ use tb_words::Letter;
 
 /// Whether two expressions are the same.
 pub fn same_expressions(a: &Expr, b: &Expr) -> bool
-    ensures { IsTrue result → expression_of a.now ≡ expression_of b.now }
+    ensures { IsTrue result ↔ (expression_of a.now ≡ expression_of b.now) }
 {
     match (a, b) {
         (Expr::Number(n), Expr::Number(m)) => n == m,
@@ -23,7 +23,7 @@ pub fn same_expressions(a: &Expr, b: &Expr) -> bool
 
 // Whether two items of PRINT are the same.
 fn same_item(a: &PrintItem, b: &PrintItem) -> bool
-    ensures { IsTrue result → item_of a.now ≡ item_of b.now }
+    ensures { IsTrue result ↔ (item_of a.now ≡ item_of b.now) }
 {
     match (a, b) {
         (PrintItem::Text(t), PrintItem::Text(u)) => t.as_slice() == u.as_slice(),
@@ -35,7 +35,7 @@ fn same_item(a: &PrintItem, b: &PrintItem) -> bool
 
 /// Whether two lists of items are the same.
 pub fn same_items(a: &[PrintItem], b: &[PrintItem]) -> bool
-    ensures { IsTrue result → map item_of a.now ≡ map item_of b.now }
+    ensures { IsTrue result ↔ (map item_of a.now ≡ map item_of b.now) }
 {
     match a {
         [] => b.is_empty(),
@@ -48,7 +48,7 @@ pub fn same_items(a: &[PrintItem], b: &[PrintItem]) -> bool
 
 /// Whether two lists of letters are the same.
 pub fn same_letters(a: &[Letter], b: &[Letter]) -> bool
-    ensures { IsTrue result → letters_of a.now ≡ letters_of b.now }
+    ensures { IsTrue result ↔ (letters_of a.now ≡ letters_of b.now) }
 {
     match a {
         [] => b.is_empty(),

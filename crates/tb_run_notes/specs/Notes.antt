@@ -1,5 +1,5 @@
 -- What a machine tells at the end of a run.
-use Rattle.std.specs.Prelude.{ℕ, List, ◌++◌, codes, Option, Some, None, option_map}
+use Rattle.std.specs.Prelude.{ℕ, ◌≡◌, List, ◌++◌, codes, Option, Some, None, option_map}
 use Rattle.std.specs.Fmt.{decimal}
 use Rattle.tb_memmap.specs.Bytes.{at}
 use Rattle.tb_kernal.specs.Machine.{Content, state_of}
@@ -19,7 +19,12 @@ end_note program machine.Waits m = Some (Waits (line_of (starts_of program) (tab
 end_note program machine.Returned m = option_map Fault (fault_of (warnings_of program) m.sent (at m.memory))
 end_note program (machine.Wrong w) m = None
 
--- what is said of it
+-- what is told where a machine tells this: the same, but that a fault may go untold where memory runs out
+abbrev pub IsTold : Option EndNote → Option EndNote → Type 0
+IsTold (Some (Fault f)) None = Unit {0}
+IsTold wanted note = note ≡ wanted
+
+-- what is said of a note
 abbrev pub note_text : EndNote → List ℕ
 note_text (Running (Some line)) = codes "line " ++ (decimal line ++ codes " was begun last; --limit N allows more events")
 note_text (Running None) = codes "--limit N allows more events"

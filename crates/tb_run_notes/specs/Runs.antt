@@ -1,37 +1,60 @@
 -- A run with what its machine tells at the end.
-use Rattle.std.specs.Prelude.{ℕ, ◌≡◌, List, Option, Some, None, Ok}
+use Rattle.std.specs.Prelude.{ℕ, ◌≡◌, List, Option, Some, None, Result, Ok, Err}
+use Rattle.tb_kernal.specs.declared.events.Event.{Event}
 use Rattle.tb_kernal.specs.Machine.{Content, state_of, status}
-use Rattle.tb_kernal.specs.Runs.{RanOver}
 use Rattle.tb_kernal.specs.declared.status.Status.{Status}
 use Rattle.tb_kernal.specs.declared.status.Status.TheVariants.{Returned}
+use Rattle.tb_watch.specs.Hearing.{Hearing, RanWatched}
 use Rattle.tb_codegen.specs.Compiled.{prg_of}
 use Rattle.tb_codegen.specs.declared.compiled.Compiled.{Compiled}
 use Rattle.tb_codegen.specs.declared.settings.CompileSettings.{CompileSettings}
 use Rattle.tb_streams.specs.Streams.{Reads}
 use Rattle.tb_streams.specs.Uses.{Use}
-use Rattle.tb_engines.specs.Programs.{Settings, StartsPrg}
+use Rattle.tb_engines.specs.Programs.{Settings, StartsPrg, end_of}
+use Rattle.tb_engines.specs.declared.delivery.NoText.{NoText}
+use Rattle.tb_engines.specs.declared.delivery.Text.{Text}
+use Rattle.tb_engines.specs.declared.outcome.End.{End}
+use Rattle.tb_engines.specs.declared.outcome.Outcome.{Outcome}
+use Rattle.tb_engines.specs.declared.outcome.Outcome.TheVariants.{Ended, Refused, ReadFault, WriteFault, NoMemory}
 use Rattle.tb_driver.specs.Sources.{Compiles}
-use Rattle.tb_run_notes.specs.Notes.{end_note}
+use Rattle.tb_run_notes.specs.Notes.{IsTold, end_note}
 use Rattle.tb_run_notes.specs.declared.notes.EndNote.{EndNote}
 
--- a run of a PRG file from its start machine, and the machine at its end
-pub record EndsAs {O : Type 0} (s : Settings O) (file : List ℕ) (n : Content) : Type 0 where
-  pub start : Content
-  pub starts : StartsPrg s.text s.answers file (Ok start)
+-- a run of a machine, of which a watch hears: how it ended, and the machine then
+pub record RunsTo {O W : Type 0} (gives : O → Content → Event → O → Type 0) (o : O) (limit : ℕ) (watch : Hearing W) (start : Content)
+    (end : End) (n : Content) : Type 0 where
   pub answer : Status
   pub left : O
-  pub ran : RanOver s.gives s.outside start s.limit (Ok answer) left n
+  pub ran : RanWatched gives watch.hears o start watch.before limit (Ok answer) left n watch.after
+  pub how : end ≡ end_of answer n.regs.pc
 
--- what is told is what the machine tells at the end of the run; nothing may be told if memory ran out
-abbrev pub NotesEnd : {O : Type 0} → Settings O → Compiled → Option EndNote → Type 0
-NotesEnd s program None = Unit {0}
-NotesEnd s program (Some note) = (n : Content) × EndsAs s (prg_of program) n × (end_note program (status (state_of n)) n ≡ Some note)
+-- the same of a PRG file, from its start machine
+abbrev pub EndsAs : {O W : Type 0} → Settings O → Hearing W → List ℕ → End → Content → Type 0
+EndsAs s watch file end n = (start : Content) × StartsPrg s.text s.answers file (Ok start) × RunsTo s.gives s.outside s.limit watch start end n
 
--- the same of a source's program
-abbrev pub NotesRun : {O : Type 0} → Settings O → CompileSettings → Use → Option EndNote → Type 0
-NotesRun s settings reader None = Unit {0}
-NotesRun s settings reader (Some note) =
-    (source : List ℕ) × Reads reader.old source × ((program : Compiled) × Compiles settings source (Ok program) × NotesEnd s program (Some note))
+-- what is told by what was made: nothing where there is no text
+abbrev pub ByText : {A : Type 0} → (End → Option A → Type 0) → Result Text NoText → Option A → Type 0
+ByText Tells (Ok text) told = Tells text.end told
+ByText Tells (Err stop) told = told ≡ None
+
+-- the same by how a call ended: where its text was written, or failed to be, what is told of a run
+abbrev pub ByOutcome : {A : Type 0} → (End → Option A → Type 0) → Outcome → Option A → Type 0
+ByOutcome Tells (Ended end) told = Tells end told
+ByOutcome Tells WriteFault told = (end : End) × Tells end told
+ByOutcome Tells (Refused e) told = told ≡ None
+ByOutcome Tells ReadFault told = told ≡ None
+ByOutcome Tells NoMemory None = Unit {0}
+ByOutcome Tells NoMemory (Some told) = (end : End) × Tells end (Some told)
+
+-- what is told of a program's run that ended so is what its machine tells
+abbrev pub TellsEnd : {O W : Type 0} → Settings O → Hearing W → Compiled → End → Option EndNote → Type 0
+TellsEnd s watch program end note =
+    (n : Content) × EndsAs s watch (prg_of program) end n × IsTold (end_note program (status (state_of n)) n) note
+
+-- the same of the program of a source that is read
+abbrev pub TellsSource : {O W : Type 0} → Settings O → Hearing W → CompileSettings → Use → End → Option EndNote → Type 0
+TellsSource s watch settings reader end note =
+    (source : List ℕ) × Reads reader.old source × ((program : Compiled) × Compiles settings source (Ok program) × TellsEnd s watch program end note)
 
 -- ---- PRG files
 
@@ -40,12 +63,10 @@ abbrev pub end_place : Status → ℕ → Option ℕ
 end_place Returned pc = None
 end_place _ pc = Some pc
 
--- the place that is told is that of the machine at the end of the run; none may be told if memory ran out
-abbrev pub PlacesEnd : {O : Type 0} → Settings O → List ℕ → Option ℕ → Type 0
-PlacesEnd s file None = Unit {0}
-PlacesEnd s file (Some at) = (n : Content) × EndsAs s file n × (end_place (status (state_of n)) n.regs.pc ≡ Some at)
+-- the place that is told of a run that ended so is that of its machine
+abbrev pub TellsPlace : {O W : Type 0} → Settings O → Hearing W → List ℕ → End → Option ℕ → Type 0
+TellsPlace s watch file end place = (n : Content) × EndsAs s watch file end n × (place ≡ end_place (status (state_of n)) n.regs.pc)
 
 -- the same of a PRG file that is read
-abbrev pub PlacesRun : {O : Type 0} → Settings O → Use → Option ℕ → Type 0
-PlacesRun s reader None = Unit {0}
-PlacesRun s reader (Some at) = (file : List ℕ) × Reads reader.old file × PlacesEnd s file (Some at)
+abbrev pub TellsFile : {O W : Type 0} → Settings O → Hearing W → Use → End → Option ℕ → Type 0
+TellsFile s watch reader end place = (file : List ℕ) × Reads reader.old file × TellsPlace s watch file end place

@@ -1,7 +1,7 @@
 //! What the machine tells at the end of a run.
-ghost use Rattle.std.specs.Prelude.{◌≡◌, IfOk, Some};
+ghost use Rattle.std.specs.Prelude.{◌≡◌, IfErr, IfOk, None, Some};
 ghost use Rattle.tb_kernal.specs.Machine.{state_of, status};
-ghost use Rattle.tb_run_notes.specs.Notes.{end_note, note_text};
+ghost use Rattle.tb_run_notes.specs.Notes.{IsTold, end_note, note_text};
 
 use crate::faults::{Fault, fault_of};
 use crate::places::line_of;
@@ -44,13 +44,15 @@ impl fmt::Display for EndNote {
 }
 
 /// What a machine tells that ran a program. Nothing if the program returned without a fault or went wrong. Fails only if
-/// memory runs out.
+/// memory runs out where a fault is looked for.
+#[tactic(auto, using(crate::proofs::Ran::untold_fault))]
 pub fn end_note(
     alloc: Global,
     machine: &Machine,
     program: &Compiled,
 ) -> Result<Option<EndNote>, AllocError>
-    ensures { IfOk result (λ note. note ≡ end_note program.now (status (state_of machine.now)) machine.now) }
+    ensures told { IfOk result (λ note. note ≡ end_note program.now (status (state_of machine.now)) machine.now) }
+    ensures memory { IfErr result (λ _. IsTold (end_note program.now (status (state_of machine.now)) machine.now) None) }
 {
     match machine.status() {
         Status::Running => Ok(Some(EndNote::Running(line_of(machine, program)))),

@@ -1,7 +1,7 @@
 //! Running a source, with what the machine tells at the end, or a PRG file.
-ghost use Rattle.std.specs.Prelude.{◌≡◌, ℕ, List, OnOk, IfSome, MatchResult, Ok, Some};
+ghost use Rattle.std.specs.Prelude.{◌≡◌, ℕ, List, IfOk};
 ghost use Rattle.tb_kernal.specs.Machine.{state_of, status};
-ghost use Rattle.tb_kernal.specs.Runs.{RanOver};
+ghost use Rattle.tb_watch.specs.Hearing.{hearing_of};
 ghost use Rattle.tb_streams.specs.Uses.{use_of, TakesInput};
 ghost use Rattle.tb_engines.specs.Outcomes.{AnswersInput, Faults};
 ghost use Rattle.tb_engines.specs.Delivery.{Makes};
@@ -10,8 +10,8 @@ ghost use Rattle.tb_codegen.specs.Compiled.{prg_of};
 ghost use Rattle.tb_codegen.specs.declared.settings.CompileSettings.{CompileSettings};
 ghost use Rattle.tb_driver.specs.Sources.{RunsText, WarnsOfRead};
 ghost use Rattle.tb_driver.specs.Output.{KeepsSource, RunsSource};
-ghost use Rattle.tb_run_notes.specs.Notes.{end_note};
-ghost use Rattle.tb_run_notes.specs.Runs.{NotesEnd, NotesRun, PlacesEnd, PlacesRun, end_place};
+ghost use Rattle.tb_run_notes.specs.Notes.{IsTold, end_note};
+ghost use Rattle.tb_run_notes.specs.Runs.{ByOutcome, ByText, RunsTo, TellsEnd, TellsFile, TellsPlace, TellsSource, end_place};
 
 use crate::notes::{EndNote, end_note};
 use std::alloc::Global;
@@ -53,7 +53,7 @@ fn run_machine<O: Outside, W: Watch>(
     watch: &mut W,
 ) -> Result<Text, NoText>
     ensures made { Makes (RunsOn O.gives outside.old machine.old limit) result }
-    ensures ran { OnOk result ((t : _) × RanOver O.gives outside.old machine.old limit (Ok t) outside.new machine.new) }
+    ensures ran { IfOk result (λ text. RunsTo O.gives outside.old limit (hearing_of W.hears watch.old watch.new) machine.old text.end machine.new) }
 {
     let Ok(status) = run_watched(machine, outside, limit, watch) else {
         return Err(NoText::NoMemory);
@@ -75,7 +75,7 @@ fn run_program<O: Outside, W: Watch>(
     watch: &mut W,
 ) -> Ran
     ensures machine { Makes (RunsPrg (settings_of O.gives outside.old keyboard limit) (prg_of program.now)) result.made }
-    ensures note { NotesEnd (settings_of O.gives outside.old keyboard limit) program.now result.note }
+    ensures note { ByText (TellsEnd (settings_of O.gives outside.old keyboard limit) (hearing_of W.hears watch.old watch.new) program.now) result.made result.note }
 {
     let mut machine = match start_program(alloc, program, keyboard) {
         Ok(machine) => machine,
@@ -96,8 +96,7 @@ fn note_after(
     machine: &Machine,
     program: &Compiled,
 ) -> Option<EndNote>
-    ensures { IfSome result (λ note. MatchResult made.now
-        (λ _. end_note program.now (status (state_of machine.now)) machine.now ≡ Some note) (λ _. ⊥)) }
+    ensures { ByText (λ _ note. IsTold (end_note program.now (status (state_of machine.now)) machine.now) note) made.now result }
 {
     match made {
         Ok(_) => end_note(alloc, machine, program).unwrap_or(None),
@@ -117,7 +116,7 @@ fn run_compiled<O: Outside, W: Watch>(
     ensures machine { Makes (RunsPrg (settings_of O.gives outside.old keyboard limit) (prg_of program.now)) result.made }
     ensures output { (settings : CompileSettings) (source : List ℕ) → KeepsSource settings source (prg_of program.now)
         → Makes (RunsSource settings keyboard.text.items keyboard.answers.items source) result.made }
-    ensures note { NotesEnd (settings_of O.gives outside.old keyboard limit) program.now result.note }
+    ensures note { ByText (TellsEnd (settings_of O.gives outside.old keyboard limit) (hearing_of W.hears watch.old watch.new) program.now) result.made result.note }
 {
     are_bytes(program.prg());
     are_bytes(keyboard.text.as_slice());
@@ -142,7 +141,8 @@ pub fn run_noted<R: Read, W: Write, O: Outside, V: Watch>(
     ensures output { AnswersInput (RunsSource settings keyboard.text.items keyboard.answers.items)
         result.report.outcome (use_of R.remaining reader.old reader.new) (use_of W.contents writer.old writer.new) }
     ensures warned { WarnsOfRead result.report.outcome result.report.warnings.items }
-    ensures note { NotesRun (settings_of O.gives outside.old keyboard limit) settings (use_of R.remaining reader.old reader.new) result.note }
+    ensures note { ByOutcome (TellsSource (settings_of O.gives outside.old keyboard limit) (hearing_of V.hears watch.old watch.new) settings (use_of R.remaining reader.old reader.new))
+        result.report.outcome result.note }
     ensures faults { Faults result.report.outcome (use_of R.remaining reader.old reader.new) (use_of W.contents writer.old writer.new) }
     ensures taken { TakesInput (use_of R.remaining reader.old reader.new) }
 {
@@ -172,8 +172,7 @@ struct RanPrg {
 
 // Where a machine is after its run, unless its program returned or memory ran out.
 fn place_after(made: &Result<Text, NoText>, machine: &Machine) -> Option<u16>
-    ensures { IfSome result (λ at. MatchResult made.now
-        (λ _. end_place (status (state_of machine.now)) machine.now.regs.pc ≡ Some at) (λ _. ⊥)) }
+    ensures { ByText (λ _ place. place ≡ end_place (status (state_of machine.now)) machine.now.regs.pc) made.now result }
 {
     match (made, machine.status()) {
         (Ok(_), Status::Running | Status::Waits | Status::Wrong(_)) => Some(machine.regs().pc),
@@ -191,7 +190,7 @@ fn run_file<O: Outside, W: Watch>(
     watch: &mut W,
 ) -> RanPrg
     ensures machine { Makes (RunsPrg (settings_of O.gives outside.old keyboard limit) file.now) result.made }
-    ensures place { PlacesEnd (settings_of O.gives outside.old keyboard limit) file.now result.place }
+    ensures place { ByText (TellsPlace (settings_of O.gives outside.old keyboard limit) (hearing_of W.hears watch.old watch.new) file.now) result.made result.place }
 {
     let mut machine = match start_file(alloc, file, keyboard) {
         Ok(machine) => machine,
@@ -218,7 +217,8 @@ pub fn run_prg_watched<R: Read, W: Write, O: Outside, V: Watch>(
 ) -> PrgRun
     ensures answers { AnswersInput (RunsPrg (settings_of O.gives outside.old keyboard limit)) result.outcome
         (use_of R.remaining reader.old reader.new) (use_of W.contents writer.old writer.new) }
-    ensures place { PlacesRun (settings_of O.gives outside.old keyboard limit) (use_of R.remaining reader.old reader.new) result.place }
+    ensures place { ByOutcome (TellsFile (settings_of O.gives outside.old keyboard limit) (hearing_of V.hears watch.old watch.new) (use_of R.remaining reader.old reader.new))
+        result.outcome result.place }
     ensures faults { Faults result.outcome (use_of R.remaining reader.old reader.new) (use_of W.contents writer.old writer.new) }
     ensures taken { TakesInput (use_of R.remaining reader.old reader.new) }
 {

@@ -1,6 +1,6 @@
 -- Cells of the screen.
 use Rattle.tb_screen.specs.declared.cells.Cell.{Cell}
-use Rattle.tb_screen.specs.declared.cells.TheConstants.{SPACE}
+use Rattle.tb_screen.specs.Numbers.{SPACE}
 use Rattle.tb_screen.specs.declared.colours.Colour.{Colour}
 
 -- a space of this colour

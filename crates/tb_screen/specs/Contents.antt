@@ -2,7 +2,7 @@
 use Rattle.std.specs.Prelude.{ℕ, Bool, false, List, replicate}
 use Rattle.tb_screen.specs.Cells.{blank}
 use Rattle.tb_screen.specs.declared.cells.Cell.{Cell}
-use Rattle.tb_screen.specs.declared.screen.TheConstants.{PLACES, ROWS}
+use Rattle.tb_screen.specs.Numbers.{PLACES, ROWS}
 use Rattle.tb_screen.specs.declared.colours.Colour.{Colour}
 use Rattle.tb_screen.specs.declared.colours.Colour.TheVariants.{LightBlue}
 use Rattle.tb_screen.specs.declared.colours.CharacterSet.{CharacterSet}

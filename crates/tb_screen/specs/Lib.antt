@@ -1,7 +1,8 @@
 pub mod Cells
-pub mod Signs
-pub mod Shifting
 pub mod Contents
 pub mod Lines
 pub mod Moves
+pub mod Numbers
 pub mod Printing
+pub mod Shifting
+pub mod Signs

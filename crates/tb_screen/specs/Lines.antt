@@ -4,7 +4,7 @@ use Rattle.std.specs.List.{slice_index_or}
 use Rattle.tb_screen.specs.Cells.{blank}
 use Rattle.tb_screen.specs.Contents.{Content}
 use Rattle.tb_screen.specs.Shifting.{scrolled, opened}
-use Rattle.tb_screen.specs.declared.screen.TheConstants.{COLUMNS, ROWS}
+use Rattle.tb_screen.specs.Numbers.{COLUMNS, ROWS}
 
 -- whether a row goes on the line above
 unfoldable pub is_joined : ℕ → Content → Bool

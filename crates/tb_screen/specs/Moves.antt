@@ -5,8 +5,8 @@ use Rattle.tb_screen.specs.Cells.{blank}
 use Rattle.tb_screen.specs.Contents.{Content}
 use Rattle.tb_screen.specs.Shifting.{pulled, pushed}
 use Rattle.tb_screen.specs.Lines.{place, line_end, has_two_rows, in_row, on_row_below, at_left, row_opened}
-use Rattle.tb_screen.specs.declared.cells.TheConstants.{SPACE}
-use Rattle.tb_screen.specs.declared.screen.TheConstants.{COLUMNS, PLACES, ROWS}
+use Rattle.tb_screen.specs.Numbers.{SPACE}
+use Rattle.tb_screen.specs.Numbers.{COLUMNS, PLACES, ROWS}
 
 -- the cursor at the top left
 unfoldable pub at_home : Content → Content

@@ -8,11 +8,13 @@
 
 mod cells;
 mod colours;
+mod numbers;
 mod screen;
 mod shifting;
 mod signs;
 
 pub use cells::{Cell, SPACE};
 pub use colours::{CharacterSet, Colour};
+pub use numbers::constants_are_numbers;
 pub use screen::{COLUMNS, PLACES, ROWS, Screen};
 pub use signs::{Sign, code_of, sign_of};

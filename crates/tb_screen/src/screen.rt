@@ -1,7 +1,7 @@
 //! The screen with its cursor and modes.
 ghost use Rattle.std.specs.Prelude.{◌≡◌, ◌<◌, length};
 ghost use Rattle.tb_screen.specs.Contents.{Content, first_content};
-ghost use Rattle.tb_screen.specs.declared.screen.TheConstants.{COLUMNS, PLACES, ROWS};
+ghost use Rattle.tb_screen.specs.Numbers.{COLUMNS, PLACES, ROWS};
 
 mod lines;
 mod moves;

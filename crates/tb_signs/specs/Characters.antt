@@ -2,7 +2,7 @@
 use Rattle.std.specs.Prelude.{ℕ, ◌+◌, ◌-◌, ◌*◌, min, Bool, not, ◌&&◌, ◌||◌, ◌==◌, nat_le, nat_lt, List, [], ◌∷◌, take, Option, Some, None, option_map, if◌then◌else◌}
 use Rattle.std.specs.Char.{digit_value}
 use Rattle.std.specs.Option.{option_and_then, option_or}
-use Rattle.tb_signs.specs.declared.characters.TheConstants.{MOST_TIMES}
+use Rattle.tb_signs.specs.Numbers.{MOST_TIMES}
 use Rattle.tb_signs.specs.declared.characters.Character.{Character}
 use Rattle.tb_signs.specs.declared.characters.Repeated.{Repeated}
 use Rattle.tb_signs.specs.Names.{byte_named}

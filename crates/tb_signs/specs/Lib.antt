@@ -6,3 +6,5 @@ pub mod Characters
 pub mod Texts
 -- the nearest name
 pub mod Near
+-- the numbers that are promised
+pub mod Numbers

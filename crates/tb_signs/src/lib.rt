@@ -8,9 +8,11 @@
 mod characters;
 mod names;
 mod near;
+mod numbers;
 mod texts;
 
 pub use characters::{Character, read_character};
 pub use names::{byte_named, name_of};
 pub use near::{after_count, near_name, written_name};
+pub use numbers::constants_are_numbers;
 pub use texts::{read_text, write_text};

@@ -7,7 +7,7 @@ use Rattle.tb_meaning.specs.Control.{Place, At, Past, has_line}
 use Rattle.tb_templates.specs.declared.labels.Target.{Target}
 use Rattle.tb_templates.specs.declared.labels.Target.TheVariants as target
 use Rattle.tb_templates.specs.Labels.{label_of}
-use Rattle.tb_templates.specs.Layout.{LabelsAt}
+use Rattle.tb_program_code.specs.Layout.{LabelsAt}
 use Rattle.tb_reaching.specs.View.{Part}
 use Rattle.tb_reaching.specs.View.{without}
 use Rattle.tb_reaching.specs.View.{Bytes}

@@ -1,6 +1,6 @@
 -- When a machine that runs a program's code begins a line, the program does.
 use Rattle.std.specs.Prelude.{◌≡◌, ℕ, ◌+◌, ◌≤◌, ◌<◌, true, false, if◌then◌else◌, List, [], ◌∷◌, ◌++◌, length, slice_index}
-use Rattle.tb_words.specs.declared.TheConstants.{LETTERS}
+use Rattle.tb_words.specs.Numbers.{LETTERS}
 use Rattle.tb_cpu.specs.Operands.{word_from, word_in}
 use Rattle.tb_kernal.specs.declared.events.Event.{Event}
 use Rattle.tb_kernal.specs.declared.events.Event.TheVariants.{Go, Interrupt}

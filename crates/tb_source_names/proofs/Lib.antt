@@ -8,3 +8,5 @@ mod Standing
 mod Given
 -- a line whose number a later one has does nothing
 mod Superseded
+-- what follows REM names nothing
+mod Unnamed

@@ -12,7 +12,7 @@ mod touched;
 mod variables;
 
 pub use jumps::{Jump, jump_of, jump_word};
-pub use laws::superseded_lines_do_nothing;
+pub use laws::{remarks_name_nothing, superseded_lines_do_nothing};
 pub use lines::{Line, read_line};
 pub use names::{Name, name_in};
 pub use places::{Occurrence, Role, number_span, occurrences, target_span};

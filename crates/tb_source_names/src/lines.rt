@@ -19,7 +19,7 @@ pub struct Line<'a> {
     pub edit: Option<LineEdit>,
     pub tokens: Vec<Token<'a>>,
     ghost edit_is: { ∥ Does notation text.now edit ∥₁ },
-    ghost tokens_are: { ∥ AreTokens text.now 0 tokens.items ∥₁ },
+    ghost tokens_are: { ∥ AreTokens text.now tokens.items ∥₁ },
 }
 
 // What a line does to the program; `None` where it is bad.

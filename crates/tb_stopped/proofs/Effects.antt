@@ -9,12 +9,12 @@ use Rattle.tb_debug.specs.declared.debugger.Debugger.{Debugger}
 use Rattle.tb_kernal.specs.declared.status.Status.{Status}
 use Rattle.tb_navigation.specs.Remarks.{shown}
 use Rattle.tb_streams.specs.HostForm.{host_form_of}
-use Rattle.tb_debug_adapter.specs.Said.{Saying}
+use Rattle.tb_adapter_requests.specs.Said.{Saying}
 use Rattle.tb_debug_adapter.specs.Sessions.{GoesBack, GoesOn, Settles, all_told, end_of, ends_at_once, fresh_output, noted, output_by as output_of_bytes, sent_output, settled, settled_told, status_of, stop_told}
 use Rattle.tb_debug_adapter.specs.declared.session.Session.{Session}
 use Rattle.tb_debug_adapter.specs.declared.session.Stage.TheVariants.{Started, Terminated}
-use Rattle.tb_debug_adapter.specs.declared.stops.Stop.{Stop}
-use Rattle.tb_debug_adapter.specs.Stops.{stop_of}
+use Rattle.tb_adapter_requests.specs.declared.stops.Stop.{Stop}
+use Rattle.tb_adapter_requests.specs.Stops.{stop_of}
 use Rattle.tb_stopped.specs.Told.{AreStopsOf, has_rest, is_rest, output_by, output_in}
 use Rattle.tb_stopped.proofs.Shown.{shown_form}
 

@@ -21,11 +21,11 @@ use Rattle.tb_debug.specs.declared.debugger.Debugger.{Debugger}
 use Rattle.tb_play.specs.Lines.{keys_of_text}
 use Rattle.tb_streams.specs.HostForm.{host_form_of}
 use Rattle.tb_words.specs.declared.Letter.{Letter}
-use Rattle.tb_debug_adapter.specs.Asking.{Evaluation, bad, code_by, expression, memory_by, needed, place_in, question_in, range_in, stack_by, typed, variables_by, watchable_by, with_body}
-use Rattle.tb_debug_adapter.specs.Said.{Saying, done, refused}
+use Rattle.tb_adapter_requests.specs.Asking.{Evaluation, bad, code_by, expression, memory_by, needed, place_in, question_in, range_in, stack_by, typed, variables_by, watchable_by, with_body}
+use Rattle.tb_adapter_requests.specs.Said.{Saying, done, refused}
 use Rattle.tb_debug_adapter.specs.Sessions.{Begins, BeginsAt, BeginsBy, EndsForGood, Evaluates, GoesOnOrEnds, Moves, MovesTo, PlacesAsked, PlacesIn, Resumes, Stays, TakesBy, TakesKeys, Takes, TypesLine, WatchesAsked, Breaks, Terminates, Watches, barred_move, barred_start, begun, by_instruction, cause_here, end_of, has_events, is_over, look, movement_answer, resumed, status_of, typed_and_continued, valued, waits}
-use Rattle.tb_debug_adapter.specs.Setting.{Asked, breakpoints_in, watches_in}
-use Rattle.tb_debug_adapter.specs.Stops.{leads_back}
+use Rattle.tb_adapter_requests.specs.Setting.{Asked, breakpoints_in, watches_in}
+use Rattle.tb_adapter_requests.specs.Stops.{leads_back}
 use Rattle.tb_debug_adapter.specs.declared.session.Session.{Session}
 use Rattle.tb_debug_adapter.specs.declared.session.Stage.{Stage}
 use Rattle.tb_debug_adapter.specs.declared.session.Stage.TheVariants.{Loaded, Started, Terminated}

@@ -29,10 +29,10 @@ use Rattle.tb_parser.specs.declared.notation.Notation.{Notation}
 use Rattle.tb_streams.specs.HostForm.{host_form_of}
 use Rattle.tb_debug_adapter.specs.Dialogue.{IsSession, Moment, Says, TakesHeard, TakesMessage, Talks, Written, after, given, is_end, more as goes_on, none as begins}
 use Rattle.tb_debug_adapter.specs.Dialogue as dialogue
-use Rattle.tb_debug_adapter.specs.Said.{Saying, complaint_of, none as no_frames}
+use Rattle.tb_adapter_requests.specs.Said.{Saying, complaint_of, none as no_frames}
 use Rattle.tb_debug_adapter.specs.declared.dialogue.Heard.{Heard}
 use Rattle.tb_debug_adapter.specs.declared.dialogue.Heard.TheVariants as heard
-use Rattle.tb_debug_adapter.specs.declared.launching.Plan.{Plan}
+use Rattle.tb_adapter_requests.specs.declared.launching.Plan.{Plan}
 use Rattle.tb_debug_adapter.specs.declared.outcome.AdapterOutcome.{AdapterOutcome}
 use Rattle.tb_debug_adapter.specs.declared.session.Session.{Session}
 use Rattle.tb_debug_adapter.specs.declared.session.Stage.TheVariants.{Loaded, Started}

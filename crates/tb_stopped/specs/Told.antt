@@ -28,17 +28,17 @@ use Rattle.tb_simulation.specs.Theorem.{Starts}
 use Rattle.tb_parser.specs.declared.notation.Notation.{Notation}
 use Rattle.tb_streams.specs.HostForm.{host_form_of}
 use Rattle.tb_syntax.specs.Source.{Program}
-use Rattle.tb_debug_adapter.specs.Asking.{Evaluation, expression, question_in, typed}
+use Rattle.tb_adapter_requests.specs.Asking.{Evaluation, expression, question_in, typed}
 use Rattle.tb_debug_adapter.specs.Dialogue.{Hears, IsSession, Moment, Says, Talks, given}
-use Rattle.tb_debug_adapter.specs.Said.{Saying, complaint_of, done, event, refused}
+use Rattle.tb_adapter_requests.specs.Said.{Saying, complaint_of, done, event, refused}
 use Rattle.tb_debug_adapter.specs.Sessions.{Takes, barred_move, most_typed}
-use Rattle.tb_debug_adapter.specs.Stops.{stop_of}
+use Rattle.tb_adapter_requests.specs.Stops.{stop_of}
 use Rattle.tb_debug_adapter.specs.declared.dialogue.Heard.{Heard}
 use Rattle.tb_debug_adapter.specs.declared.dialogue.Heard.TheVariants as heard
-use Rattle.tb_debug_adapter.specs.declared.launching.Plan.{Plan}
+use Rattle.tb_adapter_requests.specs.declared.launching.Plan.{Plan}
 use Rattle.tb_debug_adapter.specs.declared.session.Session.{Session}
 use Rattle.tb_debug_adapter.specs.declared.session.Stage.TheVariants.{Started}
-use Rattle.tb_debug_adapter.specs.declared.stops.Stop.{Stop}
+use Rattle.tb_adapter_requests.specs.declared.stops.Stop.{Stop}
 
 -- ---- what is typed
 

@@ -7,7 +7,7 @@ use Rattle.std.specs.declared.vec.Vec.{Vec}
 use Rattle.hex.specs.Hex.{decode_of, encode_lower}
 use Rattle.hex.specs.declared.error.FromHexError.{FromHexError}
 use Rattle.tb_streams.specs.Streams.{MayPass, Reads}
-use Rattle.tb_streams.specs.declared.key_files.TheConstants.{MOST_KEY_FILE}
+use Rattle.tb_streams.specs.Numbers.{MOST_KEY_FILE}
 use Rattle.tb_streams.specs.declared.key_files.KeyFileError.{KeyFileError}
 use Rattle.tb_streams.specs.declared.key_files.KeyFileError.TheVariants.{BadKeys, Fault, NoMemory}
 

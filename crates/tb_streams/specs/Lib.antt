@@ -1,7 +1,8 @@
-pub mod HostForm
-pub mod Streams
-pub mod Inputs
 pub mod Failures
-pub mod Uses
+pub mod HostForm
+pub mod Inputs
 pub mod KeyFiles
 pub mod Lines
+pub mod Numbers
+pub mod Streams
+pub mod Uses

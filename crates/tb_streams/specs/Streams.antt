@@ -1,5 +1,5 @@
 -- What an engine says of the reader that it read and of the writer that it wrote.
-use Rattle.tb_streams.specs.declared.stream.TheConstants.{MOST_INPUT}
+use Rattle.tb_streams.specs.Numbers.{MOST_INPUT}
 use Rattle.std.specs.Prelude.{ℕ, Bool, ◌≡◌, ◌≤◌, ◌<◌, ◌+◌, ◌%◌, ◌^◌, List, take, length, ⊤, Option, None, Some, if◌then◌else◌}
 use Rattle.std.specs.Io.KnownBytes.{Appends, Consumes}
 

@@ -5,6 +5,7 @@
 mod key_files;
 mod keys;
 mod lines;
+mod numbers;
 mod screen;
 pub mod status;
 mod stream;
@@ -13,6 +14,7 @@ mod tracked;
 pub use key_files::{KeyFileError, MOST_KEY_FILE, key_file, read_key_file};
 pub use keys::{KeyError, address, key_list};
 pub use lines::{read_line, without_return};
+pub use numbers::constants_are_numbers;
 pub use screen::host_form;
 pub use stream::{InputError, MOST_INPUT, read_input, write_output};
 pub use tracked::{StreamFailure, Tracked};

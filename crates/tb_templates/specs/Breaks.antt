@@ -5,7 +5,7 @@ use Rattle.tb_opcodes.specs.declared.Mnemonic.TheVariants.{Beq, Bne, Cmp, Jsr}
 use Rattle.tb_asm.specs.Layout.{Entry}
 use Rattle.tb_lower.specs.Slots.{Instr, JumpTo, CallTo, Return, End}
 use Rattle.tb_selection.specs.Groups.{Usage, AsNumber, AsLine, AsSubroutine, Group, Use, Single}
-use Rattle.tb_kernal.specs.declared.rom.TheConstants.{GETIN}
+use Rattle.tb_kernal.specs.Numbers.{GETIN}
 use Rattle.tb_templates.specs.declared.labels.Target.TheVariants.{Polled}
 use Rattle.tb_templates.specs.Templates.{at, const, branch, here, faulted}
 

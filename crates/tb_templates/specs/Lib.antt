@@ -23,12 +23,4 @@ pub mod Orders
 pub mod GroupTemplates
 -- the STOP key
 pub mod Breaks
--- how many bytes the code takes at most
-pub mod Sizes
--- the search for the line of a computed jump
-pub mod Search
--- the code of a whole program
-pub mod Program
--- the addresses of a list of items
-pub mod Layout
 pub mod Putting

@@ -10,7 +10,7 @@ use Rattle.tb_asm.specs.Layout.{Entry, instr, label, bytes}
 use Rattle.tb_words.specs.Words.{word}
 use Rattle.tb_meaning.specs.Control.{Place, At, Past, next_after, has_line}
 use Rattle.tb_lower.specs.Slots.{Instr, Put, Load, Store, Negate, Compute, Random, SendText, SendNumber, SendZone, SendNewline, Input, Poll, Hold, LeaveUnless, Jump, Call, JumpTo, CallTo, Return, End}
-use Rattle.tb_kernal.specs.declared.rom.TheConstants.{CHROUT}
+use Rattle.tb_kernal.specs.Numbers.{CHROUT}
 use Rattle.tb_runtime16.specs.Addresses.{POINTER, LENGTH, LEFT, RESULT, LINE, NOTES, RETURN_LOW, RETURN_HIGH, VARS, SLOTS, COLUMN, SEND_AT, TEXT_AT, ZONE_AT, INPUT_AT, PUSH_AT, POP_AT, FAULT_LINE_AT, POLL_AT}
 use Rattle.tb_templates.specs.declared.labels.Inner.TheVariants as inner
 use Rattle.tb_templates.specs.declared.labels.Target.{Target}

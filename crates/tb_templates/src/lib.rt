@@ -1,4 +1,4 @@
-//! The code of groups of slot instructions and of whole programs, as items of the assembler.
+//! The code of groups of slot instructions, as items of the assembler.
 //!
 //! Each function `put_..` appends its items to the list that it is given; it fails only if memory runs out.
 #![tactic(auto)]
@@ -10,13 +10,17 @@ mod in_place;
 mod labels;
 mod orders;
 mod pieces;
-mod program;
 mod reduced;
 mod scaled;
-mod search;
 mod sources;
 mod subtracted;
 mod templates;
 
+pub use breaks::{put_behind, put_polled, some_leaves};
+pub use groups::put_group;
 pub use labels::{Inner, Target, label};
-pub use program::program_items;
+pub use pieces::{
+    put, put_address, put_alone, put_at, put_const, put_constant, put_faulted, put_here,
+    put_high_part, put_low_part,
+};
+pub use templates::Spot;

@@ -7,7 +7,7 @@ use Rattle.tb_screen.specs.Contents.{Content}
 use Rattle.tb_screen.specs.declared.cells.Cell.{Cell}
 use Rattle.tb_screen.specs.declared.colours.Colour.TheVariants.{LightBlue}
 use Rattle.tb_screen.specs.declared.colours.CharacterSet.{CharacterSet}
-use Rattle.tb_screen.specs.declared.screen.TheConstants.{COLUMNS, ROWS}
+use Rattle.tb_screen.specs.Numbers.{COLUMNS, ROWS}
 use Rattle.tb_terminal.specs.declared.strokes.Pen.{Pen}
 use Rattle.tb_terminal.specs.declared.strokes.Stroke.{Stroke}
 use Rattle.tb_terminal.specs.declared.strokes.Stroke.TheVariants.{Plain, Clear, MoveTo, Paint, Put}

@@ -1,4 +1,5 @@
+pub mod Frames
+pub mod Looks
+pub mod Numbers
 pub mod Strokes
 pub mod Terminals
-pub mod Looks
-pub mod Frames

@@ -1,5 +1,5 @@
 -- How cells of the machine's screen look at a terminal.
-use Rattle.std.specs.Prelude.{ℕ, ◌%◌, Bool, nat_le}
+use Rattle.std.specs.Prelude.{◌≡◌, ℕ, ◌%◌, Bool, nat_le, List, take, drop, codes}
 use Rattle.std.specs.List.{slice_index_or}
 use Rattle.tb_screen.specs.declared.cells.Cell.{Cell}
 use Rattle.tb_screen.specs.declared.colours.Colour.{Colour}
@@ -13,6 +13,16 @@ use Rattle.tb_terminal.specs.declared.strokes.Pen.{Pen}
 unfoldable pub glyph_of : ℕ → CharacterSet → ℕ
 glyph_of code Graphics = slice_index_or GRAPHICS (code % 128) 0
 glyph_of code Letters = slice_index_or LETTERS (code % 128) 0
+
+-- the codes of marks and digits look as in ASCII
+abbrev pub MarksLookAlike : List ℕ → Type 0
+MarksLookAlike table = take 32 (drop 32 table) ≡ codes " !\"#$%&'()*+,-./0123456789:;<=>?"
+
+-- and so do those of letters; the other codes of both tables are graphics
+abbrev pub TextsLookAlike : Type 0
+TextsLookAlike =
+    (take 27 GRAPHICS ≡ codes "@ABCDEFGHIJKLMNOPQRSTUVWXYZ") × MarksLookAlike GRAPHICS
+    × (take 27 LETTERS ≡ codes "@abcdefghijklmnopqrstuvwxyz") × MarksLookAlike LETTERS × (take 26 (drop 65 LETTERS) ≡ codes "ABCDEFGHIJKLMNOPQRSTUVWXYZ")
 
 -- the terminal's colour for one of the machine
 unfoldable pub fore_of : Colour → ℕ

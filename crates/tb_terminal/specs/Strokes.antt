@@ -2,7 +2,7 @@
 use Rattle.std.specs.Prelude.{ℕ, ◌+◌, List, [], ◌∷◌, ◌++◌, codes, if◌then◌else◌}
 use Rattle.std.specs.Char.{encode_utf8}
 use Rattle.std.specs.Fmt.{decimal}
-use Rattle.tb_terminal.specs.declared.glyphs.TheConstants.{BACKGROUND}
+use Rattle.tb_terminal.specs.Numbers.{BACKGROUND}
 use Rattle.tb_terminal.specs.declared.strokes.Stroke.{Stroke}
 use Rattle.tb_terminal.specs.declared.strokes.Stroke.TheVariants.{Plain, Clear, MoveTo, Paint, Put}
 

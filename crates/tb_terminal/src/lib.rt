@@ -6,8 +6,10 @@
 
 mod frames;
 mod glyphs;
+mod numbers;
 mod strokes;
 
 pub use frames::{closing, frame};
 pub use glyphs::{BACKGROUND, GRAPHICS, LETTERS, fore_of, glyph_of};
+pub use numbers::{constants_are_numbers, texts_look_alike};
 pub use strokes::{Pen, Stroke};

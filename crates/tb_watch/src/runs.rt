@@ -1,6 +1,6 @@
 //! A run that tells now and then how far it is.
 ghost use Rattle.std.specs.Prelude.{◌≡◌};
-ghost use Rattle.tb_kernal.specs.Runs.{RanOver};
+ghost use Rattle.tb_watch.specs.Hearing.{Began, Ended, RanWatched, Telling, Took};
 ghost use Rattle.tb_watch.specs.Stretches.{goes_on};
 
 use std::alloc::AllocError;
@@ -11,14 +11,20 @@ const STRETCH: u64 = 1 << 23;
 
 /// Whoever waits for the end of a run.
 pub trait Watch {
+    // what it is before it hears something, what it hears, and what it is then
+    ghost hears: { Self → Telling → Self → Type 0 };
+
     /// Hears that a run begins.
-    fn began(&mut self);
+    fn began(&mut self)
+        ensures { hears self.old Began self.new };
 
     /// Hears how many events a run has taken so far.
-    fn took(&mut self, events: u64);
+    fn took(&mut self, events: u64)
+        ensures { hears self.old (Took events) self.new };
 
     /// Hears that the run has ended.
-    fn ended(&mut self);
+    fn ended(&mut self)
+        ensures { hears self.old Ended self.new };
 }
 
 /// Nobody.
@@ -26,6 +32,8 @@ pub trait Watch {
 pub struct Unwatched;
 
 impl Watch for Unwatched {
+    ghost hears = { λ before _ after. after ≡ before };
+
     fn began(&mut self) {}
 
     fn took(&mut self, _events: u64) {}
@@ -48,7 +56,7 @@ pub fn run_watched<O: Outside, W: Watch>(
     limit: u64,
     watch: &mut W,
 ) -> Result<Status, AllocError>
-    ensures { RanOver O.gives outside.old machine.old limit result outside.new machine.new }
+    ensures { RanWatched O.gives W.hears outside.old machine.old watch.old limit result outside.new machine.new watch.new }
 {
     watch.began();
     let mut left = limit;

@@ -1,28 +1,13 @@
 //! The program `tbc`: its words become a job, and an engine does it over files and standard streams.
 #![tactic(auto)]
 
-mod assembling;
-mod checking;
-mod debugging;
 mod ending;
-mod formatting;
 mod hinting;
-mod host;
-mod labelling;
 mod noting;
-mod places;
-mod playing;
-mod profiling;
-mod reading;
-mod refusals;
-mod renumbering;
-mod serving;
 mod tasks;
-mod waiting;
 
 use ending::Ending;
 use hinting::hint;
-use host::Host;
 use noting::note;
 use std::io::IsTerminal;
 use std::process::ExitCode;
@@ -30,6 +15,7 @@ use std::rt::{Env, Files};
 use std::time::Clock;
 use std::{env, io};
 use tb_command_line::{Failure, Job, job};
+use tb_host::Host;
 
 // The words after the program's own name.
 pub fn words<R: Env + AllocGlobal>(rt: &R) -> Result<Vec<String>, Failure> {

@@ -1,35 +1,28 @@
 //! The commands. Key lists, key files and addresses are looked at before any other file is opened.
-use crate::assembling::assemble;
-use crate::checking::check_files;
-use crate::debugging::{debug_file, debug_source, setting_of};
 use crate::ending::Ending;
-use crate::formatting::format_file;
-use crate::host::Host;
-use crate::labelling::{labels_in, named_place};
-use crate::playing::{Playing, play};
-use crate::profiling::profile;
-use crate::reading::{settings_of, size_limit};
-use crate::renumbering::renumber_file;
-use crate::serving::{serve_debugger, serve_editor};
-use crate::waiting::Progress;
 use std::alloc::Global;
 use std::io;
 use std::rt::{Env, Files};
 use std::time::Clock;
 use tb_assembly_engine::TextNames;
 use tb_check_engine::CheckSettings;
-use tb_command_line::{BuildExtras, Dialect, Failure, Job, Runnable, Settings, Typed, typed_keys};
+use tb_command_line::{BuildExtras, Dialect, Failure, Job, Runnable, Settings, VERSION};
 use tb_dialect_engine::dis_text_for;
 use tb_driver::{
-    CompileSettings, End, KeyError, KeyFileError, Outcome, Report, Tracked, address, dis_text,
-    key_list, read_key_file, step_prg, step_within, write_output,
+    CompileSettings, End, Outcome, Report, Tracked, address, dis_text, step_prg, step_within,
+    write_output,
 };
 use tb_file_engine::{BuildNames, assemble_file, build_file, disk_file, opened};
 use tb_files::{Barred, may_write};
+use tb_host::{Host, Progress, keyboard, labels_in, named_place, settings_of, size_limit};
 use tb_kernal::{Keyboard, Outside, Quiet, Rude};
 use tb_labels::Label;
 use tb_renumber_engine::Numbering;
+use tb_run_commands::{Playing, debug_file, debug_source, play, profile, setting_of};
 use tb_run_notes::{PrgRun, run_noted, run_prg_watched};
+use tb_text_commands::{
+    assemble, check_files, format_file, renumber_file, serve_debugger, serve_editor,
+};
 
 /// Does what the words ask for, if the files that are to be written may be. A prompt is shown before a debugger's command
 /// where that is wanted.
@@ -135,7 +128,8 @@ fn other_job<R: Files + Print + Input + AllocGlobal>(
                 labels: name_of(labels),
                 listing: name_of(listing),
             };
-            assemble(host, text, name_of(at), *long, names)
+            let failure = assemble(host, text, name_of(at), *long, names)?;
+            Ok(Ending::Text(failure))
         }
         Job::Dis { prg, dialect } => Ok(plain_ending(rt, list_file(host, prg, *dialect))),
         Job::Disk { out, files } => {
@@ -174,7 +168,7 @@ fn other_job<R: Files + Print + Input + AllocGlobal>(
             let renumbered = renumber_file(host, source, *notation, numbering, *in_place);
             Ok(Ending::Renumber(renumbered))
         }
-        Job::Lsp { notation } => Ok(Ending::Server(serve_editor(rt, *notation))),
+        Job::Lsp { notation } => Ok(Ending::Server(serve_editor(rt, VERSION, *notation))),
         Job::Dap { notation } => Ok(Ending::Adapter(serve_debugger(host, *notation))),
         Job::Show { text } => Ok(plain_ending(rt, show(rt, text))),
         Job::Run { .. }
@@ -308,54 +302,6 @@ fn plain<R: AllocGlobal>(rt: &R, outcome: Outcome) -> Report {
 
 fn plain_ending<R: AllocGlobal>(rt: &R, outcome: Outcome) -> Ending {
     Ending::Report(plain(rt, outcome))
-}
-
-// What the words say is looked at before the key file is opened.
-fn keyboard<R: Files + Print + Input + AllocGlobal>(
-    host: &mut Host<'_, R>,
-    settings: &Settings,
-) -> Result<Keyboard, Failure> {
-    let alloc = host.rt.alloc();
-    let answers = key_list(alloc, settings.answers.as_str()).map_err(of_keys)?;
-    let text = match &settings.keys {
-        Typed::Digits(digits) => key_list(alloc, digits.as_str()).map_err(of_keys)?,
-        Typed::File(path) => keys_in(host, path.as_str())?,
-        Typed::Text(text) => typed_keys(alloc, text.as_str())?,
-    };
-    Ok(Keyboard { text, answers })
-}
-
-fn keys_in<R: Files + Print + Input + AllocGlobal>(
-    host: &mut Host<'_, R>,
-    path: &str,
-) -> Result<Vec<u8>, Failure> {
-    let opened = opened(host, path);
-    host.asked_for_keys();
-    let mut file = opened.map_err(of_file)?;
-    read_key_file(host.rt.alloc(), &mut file).map_err(of_key_file)
-}
-
-fn of_keys(error: KeyError) -> Failure {
-    match error {
-        KeyError::BadKeys => Failure::BadKeys,
-        KeyError::NoMemory => Failure::NoMemory,
-    }
-}
-
-fn of_key_file(error: KeyFileError) -> Failure {
-    match error {
-        KeyFileError::BadKeys => Failure::BadKeys,
-        KeyFileError::Fault => Failure::ReadFault,
-        KeyFileError::NoMemory => Failure::NoMemory,
-    }
-}
-
-/// Why a key file or a label file was not opened.
-pub fn of_file(outcome: Outcome) -> Failure {
-    match outcome {
-        Outcome::NoMemory => Failure::NoMemory,
-        _ => Failure::ReadFault,
-    }
 }
 
 fn show<R: Print>(rt: &R, text: &str) -> Outcome {

@@ -25,8 +25,8 @@ use Rattle.tb_correctness.proofs.Relation.GroupInvariants.{Kept, arrived, kept_l
 use Rattle.tb_correctness.proofs.Relation.Matching.{Matches}
 use Rattle.tb_templates.specs.declared.sources.Source.{Source}
 use Rattle.tb_templates.specs.Sources.{source_of}
-use Rattle.tb_templates.specs.Search.{compares}
-use Rattle.tb_templates.proofs.Taken.{few_compared}
+use Rattle.tb_program_code.specs.Search.{compares}
+use Rattle.tb_program_code.proofs.Taken.{few_compared}
 use Rattle.tb_correctness.proofs.Alone.Comparing.{asks, compares_all}
 use Rattle.tb_correctness.proofs.CodeBytes.GroupCode.{GroupsLaid, brought, high, low, searched}
 use Rattle.tb_correctness.proofs.Slots.OneWord.{spread_use, use_fits, use_reads, word_asked}

@@ -20,7 +20,7 @@ use Rattle.tb_simulation.proofs.Pieces.{calls, jumps, moves_then, put_word, what
 use Rattle.tb_simulation.proofs.Resolved as texts
 use Rattle.tb_simulation.proofs.Resolved.{Lies, byte_sent, highest_code, newline, pieces_size, size, text_call}
 use Rattle.tb_templates.specs.Templates.{only_byte}
-use Rattle.tb_templates.proofs.Sent.{IsOnly, only, only_is, other}
+use Rattle.tb_program_code.proofs.Sent.{IsOnly, only, only_is, other}
 use Rattle.tb_simulation.proofs.Returning.{apart, back_here, behind_call, moved}
 use Rattle.tb_selection.specs.Groups.{AsNumber, Group, Operand, Single, Use}
 use Rattle.tb_selection.specs.Liveness.{live}

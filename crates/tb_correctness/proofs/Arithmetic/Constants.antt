@@ -17,7 +17,7 @@ use Rattle.tb_templates.specs.declared.sources.Source.{Source}
 use Rattle.tb_templates.specs.declared.sources.Source.TheVariants.{AtAddress, FixedWord}
 use Rattle.tb_templates.specs.GroupTemplates.{may_be_zero}
 use Rattle.tb_templates.specs.Scaled.{bits_size, is_factor}
-use Rattle.tb_templates.proofs.Factors.{IsScaling, by_right, by_left, by_routine, IsShifting, by_shifts, by_call}
+use Rattle.tb_program_code.proofs.Factors.{IsScaling, by_right, by_left, by_routine, IsShifting, by_shifts, by_call}
 use Rattle.tb_correctness.proofs.CodeBytes.GroupCode.{GroupsLie, product_code, quotient_code}
 use Rattle.tb_correctness.proofs.Arithmetic.Divisions.{divide_fails, divide_law}
 use Rattle.tb_correctness.proofs.Pieces.Halves.{power_size}

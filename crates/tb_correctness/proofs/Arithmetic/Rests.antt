@@ -33,7 +33,7 @@ use Rattle.tb_templates.specs.GroupTemplates.{may_be_zero}
 use Rattle.tb_templates.specs.Masks.{mask}
 use Rattle.tb_templates.specs.Reduced.{doublings}
 use Rattle.tb_templates.proofs.Multiples.{IsReducing, below_product, by_multiples, by_routine, reducing_is, some_power as power_some}
-use Rattle.tb_templates.proofs.Divided.{IsMasking, by_bits, by_division, masking_is}
+use Rattle.tb_program_code.proofs.Divided.{IsMasking, by_bits, by_division, masking_is}
 use Rattle.tb_selection.specs.Select.{omits_only_dead, select}
 use Rattle.tb_templates.specs.Sources.{destination_at, source_of}
 use Rattle.tb_templates.specs.Templates.{var_at}

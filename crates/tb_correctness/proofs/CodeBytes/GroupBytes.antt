@@ -28,7 +28,7 @@ use Rattle.tb_templates.specs.declared.labels.Inner.TheVariants as inside
 use Rattle.tb_templates.specs.declared.labels.Target.{Target}
 use Rattle.tb_templates.specs.declared.labels.Target.TheVariants as target
 use Rattle.tb_templates.specs.Labels.{label_of}
-use Rattle.tb_templates.specs.Layout.{LabelsAt}
+use Rattle.tb_program_code.specs.Layout.{LabelsAt}
 use Rattle.tb_templates.specs.declared.sources.Source.{Source}
 use Rattle.tb_templates.specs.declared.sources.Source.TheVariants.{FixedWord}
 use Rattle.tb_templates.specs.Sources.{source_of, tested_source, home_at, destination_at}
@@ -37,7 +37,7 @@ use Rattle.tb_templates.specs.Templates.{next_line}
 use Rattle.tb_templates.specs.GroupTemplates as items
 use Rattle.tb_templates.specs.declared.orders.Side.TheVariants.{Below, NotBelow}
 use Rattle.tb_templates.specs.Masks.{mask}
-use Rattle.tb_templates.proofs.Divided.{left_over_plain, masking_is}
+use Rattle.tb_program_code.proofs.Divided.{left_over_plain, masking_is}
 use Rattle.tb_templates.proofs.Plain.{plain_straight}
 use Rattle.tb_simulation.specs.Layout.{Layout, layout_of}
 use Rattle.tb_simulation.proofs.Resolved as resolved

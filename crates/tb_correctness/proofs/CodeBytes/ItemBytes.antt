@@ -24,7 +24,7 @@ use Rattle.tb_meaning.specs.Control.{has_line}
 use Rattle.tb_lower.specs.Slots as slots
 use Rattle.tb_runtime16.specs.Addresses.{LINE, LEFT, RIGHT, RESULT, MULTIPLY_AT, DIVIDE_AT}
 use Rattle.tb_selection.specs.Groups.{Operand, Constant, Variable, InSlot, Tested, HeldBefore, HeldNow}
-use Rattle.tb_templates.specs.Layout.{LabelsAt}
+use Rattle.tb_program_code.specs.Layout.{LabelsAt}
 use Rattle.tb_templates.specs.declared.sources.Source.{Source}
 use Rattle.tb_templates.specs.declared.sources.Source.TheVariants.{FixedWord, AtAddress}
 use Rattle.tb_templates.specs.Sources.{source_of, tested_source}
@@ -33,16 +33,16 @@ use Rattle.tb_templates.specs.GroupTemplates as items
 use Rattle.tb_templates.specs.Orders as orders
 use Rattle.tb_templates.specs.Scaled as scaled
 use Rattle.tb_templates.specs.Scaled.{scaling, shifts}
-use Rattle.tb_templates.proofs.Factors.{IsScaling, by_right, by_left, by_routine, scaling_is, IsShifting, by_shifts, by_call, shifting_is}
+use Rattle.tb_program_code.proofs.Factors.{IsScaling, by_right, by_left, by_routine, scaling_is, IsShifting, by_shifts, by_call, shifting_is}
 use Rattle.tb_templates.specs.Masks.{lowest_bits}
 use Rattle.tb_templates.specs.Masks as masks
 use Rattle.tb_templates.specs.Reduced as reduced
 use Rattle.tb_templates.specs.Subtracted as subtracted
 use Rattle.tb_templates.proofs.Multiples.{doubled_below, twice}
-use Rattle.tb_templates.proofs.Divided.{IsMasking, by_bits, by_division}
+use Rattle.tb_program_code.proofs.Divided.{IsMasking, by_bits, by_division}
 use Rattle.tb_templates.specs.declared.labels.Inner.TheVariants as inside
 use Rattle.tb_templates.specs.declared.labels.Target.TheVariants as target
-use Rattle.tb_templates.proofs.Sent.{byte_plain}
+use Rattle.tb_program_code.proofs.Sent.{byte_plain}
 use Rattle.tb_templates.proofs.Plain.{plain_straight, low_matched_plain, high_matched_plain, times_plain, shifted_plain}
 use Rattle.tb_simulation.proofs.Resolved as resolved
 use Rattle.tb_simulation.proofs.Resolved.{Piece, Code, highest_code}

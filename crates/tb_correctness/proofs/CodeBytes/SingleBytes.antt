@@ -14,10 +14,10 @@ use Rattle.tb_runtime16.specs.Addresses.{POINTER, LENGTH, SEND_AT, TEXT_AT}
 use Rattle.tb_templates.specs.declared.labels.Inner.TheVariants as inside
 use Rattle.tb_templates.specs.declared.labels.Target.TheVariants as target
 use Rattle.tb_templates.specs.Labels.{label_of}
-use Rattle.tb_templates.specs.Layout.{LabelsAt}
+use Rattle.tb_program_code.specs.Layout.{LabelsAt}
 use Rattle.tb_templates.specs.Templates as product
 use Rattle.tb_templates.specs.Templates.{var_at, slot_at}
-use Rattle.tb_templates.proofs.Sent.{IsOnly, only, only_is, other}
+use Rattle.tb_program_code.proofs.Sent.{IsOnly, only, only_is, other}
 use Rattle.tb_simulation.specs.Layout.{Layout, label_address, layout_of}
 use Rattle.tb_simulation.proofs.Numbers.{low_of, high_of, start_of_line, constant_bytes, copied_bytes, faulted_bytes, jump_bytes}
 use Rattle.std.proofs.lemmas.List.{append-nil}

@@ -19,11 +19,11 @@ use Rattle.tb_settling.specs.Settled.{AreFormsOf, IsSettled}
 use Rattle.tb_settling.proofs.Forms.{forms_size, items_size, near_split, split}
 use Rattle.tb_templates.specs.declared.labels.Target.TheVariants as target
 use Rattle.tb_templates.specs.Templates.{next_line}
-use Rattle.tb_templates.specs.Program.{line_code, lines_code, past_code, table_code, block_code, program_code, first_of, AreCodable, AreInTurn}
-use Rattle.tb_templates.specs.Search.{compares, find_code}
-use Rattle.tb_templates.proofs.Ordered.{lines_in_turn}
-use Rattle.tb_templates.proofs.Settled.{Sections, joined_items, line_at, sections, some_bytes, total_size}
-use Rattle.tb_templates.proofs.Taken.{block_size}
+use Rattle.tb_program_code.specs.Program.{line_code, lines_code, past_code, table_code, block_code, program_code, first_of, AreCodable, AreInTurn}
+use Rattle.tb_program_code.specs.Search.{compares, find_code}
+use Rattle.tb_program_code.proofs.Ordered.{lines_in_turn}
+use Rattle.tb_program_code.proofs.Settled.{Sections, joined_items, line_at, sections, some_bytes, total_size}
+use Rattle.tb_program_code.proofs.Taken.{block_size}
 use Rattle.tb_simulation.specs.Layout.{Lies, label_address, layout_of, place_address}
 use Rattle.tb_correctness.specs.Laid.{ArePolled, Laid}
 use Rattle.tb_correctness.proofs.Image.Laying.{front, back}

@@ -20,11 +20,11 @@ use Rattle.tb_runtime16.specs.Block.{block_bytes}
 use Rattle.tb_settling.proofs.Forms.{size_append}
 use Rattle.tb_templates.specs.declared.labels.Target.TheVariants as target
 use Rattle.tb_templates.specs.Templates as product
-use Rattle.tb_templates.specs.Program as program
-use Rattle.tb_templates.specs.Search as search
-use Rattle.tb_templates.specs.Search.{compares}
+use Rattle.tb_program_code.specs.Program as program
+use Rattle.tb_program_code.specs.Search as search
+use Rattle.tb_program_code.specs.Search.{compares}
 use Rattle.tb_templates.specs.Labels.{label_of}
-use Rattle.tb_templates.proofs.Reached.{labels_split}
+use Rattle.tb_program_code.proofs.Reached.{labels_split}
 use Rattle.tb_simulation.specs.Layout.{Layout, Lies, label_address, layout_of, place_address, is_start, inner}
 use Rattle.tb_simulation.proofs.Resolved as resolved
 use Rattle.tb_simulation.proofs.Resolved.{Piece, pieces_size}

@@ -16,7 +16,7 @@ use Rattle.tb_syntax.specs.Source.{numbers}
 use Rattle.tb_meaning.specs.Control.{Place, At, Past, next_after, has_line, content_at}
 use Rattle.tb_lower.specs.Slots as slots
 use Rattle.tb_lower.specs.Ranges.{AreInRange}
-use Rattle.tb_kernal.specs.declared.rom.TheConstants.{GETIN}
+use Rattle.tb_kernal.specs.Numbers.{GETIN}
 use Rattle.tb_selection.specs.Groups.{Group, expand, expand_all}
 use Rattle.tb_selection.specs.Select.{select}
 use Rattle.tb_selection.proofs.Bracketed.{brackets}
@@ -30,9 +30,9 @@ use Rattle.tb_templates.specs.Templates.{next_line, target_of}
 use Rattle.tb_templates.specs.GroupTemplates.{group_template}
 use Rattle.tb_templates.specs.Breaks.{asking, in_line, leaves, some_leaves}
 use Rattle.tb_templates.specs.Breaks.{behind as behind_groups}
-use Rattle.tb_templates.specs.Layout.{LabelsAt}
-use Rattle.tb_templates.specs.Program.{rest_code}
-use Rattle.tb_templates.proofs.Settled.{line_at, straight_items}
+use Rattle.tb_program_code.specs.Layout.{LabelsAt}
+use Rattle.tb_program_code.specs.Program.{rest_code}
+use Rattle.tb_program_code.proofs.Settled.{line_at, straight_items}
 use Rattle.tb_simulation.specs.Layout.{Layout, label_address, place_address, layout_of, inner}
 use Rattle.tb_simulation.proofs.Numbers.{faulted_bytes, next_has, next_same, start_of_line}
 use Rattle.tb_simulation.proofs.Resolved.{Lies, call, pieces_size, highest_code, next_at}

@@ -14,7 +14,7 @@ use Rattle.tb_syntax.specs.Source.{numbers}
 use Rattle.tb_meaning.specs.Control.{has_line}
 use Rattle.tb_lower.specs.Slots.{SlotCode}
 use Rattle.tb_runtime16.specs.Addresses.{PROLOGUE_AT}
-use Rattle.tb_templates.specs.Program.{rows_code}
+use Rattle.tb_program_code.specs.Program.{rows_code}
 use Rattle.tb_runtime16.specs.Block.{block_bytes, block_part}
 use Rattle.tb_runtime16.specs.Search.{table_bytes, AllWords}
 use Rattle.tb_runtime16.specs.Ends.{Begun}

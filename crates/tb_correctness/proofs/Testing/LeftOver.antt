@@ -23,7 +23,7 @@ use Rattle.tb_selection.specs.Liveness.{live}
 use Rattle.tb_templates.specs.declared.sources.Source.{Source}
 use Rattle.tb_templates.specs.GroupTemplates.{may_be_zero}
 use Rattle.tb_templates.specs.Masks.{mask}
-use Rattle.tb_templates.proofs.Divided.{IsMasking, by_bits, by_division, masking_is}
+use Rattle.tb_program_code.proofs.Divided.{IsMasking, by_bits, by_division, masking_is}
 use Rattle.tb_correctness.proofs.Pieces.Branches.{branch_behind, branch_size, branches, last_leads}
 use Rattle.tb_correctness.proofs.CodeBytes.GroupCode.{DividedReaches, Way, Zero, branch_code, branch_on, divided_at, divided_code, leaves_on, left_over, lined_code, low, lowest_bits, remainder, told}
 use Rattle.tb_correctness.proofs.Arithmetic.Constants.{constant_is, never_zero}

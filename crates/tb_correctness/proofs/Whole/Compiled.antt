@@ -11,7 +11,7 @@ use Rattle.tb_syntax.specs.Source.{Program, numbers, Rises}
 use Rattle.tb_lower.specs.Follows.{Follows, longest}
 use Rattle.tb_lower.specs.Slots.{SlotCode}
 use Rattle.tb_runtime16.specs.Addresses.{PROLOGUE_AT}
-use Rattle.tb_templates.specs.Program.{program_code, AreCodable}
+use Rattle.tb_program_code.specs.Program.{program_code, AreCodable}
 use Rattle.tb_runtime16.specs.Routines.{limit_by}
 use Rattle.tb_simulation.specs.Theorem.{Starts, Keeps}
 use Rattle.tb_selection.specs.Laws.{AreClosed}

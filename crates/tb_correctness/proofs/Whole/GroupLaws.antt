@@ -25,7 +25,7 @@ use Rattle.tb_selection.proofs.Bracketed.{brackets}
 use Rattle.tb_templates.specs.Scaled.{scaling, shifts}
 use Rattle.tb_templates.specs.InPlace.{change_of}
 use Rattle.tb_templates.specs.Sources.{destination_at, source_of}
-use Rattle.tb_templates.proofs.Factors.{scaling_is, shifting_is}
+use Rattle.tb_program_code.proofs.Factors.{scaling_is, shifting_is}
 use Rattle.tb_correctness.proofs.Alone.SingleLaws.{act_law}
 use Rattle.tb_correctness.proofs.Arithmetic.Changes.{change_is}
 use Rattle.tb_correctness.proofs.CodeBytes.GroupCode.{GroupsLaid, GroupsLie, calc_code}

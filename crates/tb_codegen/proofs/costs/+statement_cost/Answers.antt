@@ -2,8 +2,8 @@
 use Rattle.std.proofs.Common.{ℕ, ◌≡◌, ◌∙◌, map, ap, sym, arith}
 use Rattle.tb_syntax.specs.PlainData.{item_of, statement_of}
 use Rattle.tb_meaning.specs.Cost.{statement_cost}
-use Rattle.tb_templates.specs.Sizes.{items_cost}
-use Rattle.tb_templates.proofs.Fitting.{items_pay}
+use Rattle.tb_program_code.specs.Sizes.{items_cost}
+use Rattle.tb_program_code.proofs.Fitting.{items_pay}
 use Rattle.tb_codegen.proofs.costs.+statement_cost.Goals as goal
 
 -- the cost of a PRINT is that of its items

@@ -1,22 +1,26 @@
--- Each command is found by its name, by computing. A command that no row has, or a name that an earlier row has, is refused here.
-use Rattle.std.proofs.Common.{codes, refl}
+-- Each command is found by its name, and each row has its command's, by computing. A command that no row has is refused here,
+-- and so is another name.
+use Rattle.std.proofs.Common.{refl}
 use Rattle.tb_command_line.specs.declared.commands.CommandName.TheVariants.{Build, Run, Play, Asm, Assemble, Dis, Step, Debug, Profile, Disk, Check, Format, Renumber, Lsp, Dap, Version}
 use Rattle.tb_command_line.proofs.commands.rows.Goals as goal
 
-pub returns : goal.returns
-returns c Build = (codes "build", refl)
-returns c Run = (codes "run", refl)
-returns c Play = (codes "play", refl)
-returns c Asm = (codes "asm", refl)
-returns c Assemble = (codes "assemble", refl)
-returns c Dis = (codes "dis", refl)
-returns c Step = (codes "step", refl)
-returns c Debug = (codes "debug", refl)
-returns c Profile = (codes "profile", refl)
-returns c Disk = (codes "disk", refl)
-returns c Check = (codes "check", refl)
-returns c Format = (codes "format", refl)
-returns c Renumber = (codes "renumber", refl)
-returns c Lsp = (codes "lsp", refl)
-returns c Dap = (codes "dap", refl)
-returns c Version = (codes "version", refl)
+pub returns-clause-each : goal.returns-clause-each
+returns-clause-each c Build = refl
+returns-clause-each c Run = refl
+returns-clause-each c Play = refl
+returns-clause-each c Asm = refl
+returns-clause-each c Assemble = refl
+returns-clause-each c Dis = refl
+returns-clause-each c Step = refl
+returns-clause-each c Debug = refl
+returns-clause-each c Profile = refl
+returns-clause-each c Disk = refl
+returns-clause-each c Check = refl
+returns-clause-each c Format = refl
+returns-clause-each c Renumber = refl
+returns-clause-each c Lsp = refl
+returns-clause-each c Dap = refl
+returns-clause-each c Version = refl
+
+pub returns-clause-named : goal.returns-clause-named
+returns-clause-named c = refl

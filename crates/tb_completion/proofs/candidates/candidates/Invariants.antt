@@ -1,8 +1,7 @@
 -- What holds at each turn of the loops of `candidates` in src/candidates.rt.
-use Rattle.std.proofs.Common.{◌≡◌, ◌++◌, drop, map}
+use Rattle.std.proofs.Common.{◌≡◌, ◌++◌, drop}
 use Rattle.tb_source_names.specs.Sources.{edits_of}
-use Rattle.tb_completion.specs.Candidates.{candidates, numbers_from, words}
-use Rattle.tb_completion.specs.declared.candidates.Candidate.TheVariants as candidate
+use Rattle.tb_completion.specs.Candidates.{candidates, numbers_from}
 use Rattle.tb_completion.proofs.candidates.candidates.Given as goal
 
 abbrev pub invariant-loop-i : goal.invariant-loop-i

@@ -1,7 +1,7 @@
 -- The goals of `launch` in src/greeting.rt.
 use Rattle.std.proofs.Common.{option_map, subst, sym}
 use Rattle.tb_debug_adapter.specs.Greeting.{Launches}
-use Rattle.tb_debug_adapter.specs.Launching.{asked_of}
+use Rattle.tb_adapter_requests.specs.Launching.{asked_of}
 use Rattle.tb_debug_adapter.proofs.greeting.launch.Goals as goal
 
 pub returns-in_ok-load-in-Some : goal.returns-in_ok-load-in-Some

@@ -2,7 +2,7 @@
 use Rattle.std.proofs.Common.{◌≡◌, ℕ, ◌+◌, ◌*◌, true, List, [], ◌∷◌, length, refl, arith}
 use Rattle.tb_asm.specs.Layout.{size}
 use Rattle.tb_settling.proofs.Forms.{size_append}
-use Rattle.tb_templates.specs.Search.{all_compared, comparisons, find_code, looked_up}
+use Rattle.tb_program_code.specs.Search.{all_compared, comparisons, find_code, looked_up}
 use Rattle.tb_listing.proofs.sizes.sizes_are_those_of_code.Goals as goal
 
 all_compared_size : (ns : List ℕ) → size (all_compared ns) ≡ 19 * length ns

@@ -7,7 +7,7 @@ use Rattle.tb_rename.proofs.renaming.changes.Goals as goal
 
 pub returns : goal.returns
 returns c =
-    let reads : AreRenamed c.args.source.now.notation c.args.letters c.args.source.now.lines.items = c.in_ok-are_renamed.ensures c.if-not-branch.false in record {
+    let reads : AreRenamed c.args.source.now.notation c.args.letters c.args.source.now.lines.items = c.in_ok-are_renamed.ensures.0 c.if-not-branch.false in record {
       edits = c.in_ok-changes_value.ensures ∙ ap (λ edits. changes c.args.uri.now edits) c.in_ok-edits.ensures;
       reads = reads;
       makes = text_makes c.args.source.now.notation c.args.letters c.args.source.now.lines.items reads;

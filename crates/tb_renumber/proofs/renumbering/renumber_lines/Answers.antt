@@ -3,7 +3,7 @@ use Rattle.std.proofs.Common.{subst}
 use Rattle.tb_syntax.specs.PlainData.{lines_of}
 use Rattle.tb_renumbering.specs.Renumbered.{renumbered}
 use Rattle.tb_renumbering.proofs.Whole.{run_alike}
-use Rattle.tb_renumber.specs.Answers.{IsProgramOf}
+use Rattle.tb_renumber.specs.Answers.{IsProgramIn}
 use Rattle.tb_renumber.proofs.renumbering.renumber_lines.Goals as goal
 
 pub returns : goal.returns
@@ -16,6 +16,6 @@ returns c =
       movable,
       made.0,
       made.1,
-      subst (λ text. IsProgramOf c.args.notation text (renumbered first step (lines_of c.args.program.now))) c.as_slice.ensures.value read.0,
+      subst (λ text. IsProgramIn c.args.notation text (renumbered first step (lines_of c.args.program.now))) c.as_slice.ensures.value read.0,
       run_alike first step (lines_of c.args.program.now) c.requires.rising read.1 movable.0,
     )

@@ -2,6 +2,7 @@
 use Rattle.tb_prg.specs.Prg.{content_of}
 use Rattle.tb_engines.specs.Programs.{settings_of}
 use Rattle.tb_engines.proofs.Start.{not_started, runs_content}
+use Rattle.tb_watch.specs.Hearing.{hearing_of}
 use Rattle.tb_run_notes.proofs.Ran.{places_end}
 use Rattle.tb_run_notes.proofs.runs.run_file.Goals as goal
 
@@ -17,6 +18,7 @@ returns-clause-machine g c =
 
 pub returns-clause-place : goal.returns-clause-place
 returns-clause-place g c =
-    places_end (settings_of g.O.Outside.gives c.args.outside.now c.args.keyboard c.args.limit) c.args.file.now c.in-Ok.machine
-    c.run_machine-made.new.machine c.run_machine-made.new.outside c.run_machine-made.result c.place_after-place.result c.in-Ok.ensures
-    c.run_machine-made.ensures.ran c.place_after-place.ensures
+    places_end (settings_of g.O.Outside.gives c.args.outside.now c.args.keyboard c.args.limit)
+    (hearing_of g.W.Watch.hears c.args.watch.now c.run_machine-made.new.watch) c.args.file.now c.in-Ok.machine
+    c.run_machine-made.new.machine c.run_machine-made.result c.place_after-place.result c.in-Ok.ensures c.run_machine-made.ensures.ran
+    c.place_after-place.ensures

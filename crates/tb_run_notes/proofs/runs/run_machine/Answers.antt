@@ -5,4 +5,4 @@ use Rattle.tb_run_notes.proofs.runs.run_machine.Goals as goal
 
 pub returns-in-Ok-host_form-clause-made : goal.returns-in-Ok-host_form-clause-made
 returns-in-Ok-host_form-clause-made g c =
-    runs_on _ _ _ _ _ _ _ _ _ c.in-Ok.ensures (search rules) (search rules)
+    runs_on _ _ _ _ _ _ _ _ _ c.in-Ok.ensures.ran (search rules) (search rules)

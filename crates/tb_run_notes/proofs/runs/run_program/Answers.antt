@@ -3,6 +3,7 @@ use Rattle.tb_codegen.specs.Compiled.{prg_of}
 use Rattle.tb_prg.specs.Prg.{content_of}
 use Rattle.tb_engines.specs.Programs.{settings_of}
 use Rattle.tb_engines.proofs.Start.{not_started, runs_content}
+use Rattle.tb_watch.specs.Hearing.{hearing_of}
 use Rattle.tb_run_notes.proofs.Ran.{notes_end}
 use Rattle.tb_run_notes.proofs.runs.run_program.Goals as goal
 
@@ -18,6 +19,7 @@ returns-clause-machine g c =
 
 pub returns-clause-note : goal.returns-clause-note
 returns-clause-note g c =
-    notes_end (settings_of g.O.Outside.gives c.args.outside.now c.args.keyboard c.args.limit) c.args.program.now c.in-Ok.machine
-    c.run_machine-made.new.machine c.run_machine-made.new.outside c.run_machine-made.result c.note_after-note.result c.in-Ok.ensures.prg c.run_machine-made.ensures.ran
+    notes_end (settings_of g.O.Outside.gives c.args.outside.now c.args.keyboard c.args.limit)
+    (hearing_of g.W.Watch.hears c.args.watch.now c.run_machine-made.new.watch) c.args.program.now c.in-Ok.machine
+    c.run_machine-made.new.machine c.run_machine-made.result c.note_after-note.result c.in-Ok.ensures.prg c.run_machine-made.ensures.ran
     c.note_after-note.ensures

@@ -2,7 +2,7 @@
 use Rattle.std.proofs.Common.{◌∷◌, ◌++◌, map, ap, ◌∙◌}
 use Rattle.tb_opcodes.specs.declared.Mnemonic.TheVariants.{Cmp, Jsr}
 use Rattle.tb_asm.specs.Layout.{entry_of}
-use Rattle.tb_kernal.specs.declared.rom.TheConstants.{GETIN}
+use Rattle.tb_kernal.specs.Numbers.{GETIN}
 use Rattle.tb_templates.specs.declared.labels.Target.TheVariants.{Polled}
 use Rattle.tb_templates.specs.Templates.{at, const, branch}
 use Rattle.tb_templates.specs.Breaks.{in_line}

@@ -1,7 +1,7 @@
 -- The goals of `opening` in src/session.rt.
 use Rattle.std.proofs.Common.{◌≤◌, [], ◌∷◌, ◌++◌, None, length, map, ap, ap₂, subst, ◌∙◌}
 use Rattle.std.proofs.lemmas.List.{map-append, take_all}
-use Rattle.tb_debug_adapter.specs.Said.{done, seen}
+use Rattle.tb_adapter_requests.specs.Said.{done, seen}
 use Rattle.tb_debug_adapter.specs.Sessions.{warning_of}
 use Rattle.tb_debug_adapter.proofs.session.Session.opening.Goals as goal
 

@@ -1,6 +1,6 @@
 -- What holds at each turn of the loop of `opening` in src/session.rt.
 use Rattle.std.proofs.Common.{◌≡◌, ◌∷◌, map, take, None}
-use Rattle.tb_debug_adapter.specs.Said.{done, seen}
+use Rattle.tb_adapter_requests.specs.Said.{done, seen}
 use Rattle.tb_debug_adapter.specs.Sessions.{warning_of}
 use Rattle.tb_debug_adapter.proofs.session.Session.opening.Given as goal
 

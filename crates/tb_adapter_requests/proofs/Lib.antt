@@ -1,0 +1,4 @@
+pub mod Frames
+pub mod Lists
+pub mod Prefixes
+pub mod Reports

@@ -1,0 +1,267 @@
+//! Programs that are loaded as they are launched.
+ghost use Rattle.std.specs.Prelude.{◌≡◌, ◌∷◌, [], IfOk, codes, map, string_bytes};
+ghost use Rattle.tb_codegen.specs.declared.settings.CompileSettings.{CompileSettings};
+ghost use Rattle.tb_adapter_requests.specs.Launching.{asked_of};
+ghost use Rattle.tb_adapter_requests.specs.Loading as spec;
+ghost use Rattle.tb_adapter_requests.specs.Loading.{CompilesTo, IsHeld, IsKeyboard, IsReport, IsUnfit, Loads, Reads, Starts};
+ghost use Rattle.tb_adapter_requests.specs.Said.{seen};
+
+use crate::launching::{Launch, Plan};
+use crate::said::{Said, output};
+use std::alloc::{AllocError, Global};
+use tb_adapter_messages::Refusal;
+use tb_check::CheckSettings;
+use tb_check_engine::{CheckOutcome, Sources, check_sources};
+use tb_codegen::{CompileError, CompileSettings, Notation, compile_within};
+use tb_debug::Rom;
+use tb_driver::{CompiledSource, start_program};
+use tb_engines::{NoText, TOO_DEEP, TooLarge, source_text};
+use tb_kernal::{Keyboard, Machine};
+use tb_lower::LowerError;
+use tb_navigation::shown;
+use tb_parser::SourceError;
+use tb_streams::{InputError, KeyError, Tracked, key_list};
+
+/// A program that is loaded.
+#[derive(Drop)]
+pub struct Loaded {
+    pub path: String,
+    pub source: CompiledSource,
+    /// How the source's texts were read.
+    pub notation: Notation,
+    /// Its machine, which has not moved.
+    pub machine: Machine,
+    pub rom: Rom,
+    pub plan: Plan,
+}
+
+/// What comes of a launch.
+#[derive(Drop)]
+pub enum Loading {
+    Loaded(Loaded),
+    /// It is refused, and this is said.
+    Unloaded(Vec<Said>),
+}
+
+/// What comes of compiling a source.
+#[derive(Drop)]
+enum Compiling {
+    Fit(CompiledSource),
+    /// It is refused, and this is said.
+    Unfit(Vec<Said>),
+}
+
+/// A source that was read.
+#[derive(Drop)]
+struct Held<'a> {
+    text: &'a [u8],
+}
+
+impl Sources for Held<'_> {
+    ghost reads = { λ old name given new. IsHeld old.text.now given };
+
+    fn read(&mut self, alloc: Global, name: &str) -> Result<Vec<u8>, InputError> {
+        match Vec::from_slice(alloc, self.text) {
+            Ok(text) => Ok(text),
+            Err(_) => Err(InputError::NoMemory),
+        }
+    }
+}
+
+// What `check` says of a source.
+fn report(
+    alloc: Global,
+    path: &str,
+    text: &[u8],
+    settings: CheckSettings,
+) -> Result<Vec<u8>, AllocError>
+    ensures { IfOk result (λ said. IsReport settings path.now text.now said.items) }
+{
+    let mut names = Vec::new(alloc);
+    names.push(String::from_str(alloc, path)?)?;
+    let mut held = Held { text };
+    let mut writer = Tracked::new(Vec::new(alloc));
+    let outcome = check_sources(alloc, &mut held, &names, &mut writer, settings);
+    match outcome {
+        CheckOutcome::NoMemory | CheckOutcome::WriteFault => Err(AllocError),
+        CheckOutcome::Accepted | CheckOutcome::Refused | CheckOutcome::ReadFault => {
+            Ok(writer.stream)
+        }
+    }
+}
+
+// Why a line of a source is refused, or the whole of it.
+fn source_error_text(alloc: Global, error: SourceError) -> Result<String, AllocError>
+    ensures { IfOk result (λ text. string_bytes text ≡ spec.source_error_text error) }
+{
+    let (line, column) = (error.line, error.column);
+    let why = source_text(error.kind);
+    if 0 < line {
+        format!(in alloc; "{line}:{column}: {why}")
+    } else {
+        String::from_str(alloc, why)
+    }
+}
+
+// What is said of an expression that is too deep.
+fn too_deep_text(alloc: Global, line: u16) -> Result<String, AllocError>
+    ensures { IfOk result (λ text. string_bytes text ≡ spec.too_deep_text line) }
+{
+    let why = TOO_DEEP;
+    format!(in alloc; "line {line}: {why}")
+}
+
+// Why a source is refused, as `run` says it.
+fn error_text(alloc: Global, error: CompileError) -> Result<String, AllocError>
+    ensures { IfOk result (λ text. string_bytes text ≡ spec.error_text error) }
+{
+    match error {
+        CompileError::Source(error) => source_error_text(alloc, error),
+        CompileError::Lower(LowerError::TooDeep(line)) => too_deep_text(alloc, line),
+        CompileError::TooLarge(cost) => format!(in alloc; "{}", TooLarge(cost)),
+        CompileError::Lower(LowerError::NoMemory) | CompileError::NoMemory => {
+            String::from_str(alloc, "out of memory")
+        }
+    }
+}
+
+// What is said of a source that is refused.
+fn unfit(
+    alloc: Global,
+    path: &str,
+    text: &[u8],
+    settings: CheckSettings,
+    error: CompileError,
+) -> Result<Vec<Said>, AllocError>
+    ensures { IfOk result (λ said. IsUnfit settings path.now text.now error (map seen said.items)) }
+{
+    let report = report(alloc, path, text, settings)?;
+    let told = output(alloc, "stderr", shown(&report))?;
+    let why = error_text(alloc, error)?;
+    let mut said = Vec::new(alloc);
+    said.push(told)?;
+    said.push(Said::Unfit(why))?;
+    Ok(said)
+}
+
+// What comes of compiling a source.
+fn compiled(
+    alloc: Global,
+    path: &str,
+    text: Vec<u8>,
+    settings: CompileSettings,
+) -> Result<Compiling, AllocError>
+    ensures { IfOk result (CompilesTo settings path.now text.items) }
+{
+    match compile_within(alloc, &text, settings) {
+        Ok(program) => Ok(Compiling::Fit(CompiledSource { text, program })),
+        Err(CompileError::NoMemory) => Err(AllocError),
+        Err(error) => {
+            let checked = CheckSettings {
+                size: settings.size,
+                notation: settings.notation,
+            };
+            Ok(Compiling::Unfit(unfit(alloc, path, &text, checked, error)?))
+        }
+    }
+}
+
+// What a keyboard gives; none where the digits spell nothing.
+fn keyboard_of(alloc: Global, keys: &str, answers: &str) -> Result<Option<Keyboard>, AllocError>
+    ensures { IfOk result (IsKeyboard keys.now answers.now) }
+{
+    let text = match key_list(alloc, keys) {
+        Ok(text) => text,
+        Err(KeyError::BadKeys) => return Ok(None),
+        Err(KeyError::NoMemory) => return Err(AllocError),
+    };
+    match key_list(alloc, answers) {
+        Ok(answers) => Ok(Some(Keyboard { text, answers })),
+        Err(KeyError::BadKeys) => Ok(None),
+        Err(KeyError::NoMemory) => Err(AllocError),
+    }
+}
+
+// A refusal alone.
+fn unloaded(alloc: Global, refusal: Refusal) -> Result<Loading, AllocError>
+    ensures { IfOk result (spec.IsRefused refusal) }
+{
+    let mut said = Vec::new(alloc);
+    said.push(Said::Refused(refusal))?;
+    Ok(Loading::Unloaded(said))
+}
+
+// A program that is compiled is loaded.
+fn started(
+    alloc: Global,
+    launch: &Launch<'_>,
+    keyboard: Keyboard,
+    source: CompiledSource,
+) -> Result<Loading, AllocError>
+    ensures { IfOk result (Starts (asked_of launch.now) keyboard.text.items keyboard.answers.items source) }
+{
+    let path = String::from_str(alloc, launch.path)?;
+    match start_program(alloc, &source.program, keyboard) {
+        Ok(machine) => Ok(Loading::Loaded(Loaded {
+            path,
+            source,
+            notation: launch.settings.notation,
+            machine,
+            rom: launch.rom,
+            plan: launch.plan,
+        })),
+        Err(NoText::Refused(_)) => unloaded(alloc, Refusal::ReadFault),
+        Err(NoText::NoMemory) => Err(AllocError),
+    }
+}
+
+// A source that was read is compiled and loaded.
+fn compiled_and_started(
+    alloc: Global,
+    launch: &Launch<'_>,
+    keyboard: Keyboard,
+    text: Vec<u8>,
+) -> Result<Loading, AllocError>
+    ensures { IfOk result (spec.Compiled (asked_of launch.now) keyboard.text.items keyboard.answers.items text.items) }
+{
+    match compiled(alloc, launch.path, text, launch.settings)? {
+        Compiling::Fit(source) => {
+            let loading = started(alloc, launch, keyboard, source)?;
+            Ok(loading)
+        }
+        Compiling::Unfit(said) => Ok(Loading::Unloaded(said)),
+    }
+}
+
+// A source is read, compiled and loaded.
+fn read_and_compiled<S: Sources>(
+    alloc: Global,
+    sources: &mut S,
+    launch: &Launch<'_>,
+    keyboard: Keyboard,
+) -> Result<Loading, AllocError>
+    ensures { IfOk result (λ loading. Reads S.reads (asked_of launch.now) keyboard.text.items keyboard.answers.items sources.old loading sources.new) }
+{
+    match sources.read(alloc, launch.path) {
+        Ok(text) => compiled_and_started(alloc, launch, keyboard, text),
+        Err(InputError::Fault) => unloaded(alloc, Refusal::ReadFault),
+        Err(InputError::NoMemory) => Err(AllocError),
+    }
+}
+
+/// Loads what is launched.
+pub fn load<S: Sources>(
+    alloc: Global,
+    sources: &mut S,
+    launch: &Launch<'_>,
+) -> Result<Loading, AllocError>
+    ensures { IfOk result (λ loading. Loads S.reads (asked_of launch.now) sources.old loading sources.new) }
+{
+    match keyboard_of(alloc, launch.keys, launch.answers)? {
+        Some(keyboard) => {
+            let loading = read_and_compiled(alloc, sources, launch, keyboard)?;
+            Ok(loading)
+        }
+        None => unloaded(alloc, Refusal::BadKeys),
+    }
+}

@@ -1,0 +1,15 @@
+-- The numbers that are promised, and that the code has the same ones.
+use Rattle.std.specs.Prelude.{ℕ, ◌≡◌}
+use Rattle.tb_check.specs.declared.warnings.TheConstants as code
+
+-- the highest number of a line, and the largest one of a variable
+abbrev pub HIGHEST_NUMBER : ℕ
+HIGHEST_NUMBER = 32767
+
+-- the largest bound of RND that is warned of
+abbrev pub LARGEST_BOUND : ℕ
+LARGEST_BOUND = 15000
+
+-- the constants of the code are these numbers
+abbrev pub ConstantsAreNumbers : Type 0
+ConstantsAreNumbers = (code.HIGHEST_NUMBER ≡ HIGHEST_NUMBER) × (code.LARGEST_BOUND ≡ LARGEST_BOUND)

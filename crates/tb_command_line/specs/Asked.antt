@@ -1,0 +1,111 @@
+-- The table of the jobs: from which arguments of a command each part of its job comes.
+use Rattle.std.specs.Prelude.{◌≡◌, ◌⊎◌, ◌≢◌, ℕ, List, [], ◌∷◌, ◌++◌, map, codes, string_bytes, Option, Some, MatchOption, option_map, unwrap_or}
+use Rattle.clap.specs.Words.{first_value, rows_of, subcommand_name_of, subcommand_rows_of}
+use Rattle.clap.specs.declared.parser.matches.ArgMatches.{ArgMatches}
+use Rattle.clap.specs.declared.parser.matches.Found.{Found}
+use Rattle.tb_files.specs.Names.{IsUsualOut}
+use Rattle.tb_jobs.specs.Numbers.{MOST_EVENTS, USUAL_SEED, USUAL_STEP}
+use Rattle.tb_jobs.specs.declared.jobs.Job.{Job}
+use Rattle.tb_jobs.specs.declared.jobs.Job.TheVariants as job
+use Rattle.tb_command_line.specs.Table.{name_of}
+use Rattle.tb_command_line.specs.Values.{AreExtras, AreSettings, IsFlag, IsLimit, IsNotation, IsNumber, IsOptional, IsOptionalNumber, IsRunnable, IsTarget, IsText, dialect_in, or_else, text_in, texts_in}
+use Rattle.tb_command_line.specs.declared.commands.CommandName.{CommandName}
+use Rattle.tb_command_line.specs.declared.commands.CommandName.TheVariants.{Build, Run, Play, Asm, Assemble, Dis, Step, Debug, Profile, Disk, Check, Format, Renumber, Lsp, Dap, Version}
+use Rattle.tb_command_line.specs.declared.parser.TheConstants.{VERSION}
+
+-- the file that is written: by `-o`, and else by its place
+abbrev pub out_in : Found → Option (List ℕ)
+out_in found = or_else (first_value found (codes "output")) (first_value found (codes "OUT"))
+
+-- a path without its ending `.asm`, if it has that
+abbrev pub IsStem : List ℕ → List ℕ → Type 0
+IsStem path stem = (path ≡ stem ++ codes ".asm") ⊎ (((other : List ℕ) → path ≢ other ++ codes ".asm") × (stem ≡ path))
+
+-- the PRG file of a source: the one that is named, and else the usual one of the source's path
+abbrev pub IsOut : Option (List ℕ) → List ℕ → List ℕ → Type 0
+IsOut named path out = MatchOption named (IsUsualOut path out) (λ text. out ≡ text)
+
+-- that of an assembler text: the one that is named, and else the usual one of its path without `.asm`
+abbrev pub IsAssemblyOut : Option (List ℕ) → List ℕ → List ℕ → Type 0
+IsAssemblyOut named path out =
+    MatchOption named ((stem : List ℕ) × IsStem path stem × IsUsualOut stem out) (λ text. out ≡ text)
+
+-- a disk image and its PRG files: OUT is the image, or the first of the files where `-o` names the image
+abbrev pub AreOfDisk : Found → List ℕ → List (List ℕ) → Type 0
+AreOfDisk found out files =
+    MatchOption (first_value found (codes "output"))
+    ((out ≡ text_in found (codes "OUT")) × (files ≡ texts_in found (codes "FILE")))
+    (λ named. (out ≡ named) × (files ≡ text_in found (codes "OUT") ∷ texts_in found (codes "FILE")))
+
+-- the job of a command, part by part, from what the parser found of its arguments; it is of no other kind
+abbrev pub IsJob : CommandName → Found → Job → Type 0
+IsJob Build found (job.Build source out seed fit notation beside) =
+    IsText found (codes "SOURCE") source
+    × IsOut (out_in found) (string_bytes source) (string_bytes out)
+    × IsNumber found (codes "seed") USUAL_SEED seed
+    × IsFlag found (codes "fit") fit
+    × IsNotation found notation
+    × AreExtras found beside
+IsJob Run found (job.Run what settings rude labels) =
+    IsRunnable found what
+    × AreSettings found settings
+    × IsOptionalNumber found (codes "rude") rude
+    × IsOptional found (codes "labels") labels
+IsJob Play found (job.Play what seed fit notation limit made screen) =
+    IsRunnable found what
+    × IsNumber found (codes "seed") USUAL_SEED seed
+    × IsFlag found (codes "fit") fit
+    × IsNotation found notation
+    × IsLimit found (codes "limit") MOST_EVENTS limit
+    × IsOptional found (codes "record") made
+    × IsFlag found (codes "screen") screen
+IsJob Asm found (job.Asm text out at) =
+    IsText found (codes "IN") text
+    × (string_bytes out ≡ unwrap_or (out_in found) [])
+    × IsText found (codes "at") at
+IsJob Assemble found (job.Assemble text out at long labels listing) =
+    IsText found (codes "IN") text
+    × IsAssemblyOut (out_in found) (string_bytes text) (string_bytes out)
+    × IsOptional found (codes "at") at
+    × IsFlag found (codes "long") long
+    × IsOptional found (codes "labels") labels
+    × IsOptional found (codes "list") listing
+IsJob Dis found (job.Dis prg dialect) = IsText found (codes "FILE") prg × (dialect ≡ dialect_in found)
+IsJob Step found (job.Step what settings) = IsRunnable found what × AreSettings found settings
+IsJob Debug found (job.Debug what settings rude labels) =
+    IsRunnable found what
+    × AreSettings found settings
+    × IsOptionalNumber found (codes "rude") rude
+    × IsOptional found (codes "labels") labels
+IsJob Profile found (job.Profile what settings rude html) =
+    IsRunnable found what
+    × AreSettings found settings
+    × IsOptionalNumber found (codes "rude") rude
+    × IsOptional found (codes "html") html
+IsJob Disk found (job.Disk out files) = AreOfDisk found (string_bytes out) (map string_bytes files.items)
+IsJob Check found (job.Check sources fit notation) =
+    (map string_bytes sources.items ≡ texts_in found (codes "SOURCE"))
+    × IsFlag found (codes "fit") fit
+    × IsNotation found notation
+IsJob Format found (job.Format source notation target) =
+    IsText found (codes "SOURCE") source
+    × IsNotation found notation
+    × IsTarget found target
+IsJob Renumber found (job.Renumber source notation first step in_place) =
+    IsText found (codes "SOURCE") source
+    × IsNotation found notation
+    × IsNumber found (codes "from") USUAL_STEP first
+    × IsNumber found (codes "step") USUAL_STEP step
+    × IsFlag found (codes "in-place") in_place
+IsJob Lsp found (job.Lsp notation) = IsNotation found notation
+IsJob Dap found (job.Dap notation) = IsNotation found notation
+IsJob Version found (job.Show text) = string_bytes text ≡ codes "tbc " ++ (VERSION.now ++ 10 ∷ [])
+IsJob _ found _ = ⊥
+
+-- the job of the command that the words name, by the arguments that the parser found for it
+abbrev pub IsAsked : ArgMatches → Job → Type 0
+IsAsked matches asked =
+    (command : CommandName) × (found : Found)
+    × (subcommand_name_of matches ≡ Some (name_of command))
+    × (option_map (λ pair. pair.1) (subcommand_rows_of matches) ≡ Some (rows_of found))
+    × IsJob command found asked

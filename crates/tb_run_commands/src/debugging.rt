@@ -1,0 +1,78 @@
+//! Debugging: commands come from standard input, and each is answered on standard output before the next one is read.
+use std::io;
+use std::rt::Files;
+use std::time::Clock;
+use tb_debug_engine::{Rom, Setting, debug, debug_prg};
+use tb_driver::{Outcome, Tracked, read_input, without_input};
+use tb_file_engine::opened;
+use tb_host::{Host, Progress, read_warned, settings_of};
+use tb_jobs::Settings;
+use tb_kernal::Keyboard;
+use tb_labels::Label;
+
+/// How a program is debugged.
+pub fn setting_of(settings: &Settings, rude: Option<u16>, prompts: bool) -> Setting {
+    Setting {
+        rom: match rude {
+            Some(seed) => Rom::Rude(seed),
+            None => Rom::Quiet,
+        },
+        limit: u64::from(settings.limit.events),
+        prompts,
+    }
+}
+
+/// Debugs a source. Its warnings come before the first stop.
+pub fn debug_source<R: Files + Clock + Print + Eprint + Input + AllocGlobal>(
+    host: &mut Host<'_, R>,
+    path: &str,
+    settings: &Settings,
+    keyboard: Keyboard,
+    setting: Setting,
+) -> Outcome {
+    let rt = host.rt;
+    match read_warned(
+        host,
+        path,
+        settings_of(settings.seed, settings.fit, settings.notation),
+    ) {
+        Ok(source) => debug(
+            rt.alloc(),
+            &source,
+            keyboard,
+            setting,
+            &mut Tracked::new(rt.reader()),
+            &mut Tracked::new(io::writer(rt)),
+            &mut Progress::new(rt, setting.limit, host.notes),
+        ),
+        Err(outcome) => outcome,
+    }
+}
+
+/// Debugs a PRG file, with these labels.
+pub fn debug_file<R: Files + Clock + Print + Eprint + Input + AllocGlobal>(
+    host: &mut Host<'_, R>,
+    path: &str,
+    labels: &[Label],
+    keyboard: Keyboard,
+    setting: Setting,
+) -> Outcome {
+    let rt = host.rt;
+    let mut file = match opened(host, path) {
+        Ok(file) => file,
+        Err(outcome) => return outcome,
+    };
+    match read_input(rt.alloc(), &mut file) {
+        Ok(prg) => debug_prg(
+            rt.alloc(),
+            prg.as_slice(),
+            labels,
+            keyboard,
+            setting,
+            &mut Tracked::new(rt.reader()),
+            &mut Tracked::new(io::writer(rt)),
+            &mut Progress::new(rt, setting.limit, host.notes),
+        ),
+        Err(error) => without_input(error),
+    }
+}

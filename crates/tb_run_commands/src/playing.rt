@@ -1,0 +1,124 @@
+//! Playing: standard input is the keyboard, and standard output shows what the program sends.
+use std::env::VarError;
+use std::rt::{Env, Files};
+use std::{env, io};
+use tb_driver::{
+    CompileSettings, Outcome, Played, Tracked, play_compiled, play_file, read_input, without_input,
+};
+use tb_file_engine::{opened, save};
+use tb_host::{Host, read_warned};
+use tb_jobs::{Failure, Runnable, room_for_screen};
+use tb_screen_play::play_file_on_screen;
+
+/// How a program is played.
+#[derive(Clone, Copy)]
+pub struct Playing<'a> {
+    pub settings: CompileSettings,
+    /// How many events it may take between two lines.
+    pub limit: u64,
+    /// The key file that is written of what was typed, if it is wanted.
+    pub record: Option<&'a str>,
+    /// Whether the machine's screen is shown, in place of the host form of what is sent.
+    pub screen: bool,
+}
+
+/// Plays a source or a PRG file, and records what was typed in a key file, where that is wanted.
+pub fn play<R: Files + Env + Print + Eprint + Input + AllocGlobal>(
+    host: &mut Host<'_, R>,
+    what: &Runnable,
+    playing: Playing<'_>,
+) -> Result<Outcome, Failure> {
+    if playing.screen {
+        look_at_terminal(host)?;
+    }
+    let played = match what {
+        Runnable::Source(source) => play_source(host, source.as_str(), playing),
+        Runnable::Prg(prg) => play_prg(host, prg.as_str(), playing),
+    };
+    Ok(match (played, playing.record) {
+        (Err(outcome), _) => outcome,
+        (Ok(played), Some(path)) => write_record(host, path, &played),
+        (Ok(played), None) => played.outcome,
+    })
+}
+
+// Whether the machine's screen can be shown. The size of the terminal is what the environment tells of it.
+fn look_at_terminal<R: Env + AllocGlobal>(host: &Host<'_, R>) -> Result<(), Failure> {
+    let columns = number_told(host.rt, "COLUMNS")?;
+    let lines = number_told(host.rt, "LINES")?;
+    room_for_screen(host.shows, columns, lines)
+}
+
+// A number that the environment tells, if it does.
+fn number_told<R: Env + AllocGlobal>(rt: &R, name: &str) -> Result<Option<usize>, Failure> {
+    match env::var(rt, name) {
+        Ok(text) => Ok(text.as_str().parse::<usize>().ok()),
+        Err(VarError::OutOfMemory) => Err(Failure::NoMemory),
+        Err(VarError::NotPresent | VarError::NotUnicode) => Ok(None),
+    }
+}
+
+// The warnings come before the program starts.
+fn play_source<R: Files + Print + Eprint + Input + AllocGlobal>(
+    host: &mut Host<'_, R>,
+    path: &str,
+    playing: Playing<'_>,
+) -> Result<Played, Outcome> {
+    let rt = host.rt;
+    let source = read_warned(host, path, playing.settings)?;
+    let file = source.program.prg();
+    if playing.screen {
+        return Ok(shown(rt, file, playing.limit));
+    }
+    let mut keys = Tracked::new(rt.reader());
+    let mut writer = Tracked::new(io::writer(rt));
+    Ok(play_compiled(rt.alloc(), file, &mut keys, &mut writer, playing.limit))
+}
+
+fn play_prg<R: Files + Print + Input + AllocGlobal>(
+    host: &mut Host<'_, R>,
+    path: &str,
+    playing: Playing<'_>,
+) -> Result<Played, Outcome> {
+    let rt = host.rt;
+    let prg = match read_input(rt.alloc(), &mut opened(host, path)?) {
+        Ok(prg) => prg,
+        Err(error) => return Err(without_input(error)),
+    };
+    if playing.screen {
+        return Ok(shown(rt, prg.as_slice(), playing.limit));
+    }
+    let mut keys = Tracked::new(rt.reader());
+    let mut writer = Tracked::new(io::writer(rt));
+    Ok(play_file(
+        rt.alloc(),
+        prg.as_slice(),
+        &mut keys,
+        &mut writer,
+        playing.limit,
+    ))
+}
+
+// Plays a PRG file on the machine's screen.
+fn shown<R: Print + Input + AllocGlobal>(rt: &R, file: &[u8], limit: u64) -> Played {
+    let mut keys = Tracked::new(rt.reader());
+    let mut writer = Tracked::new(io::writer(rt));
+    play_file_on_screen(rt.alloc(), file, &mut keys, &mut writer, limit)
+}
+
+// Where there is nothing to record, the file is not opened.
+fn write_record<R: Files + Print + Input + AllocGlobal>(
+    host: &mut Host<'_, R>,
+    path: &str,
+    played: &Played,
+) -> Outcome {
+    let text = match played.recorded(host.rt.alloc()) {
+        Ok(Some(text)) => text,
+        Ok(None) => return played.outcome,
+        Err(_) => return Outcome::NoMemory,
+    };
+    match save(host, path, text.as_slice()) {
+        Outcome::Ended(_) => played.outcome,
+        outcome => outcome,
+    }
+}

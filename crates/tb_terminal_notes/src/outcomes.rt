@@ -1,0 +1,69 @@
+//! What helps with an outcome of an engine.
+use crate::files::file_note;
+use crate::refusals::{note_source, note_text};
+use crate::saying::say;
+use std::rt::Files;
+use tb_disk_engine::DiskOutcome;
+use tb_driver::{End, Outcome, Refusal};
+use tb_file_reasons::{FileNote, disk_note, prg_reason};
+use tb_host::Host;
+use tb_jobs::Job;
+use tb_run_notes::EndNote;
+
+/// Says what helps with how a run, a build or a listing ended.
+pub fn note_outcome<R: Files + Print + Eprint + Input + AllocGlobal>(
+    host: &mut Host<'_, R>,
+    job: &Job,
+    outcome: Outcome,
+) {
+    match outcome {
+        Outcome::Refused(Refusal::Source(error)) => note_source(host, job, error),
+        Outcome::Refused(refusal @ (Refusal::TextLine(_) | Refusal::Item(_))) => {
+            note_text(host, job, refusal)
+        }
+        Outcome::Refused(refusal) => note_prg(host, refusal),
+        Outcome::ReadFault | Outcome::WriteFault => file_note(host),
+        Outcome::Ended(end) => note_end(host, job, end),
+        Outcome::NoMemory => {}
+    }
+}
+
+// Of the file that was read last.
+fn note_prg<R: Eprint>(host: &Host<'_, R>, refusal: Refusal) {
+    if let (Some(file), Some(reason)) = (&host.last, prg_reason(refusal)) {
+        say(
+            host.rt,
+            FileNote {
+                path: file.path.as_str(),
+                reason,
+            },
+        );
+    }
+}
+
+// A player who gives no more keys needs no note.
+fn note_end<R: Eprint>(host: &Host<'_, R>, job: &Job, end: End) {
+    match (job, end) {
+        (Job::Play { .. }, End::WaitsForKey) => {}
+        (_, End::WaitsForKey) => say(host.rt, EndNote::Waits(None)),
+        (_, End::StepLimit) => say(host.rt, EndNote::Running(None)),
+        (_, End::Done | End::WentWrong { .. }) => {}
+    }
+}
+
+/// Says what helps with a disk image that was not made.
+pub fn note_disk<R: Files + Print + Eprint + Input + AllocGlobal>(
+    host: &mut Host<'_, R>,
+    job: &Job,
+    outcome: DiskOutcome,
+) {
+    match (outcome, job) {
+        (DiskOutcome::Refused(refusal), Job::Disk { out, files }) => {
+            if let Some(note) = disk_note(out, files.as_slice(), host.opened, refusal) {
+                say(host.rt, note);
+            }
+        }
+        (DiskOutcome::ReadFault | DiskOutcome::WriteFault, _) => file_note(host),
+        _ => {}
+    }
+}

@@ -1,0 +1,183 @@
+//! Notes on a source or a text that is refused: the line with its place, and what helps.
+use crate::saying::say;
+use std::alloc::AllocError;
+use std::fmt;
+use std::rt::Files;
+use tb_asm_reasons::{item_text, line_text};
+use tb_check_engine::refusal_text;
+use tb_driver::{
+    CompileError, CompileSettings, Refusal, SizeLimit, Tracked, bytes_to_fit, read_input,
+};
+use tb_file_engine::opened;
+use tb_files::{FileSystem, Place};
+use tb_host::{Host, Source, settings_of};
+use tb_jobs::{Job, Runnable, Settings, USUAL_SEED};
+
+// What a job compiles, and how.
+#[derive(Clone, Copy, Drop)]
+struct Compiles<'a> {
+    source: &'a str,
+    settings: CompileSettings,
+}
+
+/// Says what helps with a source that is refused.
+pub fn note_source<R: Files + Print + Eprint + Input + AllocGlobal>(
+    host: &mut Host<'_, R>,
+    job: &Job,
+    error: CompileError,
+) {
+    let Some(compiles) = compiled_by(job) else {
+        return;
+    };
+    if let CompileError::TooLarge(_) = error {
+        note_fit(host, &compiles);
+    } else if let Some(source) = read_again(host, compiles.source) {
+        let notation = compiles.settings.notation;
+        show(
+            host,
+            refusal_text(
+                host.rt.alloc(),
+                compiles.source,
+                source.as_slice(),
+                notation,
+                error,
+            ),
+        );
+    }
+}
+
+/// Says what helps with a text that is not assembled.
+pub fn note_text<R: Files + Print + Eprint + Input + AllocGlobal>(
+    host: &mut Host<'_, R>,
+    job: &Job,
+    refusal: Refusal,
+) {
+    let Job::Asm { text: path, .. } = job else {
+        return;
+    };
+    let Some(text) = read_again(host, path) else {
+        return;
+    };
+    let alloc = host.rt.alloc();
+    match refusal {
+        Refusal::TextLine(line) => show(host, line_text(alloc, path, text.as_slice(), line)),
+        Refusal::Item(error) => show(host, item_text(alloc, path, text.as_slice(), error)),
+        Refusal::Prg(_) | Refusal::NotRam | Refusal::Source(_) => {}
+    }
+}
+
+// That `--fit` compiles a source that is refused by its cost alone.
+fn note_fit<R: Files + Print + Eprint + Input + AllocGlobal>(
+    host: &mut Host<'_, R>,
+    compiles: &Compiles<'_>,
+) {
+    if compiles.settings.size == SizeLimit::Memory {
+        return;
+    }
+    let Some(mut file) = opened_again(host, compiles.source) else {
+        return;
+    };
+    if let Some(bytes) = bytes_to_fit(host.rt.alloc(), &mut file, compiles.settings) {
+        say(host.rt, Fits(bytes));
+    }
+}
+
+// How many bytes a source takes that the memory would hold.
+#[derive(Drop)]
+struct Fits(usize);
+
+impl fmt::Display for Fits {
+    fn fmt<W: fmt::Write>(&self, f: &mut fmt::Formatter<W>) -> fmt::Result {
+        write!(f, "its code takes {} bytes: --fit compiles it", self.0)
+    }
+}
+
+// Shows what there is to say of a file. Without memory nothing is said.
+fn show<R: Eprint + AllocGlobal>(host: &Host<'_, R>, said: Result<Vec<u8>, AllocError>) {
+    let Ok(said) = said else {
+        return;
+    };
+    if let Ok(said) = String::from_utf8_lossy(host.rt.alloc(), said.as_slice()) {
+        // Nobody can be told that standard error fails.
+        let _ = eprint!(host.rt; "{said}");
+    }
+}
+
+// The bytes of a file that is read once more.
+fn read_again<R: Files + Print + Input + AllocGlobal>(
+    host: &mut Host<'_, R>,
+    path: &str,
+) -> Option<Vec<u8>> {
+    let mut file = opened_again(host, path)?;
+    read_input(host.rt.alloc(), &mut file).ok()
+}
+
+// A file is read once more, since an engine keeps none that it refuses; but only a regular file gives the same again.
+fn opened_again<R: Files + Print + Input + AllocGlobal>(
+    host: &mut Host<'_, R>,
+    path: &str,
+) -> Option<Tracked<Source<R>>> {
+    match host.place(host.rt.alloc(), path) {
+        Ok(Place::File(_)) => opened(host, path).ok(),
+        Ok(Place::Missing(_, _) | Place::Elsewhere) | Err(AllocError) => None,
+    }
+}
+
+// What a job compiles, if it does.
+fn compiled_by(job: &Job) -> Option<Compiles<'_>> {
+    match job {
+        Job::Build {
+            source,
+            seed,
+            fit,
+            notation,
+            ..
+        }
+        | Job::Play {
+            what: Runnable::Source(source),
+            seed,
+            fit,
+            notation,
+            ..
+        } => Some(Compiles {
+            source: source.as_str(),
+            settings: settings_of(*seed, *fit, *notation),
+        }),
+        // (a source that costs too much is not renumbered, so nothing is said of `--fit`)
+        Job::Renumber {
+            source,
+            notation,
+            ..
+        } => Some(Compiles {
+            source: source.as_str(),
+            settings: settings_of(USUAL_SEED, true, *notation),
+        }),
+        Job::Run {
+            what: Runnable::Source(source),
+            settings,
+            ..
+        }
+        | Job::Step {
+            what: Runnable::Source(source),
+            settings,
+        }
+        | Job::Debug {
+            what: Runnable::Source(source),
+            settings,
+            ..
+        }
+        | Job::Profile {
+            what: Runnable::Source(source),
+            settings,
+            ..
+        } => Some(compiled_with(source, settings)),
+        _ => None,
+    }
+}
+
+fn compiled_with<'a>(source: &'a str, settings: &Settings) -> Compiles<'a> {
+    Compiles {
+        source,
+        settings: settings_of(settings.seed, settings.fit, settings.notation),
+    }
+}

@@ -1,0 +1,15 @@
+//! The commands on texts, over the files of the system: a text is assembled, sources are checked, tidied and renumbered, and
+//! an editor is served.
+#![tactic(auto)]
+
+mod assembling;
+mod checking;
+mod formatting;
+mod renumbering;
+mod serving;
+
+pub use assembling::assemble;
+pub use checking::check_files;
+pub use formatting::format_file;
+pub use renumbering::renumber_file;
+pub use serving::{serve_debugger, serve_editor};

@@ -1,0 +1,39 @@
+//! Serving an editor: its messages come from standard input, and each is answered on standard output before the next one
+//! is read.
+use crate::checking::SystemSources;
+use std::io;
+use std::rt::Files;
+use tb_debug_adapter::AdapterOutcome;
+use tb_driver::{Notation, Tracked};
+use tb_host::Host;
+use tb_language_server::ServerOutcome;
+
+/// Serves an editor as its language server of a version, which reads the texts of sources in a notation.
+pub fn serve_editor<R: Print + Input + AllocGlobal>(
+    rt: &R,
+    version: &'static str,
+    notation: Notation,
+) -> ServerOutcome {
+    let mut messages = Tracked::new(rt.reader());
+    let mut answers = Tracked::new(io::writer(rt));
+    tb_language_server::serve(rt.alloc(), version, notation, &mut messages, &mut answers)
+}
+
+/// Serves an editor as its debug adapter. The source that it launches is opened when that is asked for; its texts are read
+/// in this notation, if nothing else is asked for.
+pub fn serve_debugger<R: Files + Print + Input + AllocGlobal>(
+    host: &Host<'_, R>,
+    notation: Notation,
+) -> AdapterOutcome {
+    let rt = host.rt;
+    let mut messages = Tracked::new(rt.reader());
+    let mut answers = Tracked::new(io::writer(rt));
+    let mut sources = SystemSources::of(host);
+    tb_debug_adapter::serve(
+        rt.alloc(),
+        notation,
+        &mut sources,
+        &mut messages,
+        &mut answers,
+    )
+}
