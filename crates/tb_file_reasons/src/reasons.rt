@@ -13,6 +13,8 @@ pub enum FileReason {
     IsFolder,
     NoPermission,
     DiskFull,
+    /// It was written over, and that broke off.
+    Kept,
     /// It has more bytes than a source, a text or a PRG file may have.
     TooLong,
     /// It has more bytes than a key file may have.
@@ -43,6 +45,7 @@ impl FileReason {
             FileReason::IsFolder => "is a folder",
             FileReason::NoPermission => "no permission",
             FileReason::DiskFull => "disk full",
+            FileReason::Kept => "what it held is in the file of this name with ~ at its end",
             FileReason::TooLong => "longer than 1,048,576 bytes",
             FileReason::KeysTooLong => "longer than 2,097,154 bytes",
             FileReason::NoImageName => "the name of a disk image ends in .d64",

@@ -2,3 +2,5 @@ pub mod Endings
 pub mod LookedUp
 pub mod Orders
 pub mod Rows
+pub mod Safe
+pub mod Stepping

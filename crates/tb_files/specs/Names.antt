@@ -1,19 +1,19 @@
 -- What the ending of a path says.
-use Rattle.std.specs.Prelude.{◌≡◌, ◌≢◌, ◌⊎◌, ℕ, ◌-◌, Bool, List, ◌++◌, map, drop, length, codes, MatchBool}
+use Rattle.std.specs.Prelude.{◌≡◌, ◌≢◌, ◌⊎◌, ℕ, ◌-◌, Bool, ◌||◌, List, ◌++◌, map, drop, length, codes, MatchBool}
 use Rattle.std.specs.Char.{to_ascii_lowercase}
 use Rattle.std.specs.Str.{bytes_eq}
 
--- the last four bytes of a path, or all if there are fewer
-abbrev pub last_four : List ℕ → List ℕ
-last_four path = drop (length path - 4) path
-
--- a path ends in these four bytes, in either case
+-- a path ends in these bytes, in either case
 abbrev pub ends_as : List ℕ → List ℕ → Bool
-ends_as path ending = bytes_eq (map to_ascii_lowercase (last_four path)) (map to_ascii_lowercase ending)
+ends_as path ending = bytes_eq (map to_ascii_lowercase (drop (length path - length ending) path)) (map to_ascii_lowercase ending)
 
--- the ending of a source
+-- the ending of a source that a build's PRG file is named by
 abbrev pub source_ending : List ℕ
 source_ending = codes ".bas"
+
+-- a path ends as that of a source
+abbrev pub is_source_name : List ℕ → Bool
+is_source_name path = ends_as path source_ending || ends_as path (codes ".tbas")
 
 -- the ending of a disk image
 abbrev pub image_ending : List ℕ

@@ -13,7 +13,7 @@ same_node a b = (a.device == b.device) && (a.number == b.number)
 
 -- one file, or one name in one folder
 abbrev pub same_place : Place → Place → Bool
-same_place (File a) (File b) = same_node a b
+same_place (File a path) (File b other) = same_node a b
 same_place (Missing a name) (Missing b other) = same_node a b && bytes_eq (string_bytes name) (string_bytes other)
 same_place a b = false
 

@@ -38,7 +38,10 @@ fn named<'a, F: FileSystem>(
 fn is_source_there(file: &Named<'_>) -> bool
     ensures { result ≡ is_source_there file.now }
 {
-    matches!(file.place, Place::File(_)) && is_source_name(file.path)
+    match &file.place {
+        Place::File(_, end) => is_source_name(file.path) || is_source_name(end.as_str()),
+        Place::Missing(_, _) | Place::Elsewhere => false,
+    }
 }
 
 // The first source that is there, by its path.

@@ -1,26 +1,33 @@
 //! What the ending of a path says of its file.
-ghost use Rattle.std.specs.Prelude.{◌≡◌, IfOk, string_bytes, codes};
-ghost use Rattle.tb_files.specs.Names.{ends_as, source_ending, image_ending, NamesPrg, IsUsualOut};
+ghost use Rattle.std.specs.Prelude.{◌≡◌, ◌-◌, IfOk, drop, length, string_bytes};
+ghost use Rattle.tb_files.specs.Names.{ends_as, is_source_name, image_ending, NamesPrg, IsUsualOut};
 
 use std::alloc::{AllocError, Global};
 
-// Whether a path ends in four bytes, in either case.
-#[tactic(auto, using(crate::proofs::Endings::decided))]
-fn ends_as(path: &str, ending: &[u8; 4]) -> bool
-    ensures { result ≡ ends_as path.now ending.now }
+// The last `size` bytes of a path, or all if there are fewer.
+fn last(path: &str, size: usize) -> &[u8]
+    ensures { result.now ≡ drop (length path.now - size) path.now }
 {
     let bytes = path.as_bytes();
-    bytes[bytes.len().saturating_sub(4)..].eq_ignore_ascii_case(ending)
+    &bytes[bytes.len().saturating_sub(size)..]
+}
+
+// Whether a path ends in these bytes, in either case.
+#[tactic(auto, using(crate::proofs::Endings::decided))]
+fn ends_as(path: &str, ending: &[u8]) -> bool
+    ensures { result ≡ ends_as path.now ending.now }
+{
+    last(path, ending.len()).eq_ignore_ascii_case(ending)
 }
 
 /// The path that stands for standard input or standard output.
 pub const STANDARD: &str = "-";
 
-/// Whether a path ends as that of a source: in `.bas`, in either case.
+/// Whether a path ends as that of a source: in `.bas` or `.tbas`, in either case.
 pub fn is_source_name(path: &str) -> bool
-    ensures { result ≡ ends_as path.now source_ending }
+    ensures { result ≡ is_source_name path.now }
 {
-    ends_as(path, b".bas")
+    ends_as(path, b".bas") || ends_as(path, b".tbas")
 }
 
 /// Whether a path ends as that of a disk image: in `.d64`, in either case.

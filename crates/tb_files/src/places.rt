@@ -4,7 +4,7 @@ ghost use Rattle.std.specs.List.{list_any};
 ghost use Rattle.tb_files.specs.Places.{same_node, same_place, is_same, clashes};
 
 /// A file that is there, by the numbers that its system gives it: those of its device and of the file on it.
-#[derive(Clone, Copy, Debug, Drop)]
+#[derive(Clone, Copy, PartialEq, Eq, Debug, Drop)]
 pub struct Node {
     pub device: u64,
     pub number: u64,
@@ -13,8 +13,8 @@ pub struct Node {
 /// Where a path leads.
 #[derive(Debug, Drop)]
 pub enum Place {
-    /// To a file that is there.
-    File(Node),
+    /// To a file that is there. All links are followed to this path.
+    File(Node, String),
     /// To no file: to the folder where one would be made, under this name.
     Missing(Node, String),
     /// To what nothing can be lost from, as a device, or nobody knows where.
@@ -38,7 +38,7 @@ fn is_same_place(one: &Place, other: &Place) -> bool
     ensures { result ≡ same_place one.now other.now }
 {
     match (one, other) {
-        (Place::File(one), Place::File(other)) => is_same_node(one, other),
+        (Place::File(one, _), Place::File(other, _)) => is_same_node(one, other),
         (Place::Missing(folder, name), Place::Missing(other, other_name)) => {
             is_same_node(folder, other) && name.as_str() == other_name.as_str()
         }

@@ -1,19 +1,15 @@
 //! The files of the system that the program runs on. `-` is standard input or standard output.
 ghost use Rattle.std.specs.Prelude.{⊤};
 
+use crate::putting::{Found, MOST_LINKS, end_of_links, look, node, save_at};
 use std::alloc::{AllocError, Global};
-use std::fs::Metadata;
-use std::io::{Read, Write};
-use std::os::unix::fs::MetadataExt;
+use std::io::Read;
 use std::path::Path;
 use std::rt::Files;
 use std::{fs, io};
-use tb_driver::{Tracked, write_output};
+use tb_driver::Tracked;
 use tb_file_reasons::Purpose;
-use tb_files::{FileSystem, Node, Place, STANDARD, Trouble};
-
-/// The most links that lead one to the next.
-const MOST_LINKS: u32 = 40;
+use tb_files::{FileSystem, Place, STANDARD, Trouble, Unput};
 
 /// The files of the system, and which of them was asked for last.
 #[derive(Drop)]
@@ -36,6 +32,8 @@ pub struct Asked {
     pub purpose: Purpose,
     /// The error of opening it, or of writing it.
     pub error: Option<io::ErrorKind>,
+    /// Whether what it held is in the file of this name with `~`, since it was written over and that broke off.
+    pub is_kept: bool,
 }
 
 /// A file that is opened for reading, or standard input.
@@ -50,35 +48,6 @@ impl<R: Files + Input> Read for Source<R> {
         match self {
             Source::File(file) => file.read(buf),
             Source::Standard(reader) => reader.read(buf),
-        }
-    }
-}
-
-// A writer, and the error that ended its writing.
-#[derive(Drop)]
-struct Ended<W> {
-    stream: W,
-    error: Option<io::ErrorKind>,
-}
-
-impl<W: Write> Write for Ended<W> {
-    fn write(&mut self, buf: &[u8]) -> io::Result<usize> {
-        match self.stream.write(buf) {
-            Ok(count) => Ok(count),
-            Err(error) => {
-                self.error = Some(error.kind());
-                Err(error)
-            }
-        }
-    }
-
-    fn flush(&mut self) -> io::Result<()> {
-        match self.stream.flush() {
-            Ok(()) => Ok(()),
-            Err(error) => {
-                self.error = Some(error.kind());
-                Err(error)
-            }
         }
     }
 }
@@ -111,6 +80,7 @@ impl<R: AllocGlobal> Host<'_, R> {
                 path,
                 purpose,
                 error,
+                is_kept: false,
             }),
             Err(_) => None,
         };
@@ -125,14 +95,11 @@ impl<R: Files + Input + Print + AllocGlobal> FileSystem for Host<'_, R> {
     ghost does = { λ _ _ _. ⊤ };
 
     fn place(&self, alloc: Global, path: &str) -> Result<Place, AllocError> {
-        match fs::metadata(self.rt, path) {
-            Ok(found) if found.is_file() => Ok(Place::File(node(&found))),
-            Ok(_) => Ok(Place::Elsewhere),
-            Err(error) if error.kind() == io::ErrorKind::NotFound => {
-                missing(self.rt, alloc, path, MOST_LINKS)
-            }
-            Err(error) if error.kind() == io::ErrorKind::OutOfMemory => Err(AllocError),
-            Err(_) => Ok(Place::Elsewhere),
+        let end = end_of_links(self.rt, alloc, Path::new(path), MOST_LINKS)?;
+        match look(self.rt, path)? {
+            Found::File(node) => Ok(Place::File(node, end.into_string())),
+            Found::Nothing => made_in_folder(self.rt, alloc, end.as_path()),
+            Found::Other => Ok(Place::Elsewhere),
         }
     }
 
@@ -151,23 +118,23 @@ impl<R: Files + Input + Print + AllocGlobal> FileSystem for Host<'_, R> {
     }
 
     fn save(&mut self, path: &str, bytes: &[u8]) -> Result<(), Trouble> {
-        match saved(self.rt, path, bytes) {
+        match save_at(self.rt, path, bytes) {
             Ok(()) => {
                 self.asks(path, Purpose::Output, None);
                 Ok(())
             }
-            Err((trouble, error)) => {
-                self.asks(path, Purpose::Output, error);
-                Err(trouble)
+            Err(Unput::AsBefore(error)) => {
+                self.asks(path, Purpose::Output, Some(error));
+                Err(trouble(error))
+            }
+            Err(Unput::Kept(error)) => {
+                self.asks(path, Purpose::Output, Some(error));
+                if let Some(asked) = &mut self.last {
+                    asked.is_kept = true;
+                }
+                Err(trouble(error))
             }
         }
-    }
-}
-
-fn node(found: &Metadata) -> Node {
-    Node {
-        device: found.dev(),
-        number: found.ino(),
     }
 }
 
@@ -184,44 +151,6 @@ fn trouble(error: io::ErrorKind) -> Trouble {
         io::ErrorKind::OutOfMemory => Trouble::NoMemory,
         _ => Trouble::Fault,
     }
-}
-
-// Why a file was not written, with the error, if it is known.
-type Unwritten = (Trouble, Option<io::ErrorKind>);
-
-fn saved<R: Files + Print>(rt: &R, path: &str, bytes: &[u8]) -> Result<(), Unwritten> {
-    if path == STANDARD {
-        return written(io::writer(rt), bytes);
-    }
-    match fs::create(rt, path) {
-        Ok(file) => written(file, bytes),
-        Err(error) => Err((trouble(error.kind()), Some(error.kind()))),
-    }
-}
-
-fn written<W: Write + Drop>(stream: W, bytes: &[u8]) -> Result<(), Unwritten> {
-    let mut writer = Tracked::new(Ended {
-        stream,
-        error: None,
-    });
-    match write_output(&mut writer, bytes) {
-        Ok(()) => Ok(()),
-        Err(_) => Err((Trouble::Fault, writer.stream.error)),
-    }
-}
-
-// Where a file would be made that is not there. A link that leads nowhere yet is followed.
-fn missing<R: Files>(rt: &R, alloc: Global, path: &str, links: u32) -> Result<Place, AllocError> {
-    if 0 < links {
-        if let Ok(target) = rt.read_link(alloc, path) {
-            let target = Path::new(path)
-                .parent()
-                .unwrap_or(Path::new(""))
-                .join(alloc, target.as_path())?;
-            return missing(rt, alloc, target.as_path().as_os_str(), links - 1);
-        }
-    }
-    made_in_folder(rt, alloc, Path::new(path))
 }
 
 fn made_in_folder<R: Files>(rt: &R, alloc: Global, path: Path<'_>) -> Result<Place, AllocError> {

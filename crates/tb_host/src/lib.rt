@@ -2,9 +2,11 @@
 //! sources, keys and labels.
 #![tactic(auto)]
 
+mod folder;
 mod host;
 mod keys;
 mod labels;
+mod putting;
 mod reading;
 mod waiting;
 

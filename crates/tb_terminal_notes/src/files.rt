@@ -3,7 +3,7 @@ use crate::saying::say;
 use std::alloc::AllocError;
 use std::rt::Files;
 use std::{fs, io};
-use tb_file_reasons::{FileNote, Purpose, Told, file_reason, first_clash};
+use tb_file_reasons::{FileNote, FileReason, Purpose, Told, file_reason, first_clash};
 use tb_files::{FileSystem, Named, STANDARD};
 use tb_host::{Asked, Host};
 use tb_jobs::Job;
@@ -22,6 +22,11 @@ fn note_file<R: Files + Eprint>(rt: &R, file: &Asked) {
         None => told(rt, file.path.as_str()),
     };
     note_told(rt, file.path.as_str(), file.purpose, told);
+    if file.is_kept {
+        let path = file.path.as_str();
+        let reason = FileReason::Kept;
+        say(rt, FileNote { path, reason });
+    }
 }
 
 // Of standard input and standard output nothing is known.

@@ -118,7 +118,7 @@ fn opened_again<R: Files + Print + Input + AllocGlobal>(
     path: &str,
 ) -> Option<Tracked<Source<R>>> {
     match host.place(host.rt.alloc(), path) {
-        Ok(Place::File(_)) => opened(host, path).ok(),
+        Ok(Place::File(_, _)) => opened(host, path).ok(),
         Ok(Place::Missing(_, _) | Place::Elsewhere) | Err(AllocError) => None,
     }
 }

@@ -1,0 +1,143 @@
+//! Where a text is put that takes a file's place.
+use crate::folder::{SystemFolder, write_whole};
+use std::alloc::{AllocError, Global};
+use std::fs::Metadata;
+use std::io::ErrorKind;
+use std::os::unix::fs::MetadataExt;
+use std::path::{Path, PathBuf};
+use std::rt::Files;
+use std::{fs, io};
+use tb_files::{Folder, Node, PutNames, STANDARD, Unput, put};
+
+/// The most links that lead one to the next.
+pub const MOST_LINKS: u32 = 40;
+
+/// The beginnings of names for new files beside an old one: as many may be there, left by programs that were ended.
+const BEGINNINGS: [&str; 8] = [
+    ".tbc0-", ".tbc1-", ".tbc2-", ".tbc3-", ".tbc4-", ".tbc5-", ".tbc6-", ".tbc7-",
+];
+
+/// Longer names are not taken into those of new files.
+const MOST_NAME: usize = 200;
+
+/// Puts bytes in the place of the file at a path, or makes it. What is no regular file takes them as a stream.
+pub fn save_at<R: Files + Print + AllocGlobal>(
+    rt: &R,
+    path: &str,
+    bytes: &[u8],
+) -> Result<(), Unput<ErrorKind>> {
+    if path == STANDARD {
+        return write_whole(io::writer(rt), bytes).map_err(Unput::AsBefore);
+    }
+    let mut folder = SystemFolder { rt };
+    match target(rt, rt.alloc(), path) {
+        Ok(Some(target)) => put(&mut folder, target.names(), target.is_there, bytes),
+        Ok(None) => folder.write(path, bytes).map_err(Unput::AsBefore),
+        Err(AllocError) => Err(Unput::AsBefore(ErrorKind::OutOfMemory)),
+    }
+}
+
+// A regular file that is replaced, or one that is made.
+#[derive(Drop)]
+struct Target {
+    file: PathBuf,
+    beside: PathBuf,
+    kept: String,
+    is_there: bool,
+}
+
+impl Target {
+    fn names(&self) -> PutNames<'_> {
+        PutNames {
+            file: self.file.as_path().as_os_str(),
+            beside: self.beside.as_path().as_os_str(),
+            kept: self.kept.as_str(),
+        }
+    }
+}
+
+// The file that a path leads to. None if it is no regular file, or if nobody knows where it lies.
+fn target<R: Files>(rt: &R, alloc: Global, path: &str) -> Result<Option<Target>, AllocError> {
+    let found = look(rt, path)?;
+    let file = end_of_links(rt, alloc, Path::new(path), MOST_LINKS)?;
+    // The path of an open file may lead to one that has another name by now, or none.
+    if found == Found::Other || look(rt, file.as_path().as_os_str())? != found {
+        return Ok(None);
+    }
+    let beside = unused(rt, alloc, file.as_path())?;
+    let mut kept = String::from_str(alloc, file.as_path().as_os_str())?;
+    kept.push_str("~")?;
+    Ok(Some(Target {
+        file,
+        beside,
+        kept,
+        is_there: found != Found::Nothing,
+    }))
+}
+
+// A path beside a file that leads to nothing, if one is found soon.
+fn unused<R: Files>(rt: &R, alloc: Global, file: Path<'_>) -> Result<PathBuf, AllocError> {
+    let folder = file.parent().unwrap_or(Path::new(""));
+    let name = match file.file_name() {
+        Some(name) if name.len() <= MOST_NAME => name,
+        _ => "",
+    };
+    let mut path = folder.to_path_buf(alloc)?;
+    for beginning in BEGINNINGS {
+        let mut new = String::from_str(alloc, beginning)?;
+        new.push_str(name)?;
+        path = folder.join(alloc, new.as_str())?;
+        if fs::symlink_metadata(rt, path.as_path()).is_err() {
+            return Ok(path);
+        }
+    }
+    Ok(path)
+}
+
+/// What a path leads to.
+#[derive(Clone, Copy, PartialEq, Eq, Drop)]
+pub enum Found {
+    File(Node),
+    Nothing,
+    /// No regular file, or nobody knows.
+    Other,
+}
+
+/// Looks at what a path leads to, and opens nothing.
+pub fn look<R: Files>(rt: &R, path: &str) -> Result<Found, AllocError> {
+    match fs::metadata(rt, path) {
+        Ok(found) if found.is_file() => Ok(Found::File(node(&found))),
+        Err(error) if error.kind() == ErrorKind::NotFound => Ok(Found::Nothing),
+        Err(error) if error.kind() == ErrorKind::OutOfMemory => Err(AllocError),
+        Ok(_) | Err(_) => Ok(Found::Other),
+    }
+}
+
+/// The numbers by which a system knows a file.
+pub fn node(found: &Metadata) -> Node {
+    Node {
+        device: found.dev(),
+        number: found.ino(),
+    }
+}
+
+/// Where a path leads in the end: links are followed, also one that leads nowhere yet.
+pub fn end_of_links<R: Files>(
+    rt: &R,
+    alloc: Global,
+    path: Path<'_>,
+    links: u32,
+) -> Result<PathBuf, AllocError> {
+    if 0 < links {
+        match rt.read_link(alloc, path.as_os_str()) {
+            Ok(target) => {
+                let folder = path.parent().unwrap_or(Path::new(""));
+                let target = folder.join(alloc, target.as_path())?;
+                return end_of_links(rt, alloc, target.as_path(), links - 1);
+            }
+            Err(error) if error.kind() == ErrorKind::OutOfMemory => return Err(AllocError),
+            Err(_) => {}
+        }
+    }
+    path.to_path_buf(alloc)
+}
