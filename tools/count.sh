@@ -1,7 +1,8 @@
 #!/usr/bin/env bash
 # Counts what docs/RELIABILITY.md says of the crates' tables: a line `NUMBER WHAT` for each. It reads the repository alone
 # and runs nothing; the other numbers of that page are what the tools of this folder print last.
-# It fails where a wrong body of the list below is missing, or where a gate crate restates a contract in part.
+# It fails where that page has other numbers of edits, where a wrong body of the list below is missing, or where a gate crate
+# restates a contract in part.
 set -euo pipefail
 cd "$(dirname "${BASH_SOURCE[0]}")/.."
 
@@ -31,7 +32,14 @@ echo "$(((short + long) * (seeds + 2))) runs beside hostile ROMs: $((short + lon
 echo "$(grep -c '^prefixes ' trials/tb_golden/data/text/engines.txt) inputs of these engines, cut off at each length"
 awk '/=> [0-9]+ faults, and nothing written/ { faults += $(NF - 4) } END { print faults, "readers that fail, of the engines that compile nothing" }' trials/tb_golden/stdout
 awk '/ and a prefix of it [0-9]+ times$/ { faults += $(NF - 1) } END { print faults, "writers that fail, of these engines" }' trials/tb_golden/stdout
-echo "$(find crates -path "*/must-fail/*.edit" -o -path "*/wrong/*.edit" | wc -l) edits that must be refused, in $(ls -d crates/*/must-fail crates/*/wrong | cut -d/ -f2 | sort -u | wc -l) crates"
+edits=$(find crates -path "*/must-fail/*.edit" -o -path "*/wrong/*.edit" | wc -l)
+alone=$(find crates -path "*/must-fail/*.edit" | wc -l)
+crates=$(ls -d crates/*/must-fail crates/*/wrong | cut -d/ -f2 | sort -u | wc -l)
+echo "$edits edits that must be refused, in $crates crates, $alone of them by the gate"
+missing=0
+for told in "| $edits edits in $crates crates |" "in $crates crates | $edits (count) | .*, and the gate $alone of them |"; do
+    grep -q "$told" docs/RELIABILITY.md || { echo "count: docs/RELIABILITY.md has no row with \"$told\"" >&2; missing=1; }
+done
 
 # Wrong bodies that are always there: each is an edit of that name, or a refutation.
 wrong='division_rounds_down comparison_by_wrapped_difference silent_loop_without_end returns_where_source_loops
@@ -41,7 +49,6 @@ wrong='division_rounds_down comparison_by_wrapped_difference silent_loop_without
     folding_drops_division_by_zero duplicate_keeps_first_line assignment_refused_because_of_if branch_range_off_by_one
     indirect_jump_crosses_page absolute_listed_as_zero_page sends_without_service lower_gives_empty_lists
     back_restores_registers_alone store_one_line_late poll_inside_if'
-missing=0
 for name in $wrong; do
     compgen -G "crates/*/must-fail/$name.edit" >/dev/null || grep -rqE "^pub fn $name\(\)" crates/tb_refutations/src ||
         { echo "count: no wrong body is named $name" >&2; missing=1; }
