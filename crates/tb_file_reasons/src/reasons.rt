@@ -15,6 +15,8 @@ pub enum FileReason {
     DiskFull,
     /// It was written over, and that broke off.
     Kept,
+    /// A new one took the place of the one that was there.
+    Replaced,
     /// It has more bytes than a source, a text or a PRG file may have.
     TooLong,
     /// It has more bytes than a key file may have.
@@ -45,6 +47,7 @@ impl FileReason {
             FileReason::IsFolder => "is a folder",
             FileReason::NoPermission => "no permission",
             FileReason::DiskFull => "disk full",
+            FileReason::Replaced => "replaced",
             FileReason::Kept => "what it held is in the file of this name with ~ at its end",
             FileReason::TooLong => "longer than 1,048,576 bytes",
             FileReason::KeysTooLong => "longer than 2,097,154 bytes",

@@ -34,6 +34,8 @@ pub struct Asked {
     pub error: Option<io::ErrorKind>,
     /// Whether what it held is in the file of this name with `~`, since it was written over and that broke off.
     pub is_kept: bool,
+    /// Whether a file that was there was replaced.
+    pub is_replaced: bool,
 }
 
 /// A file that is opened for reading, or standard input.
@@ -81,6 +83,7 @@ impl<R: AllocGlobal> Host<'_, R> {
                 purpose,
                 error,
                 is_kept: false,
+                is_replaced: false,
             }),
             Err(_) => None,
         };
@@ -119,8 +122,11 @@ impl<R: Files + Input + Print + AllocGlobal> FileSystem for Host<'_, R> {
 
     fn save(&mut self, path: &str, bytes: &[u8]) -> Result<(), Trouble> {
         match save_at(self.rt, path, bytes) {
-            Ok(()) => {
+            Ok(is_replaced) => {
                 self.asks(path, Purpose::Output, None);
+                if let Some(asked) = &mut self.last {
+                    asked.is_replaced = is_replaced;
+                }
                 Ok(())
             }
             Err(Unput::AsBefore(error)) => {

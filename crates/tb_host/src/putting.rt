@@ -20,19 +20,27 @@ const BEGINNINGS: [&str; 8] = [
 /// Longer names are not taken into those of new files.
 const MOST_NAME: usize = 200;
 
-/// Puts bytes in the place of the file at a path, or makes it. What is no regular file takes them as a stream.
+/// Puts bytes in the place of the file at a path, or makes it, and answers whether it was there. What is no regular file takes
+/// them as a stream.
 pub fn save_at<R: Files + Print + AllocGlobal>(
     rt: &R,
     path: &str,
     bytes: &[u8],
-) -> Result<(), Unput<ErrorKind>> {
-    if path == STANDARD {
-        return write_whole(io::writer(rt), bytes).map_err(Unput::AsBefore);
-    }
+) -> Result<bool, Unput<ErrorKind>> {
     let mut folder = SystemFolder { rt };
+    if path == STANDARD {
+        write_whole(io::writer(rt), bytes).map_err(Unput::AsBefore)?;
+        return Ok(false);
+    }
     match target(rt, rt.alloc(), path) {
-        Ok(Some(target)) => put(&mut folder, target.names(), target.is_there, bytes),
-        Ok(None) => folder.write(path, bytes).map_err(Unput::AsBefore),
+        Ok(Some(target)) => {
+            put(&mut folder, target.names(), target.is_there, bytes)?;
+            Ok(target.is_there)
+        }
+        Ok(None) => {
+            folder.write(path, bytes).map_err(Unput::AsBefore)?;
+            Ok(false)
+        }
         Err(AllocError) => Err(Unput::AsBefore(ErrorKind::OutOfMemory)),
     }
 }

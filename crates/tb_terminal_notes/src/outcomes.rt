@@ -5,7 +5,7 @@ use crate::saying::say;
 use std::rt::Files;
 use tb_disk_engine::DiskOutcome;
 use tb_driver::{End, Outcome, Refusal};
-use tb_file_reasons::{FileNote, disk_note, prg_reason};
+use tb_file_reasons::{FileNote, FileReason, disk_note, prg_reason};
 use tb_host::Host;
 use tb_jobs::Job;
 use tb_run_notes::EndNote;
@@ -51,7 +51,7 @@ fn note_end<R: Eprint>(host: &Host<'_, R>, job: &Job, end: End) {
     }
 }
 
-/// Says what helps with a disk image that was not made.
+/// Says what helps with a disk image that was not made, or took another's place.
 pub fn note_disk<R: Files + Print + Eprint + Input + AllocGlobal>(
     host: &mut Host<'_, R>,
     job: &Job,
@@ -64,6 +64,16 @@ pub fn note_disk<R: Files + Print + Eprint + Input + AllocGlobal>(
             }
         }
         (DiskOutcome::ReadFault | DiskOutcome::WriteFault, _) => file_note(host),
-        _ => {}
+        (DiskOutcome::Done, _) => note_replaced(host),
+        (DiskOutcome::Refused(_) | DiskOutcome::NoMemory, _) => {}
+    }
+}
+
+// Of the file that was written last.
+fn note_replaced<R: Eprint>(host: &Host<'_, R>) {
+    if let Some(file) = host.last.as_ref().filter(|file| file.is_replaced) {
+        let path = file.path.as_str();
+        let reason = FileReason::Replaced;
+        say(host.rt, FileNote { path, reason });
     }
 }
