@@ -1,8 +1,8 @@
 -- However a text is put in a file's place, nothing is lost.
-use Rattle.std.proofs.Common.{◌≡◌, ◌≢◌, ◌⊎◌, inl, inr, ℕ, List, [], ◌∷◌, ◌++◌, Bool, true, false, Option, Some, None, refl, sym, ap, ◌∙◌}
+use Rattle.std.proofs.Common.{◌≡◌, ◌≢◌, inl, inr, ℕ, List, [], ◌∷◌, ◌++◌, Bool, true, false, Option, Some, None, refl, sym, ap, ◌∙◌}
 use Rattle.tb_files.specs.declared.putting.PutNames.{PutNames}
-use Rattle.tb_files.specs.Putting.{Step, Creates, Writes, Copies, Dresses, Renames, Removes, Taking, unfilled, undressed, unmoved, moved}
-use Rattle.tb_files.specs.Putting.{Making, unmade, undone, made, End, Put, Unchanged, Copied, Writing, written, put_back, unput}
+use Rattle.tb_files.specs.Putting.{Step, Removes, Taking, unfilled, undressed, unmoved, moved}
+use Rattle.tb_files.specs.Putting.{Making, unmade, undone, made, End, Put, Unchanged, Writing, written, put_back, unput}
 use Rattle.tb_files.specs.Putting.{Keeping, unkept, uncopied, kept, Putting, whole, new, over}
 use Rattle.tb_files.specs.Putting.{Holdings, Only, Makes, Throughout, KeepsOthers, IsSafe, EndsSafe, NothingIsLost}
 

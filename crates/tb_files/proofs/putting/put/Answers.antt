@@ -1,6 +1,6 @@
 -- The goals of `put` in src/putting.rt.
-use Rattle.std.proofs.Common.{rules, ◌≡◌, true, false, [], ◌∷◌, ◌++◌, refl, sym, subst}
-use Rattle.tb_files.specs.Putting.{Step, Making, Putting, whole, new, over as on_it, Unchanged, is_done, end_of}
+use Rattle.std.proofs.Common.{rules, ◌≡◌, true, false, ◌++◌, sym, subst}
+use Rattle.tb_files.specs.Putting.{Making, Putting, whole, new, over as on_it, Unchanged, is_done, end_of}
 use Rattle.tb_files.proofs.Stepping.{ran_more}
 use Rattle.tb_files.proofs.putting.put.Goals as goal
 

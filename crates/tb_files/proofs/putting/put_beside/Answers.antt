@@ -1,6 +1,6 @@
 -- The goals of `put_beside` in src/putting.rt.
 use Rattle.std.proofs.Common.{rules, ◌≡◌, true, false, [], ◌∷◌, ◌++◌, refl, sym, subst}
-use Rattle.tb_files.specs.Putting.{Step, Creates, Removes, Making, unmade, undone, made, Taking, is_done}
+use Rattle.tb_files.specs.Putting.{Creates, Removes, Making, unmade, undone, made, Taking, is_done}
 use Rattle.tb_files.proofs.Stepping.{known, ran_more}
 use Rattle.tb_files.proofs.putting.put_beside.Goals as goal
 

@@ -1,6 +1,6 @@
 -- The goals of `put_over` in src/putting.rt.
-use Rattle.std.proofs.Common.{rules, ◌≡◌, true, false, [], ◌∷◌, ◌++◌, refl, sym, subst}
-use Rattle.tb_files.specs.Putting.{Step, Creates, Copies, Removes, unkept, uncopied, kept, is_done, end_of}
+use Rattle.std.proofs.Common.{rules, ◌≡◌, true, false, [], ◌∷◌, refl}
+use Rattle.tb_files.specs.Putting.{Creates, Copies, Removes, unkept, uncopied, kept, is_done, end_of}
 use Rattle.tb_files.proofs.Stepping.{known}
 use Rattle.tb_files.proofs.putting.put_over.Goals as goal
 

@@ -1,6 +1,6 @@
 -- The goals of `take_place` in src/putting.rt.
-use Rattle.std.proofs.Common.{rules, ◌≡◌, true, false, [], ◌∷◌, ◌++◌, refl, sym, subst}
-use Rattle.tb_files.specs.Putting.{Step, Writes, Dresses, Renames, Taking, unfilled, undressed, is_done}
+use Rattle.std.proofs.Common.{rules, ◌≡◌, true, false, [], ◌∷◌, refl, sym, subst}
+use Rattle.tb_files.specs.Putting.{Writes, Dresses, Renames, Taking, unfilled, undressed, is_done}
 use Rattle.tb_files.proofs.Stepping.{known, taken}
 use Rattle.tb_files.proofs.putting.take_place.Goals as goal
 

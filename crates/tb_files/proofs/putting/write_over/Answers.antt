@@ -1,6 +1,6 @@
 -- The goals of `write_over` in src/putting.rt.
-use Rattle.std.proofs.Common.{rules, ◌≡◌, true, false, [], ◌∷◌, ◌++◌, refl, sym, subst}
-use Rattle.tb_files.specs.Putting.{Step, Writes, Copies, Removes, written, put_back, unput, is_done}
+use Rattle.std.proofs.Common.{rules, ◌≡◌, true, false, [], ◌∷◌, refl}
+use Rattle.tb_files.specs.Putting.{Writes, Copies, Removes, written, put_back, unput, is_done}
 use Rattle.tb_files.proofs.Stepping.{known}
 use Rattle.tb_files.proofs.putting.write_over.Goals as goal
 
