@@ -1,5 +1,5 @@
 -- The text of a source with other line numbers: what becomes of each of its lines.
-use Rattle.std.specs.Prelude.{ℕ, ◌≡◌, ◌+◌, ◌-◌, Bool, true, false, ◌&&◌, ◌==◌, nat_lt, List, [], ◌∷◌, ◌++◌, length, slice_get, Option, Some, None, option_map, if◌then◌else◌}
+use Rattle.std.specs.Prelude.{ℕ, ◌+◌, ◌-◌, Bool, false, ◌&&◌, ◌==◌, nat_lt, List, [], ◌∷◌, ◌++◌, length, slice_get, Option, Some, None, option_map, if◌then◌else◌}
 use Rattle.tb_parser.specs.Readings.{Edit, Nothing, Sets, Deletes}
 use Rattle.tb_source_names.specs.Jumps.{jump_in}
 use Rattle.tb_source_names.specs.Lines.{does}

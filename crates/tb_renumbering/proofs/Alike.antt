@@ -1,11 +1,11 @@
 -- Steps that are the same, but for line numbers.
-use Rattle.std.proofs.Common.{◌≡◌, ℕ, List, [], ◌∷◌, ◌++◌, map, refl, sym, ap, ◌∙◌, append_assoc}
+use Rattle.std.proofs.Common.{◌≡◌, ℕ, List, [], ◌∷◌, ◌++◌, refl, sym, ap, ◌∙◌, append_assoc}
 use Rattle.tb_syntax.specs.Source.{Expression}
 use Rattle.tb_meaning.specs.Steps.{Ended, Faulted, Waits, Step, Goes, Stops, after_sending, and_then}
 use Rattle.tb_meaning.specs.Control.{Place, State, fault, fault_text}
 use Rattle.tb_meaning.specs.Meaning.{with_value, valued}
 use Rattle.tb_meaning.specs.Values.{Valued, Gives, Fails, value}
-use Rattle.tb_renumbering.specs.Runs.{moved_place, moved_state}
+use Rattle.tb_renumbering.specs.Runs.{moved_state}
 use Rattle.tb_renumbering.proofs.Found.{IsPlace}
 
 abbrev pub ArePlaces : List ℕ → List Place → Type 0

@@ -1,12 +1,12 @@
 -- What is found at a line's new number.
-use Rattle.std.proofs.Common.{◌≡◌, ℕ, ◌+◌, Bool, true, false, ◌||◌, if◌then◌else◌, List, [], ◌∷◌, map, Option, Some, None, option_map, refl, sym, ap, ◌∙◌, subst, nat_eq, nat_lt}
-use Rattle.tb_syntax.specs.Source.{Statement, Numbered, Program, numbers}
+use Rattle.std.proofs.Common.{◌≡◌, ℕ, Bool, true, false, ◌||◌, if◌then◌else◌, List, [], ◌∷◌, map, Option, Some, None, option_map, refl, ap, ◌∙◌, subst, nat_eq, nat_lt}
+use Rattle.tb_syntax.specs.Source.{Statement, Program, numbers}
 use Rattle.tb_meaning.specs.Control.{Place, At, Past, has_line, content_at, next_after, first_place, highest}
 use Rattle.tb_renumbering.specs.Jumps.{statement_fault, first_fault, fault_or}
 use Rattle.tb_renumbering.specs.declared.jumps.JumpFault.{JumpFault}
 use Rattle.tb_renumbering.specs.Renumbered.{new_number, moved, put_through}
 use Rattle.tb_renumbering.specs.Runs.{moved_place}
-use Rattle.tb_renumbering.proofs.Order.{same_number, is_same, first_line, other_line}
+use Rattle.tb_renumbering.proofs.Order.{same_number, first_line, other_line}
 
 -- a place that is a line's, or past the last one
 abbrev pub IsPlace : List ℕ → Place → Type 0

@@ -1,18 +1,17 @@
 -- What a line does, step by step.
 use Rattle.std.proofs.lemmas.List.{length-map}
-use Rattle.std.proofs.Common.{◌≡◌, ℕ, ◌<◌, Bool, true, false, if◌then◌else◌, List, [], ◌∷◌, length, map, Option, Some, None, option_map, slice_set, refl, sym, ap, ◌∙◌, subst, arith, nat_eq, nat_lt}
+use Rattle.std.proofs.Common.{◌≡◌, ℕ, Bool, true, false, if◌then◌else◌, List, [], ◌∷◌, length, map, Option, Some, None, option_map, slice_set, refl, sym, ap, subst, arith, nat_eq, nat_lt}
 use Rattle.tb_words.specs.Words.{digits_of, holds, word}
 use Rattle.tb_syntax.specs.Source.{Expression, Number, Item, Text, Value, Zone, Statement, Let, Print, Input, If, Goto, Gosub, Return, End, Remark, Program, numbers}
-use Rattle.tb_meaning.specs.Steps.{Step, Goes, Stops, after_sending, and_then}
+use Rattle.tb_meaning.specs.Steps.{Step, Goes, after_sending}
 use Rattle.tb_meaning.specs.Control.{Place, At, Past, State, deepest, has_line, content_at, next_after, highest, fault, column_after, send, zone, fall, go_to, go_sub, return_to, go_back, answered, poll, past}
 use Rattle.tb_meaning.specs.Input.{Turn, Got, Bad, Dry, turn, Nothing, take_turn, input}
 use Rattle.tb_meaning.specs.Values.{Gives, constant, value}
 use Rattle.tb_meaning.specs.Meaning.{with_value, valued, print_item, print_items, inputs, stored, does, does_found, does_at, line}
 use Rattle.tb_meaning.proofs.Constants.{constant_value}
-use Rattle.tb_renumbering.specs.declared.jumps.JumpFault.{JumpFault}
-use Rattle.tb_renumbering.specs.declared.jumps.JumpFault.TheVariants.{Computed, NoLine}
+use Rattle.tb_renumbering.specs.declared.jumps.JumpFault.TheVariants.{NoLine}
 use Rattle.tb_renumbering.specs.Jumps.{target_fault, statement_fault, first_fault}
-use Rattle.tb_renumbering.specs.Renumbered.{target_by, moved_target, moved, put_through}
+use Rattle.tb_renumbering.specs.Renumbered.{target_by, moved, put_through}
 use Rattle.tb_renumbering.specs.Runs.{moved_place, moved_state}
 use Rattle.tb_renumbering.proofs.Order.{BothRise, within, keeps_less, keeps_same}
 use Rattle.tb_renumbering.proofs.Found.{IsPlace, next_is_place, content_is_line, no_fault, numbers_moved, line_moved, next_moved, content_moved}

@@ -1,13 +1,11 @@
 -- Whole runs.
-use Rattle.std.proofs.Common.{◌≡◌, ℕ, zero, suc, List, [], ◌++◌, map, replicate, None, refl, sym, ap, ◌∙◌, subst, append_assoc}
-use Rattle.tb_words.specs.Numbers.{LETTERS}
+use Rattle.std.proofs.Common.{◌≡◌, ℕ, zero, suc, List, [], ◌++◌, refl, sym, ap, ◌∙◌, subst, append_assoc}
 use Rattle.tb_syntax.specs.Source.{Program, numbers, Rises}
-use Rattle.tb_meaning.specs.Steps.{Ended, Faulted, Waits, Step, Goes, Stops, Run, GoesOn, Over, joined, advance, advance_by}
+use Rattle.tb_meaning.specs.Steps.{Faulted, Step, Run, GoesOn, Over, joined, advance, advance_by}
 use Rattle.tb_meaning.specs.Control.{Place, State, first_place, fault_text}
-use Rattle.tb_meaning.specs.Meaning.{line, start, source_run}
-use Rattle.tb_renumbering.specs.Jumps.{first_fault}
-use Rattle.tb_renumbering.specs.Renumbered.{new_number, put_through, renumbered}
-use Rattle.tb_renumbering.specs.Runs.{moved_place, moved_state, Corresponds, goes_on, ended, waits, faulted, RunAlike, RenumberedRunAlike}
+use Rattle.tb_meaning.specs.Meaning.{line, start}
+use Rattle.tb_renumbering.specs.Renumbered.{new_number, put_through}
+use Rattle.tb_renumbering.specs.Runs.{moved_state, Corresponds, goes_on, ended, waits, faulted, RenumberedRunAlike}
 use Rattle.tb_renumbering.proofs.Order.{BothRise}
 use Rattle.tb_renumbering.proofs.Found.{first_is_place, numbers_moved, first_moved, highest_renumbered}
 use Rattle.tb_renumbering.proofs.Alike.{IsWithin, Alike, AreAlike}
