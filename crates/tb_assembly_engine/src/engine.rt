@@ -45,7 +45,7 @@ fn spare<F: FileSystem>(alloc: Global, files: &F, out: &str) -> Result<(), TextF
     ensures { Spares F.leads files.now out.now result }
 {
     let place = files.place(alloc, out)?;
-    if is_text_name(out) && matches!(place, Place::File(_)) {
+    if is_text_name(out) && matches!(place, Place::File(_, _)) {
         Err(TextFailure::IsSource(String::from_str(alloc, out)?))
     } else {
         Ok(())

@@ -12,6 +12,12 @@ use Rattle.tb_files.specs.declared.places.Named.{Named}
 abbrev pub AreNamed : {F : Type 0} → (F → List ℕ → Place → Type 0) → F → List (List ℕ) → List Named → Type 0
 AreNamed leads f paths named = (map (λ n. n.path.now) named ≡ paths) × All (λ n. leads f n.path.now n.place) named
 
+-- a path leads to a file that is there
+abbrev pub is_there : Place → Bool
+is_there (File node end) = true
+is_there (Missing folder name) = false
+is_there Elsewhere = false
+
 -- a file is there, and its path or the one to which all links lead ends as a source's
 abbrev pub is_source_at : List ℕ → Place → Bool
 is_source_at path (File node end) = is_source_name path || is_source_name (string_bytes end)
