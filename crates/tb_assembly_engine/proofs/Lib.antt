@@ -1,8 +1,6 @@
 -- tests that decide
 pub mod Endings
--- files that are opened one after the other
-pub mod Opening
+-- files that are read one after the other
+pub mod Reading
 -- files that are written one after the other
 pub mod Writing
--- what assembling did
-pub mod Assembling

@@ -1,23 +1,36 @@
 //! Assembling the file of a text.
-ghost use Rattle.std.specs.Prelude.{◌≡◌, [], IfOk, MatchResult, map, string_bytes};
-ghost use Rattle.tb_assembly_engine.specs.Deeds.{but_standard, noted, Assembles, IsMade, MayWrite, Notes, Permits, Spares, Stops, Writes};
+ghost use Rattle.std.specs.Prelude.{◌≡◌, IfOk, MatchOption, false, map, true};
+ghost use Rattle.tb_assembly_files.specs.Libraries.{source_of};
+ghost use Rattle.tb_assembly_engine.specs.Deeds.{Assembles, MayWrite, Permits, Spares, Writes};
+ghost use Rattle.tb_assembly_engine.specs.Gathering.{is_kept, kept_of};
 
-use crate::gathering::{Texts, gather, take_file};
+use crate::gathering::gather;
 use crate::names::is_text_name;
 use crate::outcome::TextFailure;
 use crate::saving::{TextNames, paths_of, save_all};
 use std::alloc::{AllocError, Global};
-use tb_assembly_output::{Assembly, Manner};
+use tb_assembly_output::{Assembly, Manner, SourceFile};
 use tb_files::{Barred, FileSystem, Place, STANDARD, may_write};
 
-// The paths of files that were opened, but for standard input.
-fn kept(alloc: Global, opened: &[String]) -> Result<Vec<&str>, AllocError>
-    ensures { IfOk result (λ r. map (λ p. p.now) r.items ≡ but_standard (map string_bytes opened.now)) }
+// The path of a file that must be kept: one that leads to a file, but for that of standard input.
+#[tactic(auto, using(crate::proofs::Reading::paths))]
+fn kept_path(path: &[u8]) -> Option<&str>
+    ensures { MatchOption result (is_kept path.now ≡ false) (λ kept. (kept.now ≡ path.now) × (is_kept path.now ≡ true)) }
+{
+    let Ok(kept) = str::from_utf8(path) else {
+        return None;
+    };
+    if kept == STANDARD { None } else { Some(kept) }
+}
+
+// The paths of the files that must be kept.
+fn kept_of(alloc: Global, library: &[SourceFile]) -> Result<Vec<&str>, AllocError>
+    ensures { IfOk result (λ r. map (λ p. p.now) r.items ≡ kept_of (map source_of library.now)) }
 {
     let mut paths = Vec::new(alloc);
-    for path in opened {
-        if path.as_str() != STANDARD {
-            paths.push(path.as_str())?;
+    for file in library {
+        if let Some(path) = kept_path(&file.path) {
+            paths.push(path)?;
         }
     }
     Ok(paths)
@@ -56,13 +69,13 @@ fn spare<F: FileSystem>(alloc: Global, files: &F, out: &str) -> Result<(), TextF
 fn check<F: FileSystem>(
     alloc: Global,
     files: &F,
-    opened: &[String],
+    library: &[SourceFile],
     out: &str,
     paths: &[&str],
 ) -> Result<(), TextFailure>
-    ensures { MayWrite F.leads files.now (map string_bytes opened.now) out.now (map (λ p. p.now) paths.now) result }
+    ensures { MayWrite F.leads files.now (map source_of library.now) out.now (map (λ p. p.now) paths.now) result }
 {
-    let kept = kept(alloc, opened)?;
+    let kept = kept_of(alloc, library)?;
     permit(alloc, files, &kept, paths)?;
     spare(alloc, files, out)
 }
@@ -76,44 +89,23 @@ pub fn assemble_source<F: FileSystem>(
     manner: Manner,
     names: TextNames<'_>,
 ) -> Result<(), TextFailure>
-    ensures { Assembles F.leads F.does files.old manner names.entry result files.new }
+    ensures { Assembles F.leads F.does F.Input.remaining text.now files.old manner names.entry result files.new }
 {
-    let mut texts = Texts {
-        library: Vec::new(alloc),
-        opened: Vec::new(alloc),
-    };
-    let path = Vec::from_slice(alloc, text.as_bytes())?;
-    let made = read_and_assemble(alloc, files, path, &mut texts, manner)?;
-    write(alloc, files, &texts.opened, names, made)
+    let gathered = gather(alloc, files, text, manner)?;
+    write(alloc, files, &gathered.library, names, &gathered.made)
 }
 
-// Reads the file at a path with all that it includes, and assembles it.
-#[tactic(auto, using(crate::proofs::Assembling::answering))]
-fn read_and_assemble<F: FileSystem>(
-    alloc: Global,
-    files: &mut F,
-    path: Vec<u8>,
-    texts: &mut Texts,
-    manner: Manner,
-) -> Result<Assembly, TextFailure>
-    ensures opens { Notes F.does files.old (noted texts.old) files.new (noted texts.new) }
-    ensures made { MatchResult result (IsMade manner) (Stops manner) }
-{
-    take_file(alloc, files, path, texts)?;
-    gather(alloc, files, texts, manner)
-}
-
-// Writes what was made of files that were opened, if it may.
+// Writes what was made of files that were read, if it may.
 fn write<F: FileSystem>(
     alloc: Global,
     files: &mut F,
-    opened: &[String],
+    library: &[SourceFile],
     names: TextNames<'_>,
-    made: Assembly,
+    made: &Assembly,
 ) -> Result<(), TextFailure>
-    ensures { Writes F.leads F.does files.old (map string_bytes opened.now) names.entry made result files.new }
+    ensures { Writes F.leads F.does files.old (map source_of library.now) names.entry made.now result files.new }
 {
     let paths = paths_of(alloc, names)?;
-    check(alloc, files, opened, names.out, &paths)?;
-    save_all(alloc, files, names, &paths, made)
+    check(alloc, files, library, names.out, &paths)?;
+    save_all(files, names, made)
 }

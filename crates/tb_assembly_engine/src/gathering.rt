@@ -1,86 +1,85 @@
 //! A text with all that it includes, file by file.
-ghost use Rattle.std.specs.Prelude.{MatchResult, Ok, map, string_bytes};
+ghost use Rattle.std.specs.Prelude.{◌≡◌, ◌∷◌, ◌++◌, [], IfOk, IfSome, MatchResult, None, Ok, OnErr, OnOk, map, option_map};
 ghost use Rattle.tb_files.specs.Deeds.{Opens};
-ghost use Rattle.tb_assembly_files.specs.Libraries.{source_of};
+ghost use Rattle.tb_streams.specs.Streams.{Reads};
+ghost use Rattle.tb_assembly_files.specs.Libraries.{Source, source_of};
 ghost use Rattle.tb_assembly_output.specs.Assembled.{Answers};
-ghost use Rattle.tb_assembly_engine.specs.Deeds.{noted, Fails, IsMade, Notes, Stops};
+ghost use Rattle.tb_assembly_engine.specs.Gathering.{IsRead, Takes};
+ghost use Rattle.tb_assembly_engine.specs.Deeds.{Fails, IsMade, Stops};
 
 use crate::outcome::TextFailure;
 use std::alloc::{AllocError, Global};
+use std::io::Read;
 use tb_assembly_output::{Assembled, Assembly, AssemblyError, Manner, SourceFile, assemble_texts};
 use tb_files::{FileSystem, Trouble};
-use tb_streams::{InputError, read_input};
+use tb_streams::{InputError, Tracked, read_input};
 
 /// The most files that a text and all that it includes may be in.
 pub const MOST_FILES: usize = 256;
 
-/// The files that were read, and the paths of those that were opened.
+/// The files that were read, and what is made of them.
 #[derive(Drop)]
-pub struct Texts {
+pub struct Gathered {
     pub library: Vec<SourceFile>,
-    pub opened: Vec<String>,
+    pub made: Assembly,
 }
 
-// The text of a file, if it can be read.
+// All that a reader has, if it can be read.
+fn text_of<R: Read>(alloc: Global, input: &mut Tracked<R>) -> Result<Option<Vec<u8>>, AllocError>
+    ensures { IfOk result (λ text. IfSome text (λ t. Reads (R.remaining input.old.stream) t.items)) }
+{
+    match read_input(alloc, input) {
+        Ok(text) => Ok(Some(text)),
+        Err(InputError::Fault) => Ok(None),
+        Err(InputError::NoMemory) => Err(AllocError),
+    }
+}
+
+// The text of the file at a path, if it can be read.
 fn read_text<F: FileSystem>(
     alloc: Global,
     files: &mut F,
     path: &str,
 ) -> Result<Option<Vec<u8>>, AllocError>
-    ensures { F.does files.old (Opens path.now) files.new }
+    ensures opens { F.does files.old (Opens path.now) files.new }
+    ensures text { IfOk result (λ text. IsRead F.Input.remaining (option_map (λ t. t.items) text)) }
 {
     match files.open(path) {
-        Ok(mut input) => match read_input(alloc, &mut input) {
-            Ok(text) => Ok(Some(text)),
-            Err(InputError::Fault) => Ok(None),
-            Err(InputError::NoMemory) => Err(AllocError),
-        },
+        Ok(mut input) => text_of(alloc, &mut input),
         Err(Trouble::Fault) => Ok(None),
         Err(Trouble::NoMemory) => Err(AllocError),
     }
 }
 
-// The text at a path, of which it is noted that it is opened.
-#[tactic(auto, using(crate::proofs::Opening::notes_none))]
-fn open_text<F: FileSystem>(
-    alloc: Global,
-    files: &mut F,
-    path: &str,
-    opened: &mut Vec<String>,
-) -> Result<Option<Vec<u8>>, AllocError>
-    ensures { Notes F.does files.old (map string_bytes opened.old.items) files.new (map string_bytes opened.new.items) }
-{
-    opened.push(String::from_str(alloc, path)?)?;
-    read_text(alloc, files, path)
-}
-
 // The text at a path. One that is no UTF-8 leads to no file.
-#[tactic(auto, using(crate::proofs::Opening::notes_none))]
 fn text_at<F: FileSystem>(
     alloc: Global,
     files: &mut F,
     path: &[u8],
-    opened: &mut Vec<String>,
 ) -> Result<Option<Vec<u8>>, AllocError>
-    ensures { Notes F.does files.old (map string_bytes opened.old.items) files.new (map string_bytes opened.new.items) }
+    ensures { MatchResult result
+        (λ text. Takes F.does F.Input.remaining files.old path.now (option_map (λ t. t.items) text) files.new)
+        (λ _. Takes F.does F.Input.remaining files.old path.now None files.new) }
 {
     match str::from_utf8(path) {
-        Ok(name) => open_text(alloc, files, name, opened),
+        Ok(name) => read_text(alloc, files, name),
         Err(_) => Ok(None),
     }
 }
 
-/// Puts the file at a path behind the others.
-pub fn take_file<F: FileSystem>(
+// Reads the file at a path, and puts it behind the others.
+fn take_file<F: FileSystem>(
     alloc: Global,
     files: &mut F,
     path: Vec<u8>,
-    texts: &mut Texts,
+    library: &mut Vec<SourceFile>,
 ) -> Result<(), AllocError>
-    ensures { Notes F.does files.old (noted texts.old) files.new (noted texts.new) }
+    ensures taken { OnOk result ((s : Source) × (s.path ≡ path.items) × Takes F.does F.Input.remaining files.old s.path s.text files.new
+        × (map source_of library.new.items ≡ map source_of library.old.items ++ s ∷ [])) }
+    ensures stopped { OnErr result (Takes F.does F.Input.remaining files.old path.items None files.new) }
 {
-    let text = text_at(alloc, files, &path, &mut texts.opened)?;
-    texts.library.push(SourceFile { path, text })?;
+    let text = text_at(alloc, files, &path)?;
+    library.push(SourceFile { path, text })?;
     Ok(())
 }
 
@@ -95,21 +94,24 @@ fn answer(alloc: Global, library: &[SourceFile], manner: Manner) -> Result<Assem
     }
 }
 
-/// Reads what a text includes, file by file, and assembles it. The text itself was read before.
-#[tactic(auto, using(crate::proofs::Assembling::answering))]
+/// Reads a text with all that it includes, file by file, and assembles it.
 pub fn gather<F: FileSystem>(
     alloc: Global,
     files: &mut F,
-    texts: &mut Texts,
+    text: &str,
     manner: Manner,
-) -> Result<Assembly, TextFailure>
-    ensures opens { Notes F.does files.old (noted texts.old) files.new (noted texts.new) }
-    ensures made { MatchResult result (IsMade manner) (Stops manner) }
+) -> Result<Gathered, TextFailure>
+    ensures { MatchResult result
+        (λ r. IsMade F.does F.Input.remaining text.now files.old manner (map source_of r.library.items) r.made files.new)
+        (λ why. Stops F.does F.Input.remaining text.now files.old manner why files.new) }
 {
-    'reading: for _ in 0..MOST_FILES {
-        match answer(alloc, &texts.library, manner) {
-            Ok(Assembled::Made(made)) => return Ok(made),
-            Ok(Assembled::Wants(path)) => take_file(alloc, files, path, texts)?,
+    let mut library = Vec::new(alloc);
+    let path = Vec::from_slice(alloc, text.as_bytes())?;
+    take_file(alloc, files, path, &mut library)?;
+    'reading: while library.len() <= MOST_FILES {
+        match answer(alloc, &library, manner) {
+            Ok(Assembled::Made(made)) => return Ok(Gathered { library, made }),
+            Ok(Assembled::Wants(path)) => take_file(alloc, files, path, &mut library)?,
             Ok(Assembled::Refused(said)) => return Err(TextFailure::Refused(said)),
             Ok(Assembled::Unread) => return Err(TextFailure::ReadFault),
             Err(outcome) => return Err(outcome),

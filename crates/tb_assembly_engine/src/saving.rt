@@ -1,6 +1,7 @@
 //! Writing what was made.
-ghost use Rattle.std.specs.Prelude.{◌≡◌, ◌++◌, IfOk, map, option_map};
-ghost use Rattle.tb_assembly_engine.specs.Deeds.{outputs_of, texts_of, wanted, wanted_text, Puts};
+ghost use Rattle.std.specs.Prelude.{◌≡◌, ◌∷◌, ◌++◌, [], IfOk, map, option_map};
+ghost use Rattle.tb_files.specs.Deeds.{Saves};
+ghost use Rattle.tb_assembly_engine.specs.Deeds.{Puts, outputs_of, save_of, saves_of, wanted};
 
 use crate::outcome::{TextFailure, unwritten};
 use std::alloc::{AllocError, Global};
@@ -37,68 +38,39 @@ pub fn paths_of<'a>(alloc: Global, names: TextNames<'a>) -> Result<Vec<&'a str>,
     with_wanted(with_wanted(paths, names.labels)?, names.listing)
 }
 
-// Texts, and another one behind them, if its file is wanted.
-fn with_text(
-    mut texts: Vec<Vec<u8>>,
-    path: Option<&str>,
-    text: Vec<u8>,
-) -> Result<Vec<Vec<u8>>, AllocError>
-    ensures { IfOk result (λ r. map (λ t. t.items) r.items ≡ map (λ t. t.items) texts.items ++ wanted_text (option_map (λ p. p.now) path.entry) text.items) }
+// Writes a text to a path.
+fn save<F: FileSystem>(files: &mut F, path: &str, text: &[u8]) -> Result<(), TextFailure>
+    ensures { Puts F.does files.old (Saves path.now text.now ∷ []) result files.new }
 {
-    if path.is_some() {
-        texts.push(text)?;
-    }
-    Ok(texts)
-}
-
-// The texts that are wanted, in the same order.
-fn texts_of(alloc: Global, names: TextNames<'_>, made: Assembly) -> Result<Vec<Vec<u8>>, AllocError>
-    ensures { IfOk result (λ r. map (λ t. t.items) r.items ≡ texts_of names.entry made) }
-{
-    let Assembly {
-        prg,
-        labels,
-        listing,
-    } = made;
-    let mut texts = Vec::new(alloc);
-    texts.push(prg)?;
-    with_text(
-        with_text(texts, names.labels, labels)?,
-        names.listing,
-        listing,
-    )
-}
-
-// Writes each file whole before the next one, up to the first that can't be written.
-fn save_texts<F: FileSystem>(
-    files: &mut F,
-    outputs: &[&str],
-    texts: &[Vec<u8>],
-) -> Result<(), TextFailure>
-    ensures { Puts F.does files.old (map (λ p. p.now) outputs.now) (map (λ t. t.items) texts.now) result files.new }
-{
-    let [path, paths @ ..] = outputs else {
-        return Ok(());
-    };
-    let [text, texts @ ..] = texts else {
-        return Ok(());
-    };
-    match files.save(path, text.as_slice()) {
-        Ok(()) => save_texts(files, paths, texts),
+    match files.save(path, text) {
+        Ok(()) => Ok(()),
         Err(trouble) => Err(unwritten(trouble)),
     }
 }
 
-/// Writes what was made: each file whole before the next one.
+// Writes a text to a path, if that is named.
+fn save_wanted<F: FileSystem>(
+    files: &mut F,
+    path: Option<&str>,
+    text: &[u8],
+) -> Result<(), TextFailure>
+    ensures { Puts F.does files.old (save_of (option_map (λ p. p.now) path.entry) text.now) result files.new }
+{
+    match path {
+        Some(path) => save(files, path, text),
+        None => Ok(()),
+    }
+}
+
+/// Writes what was made: each file whole before the next one, up to the first that can't be written.
 pub fn save_all<F: FileSystem>(
-    alloc: Global,
     files: &mut F,
     names: TextNames<'_>,
-    paths: &[&str],
-    made: Assembly,
+    made: &Assembly,
 ) -> Result<(), TextFailure>
-    ensures { Puts F.does files.old (map (λ p. p.now) paths.now) (texts_of names.entry made) result files.new }
+    ensures { Puts F.does files.old (saves_of names.entry made.now) result files.new }
 {
-    let texts = texts_of(alloc, names, made)?;
-    save_texts(files, paths, &texts)
+    save(files, names.out, &made.prg)?;
+    save_wanted(files, names.labels, &made.labels)?;
+    save_wanted(files, names.listing, &made.listing)
 }
