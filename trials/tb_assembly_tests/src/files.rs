@@ -53,12 +53,13 @@ impl FileSystem for Shelf {
 
     ghost does = { λ _ _ _. ⊤ };
 
-    fn place(&self, _alloc: Global, path: &str) -> Result<Place, AllocError> {
+    fn place(&self, alloc: Global, path: &str) -> Result<Place, AllocError> {
+        let node = Node {
+            device: 1,
+            number: 7,
+        };
         match path {
-            "x/old.S" => Ok(Place::File(Node {
-                device: 1,
-                number: 7,
-            })),
+            "x/old.S" => Ok(Place::File(node, String::from_str(alloc, path)?)),
             _ => Ok(Place::Elsewhere),
         }
     }
