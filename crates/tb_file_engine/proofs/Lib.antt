@@ -1,2 +1,5 @@
 pub mod Undone
-pub mod Mapped
+pub mod Making
+pub mod Gathering
+pub mod Entries
+pub mod Done

@@ -1,5 +1,5 @@
 -- How commands over files end, by what was done.
-use Rattle.std.specs.Prelude.{◌≡◌, ◌⊎◌, ℕ, List, [], ◌∷◌, Result, Ok, Err}
+use Rattle.std.specs.Prelude.{◌≡◌, ◌⊎◌, ℕ, List, Option, Result, Ok, Err}
 use Rattle.tb_files.specs.Deeds.{Deed, Transfers}
 use Rattle.tb_files.specs.declared.system.Trouble.{Trouble}
 use Rattle.tb_files.specs.declared.system.Trouble.TheVariants as trouble
@@ -33,15 +33,24 @@ disk_outcome_of (Err ReadFault) = disk.ReadFault
 disk_outcome_of (Err WriteFault) = disk.WriteFault
 disk_outcome_of (Err NoMemory) = disk.NoMemory
 
--- the same of a source that is formatted in its place
+-- the same of a source that is formatted in its place; what stopped is never told as done
 abbrev pub format_outcome_of : Result Unit FormatOutcome → FormatOutcome
 format_outcome_of (Ok u) = format.Done
-format_outcome_of (Err e) = e
+format_outcome_of (Err format.Done) = format.NoMemory
+format_outcome_of (Err format.Untidy) = format.Untidy
+format_outcome_of (Err format.ReadFault) = format.ReadFault
+format_outcome_of (Err format.WriteFault) = format.WriteFault
+format_outcome_of (Err format.NoMemory) = format.NoMemory
 
 -- the same of a source that is renumbered in its place
 abbrev pub renumber_outcome_of : Result Unit RenumberOutcome → RenumberOutcome
 renumber_outcome_of (Ok u) = renumber.Engine (outcome.Ended Done)
-renumber_outcome_of (Err e) = e
+renumber_outcome_of (Err (renumber.Engine (outcome.Ended end))) = renumber.Engine outcome.NoMemory
+renumber_outcome_of (Err (renumber.Engine (outcome.Refused e))) = renumber.Engine (outcome.Refused e)
+renumber_outcome_of (Err (renumber.Engine outcome.ReadFault)) = renumber.Engine outcome.ReadFault
+renumber_outcome_of (Err (renumber.Engine outcome.WriteFault)) = renumber.Engine outcome.WriteFault
+renumber_outcome_of (Err (renumber.Engine outcome.NoMemory)) = renumber.Engine outcome.NoMemory
+renumber_outcome_of (Err (renumber.Refused e)) = renumber.Refused e
 
 -- why an engine that writes to memory made nothing
 abbrev pub stop_of : Outcome → Result Unit (Stop Refusal)
@@ -69,22 +78,18 @@ IsFault e = (e ≡ outcome.ReadFault) ⊎ (e ≡ outcome.NoMemory)
 abbrev pub IsSaved : Outcome → Type 0
 IsSaved e = (e ≡ outcome.Ended Done) ⊎ ((e ≡ outcome.WriteFault) ⊎ (e ≡ outcome.NoMemory))
 
--- what a command did with files, by how it ended: all its deeds are those of a transfer
-abbrev pub Ends : {F : Type 0} → (F → Deed → F → Type 0) → F → List (List ℕ) → List (List ℕ) → Outcome → F → Type 0
-Ends does f inputs outputs outcome g =
-    (done : Result Unit (Stop Refusal)) × (outcome ≡ outcome_of done) × Transfers does f inputs outputs done g
-
--- the same of a disk
-abbrev pub EndsDisk : {F : Type 0} → (F → Deed → F → Type 0) → F → List (List ℕ) → List (List ℕ) → DiskOutcome → F → Type 0
-EndsDisk does f inputs outputs outcome g =
-    (done : Result Unit (Stop DiskRefusal)) × (outcome ≡ disk_outcome_of done) × Transfers does f inputs outputs done g
-
--- what formatting in place did with files: its only deeds are those of a transfer from the source to itself
-abbrev pub EndsFormat : {F : Type 0} → (F → Deed → F → Type 0) → F → List ℕ → FormatOutcome → F → Type 0
-EndsFormat does f path outcome g =
-    (done : Result Unit FormatOutcome) × (outcome ≡ format_outcome_of done) × Transfers does f (path ∷ []) (path ∷ []) done g
+-- how formatting in place ends if the source can't be written
+abbrev pub format_unwritten : Trouble → FormatOutcome
+format_unwritten trouble.Fault = format.WriteFault
+format_unwritten trouble.NoMemory = format.NoMemory
 
 -- the same of renumbering in place
-abbrev pub EndsRenumber : {F : Type 0} → (F → Deed → F → Type 0) → F → List ℕ → RenumberOutcome → F → Type 0
-EndsRenumber does f path outcome g =
-    (done : Result Unit RenumberOutcome) × (outcome ≡ renumber_outcome_of done) × Transfers does f (path ∷ []) (path ∷ []) done g
+abbrev pub renumber_unwritten : Trouble → RenumberOutcome
+renumber_unwritten trouble.Fault = renumber.Engine outcome.WriteFault
+renumber_unwritten trouble.NoMemory = renumber.Engine outcome.NoMemory
+
+-- What a command did with files, by how it ended: its deeds are those of a transfer, and `ends` says how it ends by that.
+abbrev pub Ends : {F E O : Type 0} → (F → Deed → F → Type 0) → (List (Option (List ℕ)) → List (List ℕ) → Type 0) → (Trouble → E) → (Result Unit E → O)
+    → F → List (List ℕ) → List (List ℕ) → O → F → Type 0
+Ends {F} {E} {O} does makes unwritten ends f inputs outputs outcome g =
+    (done : Result Unit E) × (outcome ≡ ends done) × Transfers does makes unwritten f inputs outputs done g

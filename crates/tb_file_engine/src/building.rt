@@ -1,8 +1,12 @@
 //! Building a source's file: the PRG file, and the files of the texts that tell of its program.
-ghost use Rattle.std.specs.Prelude.{◌≡◌, ◌++◌, ⊤, IfOk, map, option_map};
-ghost use Rattle.tb_file_engine.specs.Builds.{Builds, IsMapOf, Maps, costs_too_much, ends_by, outputs_of, wanted};
+ghost use Rattle.std.specs.Prelude.{◌≡◌, ◌++◌, IfOk, map, option_map};
+ghost use Rattle.tb_file_engine.specs.Builds.{Builds, Maps, costs_too_much, ends_by};
+ghost use Rattle.tb_file_engine.specs.Memory.{AreFresh, IsFresh, Spelled, held, held_by};
+ghost use Rattle.tb_file_engine.specs.Names.{outputs_of, wanted, wants_texts};
+ghost use Rattle.tb_file_engine.specs.Outcomes.{unwritten_stop};
+ghost use Rattle.tb_file_engine.specs.Texts.{IsFileAlone, MakesBuild, MakesMap, OfProgram, TellsAll};
 
-use crate::saving::{Stop, made_in_memory, outcome_of, unread, unwritten};
+use crate::saving::{Stop, made_in_memory, only, outcome_of, unread, unwritten};
 use std::alloc::{AllocError, Global};
 use std::io::Read;
 use tb_build_engine::{BuildFiles, build_files, map_source};
@@ -34,11 +38,33 @@ struct Build<'a> {
     told: Option<Report>,
 }
 
+// What was built of a source: its report, and the texts of all outputs.
+#[derive(Drop)]
+struct Built {
+    report: Report,
+    texts: Vec<Vec<u8>>,
+}
+
 // A text that is made in memory, if it is wanted.
-fn in_memory(alloc: Global, name: Option<&str>) -> Option<Tracked<Vec<u8>>> {
+fn in_memory(alloc: Global, name: Option<&str>) -> Option<Tracked<Vec<u8>>>
+    ensures { IsFresh (option_map (λ p. p.now) name.entry) result }
+{
     match name {
         Some(_) => Some(Tracked::new(Vec::new(alloc))),
         None => None,
+    }
+}
+
+// The texts that are wanted, of which nothing is made yet.
+fn files_of(alloc: Global, names: BuildNames<'_>) -> BuildFiles<Vec<u8>>
+    ensures { AreFresh names.entry result }
+{
+    BuildFiles {
+        out: Tracked::new(Vec::new(alloc)),
+        labels: in_memory(alloc, names.labels),
+        listing: in_memory(alloc, names.listing),
+        map: in_memory(alloc, names.map),
+        watch: in_memory(alloc, names.watch),
     }
 }
 
@@ -48,27 +74,45 @@ fn spelled(
     dialect: Option<Dialect>,
     prg: &[u8],
     listing: Option<Tracked<Vec<u8>>>,
-) -> Result<Option<Tracked<Vec<u8>>>, Stop<Refusal>> {
-    let (Some(dialect), Some(file)) = (dialect, &listing) else {
-        return Ok(listing);
+) -> Result<Option<Tracked<Vec<u8>>>, Stop<Refusal>>
+    ensures { IfOk result (Spelled dialect prg.now listing) }
+{
+    let Some(plain) = listing else {
+        return Ok(None);
     };
-    match spell_listing(alloc, dialect, prg, file.stream.as_slice()) {
+    let Some(dialect) = dialect else {
+        return Ok(Some(plain));
+    };
+    match spell_listing(alloc, dialect, prg, plain.stream.as_slice()) {
         Ok(text) => Ok(Some(Tracked::new(text))),
         Err(NoText::Refused(refusal)) => Err(Stop::Refused(refusal)),
         Err(NoText::NoMemory) => Err(Stop::NoMemory),
     }
 }
 
-// The texts that were wanted, in the order in which they are written.
-fn texts_of(alloc: Global, files: BuildFiles<Vec<u8>>) -> Result<Vec<Vec<u8>>, AllocError> {
-    let mut texts = Vec::new(alloc);
-    texts.push(files.out.stream)?;
-    for file in [files.labels, files.listing, files.map, files.watch] {
-        if let Some(file) = file {
-            texts.push(file.stream)?;
-        }
-    }
+// Texts, and that of a file behind them, if it is wanted.
+fn with_file(
+    mut texts: Vec<Vec<u8>>,
+    file: Option<Tracked<Vec<u8>>>,
+) -> Result<Vec<Vec<u8>>, AllocError>
+    ensures { IfOk result (λ r. map (λ t. t.items) r.items ≡ map (λ t. t.items) texts.items ++ held file) }
+{
+    let Some(file) = file else {
+        return Ok(texts);
+    };
+    texts.push(file.stream)?;
     Ok(texts)
+}
+
+// The texts that were wanted, in the order in which they are written.
+fn texts_of(alloc: Global, files: BuildFiles<Vec<u8>>) -> Result<Vec<Vec<u8>>, AllocError>
+    ensures { IfOk result (λ r. map (λ t. t.items) r.items ≡ held_by files) }
+{
+    let texts = with_file(only(alloc, files.out.stream)?, files.labels)?;
+    with_file(
+        with_file(with_file(texts, files.listing)?, files.map)?,
+        files.watch,
+    )
 }
 
 // Paths, and another one behind them, if it is wanted.
@@ -99,56 +143,87 @@ fn paths_of<'a>(alloc: Global, names: BuildNames<'a>) -> Result<Vec<&'a str>, Al
     )
 }
 
-impl Build<'_> {
-    // Whether the PRG file is all that is wanted: then no text that tells of the program is made.
-    fn is_alone(&self) -> bool {
-        self.names.labels.is_none()
-            && self.names.listing.is_none()
-            && self.names.map.is_none()
-            && self.names.watch.is_none()
+// Whether a text is wanted that tells of the program. Else none is made.
+fn wants_texts(names: BuildNames<'_>) -> bool
+    ensures { result ≡ wants_texts names.entry }
+{
+    names.labels.is_some()
+        || names.listing.is_some()
+        || names.map.is_some()
+        || names.watch.is_some()
+}
+
+// The PRG file of a source alone.
+fn built_alone<R: Read>(
+    alloc: Global,
+    input: &mut Tracked<R>,
+    settings: CompileSettings,
+) -> Result<Built, Stop<Refusal>>
+    ensures { IfOk result (λ b. OfProgram settings IsFileAlone (R.remaining input.old.stream) (map (λ t. t.items) b.texts.items)) }
+{
+    let mut out = Tracked::new(Vec::new(alloc));
+    let report = build_within(alloc, input, &mut out, settings);
+    made_in_memory(report.outcome)?;
+    match only(alloc, out.stream) {
+        Ok(texts) => Ok(Built { report, texts }),
+        Err(_) => Err(Stop::NoMemory),
+    }
+}
+
+// The PRG file of a source, and the texts that are wanted of its program.
+fn built_with_texts<R: Read>(
+    alloc: Global,
+    input: &mut Tracked<R>,
+    settings: CompileSettings,
+    names: BuildNames<'_>,
+) -> Result<Built, Stop<Refusal>>
+    ensures { IfOk result (λ b. OfProgram settings (TellsAll names.entry settings.notation) (R.remaining input.old.stream) (map (λ t. t.items) b.texts.items)) }
+{
+    let mut files = files_of(alloc, names);
+    let report = build_files(alloc, input, &mut files, settings);
+    made_in_memory(report.outcome)?;
+    let plain = files.listing.take();
+    files.listing = spelled(alloc, names.dialect, files.out.stream.as_slice(), plain)?;
+    match texts_of(alloc, files) {
+        Ok(texts) => Ok(Built { report, texts }),
+        Err(_) => Err(Stop::NoMemory),
+    }
+}
+
+// All that is wanted of a source.
+fn built_wanted<R: Read>(
+    alloc: Global,
+    input: &mut Tracked<R>,
+    settings: CompileSettings,
+    names: BuildNames<'_>,
+) -> Result<Built, Stop<Refusal>>
+    ensures { IfOk result (λ b. MakesBuild names.entry settings (R.remaining input.old.stream) (map (λ t. t.items) b.texts.items)) }
+{
+    if wants_texts(names) {
+        built_with_texts(alloc, input, settings, names)
+    } else {
+        built_alone(alloc, input, settings)
     }
 }
 
 impl Work for Build<'_> {
     type End = Stop<Refusal>;
 
-    ghost takes = { λ _ _ _ _. ⊤ };
+    ghost takes = { λ w _ had v. MakesBuild w.names w.settings had (map (λ t. t.items) v.made.items) };
 
-    ghost makes = { λ _ _. ⊤ };
+    ghost makes = { λ w texts. texts ≡ map (λ t. t.items) w.made.items };
+
+    ghost unwritten_end = { λ trouble. unwritten_stop trouble };
 
     fn look_at(&self, _path: &str) -> Result<(), Stop<Refusal>> {
         Ok(())
     }
 
     fn take<R: Read>(&mut self, _path: &str, input: &mut Tracked<R>) -> Result<(), Stop<Refusal>> {
-        let mut files = BuildFiles {
-            out: Tracked::new(Vec::new(self.alloc)),
-            labels: in_memory(self.alloc, self.names.labels),
-            listing: in_memory(self.alloc, self.names.listing),
-            map: in_memory(self.alloc, self.names.map),
-            watch: in_memory(self.alloc, self.names.watch),
-        };
-        let report = if self.is_alone() {
-            build_within(self.alloc, input, &mut files.out, self.settings)
-        } else {
-            build_files(self.alloc, input, &mut files, self.settings)
-        };
-        made_in_memory(report.outcome)?;
-        self.told = Some(report);
-        let plain = files.listing.take();
-        files.listing = spelled(
-            self.alloc,
-            self.names.dialect,
-            files.out.stream.as_slice(),
-            plain,
-        )?;
-        match texts_of(self.alloc, files) {
-            Ok(texts) => {
-                self.made = texts;
-                Ok(())
-            }
-            Err(_) => Err(Stop::NoMemory),
-        }
+        let built = built_wanted(self.alloc, input, self.settings, self.names)?;
+        self.told = Some(built.report);
+        self.made = built.texts;
+        Ok(())
     }
 
     fn make(&mut self) -> Result<Vec<Vec<u8>>, Stop<Refusal>> {
@@ -159,7 +234,9 @@ impl Work for Build<'_> {
         unread(trouble)
     }
 
-    fn unwritten(trouble: Trouble) -> Stop<Refusal> {
+    fn unwritten(trouble: Trouble) -> Stop<Refusal>
+        ensures { result ≡ unwritten_stop trouble }
+    {
         unwritten(trouble)
     }
 }
@@ -169,36 +246,46 @@ impl Work for Build<'_> {
 struct Map {
     alloc: Global,
     settings: CompileSettings,
-    made: Vec<u8>,
+    made: Vec<Vec<u8>>,
+}
+
+// The map of a source, as the texts of all outputs.
+fn mapped<R: Read>(
+    alloc: Global,
+    input: &mut Tracked<R>,
+    settings: CompileSettings,
+) -> Result<Vec<Vec<u8>>, Stop<Refusal>>
+    ensures { IfOk result (λ texts. MakesMap settings (R.remaining input.old.stream) (map (λ t. t.items) texts.items)) }
+{
+    let mut map = Tracked::new(Vec::new(alloc));
+    let report = map_source(alloc, input, &mut map, settings);
+    made_in_memory(report.outcome)?;
+    match only(alloc, map.stream) {
+        Ok(texts) => Ok(texts),
+        Err(_) => Err(Stop::NoMemory),
+    }
 }
 
 impl Work for Map {
-    ghost use Rattle.std.specs.Prelude.{◌≡◌, [], ◌∷◌};
-
     type End = Stop<Refusal>;
 
-    ghost takes = { λ w _ had v. IsMapOf w.settings had v.made.items };
+    ghost takes = { λ w _ had v. MakesMap w.settings had (map (λ t. t.items) v.made.items) };
 
-    ghost makes = { λ w texts. texts ≡ w.made.items ∷ [] };
+    ghost makes = { λ w texts. texts ≡ map (λ t. t.items) w.made.items };
+
+    ghost unwritten_end = { λ trouble. unwritten_stop trouble };
 
     fn look_at(&self, _path: &str) -> Result<(), Stop<Refusal>> {
         Ok(())
     }
 
     fn take<R: Read>(&mut self, _path: &str, input: &mut Tracked<R>) -> Result<(), Stop<Refusal>> {
-        let mut map = Tracked::new(Vec::new(self.alloc));
-        let report = map_source(self.alloc, input, &mut map, self.settings);
-        made_in_memory(report.outcome)?;
-        self.made = map.stream;
+        self.made = mapped(self.alloc, input, self.settings)?;
         Ok(())
     }
 
     fn make(&mut self) -> Result<Vec<Vec<u8>>, Stop<Refusal>> {
-        let mut made = Vec::new(self.alloc);
-        match made.push(std::mem::replace(&mut self.made, Vec::new(self.alloc))) {
-            Ok(()) => Ok(made),
-            Err(_) => Err(Stop::NoMemory),
-        }
+        Ok(std::mem::replace(&mut self.made, Vec::new(self.alloc)))
     }
 
     fn unread(trouble: Trouble) -> Stop<Refusal> {

@@ -1,7 +1,11 @@
 //! A source whose tidy text takes its place.
-ghost use Rattle.std.specs.Prelude.{◌≡◌, ⊤};
-ghost use Rattle.tb_file_engine.specs.Outcomes.{EndsFormat, format_outcome_of};
+ghost use Rattle.std.specs.Prelude.{◌≡◌, ◌∷◌, [], map, IfOk};
+ghost use Rattle.std.specs.Str.{bytes_eq};
+ghost use Rattle.tb_files.specs.Names.{standard};
+ghost use Rattle.tb_file_engine.specs.Outcomes.{Ends, format_outcome_of, format_unwritten};
+ghost use Rattle.tb_file_engine.specs.Texts.{MakesTidy, OfOne};
 
+use crate::saving::only;
 use std::alloc::Global;
 use std::io::Read;
 use tb_codegen::Notation;
@@ -9,45 +13,55 @@ use tb_files::{FileSystem, STANDARD, Trouble, Work, replace};
 use tb_format_engine::{FormatOutcome, Formatted};
 use tb_streams::Tracked;
 
-// A source that is formatted.
+// A source that is formatted, and what was made of it.
 #[derive(Drop)]
 struct Formatting {
     alloc: Global,
     notation: Notation,
     // Whether a source that is tidy is written too.
     always: bool,
-    formatted: Option<Formatted>,
+    made: Vec<Vec<u8>>,
+}
+
+// The tidy text of a source, if it is to be written.
+fn tidied<R: Read>(
+    alloc: Global,
+    input: &mut Tracked<R>,
+    notation: Notation,
+    always: bool,
+) -> Result<Vec<Vec<u8>>, FormatOutcome>
+    ensures { IfOk result (λ texts. MakesTidy notation always (R.remaining input.old.stream) (map (λ t. t.items) texts.items)) }
+{
+    let formatted = Formatted::read(alloc, input, notation)?;
+    if formatted.is_tidy() && !always {
+        return Ok(Vec::new(alloc));
+    }
+    match only(alloc, formatted.into_text()) {
+        Ok(texts) => Ok(texts),
+        Err(_) => Err(FormatOutcome::NoMemory),
+    }
 }
 
 impl Work for Formatting {
     type End = FormatOutcome;
 
-    ghost takes = { λ _ _ _ _. ⊤ };
+    ghost takes = { λ w _ had v. MakesTidy w.notation w.always had (map (λ t. t.items) v.made.items) };
 
-    ghost makes = { λ _ _. ⊤ };
+    ghost makes = { λ w texts. texts ≡ map (λ t. t.items) w.made.items };
+
+    ghost unwritten_end = { format_unwritten };
 
     fn look_at(&self, _path: &str) -> Result<(), FormatOutcome> {
         Ok(())
     }
 
     fn take<R: Read>(&mut self, _path: &str, input: &mut Tracked<R>) -> Result<(), FormatOutcome> {
-        let formatted = Formatted::read(self.alloc, input, self.notation)?;
-        self.formatted = Some(formatted);
+        self.made = tidied(self.alloc, input, self.notation, self.always)?;
         Ok(())
     }
 
     fn make(&mut self) -> Result<Vec<Vec<u8>>, FormatOutcome> {
-        let mut made = Vec::new(self.alloc);
-        let Some(formatted) = self.formatted.take() else {
-            return Ok(made);
-        };
-        if formatted.is_tidy() && !self.always {
-            return Ok(made);
-        }
-        match made.push(formatted.into_text()) {
-            Ok(()) => Ok(made),
-            Err(_) => Err(FormatOutcome::NoMemory),
-        }
+        Ok(std::mem::replace(&mut self.made, Vec::new(self.alloc)))
     }
 
     fn unread(trouble: Trouble) -> FormatOutcome {
@@ -65,12 +79,13 @@ impl Work for Formatting {
     }
 }
 
-// How it ends if all was done, or why it was not.
+// How it ends if all was done, or why it was not. What stopped is never told as done.
 fn format_outcome_of(done: Result<(), FormatOutcome>) -> FormatOutcome
     ensures { result ≡ format_outcome_of done }
 {
     match done {
         Ok(()) => FormatOutcome::Done,
+        Err(FormatOutcome::Done) => FormatOutcome::NoMemory,
         Err(outcome) => outcome,
     }
 }
@@ -83,13 +98,14 @@ pub fn format_in_place<F: FileSystem>(
     path: &str,
     notation: Notation,
 ) -> FormatOutcome
-    ensures { EndsFormat F.does files.old path.now result files.new }
+    ensures { Ends F.does (OfOne (MakesTidy notation (bytes_eq path.now standard))) format_unwritten format_outcome_of
+        files.old (path.now ∷ []) (path.now ∷ []) result files.new }
 {
     let mut work = Formatting {
         alloc,
         notation,
         always: path == STANDARD,
-        formatted: None,
+        made: Vec::new(alloc),
     };
     format_outcome_of(replace(files, &mut work, path))
 }

@@ -1,8 +1,9 @@
 //! Files as engines see them: one that can't be opened for reading is a read fault, one that can't be written a write fault.
-ghost use Rattle.std.specs.Prelude.{◌≡◌, IfErr, MatchResult};
+ghost use Rattle.std.specs.Prelude.{◌≡◌, ◌∷◌, [], map, IfErr, IfOk};
 ghost use Rattle.tb_files.specs.Deeds.{Opens, Saves};
 ghost use Rattle.tb_file_engine.specs.Outcomes.{IsFault, IsSaved, outcome_of, stop_of, unread_stop, unwritten_stop};
 
+use std::alloc::{AllocError, Global};
 use tb_engines::{End, Outcome, Refusal};
 use tb_files::{FileSystem, Trouble};
 use tb_streams::Tracked;
@@ -63,6 +64,15 @@ pub fn unwritten<E>(trouble: Trouble) -> Stop<E>
         Trouble::Fault => Stop::WriteFault,
         Trouble::NoMemory => Stop::NoMemory,
     }
+}
+
+/// One text, as the texts of all outputs.
+pub fn only(alloc: Global, text: Vec<u8>) -> Result<Vec<Vec<u8>>, AllocError>
+    ensures { IfOk result (λ texts. map (λ t. t.items) texts.items ≡ text.items ∷ []) }
+{
+    let mut texts = Vec::new(alloc);
+    texts.push(text)?;
+    Ok(texts)
 }
 
 /// A file that is opened for reading. Nothing else is done.

@@ -1,9 +1,10 @@
 -- Deeds that go on, or break off.
-use Rattle.std.proofs.Common.{◌≡◌, ◌⊎◌, inl, inr, ℕ, List, [], ◌∷◌, map, take, drop, length, ◌-◌, ◌≤◌, get_or, suc, refl, subst, sym, ap, arith, Bor, Vec, Option, Result, Ok, Err, OnErr}
+use Rattle.std.proofs.Common.{◌≡◌, ◌⊎◌, inl, inr, ℕ, List, [], ◌∷◌, map, take, drop, length, ◌-◌, ◌≤◌, get_or, suc, refl, subst, sym, ap, arith, Bor, Vec, Option, Result, Ok, Err, OnErr, OnOk}
 use Rattle.std.proofs.lemmas.List.{take_all}
 use Rattle.std.specs.Result.{IsErr}
 use Rattle.std.specs.declared.alloc.Global.{Global}
-use Rattle.tb_files.specs.Deeds.{Deed, Opens, Saves, Did, opened, Opened, Saved, Performs}
+use Rattle.tb_files.specs.Deeds.{Deed, Opens, Saves, Did, opened, Opened, Saved, TakesAll, Transfers, Works}
+use Rattle.tb_files.specs.declared.system.Trouble.{Trouble}
 
 -- what is so anyway is so on an error
 pub on_err : {A E : Type 0} {P : Type 0} (r : Result A E) → P → OnErr r P
@@ -43,11 +44,21 @@ module _ {F E : Type 0} (does : F → Deed → F → Type 0) where
       subst (λ all. Saved does f (map (λ p. p.now) all) (map (λ t. t.items) each) g) (sym is)
       (subst (λ each. Saved does f (map (λ p. p.now) (p ∷ ps)) (map (λ t. t.items) each) g) (sym are) (suc n, (h, first, others)))
 
+  -- one input was taken in, and then some others
+  pub taken_more : {W : Type 0} (takes : W → List ℕ → Option (List ℕ) → W → Type 0) (r : Result Unit E) (w u v : W) (p : Bor (List ℕ)) (ps all : List (Bor (List ℕ)))
+      → all ≡ p ∷ ps → ((had : Option (List ℕ)) × takes w p.now had u)
+      → OnOk r ((hads : List (Option (List ℕ))) × TakesAll takes u (map (λ p. p.now) ps) hads v)
+      → OnOk r ((hads : List (Option (List ℕ))) × TakesAll takes w (map (λ p. p.now) all) hads v)
+  taken_more takes (Ok x) w u v p ps all is (had, taken) (hads, others) =
+      subst (λ all. (hads : List (Option (List ℕ))) × TakesAll takes w (map (λ p. p.now) all) hads v) (sym is) (had ∷ hads, (u, taken, others))
+  taken_more takes (Err e) w u v p ps all is taken others = tt
+
   -- a work broke off after its inputs were opened
-  pub performs_none : {W : Type 0} (takes : W → List ℕ → Option (List ℕ) → W → Type 0) (makes : W → List (List ℕ) → Type 0) (r : Result Unit E)
-      → IsErr r → (f g : F) (w : W) (inputs outputs : List (List ℕ)) → Did does f (opened inputs) g → Performs does takes makes f w inputs outputs r g
-  performs_none takes makes (Ok u) failed f g w inputs outputs did = absurd cc
-  performs_none takes makes (Err e) failed f g w inputs outputs did = inl (all_opened does f g inputs did)
+  pub nothing_written : {W : Type 0} (takes : W → List ℕ → Option (List ℕ) → W → Type 0) (makes : W → List (List ℕ) → Type 0) (unwritten : Trouble → E)
+      (r : Result Unit E) → IsErr r → (f g : F) (w : W) (inputs outputs : List (List ℕ)) → Did does f (opened inputs) g
+      → Transfers does (Works takes makes w inputs) unwritten f inputs outputs r g
+  nothing_written takes makes unwritten (Ok u) failed f g w inputs outputs did = absurd cc
+  nothing_written takes makes unwritten (Err e) failed f g w inputs outputs did = inl (all_opened does f g inputs did)
 
 -- the first file was opened or not, and nothing else was done
 pub ruleset orders = (opened_one)

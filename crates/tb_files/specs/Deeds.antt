@@ -1,5 +1,6 @@
 -- What is done with files, in its order.
 use Rattle.std.specs.Prelude.{◌≡◌, ◌⊎◌, ℕ, List, [], ◌∷◌, map, take, Option, Result, Ok, Err}
+use Rattle.tb_files.specs.declared.system.Trouble.{Trouble}
 
 -- a file is opened for reading, or opened for writing and given these bytes
 pub data Deed : Type 0 where
@@ -28,25 +29,29 @@ Opened does f paths g = (n : ℕ) × Did does f (opened (take n paths)) g
 abbrev pub Saved : {F : Type 0} → (F → Deed → F → Type 0) → F → List (List ℕ) → List (List ℕ) → F → Type 0
 Saved does f paths texts g = (n : ℕ) × Did does f (saved (take n paths) texts) g
 
--- what a command did with files: it opened its inputs and then wrote its outputs; or it broke off, while it opened inputs
--- or after all of them were opened and all texts made
-abbrev pub Transfers : {F E : Type 0} → (F → Deed → F → Type 0) → F → List (List ℕ) → List (List ℕ) → Result Unit E → F → Type 0
-Transfers does f inputs outputs (Ok u) g =
-    (h : _) × (texts : List (List ℕ)) × Did does f (opened inputs) h × Did does h (saved outputs texts) g
-Transfers does f inputs outputs (Err e) g =
-    Opened does f inputs g
-    ⊎ ((h : _) × (texts : List (List ℕ)) × Did does f (opened inputs) h × Saved does h outputs texts g)
+-- the inputs were opened and nothing else was done, and these texts are made, by what the reader of each input had
+abbrev pub IsReady : {F : Type 0} → (F → Deed → F → Type 0) → (List (Option (List ℕ)) → List (List ℕ) → Type 0) → F → List (List ℕ) → List (List ℕ) → F → Type 0
+IsReady does makes f inputs texts g = (hads : List (Option (List ℕ))) × makes hads texts × Did does f (opened inputs) g
 
--- a work took these inputs in, one after the other, each with what its reader had, as far as that is known
-abbrev pub TakesAll : {W : Type 0} → (W → List ℕ → Option (List ℕ) → W → Type 0) → W → List (List ℕ) → W → Type 0
-TakesAll takes w [] v = v ≡ w
-TakesAll takes w (p ∷ ps) v = (had : Option (List ℕ)) × (u : _) × takes w p had u × TakesAll takes u ps v
-
--- what a command did whose work this is: the texts are those that the work makes of the inputs
-abbrev pub Performs : {F W E : Type 0} → (F → Deed → F → Type 0) → (W → List ℕ → Option (List ℕ) → W → Type 0) → (W → List (List ℕ) → Type 0)
-    → F → W → List (List ℕ) → List (List ℕ) → Result Unit E → F → Type 0
-Performs does takes makes f w inputs outputs (Ok u) g =
-    (h : _) × (v : _) × (texts : List (List ℕ)) × TakesAll takes w inputs v × makes v texts × Did does f (opened inputs) h × Did does h (saved outputs texts) g
-Performs does takes makes f w inputs outputs (Err e) g =
+-- What a command did with files, by how it ended. `makes` says which texts are made, by what the reader of each input had,
+-- as far as that is known; `unwritten` says how it ends if an output can't be written. It opened its inputs, and then wrote
+-- each output with its text; or it broke off, while it opened inputs, or while it wrote outputs.
+abbrev pub Transfers : {F E : Type 0} → (F → Deed → F → Type 0) → (List (Option (List ℕ)) → List (List ℕ) → Type 0) → (Trouble → E)
+    → F → List (List ℕ) → List (List ℕ) → Result Unit E → F → Type 0
+Transfers does makes unwritten f inputs outputs (Ok u) g =
+    (h : _) × (texts : List (List ℕ)) × IsReady does makes f inputs texts h × Did does h (saved outputs texts) g
+Transfers does makes unwritten f inputs outputs (Err e) g =
     Opened does f inputs g
-    ⊎ ((h : _) × (v : _) × (texts : List (List ℕ)) × TakesAll takes w inputs v × makes v texts × Did does f (opened inputs) h × Saved does h outputs texts g)
+    ⊎ ((trouble : Trouble) × (e ≡ unwritten trouble)
+    × (h : _) × (texts : List (List ℕ)) × IsReady does makes f inputs texts h × Saved does h outputs texts g)
+
+-- a work took these inputs in, one after the other, each with what its reader had
+abbrev pub TakesAll : {W : Type 0} → (W → List ℕ → Option (List ℕ) → W → Type 0) → W → List (List ℕ) → List (Option (List ℕ)) → W → Type 0
+TakesAll takes w [] [] v = v ≡ w
+TakesAll takes w (p ∷ ps) (had ∷ hads) v = (u : _) × takes w p had u × TakesAll takes u ps hads v
+TakesAll takes w ps hads v = ⊥
+
+-- a work makes these texts of inputs at these paths, by what their readers had
+abbrev pub Works : {W : Type 0} → (W → List ℕ → Option (List ℕ) → W → Type 0) → (W → List (List ℕ) → Type 0)
+    → W → List (List ℕ) → List (Option (List ℕ)) → List (List ℕ) → Type 0
+Works takes makes w inputs hads texts = (v : _) × TakesAll takes w inputs hads v × makes v texts

@@ -1,6 +1,7 @@
 //! Commands that read files and write others: nothing is opened for writing before all that is to be written was made.
-ghost use Rattle.std.specs.Prelude.{◌≡◌, ◌⊎◌, ℕ, List, Option, [], ◌∷◌, map, IfOk, OnOk, OnErr};
-ghost use Rattle.tb_files.specs.Deeds.{Opens, Did, opened, saved, Opened, Saved, TakesAll, Performs, Transfers};
+ghost use Rattle.std.specs.Prelude.{◌≡◌, ◌⊎◌, ℕ, List, Option, [], ◌∷◌, map, IfErr, IfOk, OnOk, OnErr};
+ghost use Rattle.tb_files.specs.Deeds.{Opens, Did, opened, saved, Opened, Saved, TakesAll, Transfers, Works};
+ghost use Rattle.tb_files.specs.declared.system.Trouble.{Trouble};
 
 use crate::system::{FileSystem, Trouble};
 use std::io::Read;
@@ -17,6 +18,9 @@ pub trait Work {
     // the texts that it makes of what it took in
     ghost makes: { Self → List (List ℕ) → Type 0 };
 
+    // how the command ends if an output can't be written
+    ghost unwritten_end: { Trouble → Self.End };
+
     /// What is said of an input by its path alone, before it is opened.
     fn look_at(&self, path: &str) -> Result<(), Self::End>;
 
@@ -32,7 +36,8 @@ pub trait Work {
     fn unread(trouble: Trouble) -> Self::End;
 
     /// The end if an output can't be written.
-    fn unwritten(trouble: Trouble) -> Self::End;
+    fn unwritten(trouble: Trouble) -> Self::End
+        ensures { result ≡ unwritten_end trouble };
 }
 
 // Opens an input, and takes it in.
@@ -57,7 +62,7 @@ fn take_all<F: FileSystem, W: Work>(
 ) -> Result<(), W::End>
     ensures done { OnOk result (Did F.does files.old (opened (map (λ p. p.now) inputs.now)) files.new) }
     ensures broken { OnErr result (Opened F.does files.old (map (λ p. p.now) inputs.now) files.new) }
-    ensures taken { OnOk result (TakesAll W.takes work.old (map (λ p. p.now) inputs.now) work.new) }
+    ensures taken { OnOk result ((hads : List (Option (List ℕ))) × TakesAll W.takes work.old (map (λ p. p.now) inputs.now) hads work.new) }
 {
     match inputs {
         [] => Ok(()),
@@ -77,6 +82,7 @@ fn save_all<F: FileSystem, W: Work>(
 ) -> Result<(), W::End>
     ensures done { OnOk result (Did F.does files.old (saved (map (λ p. p.now) outputs.now) (map (λ t. t.items) texts.now)) files.new) }
     ensures broken { OnErr result (Saved F.does files.old (map (λ p. p.now) outputs.now) (map (λ t. t.items) texts.now) files.new) }
+    ensures unwritten { IfErr result (λ e. (trouble : Trouble) × (e ≡ W.unwritten_end trouble)) }
 {
     let [path, paths @ ..] = outputs else {
         return Ok(());
@@ -91,15 +97,16 @@ fn save_all<F: FileSystem, W: Work>(
 }
 
 /// Does the work of a command: it opens the inputs in order, makes the texts of all outputs, and then writes them in
-/// order. If something is wrong before all is made, nothing is opened for writing.
+/// order. If something is wrong before all is made, nothing is opened for writing; if it stops later, it ends as where an
+/// output can't be written.
 pub fn transfer<F: FileSystem, W: Work>(
     files: &mut F,
     work: &mut W,
     inputs: &[&str],
     outputs: &[&str],
 ) -> Result<(), W::End>
-    ensures deeds { Transfers F.does files.old (map (λ p. p.now) inputs.now) (map (λ p. p.now) outputs.now) result files.new }
-    ensures texts { Performs F.does W.takes W.makes files.old work.old (map (λ p. p.now) inputs.now) (map (λ p. p.now) outputs.now) result files.new }
+    ensures { Transfers F.does (Works W.takes W.makes work.old (map (λ p. p.now) inputs.now)) W.unwritten_end
+        files.old (map (λ p. p.now) inputs.now) (map (λ p. p.now) outputs.now) result files.new }
 {
     take_all(files, work, inputs)?;
     let texts = work.make()?;
@@ -114,8 +121,8 @@ pub fn replace<F: FileSystem, W: Work>(
     work: &mut W,
     path: &str,
 ) -> Result<(), W::End>
-    ensures deeds { Transfers F.does files.old (path.now ∷ []) (path.now ∷ []) result files.new }
-    ensures texts { Performs F.does W.takes W.makes files.old work.old (path.now ∷ []) (path.now ∷ []) result files.new }
+    ensures { Transfers F.does (Works W.takes W.makes work.old (path.now ∷ [])) W.unwritten_end
+        files.old (path.now ∷ []) (path.now ∷ []) result files.new }
 {
     transfer(files, work, &[path], &[path])
 }

@@ -1,6 +1,6 @@
--- The goal of `take_all` in src/transfers.rt.
+-- The goals of `take_all` in src/transfers.rt.
 use Rattle.std.proofs.Common.{◌-◌, take, drop, length, get_or, [], Bor, List, ℕ}
-use Rattle.tb_files.proofs.Orders.{first_of, opened_more}
+use Rattle.tb_files.proofs.Orders.{first_of, opened_more, taken_more}
 use Rattle.tb_files.proofs.transfers.+take_all.Goals as goal
 
 pub returns-in_ok-take_one-in-len1-up-clause-broken :
@@ -11,3 +11,12 @@ returns-in_ok-take_one-in-len1-up-clause-broken g t c =
     opened_more g.F.FileSystem.does c.take_all.result c.args.files.now c.take_one.new.files c.take_all.new.files (get_or all 0 none)
     (take (length all - 1) (drop 1 all)) all (first_of all none c.in-len1-up.len_at_least)
     c.in_ok-take_one-in-len1-up.ensures.done c.take_all.ensures.broken
+
+pub returns-in_ok-take_one-in-len1-up-clause-taken :
+    goal.returns-in_ok-take_one-in-len1-up-clause-taken
+returns-in_ok-take_one-in-len1-up-clause-taken g t c =
+    let all = c.args.inputs.now in
+    let none : Bor (List ℕ) = record { ref_ptr = (0, 0); now = [] } in
+    taken_more g.F.FileSystem.does g.W.Work.takes c.take_all.result c.args.work.now c.take_one.new.work c.take_all.new.work (get_or all 0 none)
+    (take (length all - 1) (drop 1 all)) all (first_of all none c.in-len1-up.len_at_least)
+    c.in_ok-take_one-in-len1-up.ensures.taken c.take_all.ensures.taken

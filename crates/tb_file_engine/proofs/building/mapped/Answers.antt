@@ -1,13 +1,14 @@
--- The goals of `MapWork::take` in src/building.rt.
-use Rattle.std.proofs.Common.{rules, ◌≡◌, Some, [], Ok, refl}
+-- The goal of `mapped` in src/building.rt.
+use Rattle.std.proofs.Common.{rules, ◌≡◌, Some, [], ◌∷◌, map, Ok, refl}
 use Rattle.tb_streams.specs.Failures.{failures_of}
 use Rattle.tb_streams.specs.Uses.{Use, use_of}
+use Rattle.tb_build_engine.specs.Maps.{MapsSource}
 use Rattle.tb_file_engine.specs.Outcomes.{stop_of}
-use Rattle.tb_file_engine.proofs.Mapped.{map_taken}
-use Rattle.tb_file_engine.proofs.building.MapWork.take.Goals as goal
+use Rattle.tb_file_engine.proofs.Making.{text_made}
+use Rattle.tb_file_engine.proofs.building.mapped.Goals as goal
 
-pub returns : goal.returns
-returns g c =
+pub returns-in-Ok : goal.returns-in-Ok
+returns-in-Ok g c =
     let report = c.map_source-report in
     let ended : stop_of report.result.outcome ≡ Ok tt = search rules in
     let reader : Use = use_of g.R.Read.remaining c.args.input.now report.new.reader in
@@ -19,5 +20,6 @@ returns g c =
       new_failures = failures_of report.new.writer;
     } in
     let empty : writer.old ≡ Some [] = search rules in
-    map_taken c.args.self.now.settings report.result.warnings.items report.result.outcome reader writer report.new.writer.stream.items
-    report.ensures.answers ended empty refl
+    let text = report.new.writer.stream.items in
+    let warnings = report.result.warnings.items in
+    (text, (warnings, text_made (MapsSource c.args.settings warnings) report.result.outcome reader writer text report.ensures.answers ended empty refl), search rules)
