@@ -1,6 +1,8 @@
 -- Worked rows: what is said of which file. Each is worked out by hand.
 use Rattle.std.proofs.Common.{◌≡◌, ℕ, Bool, true, false, List, [], ◌∷◌, Option, Some, None, refl}
 use Rattle.std.specs.Prelude.{codes}
+use Rattle.std.specs.declared.alloc.Global.{Global}
+use Rattle.std.specs.declared.string.String.{String}
 use Rattle.std.specs.declared.io.ErrorKind.{ErrorKind}
 use Rattle.std.specs.declared.io.ErrorKind.TheVariants.{NotFound, PermissionDenied, StorageFull, BrokenPipe}
 use Rattle.tb_files.specs.declared.places.Named.{Named}
@@ -66,16 +68,17 @@ second_name = refl
 pub second_text : disk_note (codes "a.d64") (codes "b.prg" ∷ codes "c.prg" ∷ []) 2 IsText ≡ Some (codes "c.prg", reason.Text)
 second_text = refl
 
--- a path that leads to a file
-abbrev pub file : List ℕ → ℕ → Named
-file path number =
-    record { path = record { ref_ptr = (0, 0); now = path }; place = File (record { device = 1; number = number }) }
+module _ (end : String Global) where
+  -- a path that leads to a file
+  abbrev pub file : List ℕ → ℕ → Named
+  file path number =
+      record { path = record { ref_ptr = (0, 0); now = path }; place = File (record { device = 1; number = number }) end }
 
--- the map would be written over the source
-pub over_source : first_clash (file (codes "a.bas") 7 ∷ []) (file (codes "a.prg") 8 ∷ file (codes "./a.bas") 7 ∷ [])
-    ≡ Some (codes "./a.bas", codes "a.bas")
-over_source = refl
+  -- the map would be written over the source
+  pub over_source : first_clash (file (codes "a.bas") 7 ∷ []) (file (codes "a.prg") 8 ∷ file (codes "./a.bas") 7 ∷ [])
+      ≡ Some (codes "./a.bas", codes "a.bas")
+  over_source = refl
 
--- all files are others
-pub no_clash : first_clash (file (codes "a.bas") 7 ∷ []) (file (codes "a.prg") 8 ∷ []) ≡ None
-no_clash = refl
+  -- all files are others
+  pub no_clash : first_clash (file (codes "a.bas") 7 ∷ []) (file (codes "a.prg") 8 ∷ []) ≡ None
+  no_clash = refl
