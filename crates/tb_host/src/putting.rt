@@ -32,7 +32,7 @@ pub fn save_at<R: Files + Print + AllocGlobal>(
         write_whole(io::writer(rt), bytes).map_err(Unput::AsBefore)?;
         return Ok(false);
     }
-    match target(rt, rt.alloc(), path) {
+    match find_target(rt, rt.alloc(), path) {
         Ok(Some(target)) => {
             put(&mut folder, target.names(), target.is_there, bytes)?;
             Ok(target.is_there)
@@ -65,7 +65,7 @@ impl Target {
 }
 
 // The file that a path leads to. None if it is no regular file, or if nobody knows where it lies.
-fn target<R: Files>(rt: &R, alloc: Global, path: &str) -> Result<Option<Target>, AllocError> {
+fn find_target<R: Files>(rt: &R, alloc: Global, path: &str) -> Result<Option<Target>, AllocError> {
     let found = look(rt, path)?;
     let file = end_of_links(rt, alloc, Path::new(path), MOST_LINKS)?;
     // The path of an open file may lead to one that has another name by now, or none.
