@@ -26,10 +26,11 @@ from built_copy import PROGRAM
 OLD = b"10 PRINT 1\n" * 300  # what a path holds before
 TIDY = b'20 PRINT "A"\n10 REM B\n'  # a source that format and renumber change
 SOURCE = '10 PRINT "HELLO"\n20 END\n'
+ASKS = "10 INPUT A\n20 END\n"
 TEXT = "LDA #$41\nJSR $FFD2\nRTS\n"
 LINES = ".org $C000\nlda #$41\njsr $ffd2\nrts\n"
 
-# Each way: its name, its words, with OUT for the path, and what is typed.
+# Each way: its name, and its words, with OUT for the path.
 WAYS = [
     ("build OUT", ["build", "in.bas", "OUT"]),
     ("build -o", ["build", "in.bas", "-o", "OUT"]),
@@ -42,7 +43,7 @@ WAYS = [
     ("assemble --labels", ["assemble", "in.asm", "other.prg", "--labels", "OUT"]),
     ("assemble --list", ["assemble", "in.asm", "other.prg", "--list", "OUT"]),
     ("disk OUT", ["disk", "OUT", "in.prg"]),
-    ("play --record", ["play", "in.bas", "--record", "OUT"]),
+    ("play --record", ["play", "in.ask.bas", "--record", "OUT"]),
     ("profile --html", ["profile", "in.bas", "--html", "OUT"]),
     ("format --in-place", ["format", "--in-place", "OUT"]),
     ("renumber --in-place", ["renumber", "--in-place", "OUT"]),
@@ -61,7 +62,7 @@ def name_of(words):
 
 def run(tbc, words, path, folder, **how):
     words = [str(path) if word == "OUT" else word for word in words]
-    done = subprocess.run([tbc, *words], cwd=folder, stdin=subprocess.DEVNULL, capture_output=True, timeout=120, **how)
+    done = subprocess.run([tbc, *words], cwd=folder, input=b"7\n", capture_output=True, timeout=120, **how)
     return done.returncode
 
 
@@ -86,7 +87,7 @@ def as_nobody():
 def filled(folder):
     """A folder with what the commands read."""
     folder.mkdir(exist_ok=True)
-    for name, text in (("in.bas", SOURCE), ("in.s", TEXT), ("in.asm", LINES)):
+    for name, text in (("in.bas", SOURCE), ("in.ask.bas", ASKS), ("in.s", TEXT), ("in.asm", LINES)):
         (folder / name).write_text(text)
     (folder / "in.prg").write_bytes(b"\x01\x08" + bytes(40))
     return folder
@@ -112,7 +113,7 @@ def holds(path):
 def seen(folder):
     """The names in a folder, but for the program's inputs and the other output."""
     names = {it.name for it in folder.iterdir()}
-    return sorted(names - {"in.bas", "in.s", "in.asm", "in.prg", "other.prg"})
+    return sorted(names - {"in.bas", "in.ask.bas", "in.s", "in.asm", "in.prg", "other.prg"})
 
 
 def expect(way, place, what, is_so):
