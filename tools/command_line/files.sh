@@ -246,7 +246,7 @@ cut_short() { # STEP WHOLE WORD..: rows: `build` writes to the file `cut` what W
         rows=$((rows + 1))
         status=0
         rm -f cut behind
-        [ $there = no ] || echo old >cut
+        [ $there = no ] || echo old >'cut'
         text=$(trap '' XFSZ; exec prlimit --fsize="$bytes" "$tbc" build hello.bas "$@" 2>&1) || status=$?
         left=$(find . -maxdepth 1 -name '.tbc*' -o -maxdepth 1 -name 'cut*' | sort | tr '\n' ' ')
         if [ "$status" = 3 ] && [ "$text" = 'tbc: write fault' ] && [ ! -e behind ] \
