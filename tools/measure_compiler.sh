@@ -5,7 +5,7 @@
 #   tools/measure_compiler.sh [ROUNDS]          default: 40 rounds; needs cc65
 #   tools/measure_compiler.sh --instructions    instructions of this processor in place of time; needs valgrind too; ends
 #                                               with status 1 if sources that compile take more than they should: 200
-#                                               mixed lines 2.5 million, 1,000 of PRINT and REM 7.5 million
+#                                               mixed lines 2.6 million, 1,000 of PRINT and REM 7.5 million
 #
 # 200 mixed lines are about the most that a program may cost. With 1,000 such lines tbc does everything but lay the
 # code, and then refuses them as too large; 1,000 lines of PRINT and REM compile. cc65's time for a function grows
@@ -105,7 +105,7 @@ measure_fit() { # LINES [MOST]: lines whose jumps are all far
 start=$(cost "$tbc" --version)
 cc65_start=$(cost cc65 --version)
 echo "the start of a process: tbc $start $unit, cc65 $cc65_start $unit"
-measure mixed200 0 "200 mixed lines, ten in a function" 2.5
+measure mixed200 0 "200 mixed lines, ten in a function" 2.6
 measure joint200 0 "200 mixed lines, in one function"
 measure cheap1000 0 "1,000 lines of PRINT and REM" 7.5
 measure mixed1000 1 "1,000 mixed lines, ten in a function, refused"

@@ -39,10 +39,12 @@ def answer(growth, program, words):
 
 
 def is_out_of_memory(given, wanted, name, command):
-    """Whether a run said that it ran out of memory, and wrote nothing. A program that is played or debugged has warned and
-    shown a prefix, and so has a profile if there is no memory to open its page. A check has told of the sources before."""
+    """Whether a run said that it ran out of memory, and wrote nothing, or of several files some, each whole. A program that is
+    played or debugged has warned and shown a prefix, and so has a profile if there is no memory to open its page. A check has
+    told of the sources before."""
     before, _, last = given.said.removesuffix(b"\n").rpartition(b"\n")
-    if given.status != OUT_OF_MEMORY or last != f"{name}: out of memory".encode() or given.made:
+    are_some = len(given.made) < len(wanted.made) and given.made.items() <= wanted.made.items()
+    if given.status != OUT_OF_MEMORY or last != f"{name}: out of memory".encode() or given.made and not are_some:
         return False
     shown = given.shown.removesuffix(CLOSING) if "TERMINAL" in os.environ else given.shown
     if command in SHOWN_BEFORE:

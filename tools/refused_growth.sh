@@ -2,8 +2,8 @@
 # Runs each command of the built program with the first, the second, .. growth of its memory refused, until a run
 # meets no refusal; of a large program, with each hundredth or so (refuse_each.py). Each run must end with status 4,
 # `tbc: out of memory` and nothing written (of a program that is played, debugged or profiled, its warnings and a prefix
-# of what it shows; of sources that are checked, a prefix of what is said of them; of a server, of its answers), or
-# answer exactly what the command answers with ample memory; if no growth was refused, it must not run out of memory.
+# of what it shows; of sources that are checked, a prefix of what is said of them; of a server, of its answers; of a build
+# of several files, some of them whole), or answer exactly what the command answers with ample memory; if no growth was refused, it must not run out of memory.
 # The same holds for the calls that no command makes or shows, each a name after `tb_bench call`. The refusing malloc is
 # preloaded, so this needs a C compiler (cc) and glibc.
 #
