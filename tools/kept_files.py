@@ -214,17 +214,17 @@ def try_way(tbc, way, words, top):
             expect(way, "a full disk", f"status {status}, {names}", holds(small / path.name) == old and status == 3 and len(names) == 2)
 
     # a folder in which nobody may write
-    if os.geteuid() == 0:
-        folder, path = row("a folder without rights")
-        folder.chmod(0o777)
-        inner = folder / "inner"
-        inner.mkdir()
-        old = before(inner / path.name, words)
-        (inner / path.name).chmod(0o666)
-        inner.chmod(0o555)
+    folder, path = row("a folder without rights")
+    folder.chmod(0o777)
+    inner = folder / "inner"
+    inner.mkdir()
+    old = before(inner / path.name, words)
+    (inner / path.name).chmod(0o666)
+    inner.chmod(0o555)
+    try:
         status = run(tbc, words, f"inner/{path.name}", folder, preexec_fn=as_nobody)
         expect(way, "a folder without rights", f"status {status}", status == 3 and holds(inner / path.name) == old)
-    else:
+    except (OSError, subprocess.SubprocessError):  # (only root can be nobody, and nobody has to reach the folder)
         left_out += 1
 
     # a file on which another one is mounted can't be renamed over: it is written over, with a copy beside it meanwhile
