@@ -3,8 +3,10 @@ use Rattle.std.proofs.Common.{◌≡◌, ◌⊎◌, inl, inr, ℕ, List, [], ◌
 use Rattle.tb_check.specs.Findings.{AreFindings}
 use Rattle.tb_check_engine.specs.Checks.{Checks, IsLook, Look, Looks, Missed, Saw, Told, Turn, said}
 use Rattle.tb_check_engine.specs.Reports.{report}
-use Rattle.tb_check_engine.specs.declared.outcome.CheckOutcome.{CheckOutcome}
-use Rattle.tb_check_engine.specs.declared.outcome.CheckOutcome.TheVariants as outcome
+use Rattle.tb_check_engine.specs.Outcomes.{CheckOutcome}
+use Rattle.tb_check_engine.specs.declared.outcome.Checked.{Checked}
+use Rattle.tb_streams.specs.declared.outcome.NoRefusal.{NoRefusal}
+use Rattle.tb_streams.specs.declared.outcome.Outcome.TheVariants as outcome
 use Rattle.tb_check.specs.declared.settings.CheckSettings.{CheckSettings}
 use Rattle.tb_parser.specs.Lines.{lines_of_file}
 use Rattle.tb_streams.specs.declared.stream.InputError.{InputError}
@@ -36,14 +38,14 @@ module _ {S : Type 0} (reads : S → List ℕ → Result (List ℕ) InputError �
 
   -- the same of a check that neither a writer nor want of memory ended
   pub is_report_of : (how : CheckOutcome) (names : List (List ℕ)) (t : S) (old new : List ℕ)
-      → (how ≡ outcome.Accepted) ⊎ ((how ≡ outcome.Refused) ⊎ (how ≡ outcome.ReadFault)) → names ≡ path ∷ [] → old ≡ []
+      → ((end : Checked) × (how ≡ outcome.Ended end)) ⊎ ((e : NoRefusal) × (how ≡ outcome.Refused e)) ⊎ (how ≡ outcome.ReadFault) → names ≡ path ∷ [] → old ≡ []
       → Checks reads settings s names (Some old) how t (Some new) → IsReport settings path text new
-  is_report_of outcome.Accepted names t old new ended named unwritten (told, is) = is_report names t old new named unwritten told
-  is_report_of outcome.Refused names t old new ended named unwritten (told, is) = is_report names t old new named unwritten told
+  is_report_of (outcome.Ended end) names t old new ended named unwritten (told, is) = is_report names t old new named unwritten told
+  is_report_of (outcome.Refused e) names t old new ended named unwritten (told, is) = is_report names t old new named unwritten told
   is_report_of outcome.ReadFault names t old new ended named unwritten (told, is) = is_report names t old new named unwritten told
-  is_report_of outcome.WriteFault names t old new (inl never) named unwritten checks = absurd (cc)
-  is_report_of outcome.WriteFault names t old new (inr (inl never)) named unwritten checks = absurd (cc)
+  is_report_of outcome.WriteFault names t old new (inl (end, never)) named unwritten checks = absurd (cc)
+  is_report_of outcome.WriteFault names t old new (inr (inl (e, never))) named unwritten checks = absurd (cc)
   is_report_of outcome.WriteFault names t old new (inr (inr never)) named unwritten checks = absurd (cc)
-  is_report_of outcome.NoMemory names t old new (inl never) named unwritten checks = absurd (cc)
-  is_report_of outcome.NoMemory names t old new (inr (inl never)) named unwritten checks = absurd (cc)
+  is_report_of outcome.NoMemory names t old new (inl (end, never)) named unwritten checks = absurd (cc)
+  is_report_of outcome.NoMemory names t old new (inr (inl (e, never))) named unwritten checks = absurd (cc)
   is_report_of outcome.NoMemory names t old new (inr (inr never)) named unwritten checks = absurd (cc)

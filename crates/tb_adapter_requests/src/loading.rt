@@ -84,7 +84,7 @@ fn report(
     let outcome = check_sources(alloc, &mut held, &names, &mut writer, settings);
     match outcome {
         CheckOutcome::NoMemory | CheckOutcome::WriteFault => Err(AllocError),
-        CheckOutcome::Accepted | CheckOutcome::Refused | CheckOutcome::ReadFault => {
+        CheckOutcome::Ended(_) | CheckOutcome::Refused(_) | CheckOutcome::ReadFault => {
             Ok(writer.stream)
         }
     }

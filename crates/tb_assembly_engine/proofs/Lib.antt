@@ -1,5 +1,4 @@
 -- tests that decide
-pub mod Endings
 -- files that are read one after the other
 pub mod Reading
 -- files that are written one after the other

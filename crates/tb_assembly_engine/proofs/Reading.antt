@@ -15,8 +15,8 @@ use Rattle.tb_assembly_output.specs.Assembled.{Answers}
 use Rattle.tb_assembly_output.specs.declared.assembling.Assembled.{Assembled}
 use Rattle.tb_assembly_output.specs.declared.assembling.Assembled.TheVariants.{Wants}
 use Rattle.tb_assembly_output.specs.declared.assembling.Manner.{Manner}
-use Rattle.tb_assembly_engine.specs.declared.outcome.TextFailure.{TextFailure}
-use Rattle.tb_assembly_engine.specs.declared.outcome.TextFailure.TheVariants.{NoMemory}
+use Rattle.tb_assembly_engine.specs.Outcomes.{TextFailure}
+use Rattle.tb_streams.specs.declared.outcome.Outcome.TheVariants.{NoMemory}
 use Rattle.tb_assembly_engine.specs.Deeds.{Stops}
 use Rattle.tb_assembly_engine.specs.Gathering.{AsksFor, Gathers, IsRead, Takes}
 

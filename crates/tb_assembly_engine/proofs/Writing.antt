@@ -1,8 +1,8 @@
 -- Files that are written one after the other.
 use Rattle.std.proofs.Common.{◌≡◌, List, [], ◌∷◌, ◌++◌, ℕ, zero, suc, take, Option, subst, sym, Result, Ok, Err}
 use Rattle.tb_files.specs.Deeds.{Deed, Did, Saves}
-use Rattle.tb_assembly_engine.specs.declared.outcome.TextFailure.{TextFailure}
-use Rattle.tb_assembly_engine.specs.declared.outcome.TextFailure.TheVariants.{Refused, Item, TooManyFiles, SameFile, IsSource, ReadFault, WriteFault, NoMemory}
+use Rattle.tb_assembly_engine.specs.Outcomes.{TextFailure}
+use Rattle.tb_streams.specs.declared.outcome.Outcome.TheVariants.{Ended, Refused, ReadFault, WriteFault, NoMemory}
 use Rattle.tb_assembly_engine.specs.Deeds.{Puts, save_of}
 
 module _ {F : Type 0} (does : F → Deed → F → Type 0) where
@@ -12,10 +12,7 @@ module _ {F : Type 0} (does : F → Deed → F → Type 0) where
   puts_more (Err WriteFault) f h g d ds first (n, others) = (suc n, (h, first, others))
   puts_more (Err NoMemory) f h g d ds first (n, others) = (suc n, (h, first, others))
   puts_more (Err (Refused x)) f h g d ds first others = others
-  puts_more (Err (Item x)) f h g d ds first others = others
-  puts_more (Err TooManyFiles) f h g d ds first others = others
-  puts_more (Err SameFile) f h g d ds first others = others
-  puts_more (Err (IsSource x)) f h g d ds first others = others
+  puts_more (Err (Ended never)) f h g d ds first others = others
   puts_more (Err ReadFault) f h g d ds first others = others
 
   -- some files were written, and then others
@@ -34,10 +31,7 @@ module _ {F : Type 0} (does : F → Deed → F → Type 0) where
   puts_front WriteFault f g ds es (n, did) = did_front n f g ds es did
   puts_front NoMemory f g ds es (n, did) = did_front n f g ds es did
   puts_front (Refused x) f g ds es none = none
-  puts_front (Item x) f g ds es none = none
-  puts_front TooManyFiles f g ds es none = none
-  puts_front SameFile f g ds es none = none
-  puts_front (IsSource x) f g ds es none = none
+  puts_front (Ended never) f g ds es none = none
   puts_front ReadFault f g ds es none = none
 
   -- the PRG file was written, and then it broke off at the labels

@@ -4,5 +4,5 @@ pub mod Outcomes
 pub mod Gathering
 -- what is done with files
 pub mod Deeds
+
 -- endings of paths
-pub mod Names

@@ -1,16 +1,15 @@
 //! Assembling the file of a text.
 ghost use Rattle.std.specs.Prelude.{◌≡◌, IfOk, MatchOption, false, map, true};
 ghost use Rattle.tb_assembly_files.specs.Libraries.{source_of};
-ghost use Rattle.tb_assembly_engine.specs.Deeds.{Assembles, MayWrite, Permits, Spares, Writes};
+ghost use Rattle.tb_assembly_engine.specs.Deeds.{Assembles, MayWrite, Permits, Writes};
 ghost use Rattle.tb_assembly_engine.specs.Gathering.{is_kept, kept_of};
 
 use crate::gathering::gather;
-use crate::names::is_text_name;
-use crate::outcome::TextFailure;
-use crate::saving::{TextNames, paths_of, save_all};
+use crate::outcome::{TextFailure, TextRefusal};
+use crate::saving::{TextNames, outputs_of, save_all};
 use std::alloc::{AllocError, Global};
 use tb_assembly_output::{Assembly, Manner, SourceFile};
-use tb_files::{Barred, FileSystem, Place, STANDARD, may_write};
+use tb_files::{Barred, FileSystem, Output, STANDARD, may_write};
 
 // The path of a file that must be kept: one that leads to a file, but for that of standard input.
 #[tactic(auto, using(crate::proofs::Reading::paths))]
@@ -41,27 +40,23 @@ fn permit<F: FileSystem>(
     alloc: Global,
     files: &F,
     kept: &[&str],
-    paths: &[&str],
+    outputs: &[Output<'_>],
+    is_forced: bool,
 ) -> Result<(), TextFailure>
-    ensures { Permits F.leads files.now (map (λ p. p.now) kept.now) (map (λ p. p.now) paths.now) result }
+    ensures { Permits F.leads F.shows files.now (map (λ p. p.now) kept.now) outputs.now is_forced result }
 {
-    match may_write(alloc, files, kept, paths) {
+    match may_write(alloc, files, kept, outputs, is_forced) {
         Ok(()) => Ok(()),
-        Err(Barred::SameFile) => Err(TextFailure::SameFile),
-        Err(Barred::Source(path)) => Err(TextFailure::IsSource(String::from_str(alloc, path)?)),
+        Err(Barred::SameFile) => Err(TextFailure::Refused(TextRefusal::SameFile)),
+        Err(Barred::Source(path)) => {
+            let path = String::from_str(alloc, path)?;
+            Err(TextFailure::Refused(TextRefusal::IsSource(path)))
+        }
+        Err(Barred::Unlike(Output { path, kind })) => {
+            let path = String::from_str(alloc, path)?;
+            Err(TextFailure::Refused(TextRefusal::Unlike(path, kind)))
+        }
         Err(Barred::NoMemory) => Err(TextFailure::NoMemory),
-    }
-}
-
-// Whether a PRG file may be written at a path: no text is there.
-fn spare<F: FileSystem>(alloc: Global, files: &F, out: &str) -> Result<(), TextFailure>
-    ensures { Spares F.leads files.now out.now result }
-{
-    let place = files.place(alloc, out)?;
-    if is_text_name(out) && matches!(place, Place::File(_, _)) {
-        Err(TextFailure::IsSource(String::from_str(alloc, out)?))
-    } else {
-        Ok(())
     }
 }
 
@@ -70,18 +65,18 @@ fn check<F: FileSystem>(
     alloc: Global,
     files: &F,
     library: &[SourceFile],
-    out: &str,
-    paths: &[&str],
+    names: TextNames<'_>,
+    made: &Assembly,
 ) -> Result<(), TextFailure>
-    ensures { MayWrite F.leads files.now (map source_of library.now) out.now (map (λ p. p.now) paths.now) result }
+    ensures { MayWrite F.leads F.shows files.now (map source_of library.now) names.entry made.now result }
 {
     let kept = kept_of(alloc, library)?;
-    permit(alloc, files, &kept, paths)?;
-    spare(alloc, files, out)
+    let outputs = outputs_of(alloc, names, made)?;
+    permit(alloc, files, &kept, &outputs, names.is_forced)
 }
 
 /// Assembles the text of a file with all that it includes, and writes the PRG file, and the label file and the listing
-/// where they are wanted. No file that was read is written, and no text that is there for the PRG file.
+/// where they are wanted. No file that was read is written, none that people write, and none that looks like something else.
 pub fn assemble_source<F: FileSystem>(
     alloc: Global,
     files: &mut F,
@@ -89,7 +84,7 @@ pub fn assemble_source<F: FileSystem>(
     manner: Manner,
     names: TextNames<'_>,
 ) -> Result<(), TextFailure>
-    ensures { Assembles F.leads F.does F.Input.remaining text.now files.old manner names.entry result files.new }
+    ensures { Assembles F.leads F.shows F.does F.Input.remaining text.now files.old manner names.entry result files.new }
 {
     let gathered = gather(alloc, files, text, manner)?;
     write(alloc, files, &gathered.library, names, &gathered.made)
@@ -103,9 +98,8 @@ fn write<F: FileSystem>(
     names: TextNames<'_>,
     made: &Assembly,
 ) -> Result<(), TextFailure>
-    ensures { Writes F.leads F.does files.old (map source_of library.now) names.entry made.now result files.new }
+    ensures { Writes F.leads F.shows F.does files.old (map source_of library.now) names.entry made.now result files.new }
 {
-    let paths = paths_of(alloc, names)?;
-    check(alloc, files, library, names.out, &paths)?;
+    check(alloc, files, library, names, made)?;
     save_all(files, names, made)
 }

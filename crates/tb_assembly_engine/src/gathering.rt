@@ -7,7 +7,7 @@ ghost use Rattle.tb_assembly_output.specs.Assembled.{Answers};
 ghost use Rattle.tb_assembly_engine.specs.Gathering.{IsRead, Takes};
 ghost use Rattle.tb_assembly_engine.specs.Deeds.{Fails, IsMade, Stops};
 
-use crate::outcome::TextFailure;
+use crate::outcome::{TextFailure, TextRefusal};
 use std::alloc::{AllocError, Global};
 use std::io::Read;
 use tb_assembly_output::{Assembled, Assembly, AssemblyError, Manner, SourceFile, assemble_texts};
@@ -89,7 +89,7 @@ fn answer(alloc: Global, library: &[SourceFile], manner: Manner) -> Result<Assem
 {
     match assemble_texts(alloc, library, manner) {
         Ok(assembled) => Ok(assembled),
-        Err(AssemblyError::Item(error)) => Err(TextFailure::Item(error)),
+        Err(AssemblyError::Item(error)) => Err(TextFailure::Refused(TextRefusal::Item(error))),
         Err(AssemblyError::NoMemory) => Err(TextFailure::NoMemory),
     }
 }
@@ -112,10 +112,12 @@ pub fn gather<F: FileSystem>(
         match answer(alloc, &library, manner) {
             Ok(Assembled::Made(made)) => return Ok(Gathered { library, made }),
             Ok(Assembled::Wants(path)) => take_file(alloc, files, path, &mut library)?,
-            Ok(Assembled::Refused(said)) => return Err(TextFailure::Refused(said)),
+            Ok(Assembled::Refused(said)) => {
+                return Err(TextFailure::Refused(TextRefusal::Said(said)));
+            }
             Ok(Assembled::Unread) => return Err(TextFailure::ReadFault),
             Err(outcome) => return Err(outcome),
         }
     }
-    Err(TextFailure::TooManyFiles)
+    Err(TextFailure::Refused(TextRefusal::TooManyFiles))
 }

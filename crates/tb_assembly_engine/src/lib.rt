@@ -4,12 +4,11 @@
 
 mod engine;
 mod gathering;
-mod names;
 mod outcome;
 mod saving;
 
 pub use engine::assemble_source;
 pub use gathering::MOST_FILES;
-pub use outcome::TextFailure;
+pub use outcome::{TextFailure, TextOutcome, TextRefusal};
 pub use saving::TextNames;
 pub use tb_assembly_output::Manner;

@@ -1,17 +1,19 @@
 //! Why a text was not assembled and written.
 ghost use Rattle.std.specs.Prelude.{◌≡◌};
-ghost use Rattle.tb_assembly_engine.specs.Outcomes.{status_of, unwritten};
+ghost use Rattle.tb_assembly_engine.specs.Outcomes.{unwritten};
 
-use std::alloc::AllocError;
+use crate::gathering::MOST_FILES;
+use std::fmt;
 use tb_asm::AsmError;
-use tb_files::Trouble;
-use tb_streams::status;
+use tb_engines::Refusal;
+use tb_files::{Kind, Trouble};
+use tb_streams::{Done, ExitStatus, Failure, Outcome, status};
 
-/// Why a text was not assembled and written. Only at `WriteFault` and `NoMemory` a part may be written.
+/// Why a text is not assembled.
 #[derive(Debug, Drop)]
-pub enum TextFailure {
+pub enum TextRefusal {
     /// All that is wrong with the text, as a text.
-    Refused(Vec<u8>),
+    Said(Vec<u8>),
     /// The assembler refused an item.
     Item(AsmError),
     /// It is in more than `MOST_FILES` files.
@@ -20,37 +22,44 @@ pub enum TextFailure {
     SameFile,
     /// A source that is there would be written, at this path.
     IsSource(String),
-    /// The text could not be read.
-    ReadFault,
-    /// A file could not be written.
-    WriteFault,
-    /// A growth was refused.
-    NoMemory,
+    /// What is there, at this path, doesn't look like what would be written.
+    Unlike(String, Kind),
 }
 
-impl TextFailure {
-    /// The exit status of the program.
-    pub fn status(&self) -> u8
-        ensures { result ≡ status_of self.now }
-    {
+/// How the assembling of a text ended.
+pub type TextOutcome = Outcome<Done, TextRefusal>;
+
+/// Why a text was not assembled and written. Only at `WriteFault` and `NoMemory` a part may be written.
+pub type TextFailure = Failure<TextRefusal>;
+
+impl ExitStatus for TextRefusal {
+    ghost use Rattle.tb_assembly_engine.specs.Outcomes.{status_of};
+
+    ghost exit_status = { status_of };
+
+    fn status(&self) -> u8 {
         match self {
-            TextFailure::Refused(_) | TextFailure::Item(_) | TextFailure::TooManyFiles => {
+            TextRefusal::Said(_) | TextRefusal::Item(_) | TextRefusal::TooManyFiles => {
                 status::REFUSED
             }
-            TextFailure::SameFile | TextFailure::IsSource(_) => status::BAD_WORDS,
-            TextFailure::ReadFault | TextFailure::WriteFault => status::FAULT,
-            TextFailure::NoMemory => status::NO_MEMORY,
+            TextRefusal::SameFile | TextRefusal::IsSource(_) | TextRefusal::Unlike(_, _) => {
+                status::BAD_WORDS
+            }
         }
     }
 }
 
-impl From<AllocError> for TextFailure {
-    ghost use Rattle.tb_assembly_engine.specs.declared.outcome.TextFailure.TheVariants.{NoMemory};
-
-    ghost from_gives = { λ _ outcome. outcome ≡ NoMemory };
-
-    fn from(_error: AllocError) -> TextFailure {
-        TextFailure::NoMemory
+/// What is said elsewhere is not said again: all that is wrong, and which file would be written.
+impl fmt::Display for TextRefusal {
+    fn fmt<W: fmt::Write>(&self, f: &mut fmt::Formatter<W>) -> fmt::Result {
+        match self {
+            TextRefusal::Said(_)
+            | TextRefusal::SameFile
+            | TextRefusal::IsSource(_)
+            | TextRefusal::Unlike(_, _) => Ok(()),
+            TextRefusal::Item(error) => Refusal::Item(*error).fmt(f),
+            TextRefusal::TooManyFiles => write!(f, "more than {MOST_FILES} files"),
+        }
     }
 }
 

@@ -1,12 +1,13 @@
 //! Writing what was made.
 ghost use Rattle.std.specs.Prelude.{◌≡◌, ◌∷◌, ◌++◌, [], IfOk, map, option_map};
+ghost use Rattle.tb_files.specs.Checks.{put_of};
 ghost use Rattle.tb_files.specs.Deeds.{Saves};
-ghost use Rattle.tb_assembly_engine.specs.Deeds.{Puts, outputs_of, save_of, saves_of, wanted};
+ghost use Rattle.tb_assembly_engine.specs.Deeds.{Puts, load_address, outputs_of, save_of, saves_of, wanted};
 
 use crate::outcome::{TextFailure, unwritten};
 use std::alloc::{AllocError, Global};
 use tb_assembly_output::Assembly;
-use tb_files::FileSystem;
+use tb_files::{FileSystem, Kind, Output, code_kind};
 
 /// What assembling writes: the PRG file, and the label file and the listing, if they are wanted.
 #[derive(Clone, Copy)]
@@ -14,28 +15,49 @@ pub struct TextNames<'a> {
     pub out: &'a str,
     pub labels: Option<&'a str>,
     pub listing: Option<&'a str>,
+    /// Whether a file is replaced that looks like something else.
+    pub is_forced: bool,
 }
 
-// Paths, and another one behind them, if it is wanted.
+// The load address of a PRG file.
+fn load_address(prg: &[u8]) -> Option<u16>
+    ensures { result ≡ load_address prg.now }
+{
+    match prg {
+        [low, high, ..] => Some(u16::from_le_bytes([*low, *high])),
+        _ => None,
+    }
+}
+
+// Outputs, and another one behind them, if it is wanted.
 fn with_wanted<'a>(
-    mut paths: Vec<&'a str>,
+    mut outputs: Vec<Output<'a>>,
+    kind: Kind,
     path: Option<&'a str>,
-) -> Result<Vec<&'a str>, AllocError>
-    ensures { IfOk result (λ r. map (λ p. p.now) r.items ≡ map (λ p. p.now) paths.entry.items ++ wanted (option_map (λ p. p.now) path.entry)) }
+) -> Result<Vec<Output<'a>>, AllocError>
+    ensures { IfOk result (λ r. map put_of r.items ≡ map put_of outputs.entry.items ++ wanted kind (option_map (λ p. p.now) path.entry)) }
 {
     if let Some(path) = path {
-        paths.push(path)?;
+        outputs.push(Output { path, kind })?;
     }
-    Ok(paths)
+    Ok(outputs)
 }
 
-/// The paths of all that is written, in order.
-pub fn paths_of<'a>(alloc: Global, names: TextNames<'a>) -> Result<Vec<&'a str>, AllocError>
-    ensures { IfOk result (λ r. map (λ p. p.now) r.items ≡ outputs_of names.entry) }
+/// All that is written, in order.
+pub fn outputs_of<'a>(
+    alloc: Global,
+    names: TextNames<'a>,
+    made: &Assembly,
+) -> Result<Vec<Output<'a>>, AllocError>
+    ensures { IfOk result (λ r. map put_of r.items ≡ outputs_of names.entry made.now) }
 {
-    let mut paths = Vec::new(alloc);
-    paths.push(names.out)?;
-    with_wanted(with_wanted(paths, names.labels)?, names.listing)
+    let mut outputs = Vec::new(alloc);
+    outputs.push(Output {
+        path: names.out,
+        kind: code_kind(names.out, load_address(&made.prg)),
+    })?;
+    let outputs = with_wanted(outputs, Kind::Labels, names.labels)?;
+    with_wanted(outputs, Kind::Listing, names.listing)
 }
 
 // Writes a text to a path.

@@ -1,5 +1,5 @@
 //! Runs records by the processor's `step` alone. The line of each has the registers and a digest of the memory when its
-//! program came to `$A100`, or says why it didn't; `tools/foreign_machines.sh` compares it with what another processor
+//! program came to `$A100`, or says why it didn't; `tools/try/foreign_machines.sh` compares it with what another processor
 //! does.
 use crate::failure::Failure;
 use md5::{Digest, Md5};

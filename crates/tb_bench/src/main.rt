@@ -1,8 +1,8 @@
 //! What the scripts of `tools/` try and measure of single crates. The first word says what:
 //!
-//! - `call NAME` makes a call on the input of its worked row, for `tools/refused_growth.sh`;
-//! - `end_states` runs the records of standard input by the processor alone, for `tools/foreign_machines.sh`;
-//! - `speed NAME EVENTS`, with `rude` or `steps` behind it or not, measures the machine, for `tools/measure_machine.sh`.
+//! - `call NAME` makes a call on the input of its worked row, for `tools/try/refused_growth.sh`;
+//! - `end_states` runs the records of standard input by the processor alone, for `tools/try/foreign_machines.sh`;
+//! - `speed NAME EVENTS`, with `rude` or `steps` behind it or not, measures the machine, for `tools/measure/machine.sh`.
 //!
 //! Without a word it does some of each whose answer is always the same. If memory runs out, nothing is written, and the
 //! status is 4.

@@ -14,8 +14,8 @@ use Rattle.tb_streams.specs.Streams.{AppendsPrefix}
 use Rattle.tb_check_engine.specs.declared.engine.Marks.{Marks}
 use Rattle.tb_check_engine.specs.declared.engine.Seen.{Seen}
 use Rattle.tb_check_engine.specs.declared.engine.Seen.TheVariants as seen
-use Rattle.tb_check_engine.specs.declared.outcome.CheckOutcome.{CheckOutcome}
-use Rattle.tb_check_engine.specs.declared.outcome.CheckOutcome.TheVariants.{Accepted, Refused, ReadFault, WriteFault, NoMemory}
+use Rattle.tb_check_engine.specs.Outcomes.{CheckOutcome}
+use Rattle.tb_streams.specs.declared.outcome.Outcome.TheVariants.{Ended, Refused, ReadFault, WriteFault, NoMemory}
 
 -- the turn of a source
 abbrev pub turn_of : List ℕ → Look → Turn
@@ -60,8 +60,8 @@ module _ {S : Type 0} (reads : S → List ℕ → Result (List ℕ) InputError �
   next_told s t name source read (Err WriteFault) old new same gave (found, are, wrote) =
       (Saw source found, (subst (λ x. reads s name (Ok x) t) (sym same) gave, are), wrote)
   next_told s t name source read (Err NoMemory) old new same gave kept = (Ok read, gave, kept)
-  next_told s t name source read (Err Accepted) old new same gave none = absurd none
-  next_told s t name source read (Err Refused) old new same gave none = absurd none
+  next_told s t name source read (Err (Ended end)) old new same gave none = absurd none
+  next_told s t name source read (Err (Refused never)) old new same gave none = absurd none
   next_told s t name source read (Err ReadFault) old new same gave none = absurd none
 
   -- a check that stops at a source
@@ -72,8 +72,8 @@ module _ {S : Type 0} (reads : S → List ℕ → Result (List ℕ) InputError �
       (i, t, mid, told, look, subst (λ n. IsLook reads settings t n look u) is looks, subst (λ n. AppendsPrefix mid new (said_of n look)) is wrote)
   stopped s t u names i old mid new name NoMemory is told (given, gave, kept) =
       (i, t, subst (Told reads settings s (take i names) old t) (sym kept) told, given, subst (λ n. reads t n given u) is gave)
-  stopped s t u names i old mid new name Accepted is told none = absurd none
-  stopped s t u names i old mid new name Refused is told none = absurd none
+  stopped s t u names i old mid new name (Ended end) is told none = absurd none
+  stopped s t u names i old mid new name (Refused never) is told none = absurd none
   stopped s t u names i old mid new name ReadFault is told none = absurd none
 
   -- a check whose sources were all told of

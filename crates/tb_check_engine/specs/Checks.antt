@@ -16,8 +16,9 @@ use Rattle.tb_check_engine.specs.Reports.{report}
 use Rattle.tb_check_engine.specs.declared.engine.Marks.{Marks}
 use Rattle.tb_check_engine.specs.declared.engine.Seen.{Seen}
 use Rattle.tb_check_engine.specs.declared.engine.Seen.TheVariants as seen
-use Rattle.tb_check_engine.specs.declared.outcome.CheckOutcome.{CheckOutcome}
-use Rattle.tb_check_engine.specs.declared.outcome.CheckOutcome.TheVariants.{Accepted, Refused, ReadFault, WriteFault, NoMemory}
+use Rattle.tb_check_engine.specs.Outcomes.{CheckOutcome}
+use Rattle.tb_check_engine.specs.declared.outcome.Checked.TheVariants as checked
+use Rattle.tb_streams.specs.declared.outcome.Outcome.TheVariants.{Ended, Refused, ReadFault, WriteFault, NoMemory}
 
 -- what reading a source gives, by its bytes
 abbrev pub bytes_of : Result (Vec ℕ Global) InputError → Result (List ℕ) InputError
@@ -88,7 +89,7 @@ marks_of turns =
 
 -- how a check ends: a source that could not be read comes before one that is not compiled
 abbrev pub ending : Marks → CheckOutcome
-ending m = if m.is_unread then ReadFault else if m.is_refused then Refused else Accepted
+ending m = if m.is_unread then ReadFault else if m.is_refused then Ended checked.Refused else Ended checked.Accepted
 
 -- the sources up to the n-th were told of, and the n-th was read, or the attempt failed
 abbrev pub name_at : List (List ℕ) → ℕ → List ℕ
@@ -109,8 +110,8 @@ Checks reads settings s names old outcome t new =
 -- a write fault comes only if the writer failed in this call
 abbrev pub WriteFaults : CheckOutcome → ℕ → ℕ → Type 0
 WriteFaults WriteFault old new = new ≢ old
-WriteFaults Accepted old new = new ≡ old
-WriteFaults Refused old new = new ≡ old
+WriteFaults (Ended checked) old new = new ≡ old
+WriteFaults (Refused never) old new = new ≡ old
 WriteFaults ReadFault old new = new ≡ old
 WriteFaults NoMemory old new = new ≡ old
 
@@ -129,7 +130,7 @@ marked m seen.Unread = record (m) { is_unread = true }
 
 -- how a check stands after a source
 abbrev pub outcome_of : Result Seen CheckOutcome → CheckOutcome
-outcome_of (Ok seen) = Accepted
+outcome_of (Ok seen) = Ended checked.Accepted
 outcome_of (Err outcome) = outcome
 
 -- a source was looked at, and told of as far as its writer took it

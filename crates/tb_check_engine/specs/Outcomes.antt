@@ -1,13 +1,16 @@
--- The exit statuses of checks.
+-- How checks end.
 use Rattle.std.specs.Prelude.{ℕ}
-use Rattle.tb_streams.specs.Numbers.{DONE, REFUSED, FAULT, NO_MEMORY}
-use Rattle.tb_check_engine.specs.declared.outcome.CheckOutcome.{CheckOutcome}
-use Rattle.tb_check_engine.specs.declared.outcome.CheckOutcome.TheVariants.{Accepted, Refused, ReadFault, WriteFault, NoMemory}
+use Rattle.tb_streams.specs.declared.outcome.NoRefusal.{NoRefusal}
+use Rattle.tb_streams.specs.Numbers.{DONE, REFUSED}
+use Rattle.tb_streams.specs.declared.outcome.Outcome.{Outcome}
+use Rattle.tb_check_engine.specs.declared.outcome.Checked.{Checked}
+use Rattle.tb_check_engine.specs.declared.outcome.Checked.TheVariants.{Accepted, Refused}
 
--- the exit status by how a check ended
-abbrev pub status_of : CheckOutcome → ℕ
+-- how a check of sources ended
+abbrev pub CheckOutcome : Type 0
+CheckOutcome = Outcome Checked NoRefusal
+
+-- the exit status by what a check found
+abbrev pub status_of : Checked → ℕ
 status_of Accepted = DONE
 status_of Refused = REFUSED
-status_of ReadFault = FAULT
-status_of WriteFault = FAULT
-status_of NoMemory = NO_MEMORY

@@ -3,7 +3,7 @@ ghost use Rattle.std.specs.Prelude.{◌≡◌, map, string_bytes};
 ghost use Rattle.tb_streams.specs.Failures.{failures_of};
 ghost use Rattle.tb_check_engine.specs.Checks.{Checks, ChecksNext, Tells, WriteFaults, is_refused, ending, marked, outcome_of};
 
-use crate::outcome::CheckOutcome;
+use crate::outcome::{CheckOutcome, Checked};
 use crate::reports::{Source, push_report};
 use crate::sources::Sources;
 use std::alloc::Global;
@@ -56,9 +56,9 @@ impl Marks {
         if self.is_unread {
             CheckOutcome::ReadFault
         } else if self.is_refused {
-            CheckOutcome::Refused
+            CheckOutcome::Ended(Checked::Refused)
         } else {
-            CheckOutcome::Accepted
+            CheckOutcome::Ended(Checked::Accepted)
         }
     }
 }

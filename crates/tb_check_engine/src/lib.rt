@@ -10,7 +10,7 @@ mod sources;
 mod texts;
 
 pub use engine::check_sources;
-pub use outcome::CheckOutcome;
+pub use outcome::{CheckOutcome, Checked};
 pub use refusals::refusal_text;
 pub use rows::{push_caret, push_line};
 pub use sources::Sources;

@@ -1,52 +1,35 @@
 //! How a check of sources ended.
-ghost use Rattle.std.specs.Prelude.{◌≡◌};
-ghost use Rattle.tb_check_engine.specs.Outcomes.{status_of};
+use std::fmt;
+use tb_streams::{ExitStatus, NoRefusal, Outcome, status};
 
-use std::alloc::AllocError;
-use tb_streams::status;
-use thiserror::Error;
-
-/// How a check of sources ended. At `WriteFault` a prefix of the text was written, at `NoMemory` what there is to say of
-/// the sources before, and else the whole text.
-#[derive(Clone, Copy, PartialEq, Eq, Debug, Drop, Error)]
-pub enum CheckOutcome {
+/// What a check of sources found. It is said already.
+#[derive(Clone, Copy, PartialEq, Eq, Debug, Drop)]
+pub enum Checked {
     /// Each source is compiled.
-    #[error("")]
     Accepted,
     /// A source is not compiled.
-    #[error("")]
     Refused,
-    /// A source could not be read.
-    #[error("read fault")]
-    ReadFault,
-    /// The writer failed.
-    #[error("write fault")]
-    WriteFault,
-    /// A growth was refused.
-    #[error("out of memory")]
-    NoMemory,
 }
 
-impl CheckOutcome {
-    /// The exit status of the program.
-    pub fn status(&self) -> u8
-        ensures { result ≡ status_of self.now }
-    {
+/// How a check of sources ended. At `ReadFault` a source could not be read, and the whole text was written; at
+/// `NoMemory` what there is to say of the sources before.
+pub type CheckOutcome = Outcome<Checked, NoRefusal>;
+
+impl ExitStatus for Checked {
+    ghost use Rattle.tb_check_engine.specs.Outcomes.{status_of};
+
+    ghost exit_status = { status_of };
+
+    fn status(&self) -> u8 {
         match self {
-            CheckOutcome::Accepted => status::DONE,
-            CheckOutcome::Refused => status::REFUSED,
-            CheckOutcome::ReadFault | CheckOutcome::WriteFault => status::FAULT,
-            CheckOutcome::NoMemory => status::NO_MEMORY,
+            Checked::Accepted => status::DONE,
+            Checked::Refused => status::REFUSED,
         }
     }
 }
 
-impl From<AllocError> for CheckOutcome {
-    ghost use Rattle.tb_check_engine.specs.declared.outcome.CheckOutcome.TheVariants.{NoMemory};
-
-    ghost from_gives = { λ _ outcome. outcome ≡ NoMemory };
-
-    fn from(_error: AllocError) -> CheckOutcome {
-        CheckOutcome::NoMemory
+impl fmt::Display for Checked {
+    fn fmt<W: fmt::Write>(&self, _f: &mut fmt::Formatter<W>) -> fmt::Result {
+        Ok(())
     }
 }

@@ -39,19 +39,20 @@ AreOfDisk found out files =
 
 -- the job of a command, part by part, from what the parser found of its arguments; it is of no other kind
 abbrev pub IsJob : CommandName → Found → Job → Type 0
-IsJob Build found (job.Build source out seed fit notation beside) =
+IsJob Build found (job.Build source out seed fit notation beside force) =
     IsText found (codes "SOURCE") source
     × IsOut (out_in found) (string_bytes source) (string_bytes out)
     × IsNumber found (codes "seed") USUAL_SEED seed
     × IsFlag found (codes "fit") fit
     × IsNotation found notation
     × AreExtras found beside
+    × IsFlag found (codes "force") force
 IsJob Run found (job.Run what settings rude labels) =
     IsRunnable found what
     × AreSettings found settings
     × IsOptionalNumber found (codes "rude") rude
     × IsOptional found (codes "labels") labels
-IsJob Play found (job.Play what seed fit notation limit made screen) =
+IsJob Play found (job.Play what seed fit notation limit made screen force) =
     IsRunnable found what
     × IsNumber found (codes "seed") USUAL_SEED seed
     × IsFlag found (codes "fit") fit
@@ -59,17 +60,20 @@ IsJob Play found (job.Play what seed fit notation limit made screen) =
     × IsLimit found (codes "limit") MOST_EVENTS limit
     × IsOptional found (codes "record") made
     × IsFlag found (codes "screen") screen
-IsJob Asm found (job.Asm text out at) =
+    × IsFlag found (codes "force") force
+IsJob Asm found (job.Asm text out at force) =
     IsText found (codes "IN") text
     × (string_bytes out ≡ unwrap_or (out_in found) [])
     × IsText found (codes "at") at
-IsJob Assemble found (job.Assemble text out at long labels listing) =
+    × IsFlag found (codes "force") force
+IsJob Assemble found (job.Assemble text out at long labels listing force) =
     IsText found (codes "IN") text
     × IsAssemblyOut (out_in found) (string_bytes text) (string_bytes out)
     × IsOptional found (codes "at") at
     × IsFlag found (codes "long") long
     × IsOptional found (codes "labels") labels
     × IsOptional found (codes "list") listing
+    × IsFlag found (codes "force") force
 IsJob Dis found (job.Dis prg dialect) = IsText found (codes "FILE") prg × (dialect ≡ dialect_in found)
 IsJob Step found (job.Step what settings) = IsRunnable found what × AreSettings found settings
 IsJob Debug found (job.Debug what settings rude labels) =
@@ -77,12 +81,15 @@ IsJob Debug found (job.Debug what settings rude labels) =
     × AreSettings found settings
     × IsOptionalNumber found (codes "rude") rude
     × IsOptional found (codes "labels") labels
-IsJob Profile found (job.Profile what settings rude html) =
+IsJob Profile found (job.Profile what settings rude html force) =
     IsRunnable found what
     × AreSettings found settings
     × IsOptionalNumber found (codes "rude") rude
     × IsOptional found (codes "html") html
-IsJob Disk found (job.Disk out files) = AreOfDisk found (string_bytes out) (map string_bytes files.items)
+    × IsFlag found (codes "force") force
+IsJob Disk found (job.Disk out files force) =
+    AreOfDisk found (string_bytes out) (map string_bytes files.items)
+    × IsFlag found (codes "force") force
 IsJob Check found (job.Check sources fit notation) =
     (map string_bytes sources.items ≡ texts_in found (codes "SOURCE"))
     × IsFlag found (codes "fit") fit

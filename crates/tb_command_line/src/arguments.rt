@@ -306,6 +306,12 @@ pub const SCREEN: Argument = Argument {
     form: Form::Flag,
 };
 
+pub const FORCE: Argument = Argument {
+    name: "force",
+    help: "Replace a file that is there even if it looks like something else",
+    form: Form::Flag,
+};
+
 pub const IN_PLACE: Argument = Argument {
     name: IN_PLACE_NAME,
     help: "Write the file itself, in place of standard output",

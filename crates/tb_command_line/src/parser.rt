@@ -8,7 +8,7 @@ use std::convert::AsStr;
 use tb_jobs::{HIGHEST_LINE, MOST_EVENTS};
 
 /// The version of the program.
-pub const VERSION: &str = "1.0.0";
+pub const VERSION: &str = "2.0.0";
 
 // Whether one of the words is this name.
 fn is_named<S: AsStr>(words: &[S], name: &str) -> bool {

@@ -1,14 +1,14 @@
 //! The arguments that each command takes, in the order of its help text.
 use crate::arguments::{
     ANSWERS, ASSEMBLY_OUT, AT, Argument, BUILD_OUT, DISK_OUT, DISK_OUTPUT, FIRST_LINE, FIT, FOR,
-    IN_PLACE, KEY_FILE, KEYS, LABELS, LIMIT, LINE_STEP, LIST, LIST_FOR, LONG, MAP, ONLY_CHECK,
-    ORIGIN, OUT, OUTPUT, PAGE, PETSCII, PLAY_LIMIT, PRG, PRG_FILE, PRG_FILES, PRG_LABELS, RECORD,
-    RUDE, SCREEN, SEED, SOURCE, SOURCE_OR_PRG, SOURCES, TEXT, TYPE, WATCH,
+    FORCE, IN_PLACE, KEY_FILE, KEYS, LABELS, LIMIT, LINE_STEP, LIST, LIST_FOR, LONG, MAP,
+    ONLY_CHECK, ORIGIN, OUT, OUTPUT, PAGE, PETSCII, PLAY_LIMIT, PRG, PRG_FILE, PRG_FILES,
+    PRG_LABELS, RECORD, RUDE, SCREEN, SEED, SOURCE, SOURCE_OR_PRG, SOURCES, TEXT, TYPE, WATCH,
 };
 use crate::commands::CommandName;
 
-static BUILD_ARGUMENTS: [Argument; 11] = [
-    SOURCE, BUILD_OUT, OUTPUT, SEED, FIT, PETSCII, LABELS, LIST, LIST_FOR, MAP, WATCH,
+static BUILD_ARGUMENTS: [Argument; 12] = [
+    SOURCE, BUILD_OUT, OUTPUT, SEED, FIT, PETSCII, LABELS, LIST, LIST_FOR, MAP, WATCH, FORCE,
 ];
 
 static RUN_OR_DEBUG_ARGUMENTS: [Argument; 12] = [
@@ -26,7 +26,7 @@ static RUN_OR_DEBUG_ARGUMENTS: [Argument; 12] = [
     PRG_LABELS,
 ];
 
-static PLAY_ARGUMENTS: [Argument; 8] = [
+static PLAY_ARGUMENTS: [Argument; 9] = [
     SOURCE_OR_PRG,
     PRG,
     SEED,
@@ -35,11 +35,21 @@ static PLAY_ARGUMENTS: [Argument; 8] = [
     PLAY_LIMIT,
     RECORD,
     SCREEN,
+    FORCE,
 ];
 
-static ASM_ARGUMENTS: [Argument; 4] = [TEXT, OUT, OUTPUT, AT];
+static ASM_ARGUMENTS: [Argument; 5] = [TEXT, OUT, OUTPUT, AT, FORCE];
 
-static ASSEMBLE_ARGUMENTS: [Argument; 7] = [TEXT, ASSEMBLY_OUT, OUTPUT, ORIGIN, LONG, LABELS, LIST];
+static ASSEMBLE_ARGUMENTS: [Argument; 8] = [
+    TEXT,
+    ASSEMBLY_OUT,
+    OUTPUT,
+    ORIGIN,
+    LONG,
+    LABELS,
+    LIST,
+    FORCE,
+];
 
 static DIS_ARGUMENTS: [Argument; 2] = [PRG_FILE, FOR];
 
@@ -56,7 +66,7 @@ static STEP_ARGUMENTS: [Argument; 10] = [
     LIMIT,
 ];
 
-static PROFILE_ARGUMENTS: [Argument; 12] = [
+static PROFILE_ARGUMENTS: [Argument; 13] = [
     SOURCE_OR_PRG,
     PRG,
     SEED,
@@ -69,9 +79,10 @@ static PROFILE_ARGUMENTS: [Argument; 12] = [
     LIMIT,
     RUDE,
     PAGE,
+    FORCE,
 ];
 
-static DISK_ARGUMENTS: [Argument; 3] = [DISK_OUT, PRG_FILES, DISK_OUTPUT];
+static DISK_ARGUMENTS: [Argument; 4] = [DISK_OUT, PRG_FILES, DISK_OUTPUT, FORCE];
 
 static CHECK_ARGUMENTS: [Argument; 3] = [SOURCES, FIT, PETSCII];
 

@@ -5,7 +5,7 @@ ghost use Rattle.tb_jobs.specs.Numbers.{USUAL_SEED, USUAL_STEP};
 ghost use Rattle.tb_command_line.specs.Values as spec;
 
 use crate::arguments::{
-    ANSWERS, Argument, FIT, FOR, IN_PLACE, KEY_FILE, KEYS, LABELS, LIMIT, LIST, LONG, MAP,
+    ANSWERS, Argument, FIT, FOR, FORCE, IN_PLACE, KEY_FILE, KEYS, LABELS, LIMIT, LIST, LONG, MAP,
     ONLY_CHECK, PETSCII, PRG, RUDE, SCREEN, SEED, SOURCE_OR_PRG, TYPE, WATCH,
 };
 use clap::ArgMatches;
@@ -154,6 +154,14 @@ pub fn long_of(found: &ArgMatches<'_>) -> bool
     ensures { spec.IsFlag (found_of found.now) (codes "long") result }
 {
     found.get_flag(LONG.name)
+}
+
+/// Whether a file is replaced that looks like something else.
+#[tactic(auto, using(crate::proofs::Found::flag_said))]
+pub fn force_of(found: &ArgMatches<'_>) -> bool
+    ensures { spec.IsFlag (found_of found.now) (codes "force") result }
+{
+    found.get_flag(FORCE.name)
 }
 
 /// Whether the machine's screen is shown.

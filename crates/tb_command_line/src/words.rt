@@ -14,9 +14,9 @@ use crate::arguments::{
 use crate::commands::{CommandName, command_named, rows};
 use crate::parser::{VERSION, parser};
 use crate::values::{
-    dialect_of, extras_of, first_text, fit_of, in_place_of, limit_of, line_number_of, long_of,
-    notation_of, optional_text, rude_of, runnable_of, screen_of, seed_of, settings_of, target_of,
-    text, texts,
+    dialect_of, extras_of, first_text, fit_of, force_of, in_place_of, limit_of, line_number_of,
+    long_of, notation_of, optional_text, rude_of, runnable_of, screen_of, seed_of, settings_of,
+    target_of, text, texts,
 };
 use clap::ArgMatches;
 use clap::error::ErrorKind;
@@ -111,6 +111,7 @@ fn build_job(alloc: Global, found: &ArgMatches<'_>) -> Result<Job, AllocError>
         fit: fit_of(found),
         notation: notation_of(found),
         beside: extras_of(alloc, found)?,
+        force: force_of(found),
     })
 }
 
@@ -138,6 +139,7 @@ fn play_job(alloc: Global, found: &ArgMatches<'_>) -> Result<Job, AllocError>
         limit: limit_of(found, &PLAY_LIMIT, Limit::most()),
         record: optional_text(alloc, found, &RECORD)?,
         screen: screen_of(found),
+        force: force_of(found),
     })
 }
 
@@ -149,6 +151,7 @@ fn asm_job(alloc: Global, found: &ArgMatches<'_>) -> Result<Job, AllocError>
         text: text(alloc, found, &TEXT)?,
         out: first_text(alloc, found, &OUTPUT, &OUT)?.unwrap_or(String::new(alloc)),
         at: text(alloc, found, &AT)?,
+        force: force_of(found),
     })
 }
 
@@ -175,6 +178,7 @@ fn assemble_job(alloc: Global, found: &ArgMatches<'_>) -> Result<Job, AllocError
         long: long_of(found),
         labels: optional_text(alloc, found, &LABELS)?,
         listing: optional_text(alloc, found, &LIST)?,
+        force: force_of(found),
     })
 }
 
@@ -219,6 +223,7 @@ fn profile_job(alloc: Global, found: &ArgMatches<'_>) -> Result<Job, AllocError>
         settings: settings_of(alloc, found)?,
         rude: rude_of(found),
         html: optional_text(alloc, found, &PAGE)?,
+        force: force_of(found),
     })
 }
 
@@ -228,16 +233,18 @@ fn disk_job(alloc: Global, found: &ArgMatches<'_>) -> Result<Job, AllocError>
 {
     let first = text(alloc, found, &DISK_OUT)?;
     let mut others = texts(alloc, found, &PRG_FILES)?;
+    let force = force_of(found);
     match optional_text(alloc, found, &DISK_OUTPUT)? {
         Some(out) => {
             let mut files = Vec::new(alloc);
             files.push(first)?;
             files.append(&mut others)?;
-            Ok(Job::Disk { out, files })
+            Ok(Job::Disk { out, files, force })
         }
         None => Ok(Job::Disk {
             out: first,
             files: others,
+            force,
         }),
     }
 }

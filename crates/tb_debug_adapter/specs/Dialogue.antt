@@ -38,8 +38,8 @@ use Rattle.tb_debug_adapter.specs.declared.greeting.Greeting.{Greeting}
 use Rattle.tb_debug_adapter.specs.declared.greeting.Greeting.TheVariants as greeting
 use Rattle.tb_adapter_requests.specs.declared.launching.Plan.{Plan}
 use Rattle.tb_adapter_requests.specs.declared.loading.Loaded.{Loaded}
-use Rattle.tb_debug_adapter.specs.declared.outcome.AdapterOutcome.{AdapterOutcome}
-use Rattle.tb_debug_adapter.specs.declared.outcome.AdapterOutcome.TheVariants.{Ended, BadFrame, ReadFault, WriteFault, NoMemory}
+use Rattle.tb_debug_adapter.specs.Outcomes.{AdapterOutcome}
+use Rattle.tb_streams.specs.declared.outcome.Outcome.TheVariants.{Ended, Refused, ReadFault, WriteFault, NoMemory}
 use Rattle.tb_debug_adapter.specs.declared.session.Session.{Session}
 use Rattle.tb_debug_adapter.specs.declared.session.Stage.TheVariants as stage
 
@@ -59,8 +59,8 @@ HoldsFrame (frame.TooLong n) r = r ≡ Ok (heard.Unheard refusal.TooLarge)
 -- what the next frame holds
 abbrev pub Hears : Result Heard AdapterOutcome → (had left : Option (List ℕ)) → (read read_after : ℕ) → Type 0
 Hears (Ok h) had left read read' = (f : Frame) × ReadsFrame (Ok (Some f)) had left read read' × HoldsFrame f (Ok h)
-Hears (Err Ended) had left read read' = ReadsFrame (Ok None) had left read read'
-Hears (Err BadFrame) had left read read' = ReadsFrame (Err frame_error.Bad) had left read read'
+Hears (Err (Ended done)) had left read read' = ReadsFrame (Ok None) had left read read'
+Hears (Err (Refused bad)) had left read read' = ReadsFrame (Err frame_error.Bad) had left read read'
 Hears (Err ReadFault) had left read read' = ReadsFrame (Err frame_error.Fault) had left read read'
 Hears (Err WriteFault) had left read read' = ⊥
 Hears (Err NoMemory) had left read read' = Unit {0}
@@ -97,7 +97,7 @@ is_end _ = false
 
 -- what comes after something was said, by whether the end was asked for
 abbrev pub after : Bool → Result (Unit {0}) AdapterOutcome → Result (Unit {0}) AdapterOutcome
-after true (Ok done) = Err Ended
+after true (Ok done) = Err (Ended (record {}))
 after false (Ok done) = Ok done
 after ends (Err e) = Err e
 
@@ -155,7 +155,7 @@ pub data Talks : Moment → Moment → Type 0 where
 
 -- a dialogue with a program: frames, and one that ends it; or as many as can be counted
 abbrev pub TalksTo : Moment → AdapterOutcome → Moment → Type 0
-TalksTo a outcome z = ((b : Moment) × Talks a b × Leads b (Err outcome) z) ⊎ (Talks a z × (outcome ≡ Ended))
+TalksTo a outcome z = ((b : Moment) × Talks a b × Leads b (Err outcome) z) ⊎ (Talks a z × (outcome ≡ Ended (record {})))
 
 -- ---- before a launch
 
@@ -230,7 +230,7 @@ as_turn (Err e) = Err e
 -- frames, and one that launches a program or ends the dialogue; or as many as can be counted
 abbrev pub Waits : {S : Type 0} → Reading S → Notation → Early S → Result Launched AdapterOutcome → (Bool → Early S) → Type 0
 Waits reads usual a result z =
-    (now : Bool) × (((b : Early _) × Greeted reads usual a b × GreetsFrame reads usual b (as_turn result) (z now)) ⊎ (Greeted reads usual a (z now) × (result ≡ Err Ended)))
+    (now : Bool) × (((b : Early _) × Greeted reads usual a b × GreetsFrame reads usual b (as_turn result) (z now)) ⊎ (Greeted reads usual a (z now) × (result ≡ Err (Ended (record {})))))
 
 -- ---- the whole
 

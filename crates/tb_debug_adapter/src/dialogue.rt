@@ -21,11 +21,11 @@ use tb_check_engine::Sources;
 use tb_codegen::Notation;
 use tb_debug::{Debugger, Rom};
 use tb_driver::CompiledSource;
-use tb_frames::{Frame, FrameError, read_frame};
+use tb_frames::{Frame, read_frame};
 use tb_kernal::Machine;
 use tb_messages::{Unreadable, read_value};
 use tb_source_names::read_source;
-use tb_streams::{Tracked, write_output};
+use tb_streams::{Done, Tracked, write_output};
 
 /// What a frame holds: a value, or why it is none.
 #[derive(Drop)]
@@ -80,12 +80,9 @@ fn hear<R: Read>(alloc: Global, reader: &mut Tracked<R>) -> Result<Heard, Adapte
     ensures { spec.Hears result (R.remaining reader.old.stream) (R.remaining reader.new.stream)
         (failures_of reader.old) (failures_of reader.new) }
 {
-    match read_frame(alloc, reader) {
-        Ok(Some(frame)) => hear_frame(alloc, &frame),
-        Ok(None) => Err(AdapterOutcome::Ended),
-        Err(FrameError::Fault) => Err(AdapterOutcome::ReadFault),
-        Err(FrameError::Bad) => Err(AdapterOutcome::BadFrame),
-        Err(FrameError::NoMemory) => Err(AdapterOutcome::NoMemory),
+    match read_frame(alloc, reader)? {
+        Some(frame) => hear_frame(alloc, &frame),
+        None => Err(AdapterOutcome::Ended(Done)),
     }
 }
 
@@ -105,9 +102,7 @@ fn say<W: Write>(
     if u64::MAX - *next < count {
         return Err(AdapterOutcome::NoMemory);
     }
-    let Ok(frames) = frames_of(alloc, *next, asker, said) else {
-        return Err(AdapterOutcome::NoMemory);
-    };
+    let frames = frames_of(alloc, *next, asker, said)?;
     match write_output(writer, &frames) {
         Ok(()) => {
             *next += count;
@@ -136,10 +131,8 @@ fn complain<W: Write>(
         (spec.written (W.contents writer.old.stream) (failures_of writer.old) next.old)
         (spec.written (W.contents writer.new.stream) (failures_of writer.new) next.new) }
 {
-    match complaints(alloc, refusal) {
-        Ok(said) => say(alloc, next, NOBODY, said, writer),
-        Err(_) => Err(AdapterOutcome::NoMemory),
-    }
+    let said = complaints(alloc, refusal)?;
+    say(alloc, next, NOBODY, said, writer)
 }
 
 // The arguments of a request, or null.
@@ -166,7 +159,7 @@ fn after(ends: bool, said: Result<(), AdapterOutcome>) -> Result<(), AdapterOutc
 {
     match said {
         Ok(()) => if ends {
-            Err(AdapterOutcome::Ended)
+            Err(AdapterOutcome::Ended(Done))
         } else {
             Ok(())
         },
@@ -332,7 +325,7 @@ fn wait<S: Sources, R: Read, W: Write>(
             Err(outcome) => return Err(outcome),
         }
     }
-    Err(AdapterOutcome::Ended)
+    Err(AdapterOutcome::Ended(Done))
 }
 
 // Takes a request with a program.
@@ -349,10 +342,8 @@ fn take_request<W: Write>(
         (spec.written (W.contents writer.new.stream) (failures_of writer.new) next.new) }
 {
     let command = command_of(asker.command);
-    match session.take(alloc, command, arguments) {
-        Ok(said) => after(is_end(command), say(alloc, next, asker, said, writer)),
-        Err(_) => Err(AdapterOutcome::NoMemory),
-    }
+    let said = session.take(alloc, command, arguments)?;
+    after(is_end(command), say(alloc, next, asker, said, writer))
 }
 
 // Takes a message with a program.
@@ -450,10 +441,8 @@ fn open<W: Write>(
         seq: asked,
         command: "launch",
     };
-    match session.opening(alloc) {
-        Ok(said) => say(alloc, next, asker, said, writer),
-        Err(_) => Err(AdapterOutcome::NoMemory),
-    }
+    let said = session.opening(alloc)?;
+    say(alloc, next, asker, said, writer)
 }
 
 // Answers messages with a program up to the end.
@@ -476,7 +465,7 @@ fn talk<R: Read, W: Write>(
             return outcome;
         }
     }
-    AdapterOutcome::Ended
+    AdapterOutcome::Ended(Done)
 }
 
 // Answers messages with a program that is loaded.

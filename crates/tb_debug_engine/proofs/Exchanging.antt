@@ -13,8 +13,8 @@ use Rattle.tb_debug.specs.Kinds.{IsWalk}
 use Rattle.tb_debug.specs.Leaving.{Leaves}
 use Rattle.tb_debug.specs.Telling.{Tells}
 use Rattle.tb_streams.specs.Streams.{AppendsPrefix}
-use Rattle.tb_engines.specs.declared.outcome.Outcome.{Outcome}
-use Rattle.tb_engines.specs.declared.outcome.Outcome.TheVariants.{Ended, Refused, ReadFault, WriteFault, NoMemory}
+use Rattle.tb_engines.specs.Outcomes.{Outcome}
+use Rattle.tb_streams.specs.declared.outcome.Outcome.TheVariants.{Ended, Refused, ReadFault, WriteFault, NoMemory}
 use Rattle.tb_debug.specs.declared.answer.Answer.{Answer}
 use Rattle.tb_debug_engine.specs.Dialogue.{Answers, Exchanges, Says, prompt, repeated, spelled_by}
 use Rattle.tb_debug_engine.specs.Streams.{Streams, Stream, Takes, Writes}

@@ -9,9 +9,9 @@ use Rattle.tb_prg.specs.Prg.{content_of}
 use Rattle.tb_engines.specs.Programs.{StartsPrg, start}
 use Rattle.tb_engines.specs.declared.delivery.NoText.TheVariants.{Refused as CantLoad}
 use Rattle.tb_engines.specs.declared.outcome.End.TheVariants.{Done}
-use Rattle.tb_engines.specs.declared.outcome.Outcome.{Outcome}
+use Rattle.tb_engines.specs.Outcomes.{Outcome}
 use Rattle.tb_engines.specs.declared.outcome.Refusal.{Refusal}
-use Rattle.tb_engines.specs.declared.outcome.Outcome.TheVariants.{Ended, Refused, ReadFault, WriteFault, NoMemory}
+use Rattle.tb_streams.specs.declared.outcome.Outcome.TheVariants.{Ended, Refused, ReadFault, WriteFault, NoMemory}
 use Rattle.tb_play.specs.Lines.{TakesLines}
 use Rattle.tb_codegen.specs.Compiled.{prg_of}
 use Rattle.tb_codegen.specs.declared.compiled.Compiled.{Compiled}

@@ -16,7 +16,7 @@ use std::alloc::Global;
 use std::io::{Read, Write};
 use tb_debug::{Answer, Command, Debugger, Rom, last_move, read_after, read_without_source};
 use tb_driver::{CompiledSource, are_bytes, start_program};
-use tb_engines::{End, Outcome, start_file, without_input, without_text};
+use tb_engines::{End, Outcome, start_file};
 use tb_kernal::Keyboard;
 use tb_labels::Label;
 use tb_streams::{MOST_INPUT, StreamFailure, Tracked, read_line, without_return, write_output};
@@ -54,9 +54,7 @@ fn say<W: Write>(
     ensures { Says (shown_of hints source.now answer) result (stream_of W.contents writer.old) (stream_of W.contents writer.new) }
 {
     let mut text = Vec::new(alloc);
-    if push_answer(alloc, &mut text, source, hints, answer).is_err() {
-        return Err(Outcome::NoMemory);
-    }
+    push_answer(alloc, &mut text, source, hints, answer)?;
     match write_output(writer, text.as_slice()) {
         Ok(()) => Ok(()),
         Err(_) => Err(Outcome::WriteFault),
@@ -89,10 +87,7 @@ fn ask<R: Read, W: Write>(
     if prompt(writer, prompts).is_err() {
         return Err(Outcome::WriteFault);
     }
-    match read_line(alloc, commands, MOST_INPUT) {
-        Ok(line) => Ok(line),
-        Err(error) => Err(without_input(error)),
-    }
+    Ok(read_line(alloc, commands, MOST_INPUT)?)
 }
 
 // The command that a line is after a move, with or without a source.
@@ -183,7 +178,7 @@ fn debugger_of<'a>(
     are_bytes(keyboard.answers.as_slice());
     let machine = match start_program(alloc, &source.program, keyboard) {
         Ok(machine) => machine,
-        Err(stop) => return Err(without_text(stop)),
+        Err(stop) => return Err(Outcome::from(stop)),
     };
     match Debugger::new(alloc, &source.program, machine, rom) {
         Ok(debugger) => Ok(debugger),
@@ -201,10 +196,8 @@ fn open<W: Write>(
 ) -> Result<(), Outcome>
     ensures { Opens source.now setting debugger.old result debugger.new (stream_of W.contents writer.old) (stream_of W.contents writer.new) }
 {
-    match debugger.stop(alloc, debugger.standing()) {
-        Ok(first) => say(alloc, writer, source, setting.prompts, first),
-        Err(_) => Err(Outcome::NoMemory),
-    }
+    let first = debugger.stop(alloc, debugger.standing())?;
+    say(alloc, writer, source, setting.prompts, first)
 }
 
 /// Debugs a program by commands, one on a line, up to `q` or the end. Each command is answered, and the answer flushed,
@@ -272,7 +265,7 @@ fn debugger_of_prg<'a>(
 {
     let machine = match start_file(alloc, prg, keyboard) {
         Ok(machine) => machine,
-        Err(stop) => return Err(without_text(stop)),
+        Err(stop) => return Err(Outcome::from(stop)),
     };
     match Debugger::of_prg(alloc, machine, rom) {
         Ok(debugger) => Ok(debugger),

@@ -1,4 +1,3 @@
 pub mod Naming
-pub mod Imaging
 pub mod Used
 pub mod Adding

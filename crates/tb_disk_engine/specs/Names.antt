@@ -6,9 +6,9 @@ use Rattle.std.specs.Path.{path_file_name}
 use Rattle.tb_disk.specs.declared.names.Name.{Name}
 use Rattle.tb_disk.specs.Names.{IsName}
 use Rattle.tb_disk.specs.Images.{text_of}
-use Rattle.tb_disk_engine.specs.declared.outcome.DiskOutcome.{DiskOutcome}
-use Rattle.tb_disk_engine.specs.declared.outcome.DiskOutcome.TheVariants.{Done, Refused, ReadFault, WriteFault, NoMemory}
-use Rattle.tb_disk_engine.specs.declared.outcome.DiskRefusal.TheVariants.{BadName, NameTwice, Prg, Text, NotRam, Full}
+use Rattle.tb_disk_engine.specs.Outcomes.{DiskFailure}
+use Rattle.tb_streams.specs.declared.outcome.Outcome.TheVariants.{Ended, Refused, ReadFault, WriteFault, NoMemory}
+use Rattle.tb_disk_engine.specs.declared.outcome.DiskRefusal.TheVariants.{BadName}
 
 -- a letter in upper case, `_` as `-`; every other byte as it is
 abbrev pub sign_of : ℕ → ℕ
@@ -37,14 +37,10 @@ NamesDisk path name =
     (IsName (disk_text path) × (text_of name ≡ disk_text path)) ⊎ ((¬ IsName (disk_text path)) × (text_of name ≡ 84 ∷ 66 ∷ 67 ∷ []))
 
 -- why a file gets no name
-abbrev pub Unnamed : List ℕ → DiskOutcome → Type 0
+abbrev pub Unnamed : List ℕ → DiskFailure → Type 0
 Unnamed path (Refused BadName) = ¬ IsName (file_text path)
-Unnamed path (Refused NameTwice) = ⊥
-Unnamed path (Refused (Prg e)) = ⊥
-Unnamed path (Refused Text) = ⊥
-Unnamed path (Refused NotRam) = ⊥
-Unnamed path (Refused Full) = ⊥
+Unnamed path (Refused e) = ⊥
 Unnamed path NoMemory = ⊤
-Unnamed path Done = ⊥
+Unnamed path (Ended never) = ⊥
 Unnamed path ReadFault = ⊥
 Unnamed path WriteFault = ⊥

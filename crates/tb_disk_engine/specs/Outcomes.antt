@@ -1,13 +1,7 @@
--- The exit statuses of making disks.
-use Rattle.std.specs.Prelude.{ℕ}
-use Rattle.tb_streams.specs.Numbers.{DONE, REFUSED, FAULT, NO_MEMORY}
-use Rattle.tb_disk_engine.specs.declared.outcome.DiskOutcome.{DiskOutcome}
-use Rattle.tb_disk_engine.specs.declared.outcome.DiskOutcome.TheVariants.{Done, Refused, ReadFault, WriteFault, NoMemory}
+-- How making disks ends.
+use Rattle.tb_streams.specs.Outcomes.{Failure}
+use Rattle.tb_disk_engine.specs.declared.outcome.DiskRefusal.{DiskRefusal}
 
--- the exit status by how making a disk ended
-abbrev pub status_of : DiskOutcome → ℕ
-status_of Done = DONE
-status_of (Refused e) = REFUSED
-status_of ReadFault = FAULT
-status_of WriteFault = FAULT
-status_of NoMemory = NO_MEMORY
+-- why there is no name, no file or no image
+abbrev pub DiskFailure : Type 0
+DiskFailure = Failure DiskRefusal

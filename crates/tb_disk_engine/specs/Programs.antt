@@ -1,15 +1,12 @@
 -- Which files are programs that belong on a disk.
-use Rattle.std.specs.Prelude.{◌≡◌, ◌⊎◌, ℕ, Bool, true, false, ◌==◌, ◌||◌, ◌&&◌, nat_le, List, length, Result, Ok, Err}
+use Rattle.std.specs.Prelude.{◌≡◌, ◌⊎◌, ℕ, true, false, List, length, Result, Ok, Err}
 use Rattle.std.specs.List.{list_all}
 use Rattle.tb_memmap.specs.Regions.{BASIC_START}
 use Rattle.tb_memmap.specs.Bytes.{IsOpenRange}
+use Rattle.tb_files.specs.Looks.{is_text_byte}
 use Rattle.tb_prg.specs.Prg.{content_of}
 use Rattle.tb_disk_engine.specs.declared.outcome.DiskRefusal.{DiskRefusal}
 use Rattle.tb_disk_engine.specs.declared.outcome.DiskRefusal.TheVariants.{BadName, NameTwice, Prg, Text, NotRam, Full}
-
--- a byte that a text may have: a character of ASCII, a tabulator or a line end
-abbrev pub is_text_byte : ℕ → Bool
-is_text_byte b = (b == 9) || ((b == 10) || ((b == 13) || (nat_le 32 b && nat_le b 126)))
 
 -- bytes at an address have the BASIC line's place, or all lie in RAM
 abbrev pub IsPlaced : ℕ → ℕ → Type 0

@@ -1,19 +1,15 @@
 //! The files for a disk, and its image.
 ghost use Rattle.std.specs.Prelude.{◌≡◌, [], map, ◌+◌, ◌≤◌, ◌↔◌, IsTrue, IfOk, MatchBool, MatchResult};
-ghost use Rattle.std.specs.List.{list_all};
 ghost use Rattle.tb_memmap.specs.Bytes.{IsOpenRange};
-ghost use Rattle.tb_streams.specs.Uses.{use_of, TakesInput};
-ghost use Rattle.tb_disk_engine.specs.Files.{entry_of, entry_in, entries, IsUsed, NamesNext, Adds, AddFaults};
-ghost use Rattle.tb_disk_engine.specs.Programs.{is_text_byte, Judges};
-ghost use Rattle.tb_disk_engine.specs.Files.{IsImageOf, HasNoImage, Writes, WriteFaults};
+ghost use Rattle.tb_disk_engine.specs.Files.{entry_of, entry_in, entries, IsUsed, NamesNext, Adds, IsImageOf, HasNoImage};
+ghost use Rattle.tb_disk_engine.specs.Programs.{Judges};
 
 use crate::names::{disk_name, file_name};
-use crate::outcome::{DiskOutcome, DiskRefusal};
+use crate::outcome::{DiskFailure, DiskRefusal};
 use std::alloc::{AllocError, Global};
-use std::io::{Read, Write};
 use tb_disk::{DiskError, File, Name, disk};
+use tb_files::is_text;
 use tb_memmap::is_open_at;
-use tb_streams::{InputError, Tracked, read_input, write_output};
 
 /// The load address of a program with a BASIC line.
 const BASIC_START: u16 = 0x0801;
@@ -43,20 +39,6 @@ fn files_in(alloc: Global, taken: &[Taken]) -> Result<Vec<File<'_>>, AllocError>
         })?;
     }
     Ok(files)
-}
-
-// Whether a byte may be one of a text: a character of ASCII, a tabulator or a line end.
-fn is_text_byte(byte: u8) -> bool
-    ensures { result ≡ is_text_byte byte }
-{
-    byte == b'\t' || byte == b'\n' || byte == b'\r' || (32 <= byte && byte <= 126)
-}
-
-// Whether all bytes may be those of a text.
-fn is_text(bytes: &[u8]) -> bool
-    ensures { result ≡ list_all is_text_byte bytes.now }
-{
-    bytes.iter().all(|byte| is_text_byte(*byte))
 }
 
 // Whether each of `count` addresses from `at` on is one of RAM.
@@ -113,69 +95,43 @@ impl DiskFiles {
 
     /// The name on the disk of a file with this path, which is to come next. Refused if it is no name of a disk's file,
     /// or if an earlier file has it.
-    pub fn name(&self, alloc: Global, path: &str) -> Result<Name, DiskOutcome>
+    pub fn name(&self, alloc: Global, path: &str) -> Result<Name, DiskFailure>
         ensures { NamesNext self.now path.now result }
     {
         let name = file_name(alloc, path)?;
         if self.has(&name) {
-            return Err(DiskOutcome::Refused(DiskRefusal::NameTwice));
+            return Err(DiskFailure::Refused(DiskRefusal::NameTwice));
         }
         Ok(name)
     }
 
-    /// Takes in all that a reader gives under a name, after the files so far. Refused if one of these has the name, and
-    /// then if it is no PRG file; on any error the files are let go.
-    pub fn add<R: Read>(
-        mut self,
-        alloc: Global,
-        name: Name,
-        reader: &mut Tracked<R>,
-    ) -> Result<DiskFiles, DiskOutcome>
-        ensures adds { Adds self name (R.remaining reader.old.stream) result }
-        ensures faults { AddFaults result (use_of R.remaining reader.old reader.new) }
-        ensures taken { TakesInput (use_of R.remaining reader.old reader.new) }
+    /// Takes in the bytes of a file under a name, after the files so far. Refused if one of these has the name, and then if
+    /// it is no program that belongs on a disk; on any error the files are let go.
+    pub fn add(mut self, name: Name, bytes: Vec<u8>) -> Result<DiskFiles, DiskFailure>
+        ensures { Adds self name bytes.items result }
     {
         if self.has(&name) {
-            return Err(DiskOutcome::Refused(DiskRefusal::NameTwice));
+            return Err(DiskFailure::Refused(DiskRefusal::NameTwice));
         }
-        let bytes = match read_input(alloc, reader) {
-            Ok(bytes) => bytes,
-            Err(InputError::Fault) => return Err(DiskOutcome::ReadFault),
-            Err(InputError::NoMemory) => return Err(DiskOutcome::NoMemory),
-        };
         if let Err(refusal) = judged(bytes.as_slice()) {
-            return Err(DiskOutcome::Refused(refusal));
+            return Err(DiskFailure::Refused(refusal));
         }
         match self.files.push(Taken { name, bytes }) {
             Ok(()) => Ok(self),
-            Err(_) => Err(DiskOutcome::NoMemory),
+            Err(_) => Err(DiskFailure::NoMemory),
         }
     }
 
-    // The image of the disk with the files. The disk is named by a path.
-    fn image(&self, alloc: Global, path: &str) -> Result<Vec<u8>, DiskError>
-        ensures { MatchResult result (λ image. IsImageOf self.now path.now image.items)
-            (HasNoImage self.now) }
+    /// The image of the disk with the files; the disk is named by a path.
+    pub fn image(&self, alloc: Global, path: &str) -> Result<Vec<u8>, DiskFailure>
+        ensures { MatchResult result (λ image. IsImageOf self.now path.now image.items) (HasNoImage self.now) }
     {
         let title = disk_name(alloc, path)?;
         let files = files_in(alloc, self.files.as_slice())?;
-        disk(alloc, &title, files.as_slice())
-    }
-
-    /// Writes the image of the disk with the files; the disk is named by a path. Nothing is written if there is no
-    /// image; after a write fault, a prefix of it is.
-    pub fn write<W: Write>(&self, alloc: Global, path: &str, writer: &mut Tracked<W>) -> DiskOutcome
-        ensures writes { Writes self.now path.now result (use_of W.contents writer.old writer.new) }
-        ensures faults { WriteFaults result (use_of W.contents writer.old writer.new) }
-    {
-        let image = match self.image(alloc, path) {
-            Ok(image) => image,
-            Err(DiskError::Full) => return DiskOutcome::Refused(DiskRefusal::Full),
-            Err(DiskError::NoMemory) => return DiskOutcome::NoMemory,
-        };
-        match write_output(writer, image.as_slice()) {
-            Ok(()) => DiskOutcome::Done,
-            Err(_) => DiskOutcome::WriteFault,
+        match disk(alloc, &title, files.as_slice()) {
+            Ok(image) => Ok(image),
+            Err(DiskError::Full) => Err(DiskFailure::Refused(DiskRefusal::Full)),
+            Err(DiskError::NoMemory) => Err(DiskFailure::NoMemory),
         }
     }
 }

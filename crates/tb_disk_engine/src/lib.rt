@@ -1,4 +1,4 @@
-//! Files for a disk, taken in one after the other, and the image of the disk with them, over any reader and writer.
+//! Files for a disk, taken in one after the other, and the image of the disk with them.
 #![tactic(auto)]
 
 mod files;
@@ -6,5 +6,5 @@ mod names;
 mod outcome;
 
 pub use files::DiskFiles;
-pub use outcome::{DiskOutcome, DiskRefusal};
+pub use outcome::{DiskFailure, DiskOutcome, DiskRefusal};
 pub use tb_disk::Name;

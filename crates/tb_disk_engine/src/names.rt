@@ -4,7 +4,7 @@ ghost use Rattle.tb_disk.specs.Names.{IsName, field_of};
 ghost use Rattle.tb_disk.specs.Images.{text_of};
 ghost use Rattle.tb_disk_engine.specs.Names.{sign_of, signs_of, without, file_text, Unnamed, NamesDisk};
 
-use crate::outcome::{DiskOutcome, DiskRefusal};
+use crate::outcome::{DiskFailure, DiskRefusal};
 use std::alloc::{AllocError, Global};
 use std::path::Path;
 use tb_disk::Name;
@@ -58,7 +58,7 @@ fn cut(signs: &[u8]) -> &[u8]
 }
 
 /// The name that a file gets: the last part of its path without `.PRG`. Refused if that is no name of a disk's file.
-pub fn file_name(alloc: Global, path: &str) -> Result<Name, DiskOutcome>
+pub fn file_name(alloc: Global, path: &str) -> Result<Name, DiskFailure>
     ensures { MatchResult result
         (λ n. IsName (file_text path.now) × (n.field ≡ field_of (file_text path.now)))
         (Unnamed path.now) }
@@ -66,7 +66,7 @@ pub fn file_name(alloc: Global, path: &str) -> Result<Name, DiskOutcome>
     let signs = signs_of(alloc, path)?;
     match Name::new(without(b".PRG", signs.as_slice())) {
         Some(name) => Ok(name),
-        None => Err(DiskOutcome::Refused(DiskRefusal::BadName)),
+        None => Err(DiskFailure::Refused(DiskRefusal::BadName)),
     }
 }
 

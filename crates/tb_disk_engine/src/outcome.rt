@@ -1,10 +1,6 @@
 //! How making a disk ended.
-ghost use Rattle.std.specs.Prelude.{◌≡◌};
-ghost use Rattle.tb_disk_engine.specs.Outcomes.{status_of};
-
-use std::alloc::AllocError;
 use tb_prg::PrgError;
-use tb_streams::status;
+use tb_streams::{Done, ExitStatus, Failure, Outcome, status};
 use thiserror::Error;
 
 /// Why there is no disk.
@@ -30,44 +26,18 @@ pub enum DiskRefusal {
     Full,
 }
 
-/// How making a disk ended. At `Done` its whole image was written, at `WriteFault` a prefix of it, and else nothing.
-#[derive(Clone, Copy, PartialEq, Eq, Debug, Drop, Error)]
-pub enum DiskOutcome {
-    #[error("")]
-    Done,
-    #[error("{0}")]
-    Refused(DiskRefusal),
-    /// A reader failed, or gave too many bytes.
-    #[error("read fault")]
-    ReadFault,
-    /// The writer failed.
-    #[error("write fault")]
-    WriteFault,
-    /// Memory ran out.
-    #[error("out of memory")]
-    NoMemory,
-}
+/// How making a disk ended.
+pub type DiskOutcome = Outcome<Done, DiskRefusal>;
 
-impl DiskOutcome {
-    /// The exit status of the program.
-    pub fn status(&self) -> u8
-        ensures { result ≡ status_of self.now }
-    {
-        match self {
-            DiskOutcome::Done => status::DONE,
-            DiskOutcome::Refused(_) => status::REFUSED,
-            DiskOutcome::ReadFault | DiskOutcome::WriteFault => status::FAULT,
-            DiskOutcome::NoMemory => status::NO_MEMORY,
-        }
-    }
-}
+/// Why there is no name, no file or no image.
+pub type DiskFailure = Failure<DiskRefusal>;
 
-impl From<AllocError> for DiskOutcome {
-    ghost use Rattle.tb_disk_engine.specs.declared.outcome.DiskOutcome.TheVariants.{NoMemory};
+impl ExitStatus for DiskRefusal {
+    ghost use Rattle.tb_streams.specs.Numbers.{REFUSED};
 
-    ghost from_gives = { λ _ outcome. outcome ≡ NoMemory };
+    ghost exit_status = { λ _. REFUSED };
 
-    fn from(_error: AllocError) -> DiskOutcome {
-        DiskOutcome::NoMemory
+    fn status(&self) -> u8 {
+        status::REFUSED
     }
 }

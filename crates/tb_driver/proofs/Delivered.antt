@@ -1,22 +1,30 @@
 -- What is delivered of a source.
-use Rattle.std.proofs.Common.{◌≡◌, ℕ, List, [], Option, Result, Ok, Err, refl, subst, sym, ap}
+use Rattle.std.proofs.Common.{◌≡◌, ℕ, List, [], Option, Some, None, Result, Ok, Err, refl, subst, sym}
+use Rattle.std.specs.Io.KnownBytes.{Keeps}
+use Rattle.tb_compile_errors.specs.declared.refusals.CompileError.{CompileError}
 use Rattle.tb_meaning.specs.declared.missing.Warning.{Warning}
 use Rattle.tb_codegen.specs.Compiled.{warnings_of}
 use Rattle.tb_codegen.specs.declared.compiled.Compiled.{Compiled}
 use Rattle.tb_codegen.specs.declared.settings.CompileSettings.{CompileSettings}
 use Rattle.tb_streams.specs.Streams.{Reads}
-use Rattle.tb_engines.specs.Outcomes.{Product, Answers, MadeFrom}
+use Rattle.tb_engines.specs.Outcomes.{Failure, Outcome, Product, Answers, MadeFrom}
 use Rattle.tb_engines.specs.Delivery.{Makes, Shows}
 use Rattle.tb_driver.specs.Sources.{Compiles, FromSource}
 use Rattle.tb_driver.specs.Reading.{CompilesText}
 use Rattle.tb_engines.specs.declared.delivery.Text.{Text}
 use Rattle.tb_engines.specs.declared.delivery.NoText.{NoText}
 use Rattle.tb_engines.specs.declared.delivery.NoText.TheVariants.{Refused as NoTextRefused, NoMemory as NoTextNoMemory}
-use Rattle.tb_engines.specs.declared.outcome.Outcome.{Outcome}
-use Rattle.tb_engines.specs.declared.outcome.Outcome.TheVariants.{Ended, Refused, ReadFault, WriteFault, NoMemory}
+use Rattle.tb_streams.specs.Outcomes.{ended_by}
+use Rattle.tb_engines.specs.declared.outcome.Refusal.TheVariants.{Source}
+use Rattle.tb_streams.specs.declared.outcome.Outcome.TheVariants.{Ended, Refused, ReadFault, WriteFault, NoMemory}
 use Rattle.tb_engines.specs.declared.report.Report.{Report}
 
 -- ---- what was made, and what was written of it
+
+-- nothing was written
+pub kept : (bytes : Option (List ℕ)) → Keeps bytes bytes
+kept None = tt
+kept (Some xs) = refl
 
 -- what was made of one kind of product was made of any wider kind
 pub makes_as : (p q : Product → Type 0) → ((x : Product) → p x → q x) → (made : Result Text NoText) → Makes p made → Makes q made
@@ -47,15 +55,21 @@ delivered makes had input source made outcome old new reads same m written =
     let here = subst (λ s. Makes (makes s) made) same m in
     answers_as (Shows made) (MadeFrom had makes) (λ x s. (input, reads, shown (makes input) made here x s)) outcome old new written
 
--- what was written if there is no program to warn of
-pub refusal_delivered : (makes : List Warning → List ℕ → Product → Type 0) (had : Option (List ℕ)) (source : List ℕ) (stop : NoText)
-    (outcome : Outcome) (report : Report) (old new : Option (List ℕ)) → Reads had source → Makes (makes [] source) (Err stop)
-    → Answers (Shows (Err stop)) outcome old new → report.outcome ≡ outcome → report.warnings.items ≡ []
-    → Answers (MadeFrom had (makes report.warnings.items)) report.outcome old new
-refusal_delivered makes had source stop outcome report old new reads m written ends none =
-    subst (λ w. Answers (MadeFrom had (makes w)) report.outcome old new) (sym none)
-    (subst (λ o. Answers (MadeFrom had (makes [])) o old new) (sym ends)
-    (delivered (makes []) had source source (Err stop) outcome old new reads refl m written))
+-- where a source is not compiled, nothing is written, and nothing is warned of
+pub refusal_delivered : (settings : CompileSettings) (makes : List Warning → List ℕ → Product → Type 0) (had : Option (List ℕ)) (source : List ℕ) (stop : Failure)
+    (report : Report) (bytes : Option (List ℕ)) → ((e : CompileError) → Compiles settings source (Err e) → makes [] source (Err (Source e)))
+    → Reads had source → CompilesText settings source (Err stop) → report.outcome ≡ ended_by (Err stop) → report.warnings.items ≡ []
+    → Answers (MadeFrom had (makes report.warnings.items)) report.outcome bytes bytes
+refusal_delivered settings makes had source stop report bytes refusal reads refused ends none =
+    subst (λ w. Answers (MadeFrom had (makes w)) report.outcome bytes bytes) (sym none)
+    (subst (λ o. Answers (MadeFrom had (makes [])) o bytes bytes) (sym ends) (by stop refused))
+  where
+    by : (stop : Failure) → CompilesText settings source (Err stop) → Answers (MadeFrom had (makes [])) (ended_by (Err stop)) bytes bytes
+    by (Refused why) (e, is, same) = ((source, reads, subst (λ w. makes [] source (Err w)) (sym same) (refusal e is)), kept bytes)
+    by NoMemory is = kept bytes
+    by ReadFault never = absurd never
+    by WriteFault never = absurd never
+    by (Ended end) never = absurd never
 
 -- ---- what is made of a source
 
@@ -65,9 +79,3 @@ pub from_compiled : (settings : CompileSettings) (makes : Compiled → Product �
     → Makes (FromSource settings makes warnings source) made
 from_compiled settings makes source c warnings made compiled warned m =
     makes_as (makes c) (FromSource settings makes warnings source) (λ x h. (Ok c, compiled, (warned, h))) made m
-
--- a refusal is made of the source that is refused
-pub from_refusal : (settings : CompileSettings) (makes : Compiled → Product → Type 0) (source : List ℕ) (stop : NoText) → CompilesText settings source (Err stop)
-    → Makes (FromSource settings makes [] source) (Err stop)
-from_refusal settings makes source (NoTextRefused why) (e, refused, is) = (Err e, refused, (refl, ap (λ x. Err x) is))
-from_refusal settings makes source NoTextNoMemory none = tt

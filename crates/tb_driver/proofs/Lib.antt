@@ -5,3 +5,4 @@ pub mod Loadable
 mod Refused
 mod Stepped
 mod PlayedSources
+pub mod Noted

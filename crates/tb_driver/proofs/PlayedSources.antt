@@ -2,9 +2,8 @@
 use Rattle.std.proofs.Common.{ℕ, List, [], ◌∷◌, inl, inr}
 use Rattle.tb_opcodes.specs.Bytes.{AreBytes}
 use Rattle.tb_streams.specs.Uses.{Use}
-use Rattle.tb_engines.specs.Outcomes.{Product}
-use Rattle.tb_engines.specs.declared.outcome.Outcome.{Outcome}
-use Rattle.tb_engines.specs.declared.outcome.Outcome.TheVariants.{Ended, Refused, ReadFault, WriteFault, NoMemory}
+use Rattle.tb_engines.specs.Outcomes.{Outcome, Product}
+use Rattle.tb_streams.specs.declared.outcome.Outcome.TheVariants.{Ended, Refused, ReadFault, WriteFault, NoMemory}
 use Rattle.tb_play.specs.Lines.{AreBytes}
 use Rattle.tb_play.specs.Plays.{quietly, RunsTyped, Shows}
 use Rattle.tb_driver.specs.Output.{RunsSource, ShowsSources}

@@ -1,6 +1,5 @@
 -- What is delivered of a source that was read.
-use Rattle.std.proofs.Common.{◌≡◌, ℕ, List, [], Option, Some, None, Result, Ok, Err, refl, subst, sym}
-use Rattle.std.specs.Io.KnownBytes.{Keeps as KeepsBytes}
+use Rattle.std.proofs.Common.{◌≡◌, ℕ, List, [], Option, Result, Ok, Err, refl, subst, sym}
 use Rattle.tb_memmap.specs.Regions.{BASIC_START}
 use Rattle.tb_meaning.specs.declared.missing.Warning.{Warning}
 use Rattle.tb_syntax.specs.Source.{Program}
@@ -15,20 +14,19 @@ use Rattle.tb_codegen.specs.declared.compiled.Compiled.{Compiled}
 use Rattle.tb_codegen.specs.declared.settings.CompileSettings.{CompileSettings}
 use Rattle.tb_streams.specs.Streams.{Reads}
 use Rattle.tb_streams.specs.Uses.{Use, NeverFails}
-use Rattle.tb_engines.specs.Outcomes.{Product, Answers, AnswersInput, MadeFrom}
-use Rattle.tb_engines.specs.Delivery.{Makes, Shows, outcome_without}
+use Rattle.tb_engines.specs.Outcomes.{Failure, Outcome, Product, Answers, AnswersInput, MadeFrom}
+use Rattle.tb_engines.specs.Delivery.{Makes, Shows}
 use Rattle.tb_driver.specs.Sources.{Compiles, stop_of, FromSource}
 use Rattle.tb_driver.specs.Output.{KeepsSource, RunsSource}
 use Rattle.tb_driver.specs.Reading.{IsCompilation, CompilesText, ReadsSource}
 use Rattle.tb_driver.specs.declared.reading.CompiledSource.{CompiledSource}
 use Rattle.tb_engines.specs.declared.delivery.Text.{Text}
 use Rattle.tb_engines.specs.declared.delivery.NoText.{NoText}
-use Rattle.tb_engines.specs.declared.delivery.NoText.TheVariants.{Refused as NoTextRefused, NoMemory as NoTextNoMemory}
-use Rattle.tb_engines.specs.declared.outcome.Outcome.{Outcome}
-use Rattle.tb_engines.specs.declared.outcome.Outcome.TheVariants.{Ended, Refused, ReadFault, WriteFault, NoMemory}
+use Rattle.tb_streams.specs.Outcomes.{ended_by}
+use Rattle.tb_streams.specs.declared.outcome.Outcome.TheVariants.{Ended, Refused, ReadFault, WriteFault, NoMemory}
 use Rattle.tb_engines.specs.declared.outcome.Refusal.TheVariants.{Source}
 use Rattle.tb_engines.specs.declared.report.Report.{Report}
-use Rattle.tb_driver.proofs.Delivered.{answers_as, shown}
+use Rattle.tb_driver.proofs.Delivered.{answers_as, kept, shown}
 use Rattle.tb_driver.proofs.Output.{keeps_source}
 use Rattle.tb_driver.proofs.Refused.{is_refused}
 
@@ -50,7 +48,7 @@ compiled settings text source c same found only keeps (program, made, marks) =
     })
 
 -- why the compiler answered none
-pub not_compiled : (settings : CompileSettings) (text source : List ℕ) (e : CompileError) (stop : NoText) → source ≡ text → HasOutcome settings source (Err e)
+pub not_compiled : (settings : CompileSettings) (text source : List ℕ) (e : CompileError) (stop : Failure) → source ≡ text → HasOutcome settings source (Err e)
     → ((outcome : FileOutcome) → SourceMakes settings.notation source outcome → OutcomeAnswer settings outcome (Err e)) → stop ≡ stop_of e → CompilesText settings text (Err stop)
 not_compiled settings text source e stop same found only is =
     subst (λ s. CompilesText settings s (Err stop)) same (subst (λ t. CompilesText settings source (Err t)) (sym is) (by e found only))
@@ -63,53 +61,54 @@ not_compiled settings text source e stop same found only is =
     by NoCompilerMemory found only = tt
 
 -- a source that was read and compiled
-pub source_read : (settings : CompileSettings) (reader : Use) (text : List ℕ) (s : CompiledSource) → Reads reader.old text
+source_read : (settings : CompileSettings) (reader : Use) (text : List ℕ) (s : CompiledSource) → Reads reader.old text
     → CompilesText settings text (Ok s) → NeverFails reader → ReadsSource settings (Ok s) reader
 source_read settings reader text s reads (same, is) sound = (subst (Reads reader.old) (sym same) reads, is, sound)
 
 -- one that was read and is not compiled
-pub source_refused : (settings : CompileSettings) (reader : Use) (text : List ℕ) (stop : NoText) (outcome : Outcome) → Reads reader.old text
-    → CompilesText settings text (Err stop) → outcome ≡ outcome_without stop → NeverFails reader → ReadsSource settings (Err outcome) reader
-source_refused settings reader text stop outcome reads refused is sound =
-    subst (λ o. ReadsSource settings (Err o) reader) (sym is) (by stop refused)
-  where
-    by : (stop : NoText) → CompilesText settings text (Err stop) → ReadsSource settings (Err (outcome_without stop)) reader
-    by (NoTextRefused why) (e, refused, same) = (text, e, reads, refused, same, sound)
-    by NoTextNoMemory none = sound
+source_refused : (settings : CompileSettings) (reader : Use) (text : List ℕ) (stop : Failure) → Reads reader.old text
+    → CompilesText settings text (Err stop) → NeverFails reader → ReadsSource settings (Err stop) reader
+source_refused settings reader text (Refused why) reads (e, refused, same) sound = (text, e, reads, refused, same, sound)
+source_refused settings reader text NoMemory reads refused sound = sound
+source_refused settings reader text ReadFault reads never sound = absurd never
+source_refused settings reader text WriteFault reads never sound = absurd never
+source_refused settings reader text (Ended end) reads never sound = absurd never
+
+-- what reading and compiling it answers
+pub source_answered : (settings : CompileSettings) (reader : Use) (text : List ℕ) (answer : Result CompiledSource Failure) → Reads reader.old text
+    → CompilesText settings text answer → NeverFails reader → ReadsSource settings answer reader
+source_answered settings reader text (Ok s) = source_read settings reader text s
+source_answered settings reader text (Err stop) = source_refused settings reader text stop
 
 -- ---- if there is no program
 
-kept : (bytes : Option (List ℕ)) → KeepsBytes bytes bytes
-kept None = tt
-kept (Some xs) = refl
-
 -- nothing was written, and a refusal is the compiler's
 not_made : (settings : CompileSettings) (makes : List ℕ → Product → Type 0) → ((source : List ℕ) (e : CompileError) → Compiles settings source (Err e) → makes source (Err (Source e)))
-    → (outcome : Outcome) (reader : Use) (bytes : Option (List ℕ)) → ReadsSource settings (Err outcome) reader
-    → Answers (MadeFrom reader.old makes) outcome bytes bytes
+    → (stop : Failure) (reader : Use) (bytes : Option (List ℕ)) → ReadsSource settings (Err stop) reader
+    → Answers (MadeFrom reader.old makes) (ended_by (Err stop)) bytes bytes
 not_made settings makes refusal (Refused why) reader bytes (source, e, reads, refused, is, same) =
     ((source, reads, subst (λ w. makes source (Err w)) (sym is) (refusal source e refused)), kept bytes)
 not_made settings makes refusal ReadFault reader bytes fault = kept bytes
 not_made settings makes refusal NoMemory reader bytes same = kept bytes
-not_made settings makes refusal (Ended end) reader bytes none = absurd none
+not_made settings makes refusal (Ended never) reader bytes none = absurd none
 not_made settings makes refusal WriteFault reader bytes none = absurd none
 
 -- the same for the report, which has no warnings
-pub nothing_made : (settings : CompileSettings) (outcome : Outcome) (report : Report) (reader : Use) (bytes : Option (List ℕ)) → ReadsSource settings (Err outcome) reader
-    → report.outcome ≡ outcome → report.warnings.items ≡ [] → (makes : List ℕ → Compiled → Product → Type 0)
+pub nothing_made : (settings : CompileSettings) (stop : Failure) (report : Report) (reader : Use) (bytes : Option (List ℕ)) → ReadsSource settings (Err stop) reader
+    → report.outcome ≡ ended_by (Err stop) → report.warnings.items ≡ [] → (makes : List ℕ → Compiled → Product → Type 0)
     → Answers (MadeFrom reader.old (λ source. FromSource settings (makes source) report.warnings.items source)) report.outcome bytes bytes
-nothing_made settings outcome report reader bytes is ends none makes =
+nothing_made settings stop report reader bytes is ends none makes =
     subst (λ w. Answers (MadeFrom reader.old (λ source. FromSource settings (makes source) w source)) report.outcome bytes bytes) (sym none)
     (subst (λ o. Answers (MadeFrom reader.old (λ source. FromSource settings (makes source) [] source)) o bytes bytes) (sym ends)
-    (not_made settings (λ source. FromSource settings (makes source) [] source) (λ source e refused. (Err e, refused, (refl, refl))) outcome reader bytes is))
+    (not_made settings (λ source. FromSource settings (makes source) [] source) (λ source e refused. (Err e, refused, (refl, refl))) stop reader bytes is))
 
 -- and for a source's output, which is said of the source alone
-pub nothing_output : (settings : CompileSettings) (text answers : List ℕ) (outcome : Outcome) (report : Report) (reader : Use) (bytes : Option (List ℕ))
-    → ReadsSource settings (Err outcome) reader → report.outcome ≡ outcome
+pub nothing_output : (settings : CompileSettings) (text answers : List ℕ) (stop : Failure) (report : Report) (reader : Use) (bytes : Option (List ℕ))
+    → ReadsSource settings (Err stop) reader → report.outcome ≡ ended_by (Err stop)
     → Answers (MadeFrom reader.old (RunsSource settings text answers)) report.outcome bytes bytes
-nothing_output settings text answers outcome report reader bytes is ends =
+nothing_output settings text answers stop report reader bytes is ends =
     subst (λ o. Answers (MadeFrom reader.old (RunsSource settings text answers)) o bytes bytes) (sym ends)
-    (not_made settings (RunsSource settings text answers) (is_refused settings) outcome reader bytes is)
+    (not_made settings (RunsSource settings text answers) (is_refused settings) stop reader bytes is)
 
 -- ---- if there is one
 

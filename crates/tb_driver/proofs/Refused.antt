@@ -6,7 +6,7 @@ use Rattle.tb_compile_errors.specs.declared.refusals.CompileError.TheVariants.{S
 use Rattle.tb_codegen.specs.declared.settings.CompileSettings.{CompileSettings}
 use Rattle.tb_codegen.specs.Answers.{Answered, OutcomeAnswer, SourceMakes}
 use Rattle.tb_codegen.specs.Refusals.{Refuses}
-use Rattle.tb_driver.specs.Sources.{IsAnswer, Compiles}
+use Rattle.tb_driver.specs.Sources.{Compiles}
 use Rattle.tb_driver.specs.Refused.{IsRefused}
 
 -- an error that is no want of memory

@@ -11,19 +11,20 @@ use Rattle.tb_codegen.specs.declared.settings.CompileSettings.{CompileSettings}
 use Rattle.tb_stepper.specs.Holding.{Holds}
 use Rattle.tb_commands.specs.Lines.{lines_of}
 use Rattle.tb_commands.specs.Dialogue.{Dialogue}
+use Rattle.tb_compile_errors.specs.declared.refusals.CompileError.{CompileError}
 use Rattle.tb_streams.specs.Streams.{Reads}
 use Rattle.tb_engines.specs.Delivery.{Makes}
 use Rattle.tb_streams.specs.Uses.{Use}
 use Rattle.tb_engines.specs.Programs.{start, Settings}
 use Rattle.tb_driver.specs.Sources.{Compiles, FromSource}
-use Rattle.tb_driver.specs.Reading.{CompilesText}
 use Rattle.tb_driver.specs.Starting.{StartsLoadable}
 use Rattle.tb_driver.specs.Stepping.{start_of_history, Steps, StepsThrough, MadeFromTaken}
 use Rattle.tb_engines.specs.declared.delivery.Text.{Text}
 use Rattle.tb_engines.specs.declared.delivery.NoText.{NoText}
 use Rattle.tb_engines.specs.declared.delivery.NoText.TheVariants.{Refused, NoMemory}
 use Rattle.tb_engines.specs.declared.outcome.End.TheVariants.{Done}
-use Rattle.tb_driver.proofs.Delivered.{makes_as, from_compiled, from_refusal}
+use Rattle.tb_engines.specs.declared.outcome.Refusal.TheVariants.{Source}
+use Rattle.tb_driver.proofs.Delivered.{makes_as, from_compiled}
 
 module _ (s : Settings Quiet) where
   -- the answers over the machine with which a loadable program starts
@@ -50,10 +51,8 @@ module _ (s : Settings Quiet) where
       makes_as (FromSource settings (λ p. Steps s p typed) warnings source) (MadeFromTaken reader (StepsThrough s settings warnings source))
       (λ x h. (typed, reads, taken, h)) made (from_compiled settings (λ p. Steps s p typed) source program warnings made compiled warned here)
 
-  -- what was made of a source that is refused
-  pub steps_refused : (settings : CompileSettings) (reader : Use) (source typed : List ℕ) (stop : NoText) → Reads reader.old typed
-      → Consumes reader.old reader.new typed → CompilesText settings source (Err stop)
-      → Makes (MadeFromTaken reader (StepsThrough s settings [] source)) (Err stop)
-  steps_refused settings reader source typed stop reads taken refused =
-      makes_as (FromSource settings (λ p. Steps s p typed) [] source) (MadeFromTaken reader (StepsThrough s settings [] source))
-      (λ x h. (typed, reads, taken, h)) (Err stop) (from_refusal settings (λ p. Steps s p typed) source stop refused)
+  -- what is made of a source that is refused
+  pub steps_refused : (settings : CompileSettings) (reader : Use) (source typed : List ℕ) (e : CompileError) → Reads reader.old typed
+      → Consumes reader.old reader.new typed → Compiles settings source (Err e)
+      → MadeFromTaken reader (StepsThrough s settings [] source) (Err (Source e))
+  steps_refused settings reader source typed e reads taken refused = (typed, reads, taken, (Err e, refused, (refl, refl)))

@@ -5,3 +5,11 @@ pub mod Output
 pub mod Stepping
 pub mod Reading
 pub mod Fitting
+-- in which line a machine is
+pub mod Places
+-- by which fault a program ended
+pub mod Faults
+-- what a machine tells at the end of a run
+pub mod Notes
+-- a run with what its machine tells
+pub mod Runs

@@ -12,11 +12,10 @@ use Rattle.tb_codegen.specs.declared.settings.CompileSettings.{CompileSettings}
 use Rattle.tb_prg.specs.Prg.{content_of}
 use Rattle.tb_streams.specs.HostForm.{host_form_of}
 use Rattle.tb_streams.specs.Uses.{Use}
-use Rattle.tb_engines.specs.Outcomes.{Product}
+use Rattle.tb_engines.specs.Outcomes.{Outcome, Product}
 use Rattle.tb_driver.specs.Refused.{IsRefused}
 use Rattle.tb_engines.specs.declared.outcome.End.{End}
 use Rattle.tb_engines.specs.declared.outcome.End.TheVariants.{Done, StepLimit, WaitsForKey, WentWrong}
-use Rattle.tb_engines.specs.declared.outcome.Outcome.{Outcome}
 use Rattle.tb_engines.specs.declared.outcome.Refusal.TheVariants.{Source}
 use Rattle.tb_play.specs.Plays.{Shows}
 

@@ -6,10 +6,8 @@ use Rattle.tb_simulation.specs.LineStarts.{MarksLines}
 use Rattle.tb_streams.specs.Streams.{Reads}
 use Rattle.tb_streams.specs.Uses.{Use, NeverFails, MayFault}
 use Rattle.tb_compile_errors.specs.declared.refusals.CompileError.{CompileError}
-use Rattle.tb_engines.specs.declared.delivery.NoText.{NoText}
-use Rattle.tb_engines.specs.declared.delivery.NoText.TheVariants.{Refused as NoTextRefused, NoMemory as NoTextNoMemory}
-use Rattle.tb_engines.specs.declared.outcome.Outcome.{Outcome}
-use Rattle.tb_engines.specs.declared.outcome.Outcome.TheVariants.{Ended, Refused, ReadFault, WriteFault, NoMemory}
+use Rattle.tb_engines.specs.Outcomes.{Failure}
+use Rattle.tb_streams.specs.declared.outcome.Outcome.TheVariants.{Ended, Refused, ReadFault, WriteFault, NoMemory}
 use Rattle.tb_engines.specs.declared.outcome.Refusal.TheVariants.{Source}
 use Rattle.tb_codegen.specs.Answers.{SourceMakes}
 use Rattle.tb_codegen.specs.Compiled.{IsCompiled, prg_of, loaded_of, start_of}
@@ -29,17 +27,20 @@ pub record IsCompilation (settings : CompileSettings) (source : List ℕ) (progr
   pub marks : MarksLines BASIC_START (loaded_of program) lines settings.seed (start_of program)
 
 -- what compiling a source answers: the source with its program, or the compiler's refusal
-abbrev pub CompilesText : CompileSettings → List ℕ → Result CompiledSource NoText → Type 0
+abbrev pub CompilesText : CompileSettings → List ℕ → Result CompiledSource Failure → Type 0
 CompilesText settings text (Ok s) = (s.text.items ≡ text) × IsCompilation settings s.text.items s.program
-CompilesText settings text (Err (NoTextRefused why)) = (e : CompileError) × Compiles settings text (Err e) × (why ≡ Source e)
-CompilesText settings text (Err NoTextNoMemory) = Unit {0}
+CompilesText settings text (Err (Refused why)) = (e : CompileError) × Compiles settings text (Err e) × (why ≡ Source e)
+CompilesText settings text (Err NoMemory) = Unit {0}
+CompilesText settings text (Err ReadFault) = ⊥
+CompilesText settings text (Err WriteFault) = ⊥
+CompilesText settings text (Err (Ended never)) = ⊥
 
 -- what reading and compiling a source answers: all that the reader had, with its program, or why there is none
-abbrev pub ReadsSource : CompileSettings → Result CompiledSource Outcome → Use → Type 0
+abbrev pub ReadsSource : CompileSettings → Result CompiledSource Failure → Use → Type 0
 ReadsSource settings (Ok s) reader = Reads reader.old s.text.items × IsCompilation settings s.text.items s.program × NeverFails reader
 ReadsSource settings (Err (Refused why)) reader =
     (source : List ℕ) × (e : CompileError) × Reads reader.old source × Compiles settings source (Err e) × (why ≡ Source e) × NeverFails reader
 ReadsSource settings (Err ReadFault) reader = MayFault reader
 ReadsSource settings (Err NoMemory) reader = NeverFails reader
-ReadsSource settings (Err (Ended end)) reader = ⊥
+ReadsSource settings (Err (Ended never)) reader = ⊥
 ReadsSource settings (Err WriteFault) reader = ⊥

@@ -8,13 +8,10 @@ use Rattle.tb_compile_errors.specs.declared.refusals.CompileError.{CompileError}
 use Rattle.tb_compile_errors.specs.declared.refusals.CompileError.TheVariants.{NoMemory}
 use Rattle.tb_codegen.specs.Answers.{HasOutcome, OutcomeAnswer, SourceMakes}
 use Rattle.tb_codegen.specs.Compiled.{prg_of, warnings_of}
-use Rattle.tb_engines.specs.Outcomes.{Product}
+use Rattle.tb_engines.specs.Outcomes.{Failure, Outcome as EngineOutcome, Product}
 use Rattle.tb_engines.specs.Programs.{Settings, RunsPrg}
-use Rattle.tb_engines.specs.declared.delivery.NoText.{NoText}
-use Rattle.tb_engines.specs.declared.delivery.NoText.TheVariants.{Refused as NoTextRefused, NoMemory as NoTextNoMemory}
 use Rattle.tb_engines.specs.declared.outcome.End.TheVariants.{Done}
-use Rattle.tb_engines.specs.declared.outcome.Outcome.{Outcome as EngineOutcome}
-use Rattle.tb_engines.specs.declared.outcome.Outcome.TheVariants.{Ended, Refused, ReadFault, WriteFault, NoMemory as NoEngineMemory}
+use Rattle.tb_streams.specs.declared.outcome.Outcome.TheVariants.{Ended, Refused, ReadFault, WriteFault, NoMemory as NoEngineMemory}
 use Rattle.tb_engines.specs.declared.outcome.Refusal.TheVariants.{Source}
 
 -- what the compiler promises of an answer for a source: what the file's lines make is answered, and whatever they make is
@@ -29,9 +26,9 @@ Compiles settings source (Err NoMemory) = ⊥
 Compiles settings source answer = IsAnswer settings source answer
 
 -- how an engine stops if there is no program
-abbrev pub stop_of : CompileError → NoText
-stop_of NoMemory = NoTextNoMemory
-stop_of e = NoTextRefused (Source e)
+abbrev pub stop_of : CompileError → Failure
+stop_of NoMemory = NoEngineMemory
+stop_of e = Refused (Source e)
 
 -- the product is the PRG file as it is
 abbrev pub IsFile : Compiled → Product → Type 0

@@ -15,12 +15,11 @@ use Rattle.tb_commands.specs.Lines.{lines_of}
 use Rattle.tb_commands.specs.Dialogue.{Dialogue}
 use Rattle.tb_streams.specs.Streams.{Reads}
 use Rattle.tb_streams.specs.Uses.{Use, Fails, NeverFails, MayFault}
-use Rattle.tb_engines.specs.Outcomes.{Product, Answers, MadeFrom}
+use Rattle.tb_engines.specs.Outcomes.{Outcome, Product, Answers, MadeFrom}
 use Rattle.tb_engines.specs.Programs.{Settings, start}
 use Rattle.tb_driver.specs.Sources.{FromSource}
 use Rattle.tb_engines.specs.declared.outcome.End.TheVariants.{Done}
-use Rattle.tb_engines.specs.declared.outcome.Outcome.{Outcome}
-use Rattle.tb_engines.specs.declared.outcome.Outcome.TheVariants.{Ended, Refused, ReadFault, WriteFault, NoMemory}
+use Rattle.tb_streams.specs.declared.outcome.Outcome.TheVariants.{Ended, Refused, ReadFault, WriteFault, NoMemory}
 use Rattle.tb_engines.specs.declared.outcome.Refusal.TheVariants.{Prg, NotRam}
 
 -- the history of a program's start machine alone

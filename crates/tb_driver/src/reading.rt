@@ -10,7 +10,7 @@ ghost use Rattle.tb_driver.specs.Reading.{CompilesText, ReadsSource};
 use std::alloc::Global;
 use std::io::Read;
 use tb_codegen::{CompileError, CompileSettings, Compiled, compile_within};
-use tb_engines::{NoText, Outcome, Refusal, without_input, without_text};
+use tb_engines::{Failure, Refusal};
 use tb_streams::{Tracked, read_input};
 
 /// A source, and what it was compiled to. The program has its warnings.
@@ -21,12 +21,12 @@ pub struct CompiledSource {
 }
 
 /// How an engine stops where a source is not compiled. Want of memory is no refusal.
-pub fn stop_of(error: CompileError) -> NoText
+pub fn stop_of(error: CompileError) -> Failure
     ensures { result ≡ stop_of error }
 {
     match error {
-        CompileError::NoMemory => NoText::NoMemory,
-        _ => NoText::Refused(Refusal::Source(error)),
+        CompileError::NoMemory => Failure::NoMemory,
+        _ => Failure::Refused(Refusal::Source(error)),
     }
 }
 
@@ -42,7 +42,7 @@ pub fn compile_source(
     alloc: Global,
     text: Vec<u8>,
     settings: CompileSettings,
-) -> Result<CompiledSource, NoText>
+) -> Result<CompiledSource, Failure>
     ensures { CompilesText settings text.items result }
 {
     match compile_within(alloc, text.as_slice(), settings) {
@@ -56,16 +56,10 @@ pub fn read_source<R: Read>(
     alloc: Global,
     reader: &mut Tracked<R>,
     settings: CompileSettings,
-) -> Result<CompiledSource, Outcome>
+) -> Result<CompiledSource, Failure>
     ensures answers { ReadsSource settings result (use_of R.remaining reader.old reader.new) }
     ensures taken { TakesInput (use_of R.remaining reader.old reader.new) }
 {
-    let text = match read_input(alloc, reader) {
-        Ok(text) => text,
-        Err(error) => return Err(without_input(error)),
-    };
-    match compile_source(alloc, text, settings) {
-        Ok(source) => Ok(source),
-        Err(stop) => Err(without_text(stop)),
-    }
+    let text = read_input(alloc, reader)?;
+    compile_source(alloc, text, settings)
 }

@@ -13,7 +13,7 @@ use std::alloc::Global;
 use std::io::{Read, Write};
 use tb_codegen::{CompileSettings, Compiled};
 use tb_commands::answers;
-use tb_engines::{End, NoText, Outcome, Report, Text, deliver, start_file, without_input};
+use tb_engines::{End, NoText, Outcome, Report, Text, deliver, start_file};
 use tb_kernal::{Keyboard, Quiet};
 use tb_stepper::Stepper;
 use tb_streams::{Tracked, read_input};
@@ -33,13 +33,10 @@ fn step_program(
     let Ok(mut stepper) = Stepper::new(alloc, machine, program, Quiet) else {
         return Err(NoText::NoMemory);
     };
-    match answers(alloc, &mut stepper, commands, limit) {
-        Ok(bytes) => Ok(Text {
-            bytes,
-            end: End::Done,
-        }),
-        Err(_) => Err(NoText::NoMemory),
-    }
+    Ok(Text {
+        bytes: answers(alloc, &mut stepper, commands, limit)?,
+        end: End::Done,
+    })
 }
 
 // The answers to commands, over a stepper of the machine at the start of a PRG file.
@@ -56,13 +53,10 @@ fn step_file(
     let Ok(mut stepper) = Stepper::without_source(alloc, machine, Quiet) else {
         return Err(NoText::NoMemory);
     };
-    match answers(alloc, &mut stepper, commands, limit) {
-        Ok(bytes) => Ok(Text {
-            bytes,
-            end: End::Done,
-        }),
-        Err(_) => Err(NoText::NoMemory),
-    }
+    Ok(Text {
+        bytes: answers(alloc, &mut stepper, commands, limit)?,
+        end: End::Done,
+    })
 }
 
 /// Reads a source and then commands, compiles the source with a first state of RND, and writes the answers to the
@@ -122,15 +116,15 @@ pub fn step_within<R: Read, C: Read, W: Write>(
 {
     let text = match read_input(alloc, source) {
         Ok(text) => text,
-        Err(error) => return Report::new(alloc, without_input(error)),
+        Err(error) => return Report::new(alloc, Outcome::from(error)),
     };
     let commands = match read_input(alloc, commands) {
         Ok(commands) => commands,
-        Err(error) => return Report::new(alloc, without_input(error)),
+        Err(error) => return Report::new(alloc, Outcome::from(error)),
     };
     let source = match compile_source(alloc, text, settings) {
         Ok(source) => source,
-        Err(stop) => return Report::new(alloc, deliver(writer, Err(stop))),
+        Err(stop) => return Report::new(alloc, Outcome::of(Err(stop))),
     };
     Report {
         outcome: deliver(
@@ -162,11 +156,11 @@ pub fn step_prg<R: Read, C: Read, W: Write>(
 {
     let file = match read_input(alloc, prg) {
         Ok(file) => file,
-        Err(error) => return without_input(error),
+        Err(error) => return Outcome::from(error),
     };
     let commands = match read_input(alloc, commands) {
         Ok(commands) => commands,
-        Err(error) => return without_input(error),
+        Err(error) => return Outcome::from(error),
     };
     deliver(
         writer,

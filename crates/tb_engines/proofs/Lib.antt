@@ -1,2 +1,3 @@
 pub mod Start
 mod Undelivered
+pub mod Ran

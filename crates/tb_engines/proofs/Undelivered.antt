@@ -2,12 +2,11 @@
 use Rattle.std.proofs.Common.{◌≡◌, ℕ, List, Option, Some, None, Result, Err, refl, sym, subst}
 use Rattle.std.specs.Io.KnownBytes.{Keeps}
 use Rattle.tb_streams.specs.Uses.{Use}
-use Rattle.tb_engines.specs.Outcomes.{Answers}
+use Rattle.tb_engines.specs.Outcomes.{Outcome, Answers}
 use Rattle.tb_engines.specs.Delivery.{Shows, DeliveryFaults, outcome_without}
 use Rattle.tb_engines.specs.declared.delivery.Text.{Text}
 use Rattle.tb_engines.specs.declared.delivery.NoText.{NoText}
 use Rattle.tb_engines.specs.declared.delivery.NoText.TheVariants.{Refused, NoMemory}
-use Rattle.tb_engines.specs.declared.outcome.Outcome.{Outcome}
 
 kept : (bytes : Option (List ℕ)) → Keeps bytes bytes
 kept None = tt

@@ -4,19 +4,13 @@ use Rattle.tb_streams.specs.Uses.{Use, Fails, NeverFails}
 use Rattle.tb_engines.specs.declared.delivery.Text.{Text}
 use Rattle.tb_engines.specs.declared.delivery.NoText.{NoText}
 use Rattle.tb_engines.specs.declared.delivery.NoText.TheVariants.{Refused as NoTextRefused, NoMemory as NoTextNoMemory}
-use Rattle.tb_streams.specs.declared.stream.InputError.{InputError}
-use Rattle.tb_streams.specs.declared.stream.InputError.TheVariants.{Fault, NoMemory as InputNoMemory}
-use Rattle.tb_engines.specs.declared.outcome.Outcome.{Outcome}
-use Rattle.tb_engines.specs.declared.outcome.Outcome.TheVariants.{Ended, Refused, ReadFault, WriteFault, NoMemory}
-use Rattle.tb_engines.specs.Outcomes.{Product}
+use Rattle.tb_streams.specs.declared.outcome.Outcome.{Outcome as AnyOutcome}
+use Rattle.tb_streams.specs.declared.outcome.Outcome.TheVariants.{Ended, Refused, ReadFault, WriteFault, NoMemory}
+use Rattle.tb_engines.specs.declared.outcome.Refusal.{Refusal}
+use Rattle.tb_engines.specs.Outcomes.{Outcome, Product}
 
--- the outcome if an input could not be had
-abbrev pub outcome_of : InputError → Outcome
-outcome_of Fault = ReadFault
-outcome_of InputNoMemory = NoMemory
-
--- the outcome if there is no text
-abbrev pub outcome_without : NoText → Outcome
+-- how a call ends if there is no text
+abbrev pub outcome_without : {E : Type 0} → NoText → AnyOutcome E Refusal
 outcome_without (NoTextRefused e) = Refused e
 outcome_without NoTextNoMemory = NoMemory
 

@@ -3,3 +3,4 @@ pub mod Delivery
 pub mod Programs
 pub mod Assembly
 pub mod Texts
+pub mod Ends

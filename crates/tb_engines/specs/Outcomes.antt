@@ -3,12 +3,13 @@ use Rattle.std.specs.Prelude.{ℕ, List, Option, Result, Ok, Err}
 use Rattle.std.specs.Io.KnownBytes.{Appends, Keeps}
 use Rattle.tb_streams.specs.Streams.{Reads, AppendsPrefix}
 use Rattle.tb_streams.specs.Uses.{Use, Fails, NeverFails, MayFault}
-use Rattle.tb_streams.specs.Numbers.{DONE, REFUSED, FAULT, NO_MEMORY, STEP_LIMIT, WAITS_FOR_KEY, WENT_WRONG}
+use Rattle.tb_streams.specs.Numbers.{DONE, REFUSED, STEP_LIMIT, WAITS_FOR_KEY, WENT_WRONG}
+use Rattle.tb_streams.specs.Outcomes as streams
 use Rattle.tb_engines.specs.declared.outcome.End.{End}
 use Rattle.tb_engines.specs.declared.outcome.End.TheVariants.{Done, StepLimit, WaitsForKey, WentWrong}
 use Rattle.tb_engines.specs.declared.outcome.Refusal.{Refusal}
-use Rattle.tb_engines.specs.declared.outcome.Outcome.{Outcome}
-use Rattle.tb_engines.specs.declared.outcome.Outcome.TheVariants.{Ended, Refused, ReadFault, WriteFault, NoMemory}
+use Rattle.tb_streams.specs.declared.outcome.Outcome.{Outcome as AnyOutcome}
+use Rattle.tb_streams.specs.declared.outcome.Outcome.TheVariants.{Ended, Refused, ReadFault, WriteFault, NoMemory}
 
 -- the exit status if the whole text was written
 abbrev pub status_of_end : End → ℕ
@@ -17,13 +18,21 @@ status_of_end StepLimit = STEP_LIMIT
 status_of_end WaitsForKey = WAITS_FOR_KEY
 status_of_end (WentWrong wrong pc) = WENT_WRONG
 
+-- the exit status if the input was refused
+abbrev pub status_of_refusal : Refusal → ℕ
+status_of_refusal e = REFUSED
+
+-- how the call of an engine ends
+abbrev pub Outcome : Type 0
+Outcome = AnyOutcome End Refusal
+
+-- why the call of an engine made nothing that can be written
+abbrev pub Failure : Type 0
+Failure = streams.Failure Refusal
+
 -- the exit status by how the call of an engine ended
 abbrev pub status_of : Outcome → ℕ
-status_of (Ended end) = status_of_end end
-status_of (Refused e) = REFUSED
-status_of ReadFault = FAULT
-status_of WriteFault = FAULT
-status_of NoMemory = NO_MEMORY
+status_of outcome = streams.status_of status_of_end status_of_refusal outcome
 
 -- what an engine makes of its input: a text to be written, with how the engine ends after it, or a refusal
 abbrev pub Product : Type 0

@@ -4,7 +4,7 @@ ghost use Rattle.tb_engines.specs.Outcomes.{AnswersInput, Faults};
 ghost use Rattle.tb_engines.specs.Delivery.{Makes};
 ghost use Rattle.tb_engines.specs.Assembly.{Assembles, ListsPrg};
 
-use crate::delivery::{NoText, Text, deliver, without_input};
+use crate::delivery::{NoText, Text, deliver};
 use crate::outcome::{End, Outcome, Refusal};
 use std::alloc::Global;
 use std::io::{Read, Write};
@@ -13,8 +13,8 @@ use tb_disasm::{ListError, disassemble};
 use tb_prg::PrgError;
 use tb_streams::{Tracked, read_input};
 
-// The load address and the image of an assembler text.
-fn assemble_prg(alloc: Global, at: u16, text: &[u8]) -> Result<Text, NoText>
+/// The load address, low byte first, and the image of an assembler text.
+pub fn assemble_prg(alloc: Global, at: u16, text: &[u8]) -> Result<Text, NoText>
     ensures { Makes (Assembles at text.now) result }
 {
     let items = match read_text(alloc, text) {
@@ -28,20 +28,16 @@ fn assemble_prg(alloc: Global, at: u16, text: &[u8]) -> Result<Text, NoText>
         Err(error) => return Err(NoText::Refused(Refusal::Item(error))),
     };
     let mut bytes = Vec::new(alloc);
-    if bytes.extend_from_slice(&at.to_le_bytes()).is_err() {
-        return Err(NoText::NoMemory);
-    }
-    if bytes.extend_from_slice(image.bytes.as_slice()).is_err() {
-        return Err(NoText::NoMemory);
-    }
+    bytes.extend_from_slice(&at.to_le_bytes())?;
+    bytes.extend_from_slice(image.bytes.as_slice())?;
     Ok(Text {
         bytes,
         end: End::Done,
     })
 }
 
-// The listing of a PRG file.
-fn list_prg(alloc: Global, file: &[u8]) -> Result<Text, NoText>
+/// The listing of a PRG file.
+pub fn list_prg(alloc: Global, file: &[u8]) -> Result<Text, NoText>
     ensures { Makes (ListsPrg file.now) result }
 {
     let program = match tb_prg::read(file) {
@@ -53,13 +49,10 @@ fn list_prg(alloc: Global, file: &[u8]) -> Result<Text, NoText>
         Err(ListError::RunsPast) => unreachable!(),
         Err(ListError::NoMemory) => return Err(NoText::NoMemory),
     };
-    match listing.text(alloc) {
-        Ok(bytes) => Ok(Text {
-            bytes,
-            end: End::Done,
-        }),
-        Err(_) => Err(NoText::NoMemory),
-    }
+    Ok(Text {
+        bytes: listing.text(alloc)?,
+        end: End::Done,
+    })
 }
 
 /// Assembles a text at an address, and writes the load address, low byte first, and the image.
@@ -76,7 +69,7 @@ pub fn asm_text<R: Read, W: Write>(
 {
     match read_input(alloc, reader) {
         Ok(text) => deliver(writer, assemble_prg(alloc, at, text.as_slice())),
-        Err(error) => without_input(error),
+        Err(error) => Outcome::from(error),
     }
 }
 
@@ -93,6 +86,6 @@ pub fn dis_text<R: Read, W: Write>(
 {
     match read_input(alloc, reader) {
         Ok(file) => deliver(writer, list_prg(alloc, file.as_slice())),
-        Err(error) => without_input(error),
+        Err(error) => Outcome::from(error),
     }
 }

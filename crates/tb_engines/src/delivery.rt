@@ -2,12 +2,12 @@
 ghost use Rattle.std.specs.Prelude.{◌≡◌};
 ghost use Rattle.tb_streams.specs.Uses.{use_of};
 ghost use Rattle.tb_engines.specs.Outcomes.{Answers};
-ghost use Rattle.tb_engines.specs.Delivery.{Shows, DeliveryFaults, outcome_of, outcome_without};
+ghost use Rattle.tb_engines.specs.Delivery.{Shows, DeliveryFaults};
 
 use crate::outcome::{End, Outcome, Refusal};
 use std::alloc::AllocError;
 use std::io::Write;
-use tb_streams::{InputError, Tracked, write_output};
+use tb_streams::{Tracked, write_output};
 
 /// A text that is to be written, and how the engine ends after it.
 #[derive(Drop)]
@@ -23,23 +23,27 @@ pub enum NoText {
     NoMemory,
 }
 
-/// The outcome where an input could not be had.
-pub fn without_input(error: InputError) -> Outcome
-    ensures { result ≡ outcome_of error }
-{
-    match error {
-        InputError::Fault => Outcome::ReadFault,
-        InputError::NoMemory => Outcome::NoMemory,
+impl From<AllocError> for NoText {
+    ghost use Rattle.tb_engines.specs.declared.delivery.NoText.TheVariants.{NoMemory};
+
+    ghost from_gives = { λ _ stop. stop ≡ NoMemory };
+
+    fn from(_error: AllocError) -> NoText {
+        NoText::NoMemory
     }
 }
 
-/// The outcome if there is no text.
-pub fn without_text(stop: NoText) -> Outcome
-    ensures { result ≡ outcome_without stop }
-{
-    match stop {
-        NoText::Refused(refusal) => Outcome::Refused(refusal),
-        NoText::NoMemory => Outcome::NoMemory,
+/// How a call ends if there is no text.
+impl<E> From<NoText> for tb_streams::Outcome<E, Refusal> {
+    ghost use Rattle.tb_engines.specs.Delivery.{outcome_without};
+
+    ghost from_gives = { λ stop outcome. outcome ≡ outcome_without stop };
+
+    fn from(stop: NoText) -> tb_streams::Outcome<E, Refusal> {
+        match stop {
+            NoText::Refused(refusal) => tb_streams::Outcome::Refused(refusal),
+            NoText::NoMemory => tb_streams::Outcome::NoMemory,
+        }
     }
 }
 
@@ -51,7 +55,7 @@ pub fn deliver<W: Write>(writer: &mut Tracked<W>, made: Result<Text, NoText>) ->
 {
     let text = match made {
         Ok(text) => text,
-        Err(stop) => return without_text(stop),
+        Err(stop) => return Outcome::from(stop),
     };
     match write_output(writer, text.bytes.as_slice()) {
         Ok(()) => Outcome::Ended(text.end),

@@ -10,10 +10,10 @@ mod programs;
 mod report;
 mod texts;
 
-pub use assembly::{asm_text, dis_text};
-pub use delivery::{NoText, Text, deliver, without_input, without_text};
+pub use assembly::{asm_text, assemble_prg, dis_text, list_prg};
+pub use delivery::{NoText, Text, deliver};
 pub use loading::{start_file, start_machine, start_regs};
-pub use outcome::{End, Outcome, Refusal};
-pub use programs::{end_of, run_file, run_prg};
+pub use outcome::{End, Failure, Outcome, Refusal};
+pub use programs::{PrgRun, end_of, run_machine, run_prg, run_prg_watched};
 pub use report::{Report, Warnings};
 pub use texts::{TOO_DEEP, TooLarge, source_text};

@@ -42,9 +42,7 @@ fn start_memory(alloc: Global, program: Loaded<'_>) -> Result<Memory, NoText>
         × (m ≡ start_memory program.entry.at program.entry.bytes.now))
         (IsUnloadable program.entry.at program.entry.bytes.now) }
 {
-    let Ok(mut memory) = Memory::new(alloc) else {
-        return Err(NoText::NoMemory);
-    };
+    let mut memory = Memory::new(alloc)?;
     match memory.load(program.at, program.bytes) {
         Ok(()) => {}
         Err(LoadError::RunsPast) => unreachable!(),

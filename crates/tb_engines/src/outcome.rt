@@ -1,12 +1,9 @@
 //! How a call of an engine ended.
-ghost use Rattle.std.specs.Prelude.{◌≡◌};
-ghost use Rattle.tb_engines.specs.Outcomes.{status_of, status_of_end};
-
 use tb_asm::AsmError;
 use tb_compile_errors::CompileError;
 use tb_cpu::Wrong;
 use tb_prg::PrgError;
-use tb_streams::status;
+use tb_streams::{ExitStatus, status};
 
 /// How an engine ended whose whole text was written.
 #[derive(Clone, Copy, PartialEq, Eq, Debug, Drop)]
@@ -36,25 +33,18 @@ pub enum Refusal {
     Source(CompileError),
 }
 
-/// How a call of an engine ended. At `Ended` its whole text was written, at `WriteFault` a prefix of it, and else
-/// nothing.
-#[derive(Clone, Copy, PartialEq, Eq, Debug, Drop)]
-pub enum Outcome {
-    /// The whole text was written.
-    Ended(End),
-    Refused(Refusal),
-    /// The reader failed, or gave too many bytes.
-    ReadFault,
-    /// The writer failed.
-    WriteFault,
-    /// A growth was refused.
-    NoMemory,
-}
+/// How a call of an engine ended.
+pub type Outcome = tb_streams::Outcome<End, Refusal>;
 
-impl End {
-    fn status(&self) -> u8
-        ensures { result ≡ status_of_end self.now }
-    {
+/// Why a call of an engine made nothing that can be written.
+pub type Failure = tb_streams::Failure<Refusal>;
+
+impl ExitStatus for End {
+    ghost use Rattle.tb_engines.specs.Outcomes.{status_of_end};
+
+    ghost exit_status = { status_of_end };
+
+    fn status(&self) -> u8 {
         match self {
             End::Done => status::DONE,
             End::StepLimit => status::STEP_LIMIT,
@@ -64,16 +54,12 @@ impl End {
     }
 }
 
-impl Outcome {
-    /// The exit status of the program.
-    pub fn status(&self) -> u8
-        ensures { result ≡ status_of self.now }
-    {
-        match self {
-            Outcome::Ended(end) => end.status(),
-            Outcome::Refused(_) => status::REFUSED,
-            Outcome::ReadFault | Outcome::WriteFault => status::FAULT,
-            Outcome::NoMemory => status::NO_MEMORY,
-        }
+impl ExitStatus for Refusal {
+    ghost use Rattle.tb_engines.specs.Outcomes.{status_of_refusal};
+
+    ghost exit_status = { status_of_refusal };
+
+    fn status(&self) -> u8 {
+        status::REFUSED
     }
 }

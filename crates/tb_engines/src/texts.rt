@@ -1,8 +1,8 @@
-//! What standard error says of an outcome, after `tbc: `. It says nothing if all is done.
+//! What standard error says of ends and refusals, after `tbc: `. It says nothing if all is done.
 ghost use Rattle.std.specs.Prelude.{◌≡◌, Some};
 ghost use Rattle.tb_engines.specs.Texts.{end_text, source_text, too_large_text, wrong_text};
 
-use crate::outcome::{End, Outcome, Refusal};
+use crate::outcome::{End, Refusal};
 use std::fmt;
 use tb_asm::AsmErrorKind;
 use tb_compile_errors::CompileError;
@@ -117,18 +117,6 @@ impl fmt::Display for End {
             End::WentWrong { wrong, pc } => {
                 write!(f, "wrong: {} at {pc:04X}", WrongText(*wrong))
             }
-        }
-    }
-}
-
-impl fmt::Display for Outcome {
-    fn fmt<W: fmt::Write>(&self, f: &mut fmt::Formatter<W>) -> fmt::Result {
-        match self {
-            Outcome::Ended(end) => end.fmt(f),
-            Outcome::Refused(refusal) => refusal.fmt(f),
-            Outcome::ReadFault => f.write_str("read fault"),
-            Outcome::WriteFault => f.write_str("write fault"),
-            Outcome::NoMemory => f.write_str("out of memory"),
         }
     }
 }

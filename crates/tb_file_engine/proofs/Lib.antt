@@ -1,5 +1,4 @@
 pub mod Undone
-pub mod Making
-pub mod Gathering
+pub mod Changing
+pub mod Built
 pub mod Entries
-pub mod Done

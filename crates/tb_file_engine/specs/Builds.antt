@@ -1,21 +1,18 @@
 -- What a build does with files.
-use Rattle.std.specs.Prelude.{◌≡◌, ℕ, Bool, true, false, List, [], ◌∷◌, Option, Some, None, Result, Ok, Err, MatchBool}
-use Rattle.tb_files.specs.Deeds.{Deed}
+use Rattle.std.specs.Prelude.{◌≡◌, ℕ, Bool, true, false, List, [], ◌∷◌, Option, Some, None, MatchBool}
+use Rattle.tb_files.specs.Deeds.{Deed, OfOne, Refuses, Transfers}
 use Rattle.tb_codegen.specs.declared.settings.CompileSettings.{CompileSettings}
 use Rattle.tb_codegen.specs.declared.settings.SizeLimit.{SizeLimit}
 use Rattle.tb_codegen.specs.declared.settings.SizeLimit.TheVariants.{Cost, Memory}
 use Rattle.tb_compile_errors.specs.declared.refusals.CompileError.{CompileError}
 use Rattle.tb_compile_errors.specs.declared.refusals.CompileError.TheVariants as compile
-use Rattle.tb_engines.specs.declared.outcome.Outcome.{Outcome}
-use Rattle.tb_engines.specs.declared.outcome.Outcome.TheVariants as outcome
+use Rattle.tb_streams.specs.declared.outcome.Outcome.TheVariants as outcome
+use Rattle.tb_engines.specs.Outcomes.{Outcome}
 use Rattle.tb_engines.specs.declared.outcome.Refusal.{Refusal}
 use Rattle.tb_engines.specs.declared.outcome.Refusal.TheVariants as refusal
 use Rattle.tb_file_engine.specs.Names.{map_of, outputs_of}
-use Rattle.tb_file_engine.specs.Outcomes.{Ends, outcome_of, unwritten_stop}
-use Rattle.tb_file_engine.specs.Texts.{MakesBuild, MakesMap, OfOne}
+use Rattle.tb_file_engine.specs.Texts.{MakesBuild, MakesMap}
 use Rattle.tb_file_engine.specs.declared.building.BuildNames.{BuildNames}
-use Rattle.tb_file_engine.specs.declared.saving.Stop.{Stop}
-use Rattle.tb_file_engine.specs.declared.saving.Stop.TheVariants.{Refused, ReadFault, WriteFault, NoMemory}
 
 abbrev pub is_cost : SizeLimit → Bool
 is_cost Cost = true
@@ -48,31 +45,36 @@ costs_too_much Cost o = is_too_large o
 costs_too_much Memory o = false
 
 -- how a build ends whose source costs too much: by its refusal, unless the map was not made or written
-abbrev pub ends_by : Outcome → Result Unit (Stop Refusal) → Outcome
-ends_by refusal (Ok u) = refusal
-ends_by refusal (Err (Refused e)) = refusal
-ends_by refusal (Err ReadFault) = outcome.ReadFault
-ends_by refusal (Err WriteFault) = outcome.WriteFault
-ends_by refusal (Err NoMemory) = outcome.NoMemory
+abbrev pub ends_by : Outcome → Outcome → Outcome
+ends_by refusal (outcome.Ended end) = refusal
+ends_by refusal (outcome.Refused e) = refusal
+ends_by refusal outcome.ReadFault = outcome.ReadFault
+ends_by refusal outcome.WriteFault = outcome.WriteFault
+ends_by refusal outcome.NoMemory = outcome.NoMemory
 
 -- the same settings, but that the memory limits the size
 abbrev pub sized_by_memory : CompileSettings → CompileSettings
 sized_by_memory settings = record settings { size = Memory }
 
 -- the map of a source that is refused, if it is wanted, and how the build ends then
-abbrev pub Maps : {F : Type 0} → (F → Deed → F → Type 0) → F → List ℕ → CompileSettings → Option (List ℕ) → Outcome → Outcome → F → Type 0
-Maps does f source settings None refusal outcome g = (outcome ≡ refusal) × (g ≡ f)
-Maps does f source settings (Some map) refusal outcome g =
-    Ends does (OfOne (MakesMap (sized_by_memory settings))) unwritten_stop (ends_by refusal) f (source ∷ []) (map ∷ []) outcome g
+abbrev pub Maps : {F : Type 0} → (F → Deed → F → Type 0) → (F → List ℕ → Option (List ℕ) → Type 0)
+    → F → List ℕ → CompileSettings → Option (List ℕ) → Outcome → Outcome → F → Type 0
+Maps does holds f source settings None refusal ended g = (ended ≡ refusal) × (g ≡ f)
+Maps does holds f source settings (Some map) refusal ended g =
+    (done : Outcome) × (ended ≡ ends_by refusal done)
+    × Transfers does holds (OfOne (MakesMap (sized_by_memory settings))) f (source ∷ []) (map ∷ []) done g
 
 -- what a build did with files, by how writing all of it ended; the map is made after that, if the source costs too much
-abbrev pub Follows : {F : Type 0} → (F → Deed → F → Type 0) → F → List ℕ → BuildNames → CompileSettings → Outcome → Outcome → F → Type 0
-Follows does f source names settings first outcome g =
-    MatchBool (costs_too_much settings.size first) (Maps does f source settings (map_of names) first outcome g) ((outcome ≡ first) × (g ≡ f))
+abbrev pub Follows : {F : Type 0} → (F → Deed → F → Type 0) → (F → List ℕ → Option (List ℕ) → Type 0)
+    → F → List ℕ → BuildNames → CompileSettings → Outcome → Outcome → F → Type 0
+Follows does holds f source names settings first ended g =
+    MatchBool (costs_too_much settings.size first) (Maps does holds f source settings (map_of names) first ended g) ((ended ≡ first) × (g ≡ f))
 
--- what a build did with files, by how it ended
-abbrev pub Builds : {F : Type 0} → (F → Deed → F → Type 0) → F → List ℕ → BuildNames → CompileSettings → Outcome → F → Type 0
-Builds does f source names settings outcome g =
+-- What a build did with files, by how it ended. What it refuses is refused for the bytes that the source's file holds.
+abbrev pub Builds : {F : Type 0} → (F → Deed → F → Type 0) → (F → List ℕ → Option (List ℕ) → Type 0)
+    → F → List ℕ → BuildNames → CompileSettings → Outcome → F → Type 0
+Builds does holds f source names settings ended g =
     (first : Outcome) × (h : _)
-    × Ends does (OfOne (MakesBuild names settings)) unwritten_stop outcome_of f (source ∷ []) (outputs_of names) first h
-    × Follows does h source names settings first outcome g
+    × Transfers does holds (OfOne (MakesBuild names settings)) f (source ∷ []) (outputs_of names) first h
+    × Refuses holds (MakesBuild names settings) f source first
+    × Follows does holds h source names settings first ended g

@@ -1,24 +1,28 @@
--- Which texts a command makes, by what the readers of its inputs had, as far as that is known.
-use Rattle.std.specs.Prelude.{◌≡◌, ℕ, Bool, true, false, List, [], ◌∷◌, ◌++◌, map, length, Contains, Option, Some, None, Ok, MatchBool}
+-- Which texts a command makes, by the bytes of its inputs.
+use Rattle.std.specs.Prelude.{◌≡◌, ℕ, Bool, true, false, List, [], ◌∷◌, ◌++◌, map, length, Contains, Option, Some, None, Ok, Err, MatchBool}
 use Rattle.std.specs.Str.{bytes_eq}
 use Rattle.std.specs.declared.alloc.Global.{Global}
 use Rattle.std.specs.declared.vec.Vec.{Vec}
-use Rattle.tb_streams.specs.Streams.{Reads}
-use Rattle.tb_meaning.specs.declared.missing.Warning.{Warning}
+use Rattle.tb_streams.specs.declared.outcome.NoRefusal.{NoRefusal}
+use Rattle.tb_streams.specs.declared.outcome.Done.{Done as AllDone}
+use Rattle.tb_files.specs.Deeds.{Product}
+use Rattle.tb_compile_errors.specs.declared.refusals.CompileError.{CompileError}
 use Rattle.tb_codegen.specs.Compiled.{prg_of}
 use Rattle.tb_codegen.specs.declared.compiled.Compiled.{Compiled}
 use Rattle.tb_codegen.specs.declared.settings.CompileSettings.{CompileSettings}
+use Rattle.tb_codegen.specs.declared.settings.SizeLimit.TheVariants.{Cost}
 use Rattle.tb_parser.specs.declared.notation.Notation.{Notation}
 use Rattle.tb_engines.specs.Assembly.{Assembles}
-use Rattle.tb_engines.specs.Outcomes.{MadeFrom, Product}
+use Rattle.tb_engines.specs.Outcomes as engine
 use Rattle.tb_engines.specs.declared.outcome.End.{End}
+use Rattle.tb_engines.specs.declared.outcome.End.TheVariants as end
+use Rattle.tb_engines.specs.declared.outcome.Refusal.{Refusal}
+use Rattle.tb_engines.specs.declared.outcome.Refusal.TheVariants as engine_refusal
 use Rattle.tb_driver.specs.Sources.{Compiles}
 use Rattle.tb_listing.specs.Builds.{IsMade}
 use Rattle.tb_listing.specs.declared.build.Made.{Made}
 use Rattle.tb_monitor.specs.Files.{watch_text}
-use Rattle.tb_build_engine.specs.Maps.{MapsSource}
 use Rattle.tb_dialects.specs.declared.dialect.Dialect.{Dialect}
-use Rattle.tb_dialect_engine.specs.Listings.{Spells}
 use Rattle.tb_disk.specs.declared.names.Name.{Name}
 use Rattle.tb_disk.specs.declared.image.File.{File}
 use Rattle.tb_disk.specs.Names.{IsName, field_of}
@@ -28,33 +32,41 @@ use Rattle.tb_disk_engine.specs.Names.{NamesDisk, file_text}
 use Rattle.tb_disk_engine.specs.Programs.{Judges}
 use Rattle.tb_format.specs.Texts.{IsTidyText}
 use Rattle.tb_renumber.specs.Answers.{Renumbers}
+use Rattle.tb_file_engine.specs.Listings.{Lists, Spells}
 use Rattle.tb_file_engine.specs.Names.{labels_of, listing_of, map_of, wants_texts, watch_of}
 use Rattle.tb_file_engine.specs.declared.building.BuildNames.{BuildNames}
-
--- a command has one input, and this is so of what its reader had and of the texts
-abbrev pub OfOne : (Option (List ℕ) → List (List ℕ) → Type 0) → List (Option (List ℕ)) → List (List ℕ) → Type 0
-OfOne makes (had ∷ []) texts = makes had texts
-OfOne makes hads texts = ⊥
+use Rattle.tb_file_engine.specs.declared.formatting.Tidiness.{Tidiness}
+use Rattle.tb_file_engine.specs.declared.formatting.Tidiness.TheVariants.{Done, Untidy}
+use Rattle.tb_file_engine.specs.declared.renumbering.RenumberRefusal.{RenumberRefusal}
+use Rattle.tb_file_engine.specs.declared.renumbering.RenumberRefusal.TheVariants as renumber_refusal
 
 -- there is one text, of which this is so
 abbrev pub OneText : (List ℕ → Type 0) → List (List ℕ) → Type 0
 OneText is texts = (text : List ℕ) × is text × (texts ≡ text ∷ [])
 
--- an engine makes a text of all that a reader had
-abbrev pub IsTextOf : (List ℕ → Product → Type 0) → Option (List ℕ) → List ℕ → Type 0
-IsTextOf makes had text = (end : End) × MadeFrom had makes (Ok (text, end))
+-- what an engine makes of an input, as the only text; or why there is none
+abbrev pub IsOnly : (engine.Product → Type 0) → Product End Refusal → Type 0
+IsOnly makes (Ok made) = OneText (λ text. makes (Ok (text, made.0))) made.1
+IsOnly makes (Err e) = makes (Err e)
 
 -- assembling makes the image of the text at an address
-abbrev pub MakesImage : ℕ → Option (List ℕ) → List (List ℕ) → Type 0
-MakesImage at had texts = OneText (IsTextOf (Assembles at) had) texts
+abbrev pub MakesImage : ℕ → List ℕ → Product End Refusal → Type 0
+MakesImage at text product = IsOnly (Assembles at text) product
 
--- a text is the map of a source's program by these settings
-abbrev pub IsMapOf : CompileSettings → Option (List ℕ) → List ℕ → Type 0
-IsMapOf settings had text = (warnings : List Warning) × IsTextOf (MapsSource settings warnings) had text
+-- listing makes the listing of a PRG file
+abbrev pub MakesListing : Option Dialect → List ℕ → Product End Refusal → Type 0
+MakesListing dialect file product = IsOnly (Lists dialect file) product
 
--- mapping makes that map
-abbrev pub MakesMap : CompileSettings → Option (List ℕ) → List (List ℕ) → Type 0
-MakesMap settings had texts = OneText (IsMapOf settings had) texts
+-- the compiler refuses a source by these settings
+abbrev pub IsNotCompiled : CompileSettings → List ℕ → Refusal → Type 0
+IsNotCompiled settings source e = (error : CompileError) × Compiles settings source (Err error) × (e ≡ engine_refusal.Source error)
+
+-- mapping makes the map of a source's program by these settings
+abbrev pub MakesMap : CompileSettings → List ℕ → Product End Refusal → Type 0
+MakesMap settings source (Ok made) =
+    (made.0 ≡ end.Done) × (program : Compiled) × Compiles settings source (Ok program)
+    × (told : Made) × IsMade settings.notation source program told × (made.1 ≡ told.map.items ∷ [])
+MakesMap settings source (Err e) = IsNotCompiled settings source e
 
 -- a tidy text is written where it is always, or if the source is not tidy
 abbrev pub tidy_texts : (is_always is_tidy : Bool) → List ℕ → List (List ℕ)
@@ -63,40 +75,58 @@ tidy_texts false true text = []
 tidy_texts false false text = text ∷ []
 
 -- formatting makes the tidy text of a source, if it is to be written
-abbrev pub MakesTidy : Notation → (is_always : Bool) → Option (List ℕ) → List (List ℕ) → Type 0
-MakesTidy notation is_always had texts =
-    (source text : List ℕ) × Reads had source × IsTidyText notation false source text × (texts ≡ tidy_texts is_always (bytes_eq text source) text)
+abbrev pub MakesTidy : Notation → (is_always : Bool) → List ℕ → Product Tidiness NoRefusal → Type 0
+MakesTidy notation is_always source (Ok made) =
+    (made.0 ≡ Done) × (text : List ℕ) × IsTidyText notation false source text × (made.1 ≡ tidy_texts is_always (bytes_eq text source) text)
+MakesTidy notation is_always source (Err never) = ⊥
 
--- a text is that of a source with other line numbers
-abbrev pub IsRenumbered : Notation → (first step : ℕ) → Option (List ℕ) → List ℕ → Type 0
-IsRenumbered notation first step had text =
-    (source : List ℕ) × (answer : Vec ℕ Global) × Reads had source × Renumbers notation first step source (Ok answer) × (text ≡ answer.items)
+-- the line that tells the name of a source
+abbrev pub told : List ℕ → List ℕ
+told name = name ++ 10 ∷ []
 
--- renumbering makes that text
-abbrev pub MakesRenumbered : Notation → (first step : ℕ) → Option (List ℕ) → List (List ℕ) → Type 0
-MakesRenumbered notation first step had texts = OneText (IsRenumbered notation first step had) texts
+-- how telling ends whether a source is tidy, with the line that is written if it is not
+abbrev pub tidiness : List ℕ → (is_tidy : Bool) → Tidiness × List (List ℕ)
+tidiness name true = (Done, [])
+tidiness name false = (Untidy, told name ∷ [])
 
--- a file of a disk: its name is that of its path, and its bytes are all that its reader had, a program that belongs on a disk
-abbrev pub IsEntry : List ℕ → Option (List ℕ) → Entry → Type 0
-IsEntry path had e = IsName (file_text path) × (e.0 ≡ field_of (file_text path)) × Reads had e.1 × Judges e.1 (Ok tt)
+-- checking tells the name of a source that is not its own tidy text
+abbrev pub ChecksTidy : Notation → List ℕ → List ℕ → Product Tidiness NoRefusal → Type 0
+ChecksTidy notation name source (Ok made) =
+    (text : List ℕ) × IsTidyText notation false source text × (made ≡ tidiness name (bytes_eq text source))
+ChecksTidy notation name source (Err never) = ⊥
+
+-- how a source is compiled before it is renumbered: refused by the cost; a first state of RND changes nothing of that
+abbrev pub settings_of : Notation → CompileSettings
+settings_of notation = record { seed = 1; size = Cost; notation = notation }
+
+-- renumbering makes the text of a source with other line numbers; or the compiler refuses the source, or it is not renumbered
+abbrev pub MakesRenumbered : Notation → (first step : ℕ) → List ℕ → Product AllDone RenumberRefusal → Type 0
+MakesRenumbered notation first step source (Ok made) =
+    (answer : Vec ℕ Global) × Renumbers notation first step source (Ok answer) × (made.1 ≡ answer.items ∷ [])
+MakesRenumbered notation first step source (Err (renumber_refusal.Source e)) = IsNotCompiled (settings_of notation) source e
+MakesRenumbered notation first step source (Err (renumber_refusal.Renumber e)) = Renumbers notation first step source (Err e)
+
+-- a file of a disk: its name is that of its path, and its bytes are a program that belongs on a disk
+abbrev pub IsEntry : List ℕ → List ℕ → Entry → Type 0
+IsEntry path bytes e = IsName (file_text path) × (e.0 ≡ field_of (file_text path)) × (e.1 ≡ bytes) × Judges bytes (Ok tt)
 
 -- the names of files of a disk
 abbrev pub names_of : List Entry → List (List ℕ)
 names_of es = map (λ e. e.0) es
 
 -- the files of a disk, one for each path, in the order of the paths, no two with one name
-abbrev pub AreEntries : List (List ℕ) → List (Option (List ℕ)) → List Entry → Type 0
+abbrev pub AreEntries : List (List ℕ) → List (List ℕ) → List Entry → Type 0
 AreEntries [] [] [] = Unit {0}
-AreEntries (path ∷ paths) (had ∷ hads) (e ∷ es) = IsEntry path had e × (¬ Contains (names_of es) e.0) × AreEntries paths hads es
-AreEntries paths hads es = ⊥
+AreEntries (path ∷ paths) (bytes ∷ all) (e ∷ es) = IsEntry path bytes e × (¬ Contains (names_of es) e.0) × AreEntries paths all es
+AreEntries paths all es = ⊥
 
 -- a disk that is named by a path has these files, and this is its image
 abbrev pub IsDiskWith : List ℕ → List Entry → List ℕ → Type 0
 IsDiskWith out es image = (title : Name) × (files : List File) × NamesDisk out title × (map entry_in files ≡ es) × IsDiskOf title files image
 
 -- making a disk makes the image of a disk with all files
-abbrev pub MakesDisk : List (List ℕ) → List ℕ → List (Option (List ℕ)) → List (List ℕ) → Type 0
-MakesDisk paths out hads texts = (es : List Entry) × AreEntries paths hads es × OneText (IsDiskWith out es) texts
+abbrev pub MakesDisk : List (List ℕ) → List ℕ → AllDone → List (List ℕ) → List (List ℕ) → Type 0
+MakesDisk paths out end all texts = (es : List Entry) × AreEntries paths all es × OneText (IsDiskWith out es) texts
 
 -- a text, if its file is wanted
 abbrev pub wanted_text : Option (List ℕ) → List ℕ → List (List ℕ)
@@ -125,15 +155,17 @@ abbrev pub TellsAll : BuildNames → Notation → List ℕ → Compiled → List
 TellsAll names notation source program texts = (made : Made) × IsMade notation source program made × AreWanted names (prg_of program) made texts
 
 -- the PRG file alone
-abbrev pub IsFileAlone : List ℕ → Compiled → List (List ℕ) → Type 0
-IsFileAlone source program texts = texts ≡ prg_of program ∷ []
+abbrev pub IsFileAlone : Compiled → List (List ℕ) → Type 0
+IsFileAlone program texts = texts ≡ prg_of program ∷ []
 
--- texts are made of the program that the compiler answers for a source by these settings
-abbrev pub OfProgram : CompileSettings → (List ℕ → Compiled → List (List ℕ) → Type 0) → Option (List ℕ) → List (List ℕ) → Type 0
-OfProgram settings tells had texts =
-    (source : List ℕ) × (program : Compiled) × Reads had source × Compiles settings source (Ok program) × tells source program texts
+-- all that is wanted of a source and its program
+abbrev pub Tells : BuildNames → Notation → List ℕ → Compiled → List (List ℕ) → Type 0
+Tells names notation source program texts =
+    MatchBool (wants_texts names) (TellsAll names notation source program texts) (IsFileAlone program texts)
 
--- building makes these texts of a program
-abbrev pub MakesBuild : BuildNames → CompileSettings → Option (List ℕ) → List (List ℕ) → Type 0
-MakesBuild names settings had texts =
-    MatchBool (wants_texts names) (OfProgram settings (TellsAll names settings.notation) had texts) (OfProgram settings IsFileAlone had texts)
+-- building makes these texts of the program that the compiler answers for a source by these settings; or the compiler refuses
+-- the source
+abbrev pub MakesBuild : BuildNames → CompileSettings → List ℕ → Product End Refusal → Type 0
+MakesBuild names settings source (Ok made) =
+    (made.0 ≡ end.Done) × (program : Compiled) × Compiles settings source (Ok program) × Tells names settings.notation source program made.1
+MakesBuild names settings source (Err e) = IsNotCompiled settings source e

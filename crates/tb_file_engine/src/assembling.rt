@@ -1,67 +1,37 @@
 //! Assembling the text of a file.
-ghost use Rattle.std.specs.Prelude.{◌≡◌, ◌∷◌, [], map, IfOk};
-ghost use Rattle.tb_file_engine.specs.Outcomes.{Ends, outcome_of, unwritten_stop};
-ghost use Rattle.tb_file_engine.specs.Texts.{MakesImage, OfOne};
+ghost use Rattle.std.specs.Prelude.{◌∷◌, [], map};
+ghost use Rattle.tb_files.specs.Deeds.{Makes, OfOne, Refuses, Transfers};
+ghost use Rattle.tb_file_engine.specs.Texts.{MakesImage};
 
-use crate::saving::{Stop, made_in_memory, only, outcome_of, unread, unwritten};
+use crate::saving::only_text;
 use std::alloc::Global;
-use std::io::Read;
-use tb_engines::{Outcome, Refusal, asm_text};
-use tb_files::{FileSystem, Trouble, Work, transfer};
-use tb_streams::Tracked;
+use tb_engines::{End, Failure, Outcome, Refusal, assemble_prg};
+use tb_files::{FileSystem, Maker, convert};
 
-// A text that is assembled at an address, and what was made of it.
+// A text that is assembled at an address.
 #[derive(Drop)]
 struct Assembly {
     alloc: Global,
     at: u16,
-    made: Vec<Vec<u8>>,
 }
 
 // The image of a text, as the texts of all outputs.
-fn assembled<R: Read>(
-    alloc: Global,
-    input: &mut Tracked<R>,
-    at: u16,
-) -> Result<Vec<Vec<u8>>, Stop<Refusal>>
-    ensures { IfOk result (λ texts. MakesImage at (R.remaining input.old.stream) (map (λ t. t.items) texts.items)) }
+fn assembled(alloc: Global, at: u16, text: &[u8]) -> Result<(End, Vec<Vec<u8>>), Failure>
+    ensures { Makes (MakesImage at text.now) result }
 {
-    let mut image = Tracked::new(Vec::new(alloc));
-    made_in_memory(asm_text(alloc, input, &mut image, at))?;
-    match only(alloc, image.stream) {
-        Ok(texts) => Ok(texts),
-        Err(_) => Err(Stop::NoMemory),
-    }
+    let image = assemble_prg(alloc, at, text)?;
+    Ok(only_text(alloc, image)?)
 }
 
-impl Work for Assembly {
-    type End = Stop<Refusal>;
+impl Maker for Assembly {
+    type End = End;
 
-    ghost takes = { λ w _ had v. MakesImage w.at had (map (λ t. t.items) v.made.items) };
+    type Refusal = Refusal;
 
-    ghost makes = { λ w texts. texts ≡ map (λ t. t.items) w.made.items };
+    ghost makes = { λ m text product. MakesImage m.at text product };
 
-    ghost unwritten_end = { λ trouble. unwritten_stop trouble };
-
-    fn look_at(&self, _path: &str) -> Result<(), Stop<Refusal>> {
-        Ok(())
-    }
-
-    fn take<R: Read>(&mut self, _path: &str, input: &mut Tracked<R>) -> Result<(), Stop<Refusal>> {
-        self.made = assembled(self.alloc, input, self.at)?;
-        Ok(())
-    }
-
-    fn make(&mut self) -> Result<Vec<Vec<u8>>, Stop<Refusal>> {
-        Ok(std::mem::replace(&mut self.made, Vec::new(self.alloc)))
-    }
-
-    fn unread(trouble: Trouble) -> Stop<Refusal> {
-        unread(trouble)
-    }
-
-    fn unwritten(trouble: Trouble) -> Stop<Refusal> {
-        unwritten(trouble)
+    fn make(&mut self, text: Vec<u8>) -> Result<(End, Vec<Vec<u8>>), Failure> {
+        assembled(self.alloc, self.at, text.as_slice())
     }
 }
 
@@ -74,12 +44,8 @@ pub fn assemble_file<F: FileSystem>(
     out: &str,
     at: u16,
 ) -> Outcome
-    ensures { Ends F.does (OfOne (MakesImage at)) unwritten_stop outcome_of files.old (text.now ∷ []) (out.now ∷ []) result files.new }
+    ensures transfers { Transfers F.does F.holds (OfOne (MakesImage at)) files.old (text.now ∷ []) (out.now ∷ []) result files.new }
+    ensures refuses { Refuses F.holds (MakesImage at) files.old text.now result }
 {
-    let mut work = Assembly {
-        alloc,
-        at,
-        made: Vec::new(alloc),
-    };
-    outcome_of(transfer(files, &mut work, &[text], &[out]))
+    convert(alloc, files, &mut Assembly { alloc, at }, text, &[out])
 }

@@ -1,20 +1,23 @@
 //! Building a source's file: the PRG file, and the files of the texts that tell of its program.
-ghost use Rattle.std.specs.Prelude.{◌≡◌, ◌++◌, IfOk, map, option_map};
+ghost use Rattle.std.specs.Prelude.{◌≡◌, ◌++◌, ℕ, IfOk, List, map, option_map};
+ghost use Rattle.tb_driver.specs.Reading.{IsCompilation};
+ghost use Rattle.tb_files.specs.Deeds.{Makes};
 ghost use Rattle.tb_file_engine.specs.Builds.{Builds, Maps, costs_too_much, ends_by};
-ghost use Rattle.tb_file_engine.specs.Memory.{AreFresh, IsFresh, Spelled, held, held_by};
-ghost use Rattle.tb_file_engine.specs.Names.{outputs_of, wanted, wants_texts};
-ghost use Rattle.tb_file_engine.specs.Outcomes.{unwritten_stop};
-ghost use Rattle.tb_file_engine.specs.Texts.{IsFileAlone, MakesBuild, MakesMap, OfProgram, TellsAll};
+ghost use Rattle.tb_file_engine.specs.Listings.{IsPrg};
+ghost use Rattle.tb_file_engine.specs.Names.{listing_of, outputs_of, wanted, wants_texts};
+ghost use Rattle.tb_file_engine.specs.Texts.{AreWanted, IsListing, MakesBuild, MakesMap, Tells, WantedListing, wanted_text};
 
-use crate::saving::{Stop, made_in_memory, only, outcome_of, unread, unwritten};
+use crate::listing::spell_listing;
+use crate::saving::only;
 use std::alloc::{AllocError, Global};
-use std::io::Read;
-use tb_build_engine::{BuildFiles, build_files, map_source};
-use tb_dialect_engine::{Dialect, spell_listing};
-use tb_driver::{CompileError, CompileSettings, Refusal, SizeLimit, build_within};
-use tb_engines::{NoText, Outcome, Report};
-use tb_files::{FileSystem, Trouble, Work, transfer};
-use tb_streams::Tracked;
+use tb_codegen::{CompileError, CompileSettings, SizeLimit};
+use tb_dialects::Dialect;
+use tb_driver::{CompiledSource, compile_source};
+use tb_engines::{End, Failure, Outcome, Refusal, Report};
+use tb_files::{FileSystem, Maker, convert};
+use tb_listing::{Made, make};
+use tb_meaning::Warning;
+use tb_monitor::watch_file;
 
 /// What a build writes: the PRG file, and the label file, the listing, the map and the watch file, if they are wanted.
 #[derive(Clone, Copy)]
@@ -28,91 +31,231 @@ pub struct BuildNames<'a> {
     pub watch: Option<&'a str>,
 }
 
-// A source that is compiled, and what was made of it.
+// Texts, and another one behind them, if its file is wanted.
+fn with_text(
+    mut texts: Vec<Vec<u8>>,
+    file: Option<&str>,
+    text: Vec<u8>,
+) -> Result<Vec<Vec<u8>>, AllocError>
+    ensures { IfOk result (λ r. map (λ t. t.items) r.items ≡ map (λ t. t.items) texts.items ++ wanted_text (option_map (λ p. p.now) file.entry) text.items) }
+{
+    if file.is_some() {
+        texts.push(text)?;
+    }
+    Ok(texts)
+}
+
+// The listing of a PRG file's program as the assembler takes it that it is for.
+fn spelled(
+    alloc: Global,
+    dialect: Option<Dialect>,
+    prg: &[u8],
+    listing: Vec<u8>,
+) -> Result<Vec<u8>, AllocError>
+    requires { IsPrg prg.now }
+    ensures { IfOk result (λ text. IsListing dialect prg.now listing.items text.items) }
+{
+    match dialect {
+        Some(dialect) => spell_listing(alloc, dialect, prg, listing.as_slice()),
+        None => Ok(listing),
+    }
+}
+
+// Texts, and that listing behind them, if it is wanted.
+fn with_listing(
+    alloc: Global,
+    texts: Vec<Vec<u8>>,
+    names: BuildNames<'_>,
+    prg: &[u8],
+    listing: Vec<u8>,
+) -> Result<Vec<Vec<u8>>, AllocError>
+    requires { IsPrg prg.now }
+    ensures { IfOk result (λ r. (listings : List (List ℕ)) × WantedListing (listing_of names.entry) names.entry.dialect prg.now listing.items listings
+        × (map (λ t. t.items) r.items ≡ map (λ t. t.items) texts.items ++ listings)) }
+{
+    if names.listing.is_none() {
+        return Ok(texts);
+    }
+    let listing = spelled(alloc, names.dialect, prg, listing)?;
+    with_text(texts, names.listing, listing)
+}
+
+// The PRG file of a program, and the texts that tell of it, as far as they are wanted, in the order in which they are
+// written.
+fn all_wanted(
+    alloc: Global,
+    names: BuildNames<'_>,
+    prg: &[u8],
+    made: Made,
+) -> Result<Vec<Vec<u8>>, AllocError>
+    requires { IsPrg prg.now }
+    ensures { IfOk result (λ texts. AreWanted names.entry prg.now made (map (λ t. t.items) texts.items)) }
+{
+    let watch = watch_file(alloc, prg)?;
+    let texts = only(alloc, Vec::from_slice(alloc, prg)?)?;
+    let texts = with_text(texts, names.labels, made.labels)?;
+    let texts = with_listing(alloc, texts, names, prg, made.listing)?;
+    let texts = with_text(texts, names.map, made.map)?;
+    with_text(texts, names.watch, watch)
+}
+
+// Whether a text is wanted that tells of the program. Else none is made.
+fn wants_texts(names: BuildNames<'_>) -> bool
+    ensures { result ≡ wants_texts names.entry }
+{
+    names.labels.is_some()
+        || names.listing.is_some()
+        || names.map.is_some()
+        || names.watch.is_some()
+}
+
+// All that is wanted of a compiled source.
+fn texts_of(
+    alloc: Global,
+    source: &CompiledSource,
+    settings: CompileSettings,
+    names: BuildNames<'_>,
+) -> Result<Vec<Vec<u8>>, AllocError>
+    requires { IsCompilation settings source.now.text.items source.now.program }
+    ensures { IfOk result (λ texts. Tells names.entry settings.notation source.now.text.items source.now.program (map (λ t. t.items) texts.items)) }
+{
+    let prg = source.program.prg();
+    if !wants_texts(names) {
+        return only(alloc, Vec::from_slice(alloc, prg)?);
+    }
+    let made = make(
+        alloc,
+        source.text.as_slice(),
+        settings.notation,
+        &source.program,
+    )?;
+    all_wanted(alloc, names, prg, made)
+}
+
+// All that is wanted of a source. The warnings of its program are told.
+fn built(
+    alloc: Global,
+    source: Vec<u8>,
+    settings: CompileSettings,
+    names: BuildNames<'_>,
+    told: &mut Vec<Warning>,
+) -> Result<(End, Vec<Vec<u8>>), Failure>
+    ensures { Makes (MakesBuild names.entry settings source.items) result }
+{
+    let source = compile_source(alloc, source, settings)?;
+    let texts = texts_of(alloc, &source, settings, names)?;
+    *told = source.program.into_warnings();
+    Ok((End::Done, texts))
+}
+
+// A source that is built, and what there is to warn of.
 #[derive(Drop)]
 struct Build<'a> {
     alloc: Global,
     settings: CompileSettings,
     names: BuildNames<'a>,
-    made: Vec<Vec<u8>>,
-    told: Option<Report>,
+    told: Vec<Warning>,
 }
 
-// What was built of a source: its report, and the texts of all outputs.
-#[derive(Drop)]
-struct Built {
-    report: Report,
-    texts: Vec<Vec<u8>>,
-}
+impl Maker for Build<'_> {
+    type End = End;
 
-// A text that is made in memory, if it is wanted.
-fn in_memory(alloc: Global, name: Option<&str>) -> Option<Tracked<Vec<u8>>>
-    ensures { IsFresh (option_map (λ p. p.now) name.entry) result }
-{
-    match name {
-        Some(_) => Some(Tracked::new(Vec::new(alloc))),
-        None => None,
+    type Refusal = Refusal;
+
+    ghost makes = { λ m source product. MakesBuild m.names m.settings source product };
+
+    fn make(&mut self, source: Vec<u8>) -> Result<(End, Vec<Vec<u8>>), Failure> {
+        built(
+            self.alloc,
+            source,
+            self.settings,
+            self.names,
+            &mut self.told,
+        )
     }
 }
 
-// The texts that are wanted, of which nothing is made yet.
-fn files_of(alloc: Global, names: BuildNames<'_>) -> BuildFiles<Vec<u8>>
-    ensures { AreFresh names.entry result }
-{
-    BuildFiles {
-        out: Tracked::new(Vec::new(alloc)),
-        labels: in_memory(alloc, names.labels),
-        listing: in_memory(alloc, names.listing),
-        map: in_memory(alloc, names.map),
-        watch: in_memory(alloc, names.watch),
-    }
-}
-
-// The listing of a PRG file's program, if it is wanted, as the assembler takes it that it is for.
-fn spelled(
+// The map of a source, as the texts of all outputs.
+fn mapped(
     alloc: Global,
-    dialect: Option<Dialect>,
-    prg: &[u8],
-    listing: Option<Tracked<Vec<u8>>>,
-) -> Result<Option<Tracked<Vec<u8>>>, Stop<Refusal>>
-    ensures { IfOk result (Spelled dialect prg.now listing) }
+    source: Vec<u8>,
+    settings: CompileSettings,
+) -> Result<(End, Vec<Vec<u8>>), Failure>
+    ensures { Makes (MakesMap settings source.items) result }
 {
-    let Some(plain) = listing else {
-        return Ok(None);
-    };
-    let Some(dialect) = dialect else {
-        return Ok(Some(plain));
-    };
-    match spell_listing(alloc, dialect, prg, plain.stream.as_slice()) {
-        Ok(text) => Ok(Some(Tracked::new(text))),
-        Err(NoText::Refused(refusal)) => Err(Stop::Refused(refusal)),
-        Err(NoText::NoMemory) => Err(Stop::NoMemory),
+    let source = compile_source(alloc, source, settings)?;
+    let made = make(
+        alloc,
+        source.text.as_slice(),
+        settings.notation,
+        &source.program,
+    )?;
+    Ok((End::Done, only(alloc, made.map)?))
+}
+
+// The map alone of a source that costs too much.
+#[derive(Drop)]
+struct Map {
+    alloc: Global,
+    settings: CompileSettings,
+}
+
+impl Maker for Map {
+    type End = End;
+
+    type Refusal = Refusal;
+
+    ghost makes = { λ m source product. MakesMap m.settings source product };
+
+    fn make(&mut self, source: Vec<u8>) -> Result<(End, Vec<Vec<u8>>), Failure> {
+        mapped(self.alloc, source, self.settings)
     }
 }
 
-// Texts, and that of a file behind them, if it is wanted.
-fn with_file(
-    mut texts: Vec<Vec<u8>>,
-    file: Option<Tracked<Vec<u8>>>,
-) -> Result<Vec<Vec<u8>>, AllocError>
-    ensures { IfOk result (λ r. map (λ t. t.items) r.items ≡ map (λ t. t.items) texts.items ++ held file) }
+// Writes the map of a source that costs too much, if it is wanted and the source fits the memory. The answer is the
+// refusal, unless the map was not made or written.
+fn map_refused<F: FileSystem>(
+    alloc: Global,
+    files: &mut F,
+    source: &str,
+    settings: CompileSettings,
+    map: Option<&str>,
+    refusal: Outcome,
+) -> Outcome
+    ensures { Maps F.does F.holds files.old source.now settings (option_map (λ p. p.now) map.entry) refusal result files.new }
 {
-    let Some(file) = file else {
-        return Ok(texts);
+    let Some(map) = map else {
+        return refusal;
     };
-    texts.push(file.stream)?;
-    Ok(texts)
+    let settings = CompileSettings {
+        size: SizeLimit::Memory,
+        ..settings
+    };
+    ends_by(
+        refusal,
+        convert(alloc, files, &mut Map { alloc, settings }, source, &[map]),
+    )
 }
 
-// The texts that were wanted, in the order in which they are written.
-fn texts_of(alloc: Global, files: BuildFiles<Vec<u8>>) -> Result<Vec<Vec<u8>>, AllocError>
-    ensures { IfOk result (λ r. map (λ t. t.items) r.items ≡ held_by files) }
+// How a build ends whose source costs too much, by how its map was made and written.
+fn ends_by(refusal: Outcome, done: Outcome) -> Outcome
+    ensures { result ≡ ends_by refusal done }
 {
-    let texts = with_file(only(alloc, files.out.stream)?, files.labels)?;
-    with_file(
-        with_file(with_file(texts, files.listing)?, files.map)?,
-        files.watch,
-    )
+    match done {
+        Outcome::Ended(_) | Outcome::Refused(_) => refusal,
+        Outcome::ReadFault | Outcome::WriteFault | Outcome::NoMemory => done,
+    }
+}
+
+// Whether a source is refused by its cost.
+fn costs_too_much(settings: CompileSettings, outcome: Outcome) -> bool
+    ensures { result ≡ costs_too_much settings.size outcome }
+{
+    settings.size == SizeLimit::Cost
+        && matches!(
+            outcome,
+            Outcome::Refused(Refusal::Source(CompileError::TooLarge(_)))
+        )
 }
 
 // Paths, and another one behind them, if it is wanted.
@@ -128,7 +271,7 @@ fn with_wanted<'a>(
     Ok(paths)
 }
 
-// The paths that are wanted, in the same order.
+// The paths that are wanted, in the order in which they are written.
 fn paths_of<'a>(alloc: Global, names: BuildNames<'a>) -> Result<Vec<&'a str>, AllocError>
     ensures { IfOk result (λ r. map (λ p. p.now) r.items ≡ outputs_of names.entry) }
 {
@@ -143,207 +286,6 @@ fn paths_of<'a>(alloc: Global, names: BuildNames<'a>) -> Result<Vec<&'a str>, Al
     )
 }
 
-// Whether a text is wanted that tells of the program. Else none is made.
-fn wants_texts(names: BuildNames<'_>) -> bool
-    ensures { result ≡ wants_texts names.entry }
-{
-    names.labels.is_some()
-        || names.listing.is_some()
-        || names.map.is_some()
-        || names.watch.is_some()
-}
-
-// The PRG file of a source alone.
-fn built_alone<R: Read>(
-    alloc: Global,
-    input: &mut Tracked<R>,
-    settings: CompileSettings,
-) -> Result<Built, Stop<Refusal>>
-    ensures { IfOk result (λ b. OfProgram settings IsFileAlone (R.remaining input.old.stream) (map (λ t. t.items) b.texts.items)) }
-{
-    let mut out = Tracked::new(Vec::new(alloc));
-    let report = build_within(alloc, input, &mut out, settings);
-    made_in_memory(report.outcome)?;
-    match only(alloc, out.stream) {
-        Ok(texts) => Ok(Built { report, texts }),
-        Err(_) => Err(Stop::NoMemory),
-    }
-}
-
-// The PRG file of a source, and the texts that are wanted of its program.
-fn built_with_texts<R: Read>(
-    alloc: Global,
-    input: &mut Tracked<R>,
-    settings: CompileSettings,
-    names: BuildNames<'_>,
-) -> Result<Built, Stop<Refusal>>
-    ensures { IfOk result (λ b. OfProgram settings (TellsAll names.entry settings.notation) (R.remaining input.old.stream) (map (λ t. t.items) b.texts.items)) }
-{
-    let mut files = files_of(alloc, names);
-    let report = build_files(alloc, input, &mut files, settings);
-    made_in_memory(report.outcome)?;
-    let plain = files.listing.take();
-    files.listing = spelled(alloc, names.dialect, files.out.stream.as_slice(), plain)?;
-    match texts_of(alloc, files) {
-        Ok(texts) => Ok(Built { report, texts }),
-        Err(_) => Err(Stop::NoMemory),
-    }
-}
-
-// All that is wanted of a source.
-fn built_wanted<R: Read>(
-    alloc: Global,
-    input: &mut Tracked<R>,
-    settings: CompileSettings,
-    names: BuildNames<'_>,
-) -> Result<Built, Stop<Refusal>>
-    ensures { IfOk result (λ b. MakesBuild names.entry settings (R.remaining input.old.stream) (map (λ t. t.items) b.texts.items)) }
-{
-    if wants_texts(names) {
-        built_with_texts(alloc, input, settings, names)
-    } else {
-        built_alone(alloc, input, settings)
-    }
-}
-
-impl Work for Build<'_> {
-    type End = Stop<Refusal>;
-
-    ghost takes = { λ w _ had v. MakesBuild w.names w.settings had (map (λ t. t.items) v.made.items) };
-
-    ghost makes = { λ w texts. texts ≡ map (λ t. t.items) w.made.items };
-
-    ghost unwritten_end = { λ trouble. unwritten_stop trouble };
-
-    fn look_at(&self, _path: &str) -> Result<(), Stop<Refusal>> {
-        Ok(())
-    }
-
-    fn take<R: Read>(&mut self, _path: &str, input: &mut Tracked<R>) -> Result<(), Stop<Refusal>> {
-        let built = built_wanted(self.alloc, input, self.settings, self.names)?;
-        self.told = Some(built.report);
-        self.made = built.texts;
-        Ok(())
-    }
-
-    fn make(&mut self) -> Result<Vec<Vec<u8>>, Stop<Refusal>> {
-        Ok(std::mem::replace(&mut self.made, Vec::new(self.alloc)))
-    }
-
-    fn unread(trouble: Trouble) -> Stop<Refusal> {
-        unread(trouble)
-    }
-
-    fn unwritten(trouble: Trouble) -> Stop<Refusal>
-        ensures { result ≡ unwritten_stop trouble }
-    {
-        unwritten(trouble)
-    }
-}
-
-// The map alone of a source that costs too much.
-#[derive(Drop)]
-struct Map {
-    alloc: Global,
-    settings: CompileSettings,
-    made: Vec<Vec<u8>>,
-}
-
-// The map of a source, as the texts of all outputs.
-fn mapped<R: Read>(
-    alloc: Global,
-    input: &mut Tracked<R>,
-    settings: CompileSettings,
-) -> Result<Vec<Vec<u8>>, Stop<Refusal>>
-    ensures { IfOk result (λ texts. MakesMap settings (R.remaining input.old.stream) (map (λ t. t.items) texts.items)) }
-{
-    let mut map = Tracked::new(Vec::new(alloc));
-    let report = map_source(alloc, input, &mut map, settings);
-    made_in_memory(report.outcome)?;
-    match only(alloc, map.stream) {
-        Ok(texts) => Ok(texts),
-        Err(_) => Err(Stop::NoMemory),
-    }
-}
-
-impl Work for Map {
-    type End = Stop<Refusal>;
-
-    ghost takes = { λ w _ had v. MakesMap w.settings had (map (λ t. t.items) v.made.items) };
-
-    ghost makes = { λ w texts. texts ≡ map (λ t. t.items) w.made.items };
-
-    ghost unwritten_end = { λ trouble. unwritten_stop trouble };
-
-    fn look_at(&self, _path: &str) -> Result<(), Stop<Refusal>> {
-        Ok(())
-    }
-
-    fn take<R: Read>(&mut self, _path: &str, input: &mut Tracked<R>) -> Result<(), Stop<Refusal>> {
-        self.made = mapped(self.alloc, input, self.settings)?;
-        Ok(())
-    }
-
-    fn make(&mut self) -> Result<Vec<Vec<u8>>, Stop<Refusal>> {
-        Ok(std::mem::replace(&mut self.made, Vec::new(self.alloc)))
-    }
-
-    fn unread(trouble: Trouble) -> Stop<Refusal> {
-        unread(trouble)
-    }
-
-    fn unwritten(trouble: Trouble) -> Stop<Refusal> {
-        unwritten(trouble)
-    }
-}
-
-// Writes the map of a source that costs too much, if it is wanted and the source fits the memory. The answer is the
-// refusal, unless the map was not made or written.
-fn map_refused<F: FileSystem>(
-    alloc: Global,
-    files: &mut F,
-    source: &str,
-    settings: CompileSettings,
-    map: Option<&str>,
-    refusal: Outcome,
-) -> Outcome
-    ensures { Maps F.does files.old source.now settings (option_map (λ p. p.now) map.entry) refusal result files.new }
-{
-    let Some(map) = map else {
-        return refusal;
-    };
-    let mut work = Map {
-        alloc,
-        settings: CompileSettings {
-            size: SizeLimit::Memory,
-            ..settings
-        },
-        made: Vec::new(alloc),
-    };
-    ends_by(refusal, transfer(files, &mut work, &[source], &[map]))
-}
-
-// How a build ends whose source costs too much, by how its map was made and written.
-fn ends_by(refusal: Outcome, done: Result<(), Stop<Refusal>>) -> Outcome
-    ensures { result ≡ ends_by refusal done }
-{
-    match done {
-        Ok(()) | Err(Stop::Refused(_)) => refusal,
-        Err(stop) => outcome_of(Err(stop)),
-    }
-}
-
-// Whether a source is refused by its cost.
-fn costs_too_much(settings: CompileSettings, outcome: Outcome) -> bool
-    ensures { result ≡ costs_too_much settings.size outcome }
-{
-    settings.size == SizeLimit::Cost
-        && matches!(
-            outcome,
-            Outcome::Refused(Refusal::Source(CompileError::TooLarge(_)))
-        )
-}
-
 /// Compiles a source's file, makes all that is to be written, and then writes each file whole before the next one. If the
 /// source costs too much, only the map of what the memory would take is written.
 pub fn build_file<F: FileSystem>(
@@ -353,28 +295,24 @@ pub fn build_file<F: FileSystem>(
     settings: CompileSettings,
     names: BuildNames<'_>,
 ) -> Report
-    ensures { Builds F.does files.old source.now names.entry settings result.outcome files.new }
+    ensures { Builds F.does F.holds files.old source.now names.entry settings result.outcome files.new }
 {
     let Ok(paths) = paths_of(alloc, names) else {
         return Report::new(alloc, Outcome::NoMemory);
     };
-    let mut work = Build {
+    let mut build = Build {
         alloc,
         settings,
         names,
-        made: Vec::new(alloc),
-        told: None,
+        told: Vec::new(alloc),
     };
-    let outcome = outcome_of(transfer(files, &mut work, &[source], paths.as_slice()));
+    let outcome = convert(alloc, files, &mut build, source, paths.as_slice());
     if costs_too_much(settings, outcome) {
         let outcome = map_refused(alloc, files, source, settings, names.map, outcome);
         return Report::new(alloc, outcome);
     }
-    match (work.told, outcome) {
-        (Some(report), Outcome::Ended(_) | Outcome::WriteFault) => Report {
-            outcome,
-            warnings: report.warnings,
-        },
-        _ => Report::new(alloc, outcome),
+    Report {
+        outcome,
+        warnings: build.told,
     }
 }

@@ -15,6 +15,10 @@ source_ending = codes ".bas"
 abbrev pub is_source_name : List ℕ → Bool
 is_source_name path = ends_as path source_ending || ends_as path (codes ".tbas")
 
+-- a path ends as that of a text for assemblers
+abbrev pub is_assembler_name : List ℕ → Bool
+is_assembler_name path = ends_as path (codes ".asm") || (ends_as path (codes ".inc") || (ends_as path (codes ".a65") || ends_as path (codes ".s")))
+
 -- the ending of a disk image
 abbrev pub image_ending : List ℕ
 image_ending = codes ".d64"

@@ -1,6 +1,6 @@
 //! What the ending of a path says of its file.
 ghost use Rattle.std.specs.Prelude.{◌≡◌, ◌-◌, IfOk, drop, length, string_bytes};
-ghost use Rattle.tb_files.specs.Names.{ends_as, is_source_name, image_ending, NamesPrg, IsUsualOut};
+ghost use Rattle.tb_files.specs.Names.{ends_as, is_assembler_name, is_source_name, image_ending, NamesPrg, IsUsualOut, prg_ending};
 
 use std::alloc::{AllocError, Global};
 
@@ -28,6 +28,23 @@ pub fn is_source_name(path: &str) -> bool
     ensures { result ≡ is_source_name path.now }
 {
     ends_as(path, b".bas") || ends_as(path, b".tbas")
+}
+
+/// Whether a path ends as that of a text for assemblers: in `.asm`, `.inc`, `.a65` or `.s`, in either case.
+pub fn is_assembler_name(path: &str) -> bool
+    ensures { result ≡ is_assembler_name path.now }
+{
+    ends_as(path, b".asm")
+        || ends_as(path, b".inc")
+        || ends_as(path, b".a65")
+        || ends_as(path, b".s")
+}
+
+/// Whether a path ends as that of a PRG file: in `.prg`, in either case.
+pub fn is_prg_name(path: &str) -> bool
+    ensures { result ≡ ends_as path.now prg_ending }
+{
+    ends_as(path, b".prg")
 }
 
 /// Whether a path ends as that of a disk image: in `.d64`, in either case.

@@ -1,8 +1,10 @@
 //! A system of files, of which only this is asked.
-ghost use Rattle.std.specs.Prelude.{ℕ, List, IfOk};
+ghost use Rattle.std.specs.Prelude.{ℕ, List, Option, IfOk};
 ghost use Rattle.tb_files.specs.Deeds.{Deed, Opens, Saves};
+ghost use Rattle.tb_files.specs.declared.looks.Look.{Look};
 ghost use Rattle.tb_files.specs.declared.places.Place.{Place};
 
+use crate::looks::Look;
 use crate::places::Place;
 use std::alloc::{AllocError, Global};
 use std::io::Read;
@@ -25,16 +27,27 @@ pub trait FileSystem {
     // where a path may lead
     ghost leads: { Self → List ℕ → Place → Type 0 };
 
+    // what a look at a path may show
+    ghost shows: { Self → List ℕ → Option Look → Type 0 };
+
     // what opening or writing a file makes of the system
     ghost does: { Self → Deed → Self → Type 0 };
+
+    // what the file at a path may hold, as far as its reader tells
+    ghost holds: { Self → List ℕ → Option (List ℕ) → Type 0 };
 
     /// Where a path leads. Nothing is opened.
     fn place(&self, alloc: Global, path: &str) -> Result<Place, AllocError>
         ensures { IfOk result (leads self.now path.now) };
 
-    /// Opens a file for reading.
+    /// Looks at the regular file to which a path leads, if there is one. One that can't be read shows no byte.
+    fn look(&self, alloc: Global, path: &str) -> Result<Option<Look>, AllocError>
+        ensures { IfOk result (shows self.now path.now) };
+
+    /// Opens a file for reading: its reader has what the file holds.
     fn open(&mut self, path: &str) -> Result<Tracked<Self::Input>, Trouble>
-        ensures { does self.old (Opens path.now) self.new };
+        ensures deed { does self.old (Opens path.now) self.new }
+        ensures held { IfOk result (λ input. holds self.old path.now (Self.Input.remaining input.stream)) };
 
     /// Opens a file for writing, and writes all bytes, or up to where that fails.
     fn save(&mut self, path: &str, bytes: &[u8]) -> Result<(), Trouble>

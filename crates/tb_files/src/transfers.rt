@@ -1,88 +1,115 @@
 //! Commands that read files and write others: nothing is opened for writing before all that is to be written was made.
-ghost use Rattle.std.specs.Prelude.{◌≡◌, ◌⊎◌, ℕ, List, Option, [], ◌∷◌, map, IfErr, IfOk, OnOk, OnErr};
-ghost use Rattle.tb_files.specs.Deeds.{Opens, Did, opened, saved, Opened, Saved, TakesAll, Transfers, Works};
-ghost use Rattle.tb_files.specs.declared.system.Trouble.{Trouble};
+ghost use Rattle.std.specs.Prelude.{◌≡◌, ◌⊎◌, ℕ, List, [], ◌∷◌, map, IfOk, OnOk, OnErr};
+ghost use Rattle.tb_files.specs.Deeds.{Opens, Did, Holds, Makes, OfOne, Product, Refuses, saved, Opened, ReadsAll, Saved, TakesAll, Transfers, Works, Writes};
 
 use crate::system::{FileSystem, Trouble};
-use std::io::Read;
-use tb_streams::Tracked;
+use std::alloc::Global;
+use tb_streams::{Failure, InputError, Outcome, read_input};
+
+/// What makes the texts of all outputs of the bytes of one input.
+pub trait Maker {
+    /// How the command ends if all is written.
+    type End: Drop;
+
+    /// Why nothing is made.
+    type Refusal;
+
+    // what is made of bytes: how the command ends, with the texts, or why there are none
+    ghost makes: { Self → List ℕ → Product Self.End Self.Refusal → Type 0 };
+
+    /// Makes the texts of all outputs, in order.
+    fn make(&mut self, text: Vec<u8>) -> Result<(Self::End, Vec<Vec<u8>>), Failure<Self::Refusal>>
+        ensures { Makes (makes self.old text.items) result };
+}
 
 /// The work of a command: it takes its inputs in, one after the other, and makes the texts of all its outputs.
 pub trait Work {
-    /// How the command ends if it doesn't do its work.
-    type End;
+    /// How the command ends if all is written.
+    type End: Drop;
 
-    // what it is after it took in the input at a path, by what the input's reader had, as far as that is known
-    ghost takes: { Self → List ℕ → Option (List ℕ) → Self → Type 0 };
+    /// Why nothing is made.
+    type Refusal;
 
-    // the texts that it makes of what it took in
-    ghost makes: { Self → List (List ℕ) → Type 0 };
+    // what it is after it took in the input at a path, by the bytes of that
+    ghost takes: { Self → List ℕ → List ℕ → Self → Type 0 };
 
-    // how the command ends if an output can't be written
-    ghost unwritten_end: { Trouble → Self.End };
+    // how the command ends, and the texts that are made of what was taken in
+    ghost makes: { Self → Self.End → List (List ℕ) → Type 0 };
 
     /// What is said of an input by its path alone, before it is opened.
-    fn look_at(&self, path: &str) -> Result<(), Self::End>;
+    fn look_at(&self, path: &str) -> Result<(), Failure<Self::Refusal>>;
 
     /// Takes the input at a path in.
-    fn take<R: Read>(&mut self, path: &str, input: &mut Tracked<R>) -> Result<(), Self::End>
-        ensures { OnOk result (takes self.old path.now (R.remaining input.old.stream) self.new) };
+    fn take(&mut self, path: &str, text: Vec<u8>) -> Result<(), Failure<Self::Refusal>>
+        ensures { OnOk result (takes self.old path.now text.items self.new) };
 
     /// Makes the texts of all outputs, in order.
-    fn make(&mut self) -> Result<Vec<Vec<u8>>, Self::End>
-        ensures { IfOk result (λ texts. makes self.old (map (λ t. t.items) texts.items)) };
-
-    /// The end if an input can't be opened.
-    fn unread(trouble: Trouble) -> Self::End;
-
-    /// The end if an output can't be written.
-    fn unwritten(trouble: Trouble) -> Self::End
-        ensures { result ≡ unwritten_end trouble };
+    fn make(&mut self) -> Result<(Self::End, Vec<Vec<u8>>), Failure<Self::Refusal>>
+        ensures { IfOk result (λ made. makes self.old made.0 (map (λ t. t.items) made.1.items)) };
 }
 
-// Opens an input, and takes it in.
-fn take_one<F: FileSystem, W: Work>(files: &mut F, work: &mut W, path: &str) -> Result<(), W::End>
-    ensures done { OnOk result (F.does files.old (Opens path.now) files.new) }
+/// All that the file at a path holds.
+pub fn read_file<F: FileSystem>(
+    alloc: Global,
+    files: &mut F,
+    path: &str,
+) -> Result<Vec<u8>, InputError>
+    ensures deed { F.does files.old (Opens path.now) files.new }
+    ensures held { IfOk result (λ text. Holds F.holds files.old path.now text.items) }
+{
+    match files.open(path) {
+        Ok(mut input) => read_input(alloc, &mut input),
+        Err(Trouble::Fault) => Err(InputError::Fault),
+        Err(Trouble::NoMemory) => Err(InputError::NoMemory),
+    }
+}
+
+// Opens an input, reads it whole, and takes it in.
+fn take_one<F: FileSystem, W: Work>(
+    alloc: Global,
+    files: &mut F,
+    work: &mut W,
+    path: &str,
+) -> Result<(), Failure<W::Refusal>>
+    ensures taken { OnOk result ((bytes : List ℕ) × Holds F.holds files.old path.now bytes
+        × F.does files.old (Opens path.now) files.new × W.takes work.old path.now bytes work.new) }
     ensures broken { OnErr result ((files.new ≡ files.old) ⊎ F.does files.old (Opens path.now) files.new) }
-    ensures taken { OnOk result ((had : Option (List ℕ)) × W.takes work.old path.now had work.new) }
 {
     work.look_at(path)?;
-    match files.open(path) {
-        Ok(mut input) => work.take(path, &mut input),
-        Err(trouble) => Err(W::unread(trouble)),
-    }
+    let text = read_file(alloc, files, path)?;
+    work.take(path, text)
 }
 
 // Opens the inputs one after the other, and takes each in before the next one is opened.
 #[tactic(auto, using(crate::proofs::Orders::orders))]
 fn take_all<F: FileSystem, W: Work>(
+    alloc: Global,
     files: &mut F,
     work: &mut W,
     inputs: &[&str],
-) -> Result<(), W::End>
-    ensures done { OnOk result (Did F.does files.old (opened (map (λ p. p.now) inputs.now)) files.new) }
+) -> Result<(), Failure<W::Refusal>>
+    ensures taken { OnOk result ((all : List (List ℕ)) × ReadsAll F.does F.holds files.old (map (λ p. p.now) inputs.now) all files.new
+        × TakesAll W.takes work.old (map (λ p. p.now) inputs.now) all work.new) }
     ensures broken { OnErr result (Opened F.does files.old (map (λ p. p.now) inputs.now) files.new) }
-    ensures taken { OnOk result ((hads : List (Option (List ℕ))) × TakesAll W.takes work.old (map (λ p. p.now) inputs.now) hads work.new) }
 {
     match inputs {
         [] => Ok(()),
         [first, rest @ ..] => {
-            take_one(files, work, first)?;
-            take_all(files, work, rest)
+            take_one(alloc, files, work, first)?;
+            take_all(alloc, files, work, rest)
         }
     }
 }
 
 // Writes each output whole before the next one, up to the first that can't be written.
 #[tactic(auto, using(crate::proofs::Orders::orders))]
-fn save_all<F: FileSystem, W: Work>(
+fn save_all<F: FileSystem>(
     files: &mut F,
     outputs: &[&str],
     texts: &[Vec<u8>],
-) -> Result<(), W::End>
+) -> Result<(), Trouble>
     ensures done { OnOk result (Did F.does files.old (saved (map (λ p. p.now) outputs.now) (map (λ t. t.items) texts.now)) files.new) }
     ensures broken { OnErr result (Saved F.does files.old (map (λ p. p.now) outputs.now) (map (λ t. t.items) texts.now) files.new) }
-    ensures unwritten { IfErr result (λ e. (trouble : Trouble) × (e ≡ W.unwritten_end trouble)) }
 {
     let [path, paths @ ..] = outputs else {
         return Ok(());
@@ -90,9 +117,23 @@ fn save_all<F: FileSystem, W: Work>(
     let [text, texts @ ..] = texts else {
         return Ok(());
     };
-    match files.save(path, text.as_slice()) {
-        Ok(()) => save_all::<F, W>(files, paths, texts),
-        Err(trouble) => Err(W::unwritten(trouble)),
+    files.save(path, text.as_slice())?;
+    save_all(files, paths, texts)
+}
+
+// Writes all that was made, and ends as it was made to end.
+fn save_made<F: FileSystem, E: Drop, R>(
+    files: &mut F,
+    outputs: &[&str],
+    made: (E, Vec<Vec<u8>>),
+) -> Outcome<E, R>
+    ensures { Writes F.does files.old (map (λ p. p.now) outputs.now) made.0 (map (λ t. t.items) made.1.items) result files.new }
+{
+    let (end, texts) = made;
+    match save_all(files, outputs, texts.as_slice()) {
+        Ok(()) => Outcome::Ended(end),
+        Err(Trouble::Fault) => Outcome::WriteFault,
+        Err(Trouble::NoMemory) => Outcome::NoMemory,
     }
 }
 
@@ -100,29 +141,58 @@ fn save_all<F: FileSystem, W: Work>(
 /// order. If something is wrong before all is made, nothing is opened for writing; if it stops later, it ends as where an
 /// output can't be written.
 pub fn transfer<F: FileSystem, W: Work>(
+    alloc: Global,
     files: &mut F,
     work: &mut W,
     inputs: &[&str],
     outputs: &[&str],
-) -> Result<(), W::End>
-    ensures { Transfers F.does (Works W.takes W.makes work.old (map (λ p. p.now) inputs.now)) W.unwritten_end
+) -> Outcome<W::End, W::Refusal>
+    ensures { Transfers F.does F.holds (Works W.takes W.makes work.old (map (λ p. p.now) inputs.now))
         files.old (map (λ p. p.now) inputs.now) (map (λ p. p.now) outputs.now) result files.new }
 {
-    take_all(files, work, inputs)?;
-    let texts = work.make()?;
-    save_all::<F, W>(files, outputs, texts.as_slice())
+    if let Err(failure) = take_all(alloc, files, work, inputs) {
+        return Outcome::of(Err(failure));
+    }
+    match work.make() {
+        Ok(made) => save_made(files, outputs, made),
+        Err(failure) => Outcome::of(Err(failure)),
+    }
 }
 
-/// Puts the text that a work makes of a file in the place of the file's own. It is the one way in which a command writes
-/// what it reads, or a source that is there: the file is opened for writing only after the text was made, and only if the
-/// work makes one.
-pub fn replace<F: FileSystem, W: Work>(
+/// The same where all texts are made of the bytes of one input.
+pub fn convert<F: FileSystem, M: Maker>(
+    alloc: Global,
     files: &mut F,
-    work: &mut W,
-    path: &str,
-) -> Result<(), W::End>
-    ensures { Transfers F.does (Works W.takes W.makes work.old (path.now ∷ [])) W.unwritten_end
-        files.old (path.now ∷ []) (path.now ∷ []) result files.new }
+    maker: &mut M,
+    input: &str,
+    outputs: &[&str],
+) -> Outcome<M::End, M::Refusal>
+    ensures transfers { Transfers F.does F.holds (OfOne (M.makes maker.old))
+        files.old (input.now ∷ []) (map (λ p. p.now) outputs.now) result files.new }
+    ensures refuses { Refuses F.holds (M.makes maker.old) files.old input.now result }
 {
-    transfer(files, work, &[path], &[path])
+    let text = match read_file(alloc, files, input) {
+        Ok(text) => text,
+        Err(error) => return Outcome::from(error),
+    };
+    match maker.make(text) {
+        Ok(made) => save_made(files, outputs, made),
+        Err(failure) => Outcome::of(Err(failure)),
+    }
+}
+
+/// Puts the text that is made of a file in the place of the file's own. It is the one way in which a command writes what
+/// it reads, or a source that is there: the file is opened for writing only after the text was made, and only if one is
+/// made.
+pub fn replace<F: FileSystem, M: Maker>(
+    alloc: Global,
+    files: &mut F,
+    maker: &mut M,
+    path: &str,
+) -> Outcome<M::End, M::Refusal>
+    ensures transfers { Transfers F.does F.holds (OfOne (M.makes maker.old))
+        files.old (path.now ∷ []) (path.now ∷ []) result files.new }
+    ensures refuses { Refuses F.holds (M.makes maker.old) files.old path.now result }
+{
+    convert(alloc, files, maker, path, &[path])
 }

@@ -7,11 +7,13 @@
 mod header;
 mod lines;
 mod numbers;
+mod outcome;
 mod reading;
 mod writing;
 
 pub use header::{Field, read_field};
 pub use lines::MOST_LINE;
 pub use numbers::constants_are_numbers;
+pub use outcome::BadFrame;
 pub use reading::{Frame, FrameError, MOST_CONTENT, MOST_LINES, read_frame};
 pub use writing::{WriteError, frame_of, write_frame};

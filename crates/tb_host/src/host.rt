@@ -1,15 +1,17 @@
 //! The files of the system that the program runs on. `-` is standard input or standard output.
 ghost use Rattle.std.specs.Prelude.{⊤};
 
-use crate::putting::{Found, MOST_LINKS, end_of_links, look, node, save_at};
+use crate::putting::save_at;
+use crate::system::{
+    Found, MOST_LINKS, Source, end_of_links, look, look_at, made_in_folder, source_at,
+};
 use std::alloc::{AllocError, Global};
-use std::io::Read;
+use std::io;
 use std::path::Path;
 use std::rt::Files;
-use std::{fs, io};
 use tb_driver::Tracked;
 use tb_file_reasons::Purpose;
-use tb_files::{FileSystem, Place, STANDARD, Trouble, Unput};
+use tb_files::{FileSystem, Look, Place, Trouble, Unput};
 
 /// The files of the system, and which of them was asked for last.
 #[derive(Drop)]
@@ -36,22 +38,6 @@ pub struct Asked {
     pub is_kept: bool,
     /// Whether a file that was there was replaced.
     pub is_replaced: bool,
-}
-
-/// A file that is opened for reading, or standard input.
-#[derive(Drop)]
-pub enum Source<R: Files + Input> {
-    File(R::File),
-    Standard(R::Reader),
-}
-
-impl<R: Files + Input> Read for Source<R> {
-    fn read(&mut self, buf: &mut [u8]) -> io::Result<usize> {
-        match self {
-            Source::File(file) => file.read(buf),
-            Source::Standard(reader) => reader.read(buf),
-        }
-    }
 }
 
 impl<'a, R> Host<'a, R> {
@@ -95,7 +81,11 @@ impl<R: Files + Input + Print + AllocGlobal> FileSystem for Host<'_, R> {
 
     ghost leads = { λ _ _ _. ⊤ };
 
+    ghost shows = { λ _ _ _. ⊤ };
+
     ghost does = { λ _ _ _. ⊤ };
+
+    ghost holds = { λ _ _ _. ⊤ };
 
     fn place(&self, alloc: Global, path: &str) -> Result<Place, AllocError> {
         let end = end_of_links(self.rt, alloc, Path::new(path), MOST_LINKS)?;
@@ -104,6 +94,10 @@ impl<R: Files + Input + Print + AllocGlobal> FileSystem for Host<'_, R> {
             Found::Nothing => made_in_folder(self.rt, alloc, end.as_path()),
             Found::Other => Ok(Place::Elsewhere),
         }
+    }
+
+    fn look(&self, alloc: Global, path: &str) -> Result<Option<Look>, AllocError> {
+        look_at(self.rt, alloc, path)
     }
 
     fn open(&mut self, path: &str) -> Result<Tracked<Source<R>>, Trouble> {
@@ -144,31 +138,9 @@ impl<R: Files + Input + Print + AllocGlobal> FileSystem for Host<'_, R> {
     }
 }
 
-fn source_at<R: Files + Input>(rt: &R, path: &str) -> io::Result<Source<R>> {
-    if path == STANDARD {
-        Ok(Source::Standard(rt.reader()))
-    } else {
-        Ok(Source::File(fs::open(rt, path)?))
-    }
-}
-
 fn trouble(error: io::ErrorKind) -> Trouble {
     match error {
         io::ErrorKind::OutOfMemory => Trouble::NoMemory,
         _ => Trouble::Fault,
-    }
-}
-
-fn made_in_folder<R: Files>(rt: &R, alloc: Global, path: Path<'_>) -> Result<Place, AllocError> {
-    let Some(name) = path.file_name() else {
-        return Ok(Place::Elsewhere);
-    };
-    let folder = match path.parent() {
-        Some(folder) if !folder.as_os_str().is_empty() => folder,
-        _ => Path::new("."),
-    };
-    match fs::metadata(rt, folder) {
-        Ok(found) => Ok(Place::Missing(node(&found), String::from_str(alloc, name)?)),
-        Err(_) => Ok(Place::Elsewhere),
     }
 }

@@ -2,16 +2,17 @@
 //! sources, keys and labels.
 #![tactic(auto)]
 
-mod folder;
 mod host;
 mod keys;
 mod labels;
 mod putting;
 mod reading;
+mod system;
 mod waiting;
 
-pub use host::{Asked, Host, Source};
+pub use host::{Asked, Host};
 pub use keys::keyboard;
 pub use labels::{labels_in, named_place};
 pub use reading::{read_warned, settings_of, size_limit};
+pub use system::Source;
 pub use waiting::Progress;

@@ -1,16 +1,13 @@
 //! Where a text is put that takes a file's place.
-use crate::folder::{SystemFolder, write_whole};
+use crate::system::{
+    Found, MOST_LINKS, SystemFolder, end_of_links, leads_nowhere, look, write_whole,
+};
 use std::alloc::{AllocError, Global};
-use std::fs::Metadata;
+use std::io;
 use std::io::ErrorKind;
-use std::os::unix::fs::MetadataExt;
 use std::path::{Path, PathBuf};
 use std::rt::Files;
-use std::{fs, io};
-use tb_files::{Folder, Node, PutNames, STANDARD, Unput, put};
-
-/// The most links that lead one to the next.
-pub const MOST_LINKS: u32 = 40;
+use tb_files::{Folder, PutNames, STANDARD, Unput, put};
 
 /// The beginnings of names for new files beside an old one: as many may be there, left by programs that were ended.
 const BEGINNINGS: [&str; 8] = [
@@ -95,57 +92,9 @@ fn unused<R: Files>(rt: &R, alloc: Global, file: Path<'_>) -> Result<PathBuf, Al
         let mut new = String::from_str(alloc, beginning)?;
         new.push_str(name)?;
         path = folder.join(alloc, new.as_str())?;
-        if fs::symlink_metadata(rt, path.as_path()).is_err() {
+        if leads_nowhere(rt, path.as_path()) {
             return Ok(path);
         }
     }
     Ok(path)
-}
-
-/// What a path leads to.
-#[derive(Clone, Copy, PartialEq, Eq, Drop)]
-pub enum Found {
-    File(Node),
-    Nothing,
-    /// No regular file, or nobody knows.
-    Other,
-}
-
-/// Looks at what a path leads to, and opens nothing.
-pub fn look<R: Files>(rt: &R, path: &str) -> Result<Found, AllocError> {
-    match fs::metadata(rt, path) {
-        Ok(found) if found.is_file() => Ok(Found::File(node(&found))),
-        Err(error) if error.kind() == ErrorKind::NotFound => Ok(Found::Nothing),
-        Err(error) if error.kind() == ErrorKind::OutOfMemory => Err(AllocError),
-        Ok(_) | Err(_) => Ok(Found::Other),
-    }
-}
-
-/// The numbers by which a system knows a file.
-pub fn node(found: &Metadata) -> Node {
-    Node {
-        device: found.dev(),
-        number: found.ino(),
-    }
-}
-
-/// Where a path leads in the end: links are followed, also one that leads nowhere yet.
-pub fn end_of_links<R: Files>(
-    rt: &R,
-    alloc: Global,
-    path: Path<'_>,
-    links: u32,
-) -> Result<PathBuf, AllocError> {
-    if 0 < links {
-        match rt.read_link(alloc, path.as_os_str()) {
-            Ok(target) => {
-                let folder = path.parent().unwrap_or(Path::new(""));
-                let target = folder.join(alloc, target.as_path())?;
-                return end_of_links(rt, alloc, target.as_path(), links - 1);
-            }
-            Err(error) if error.kind() == ErrorKind::OutOfMemory => return Err(AllocError),
-            Err(_) => {}
-        }
-    }
-    path.to_path_buf(alloc)
 }

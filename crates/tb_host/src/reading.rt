@@ -31,7 +31,10 @@ pub fn read_warned<R: Files + Print + Eprint + Input + AllocGlobal>(
     settings: CompileSettings,
 ) -> Result<CompiledSource, Outcome> {
     let rt = host.rt;
-    let source = read_source(rt.alloc(), &mut opened(host, path)?, settings)?;
+    let source = match read_source(rt.alloc(), &mut opened(host, path)?, settings) {
+        Ok(source) => source,
+        Err(stop) => return Err(Outcome::of(Err(stop))),
+    };
     let warnings = Warnings(source.program.warnings());
     // Nobody can be told that standard error fails.
     let _ = eprint!(rt; "{warnings}");

@@ -11,16 +11,16 @@ IsWithin limit = (1 ≤ limit.events) × (limit.events ≤ MOST_EVENTS)
 
 -- a run takes 1 to MOST_EVENTS events
 abbrev pub IsWithinLimit : Job → Type 0
-IsWithinLimit (Build source out seed fit notation beside) = ⊤
+IsWithinLimit (Build source out seed fit notation beside force) = ⊤
 IsWithinLimit (Run what settings rude labels) = IsWithin settings.limit
-IsWithinLimit (Play what seed fit notation limit made screen) = IsWithin limit
-IsWithinLimit (Asm text out at) = ⊤
-IsWithinLimit (Assemble text out at long labels listing) = ⊤
+IsWithinLimit (Play what seed fit notation limit made screen force) = IsWithin limit
+IsWithinLimit (Asm text out at force) = ⊤
+IsWithinLimit (Assemble text out at long labels listing force) = ⊤
 IsWithinLimit (Dis prg dialect) = ⊤
 IsWithinLimit (Step what settings) = IsWithin settings.limit
 IsWithinLimit (Debug what settings rude labels) = IsWithin settings.limit
-IsWithinLimit (Profile what settings rude html) = IsWithin settings.limit
-IsWithinLimit (Disk out files) = ⊤
+IsWithinLimit (Profile what settings rude html force) = IsWithin settings.limit
+IsWithinLimit (Disk out files force) = ⊤
 IsWithinLimit (Check sources fit notation) = ⊤
 IsWithinLimit (Format source notation target) = ⊤
 IsWithinLimit (Renumber source notation first step in_place) = ⊤

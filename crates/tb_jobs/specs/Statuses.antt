@@ -2,7 +2,7 @@
 use Rattle.std.specs.Prelude.{ℕ}
 use Rattle.tb_streams.specs.Numbers.{BAD_WORDS, FAULT, NO_MEMORY, REFUSED}
 use Rattle.tb_jobs.specs.declared.failure.Failure.{Failure}
-use Rattle.tb_jobs.specs.declared.failure.Failure.TheVariants.{Words, NotUtf8, BadKeys, BadAddress, SameFile, IsSource, BadLabels, NoTerminal, SmallTerminal, ReadFault, NoMemory}
+use Rattle.tb_jobs.specs.declared.failure.Failure.TheVariants.{Words, NotUtf8, BadKeys, BadAddress, SameFile, IsSource, Unlike, BadLabels, NoTerminal, SmallTerminal, ReadFault, NoMemory}
 use Rattle.tb_jobs.specs.declared.jobs.JobError.{JobError}
 use Rattle.tb_jobs.specs.declared.jobs.JobError.TheVariants.{Words as JobWords, NoMemory as NoJobMemory}
 
@@ -19,6 +19,7 @@ status_of BadKeys = BAD_WORDS
 status_of BadAddress = BAD_WORDS
 status_of SameFile = BAD_WORDS
 status_of (IsSource path) = BAD_WORDS
+status_of (Unlike path kind) = BAD_WORDS
 status_of (BadLabels line) = REFUSED
 status_of NoTerminal = BAD_WORDS
 status_of SmallTerminal = BAD_WORDS

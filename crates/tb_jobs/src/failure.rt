@@ -5,6 +5,7 @@ ghost use Rattle.tb_jobs.specs.Statuses.{status_of};
 use crate::jobs::JobError;
 use std::alloc::AllocError;
 use std::fmt;
+use tb_files::Kind;
 use tb_streams::status;
 
 /// What is wrong with the words, or that memory is wanting.
@@ -22,6 +23,8 @@ pub enum Failure {
     SameFile,
     /// A source that is there would be written, at this path.
     IsSource(String),
+    /// What is there, at this path, doesn't look like what would be written.
+    Unlike(String, Kind),
     /// This line of a label file is no label, counted from 1.
     BadLabels(usize),
     /// The machine's screen would be shown where no terminal is.
@@ -46,12 +49,28 @@ impl Failure {
             | Failure::BadAddress
             | Failure::SameFile
             | Failure::IsSource(_)
+            | Failure::Unlike(_, _)
             | Failure::NoTerminal
             | Failure::SmallTerminal => status::BAD_WORDS,
             Failure::BadLabels(_) => status::REFUSED,
             Failure::ReadFault => status::FAULT,
             Failure::NoMemory => status::NO_MEMORY,
         }
+    }
+}
+
+fn kind_text(kind: Kind) -> &'static str {
+    match kind {
+        Kind::Program => "a PRG file of tbc build",
+        Kind::Code(None) => "a PRG file",
+        Kind::Code(Some(_)) => "a PRG file of this address",
+        Kind::Image => "a disk image",
+        Kind::Labels => "a label file",
+        Kind::Listing => "a listing",
+        Kind::Map => "a map",
+        Kind::Watch => "a watch file",
+        Kind::Page => "a page of tbc profile",
+        Kind::Keys => "a key file",
     }
 }
 
@@ -65,6 +84,13 @@ impl fmt::Display for Failure {
             Failure::BadAddress => f.write_str("tbc: bad address\n"),
             Failure::SameFile => f.write_str("tbc: same file twice\n"),
             Failure::IsSource(path) => writeln!(f, "tbc: {path} is a source"),
+            Failure::Unlike(path, kind) => {
+                writeln!(
+                    f,
+                    "tbc: {path} is not {}: --force replaces it",
+                    kind_text(*kind)
+                )
+            }
             Failure::BadLabels(_) => f.write_str("tbc: bad labels\n"),
             Failure::NoTerminal => f.write_str("tbc: not a terminal\n"),
             Failure::SmallTerminal => f.write_str("tbc: terminal smaller than 40 by 25\n"),

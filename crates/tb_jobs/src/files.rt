@@ -1,9 +1,13 @@
 //! The files of a job: those that must be kept, and those that it writes.
 ghost use Rattle.std.specs.Prelude.{◌≡◌, ◌++◌, ◌∷◌, [], IfOk, map, string_bytes};
-ghost use Rattle.tb_jobs.specs.Files.{input_path, output_path, wanted, kept_of, keys_of, written_of};
+ghost use Rattle.tb_files.specs.Checks.{put_of};
+ghost use Rattle.tb_files.specs.declared.looks.Kind.TheVariants as Kind;
+ghost use Rattle.tb_jobs.specs.Files.{input_path, is_forced, kept_of, keys_of, output_path, wanted, wanted_beside, Writes};
 
 use crate::jobs::{BuildExtras, Job, Runnable, Settings, Typed};
 use std::alloc::{AllocError, Global};
+use tb_files::{Kind, Output, code_kind};
+use tb_streams::address;
 
 /// Where standard input is found as a file.
 pub const STANDARD_INPUT: &str = "/dev/stdin";
@@ -25,17 +29,19 @@ fn output_path(path: &str) -> &str
     if path == "-" { STANDARD_OUTPUT } else { path }
 }
 
-// Paths, and that of an output behind them, if it is wanted.
+// Outputs, and one of a kind behind them, if it is wanted.
 fn with_wanted<'a>(
-    mut paths: Vec<&'a str>,
-    out: &'a Option<String>,
-) -> Result<Vec<&'a str>, AllocError>
-    ensures { IfOk result (λ r. map (λ p. p.now) r.items ≡ map (λ p. p.now) paths.entry.items ++ wanted out.now) }
+    mut outputs: Vec<Output<'a>>,
+    kind: Kind,
+    path: &'a Option<String>,
+) -> Result<Vec<Output<'a>>, AllocError>
+    ensures { IfOk result (λ r. map put_of r.items ≡ map put_of outputs.entry.items ++ wanted kind path.now) }
 {
-    if let Some(out) = out {
-        paths.push(output_path(out.as_str()))?;
+    if let Some(path) = path {
+        let path = output_path(path.as_str());
+        outputs.push(Output { path, kind })?;
     }
-    Ok(paths)
+    Ok(outputs)
 }
 
 // Paths, and that of a key file behind them, if there is one.
@@ -53,18 +59,14 @@ fn written_by_build<'a>(
     alloc: Global,
     out: &'a str,
     beside: &'a BuildExtras,
-) -> Result<Vec<&'a str>, AllocError>
-    ensures { IfOk result (λ r. map (λ p. p.now) r.items ≡ output_path out.now ∷ wanted beside.now.labels ++ wanted beside.now.listing ++ wanted beside.now.map ++ wanted beside.now.watch) }
+) -> Result<Vec<Output<'a>>, AllocError>
+    ensures { IfOk result (λ r. map put_of r.items ≡ (output_path out.now, Kind.Program) ∷ wanted_beside beside.now) }
 {
-    let mut paths = Vec::new(alloc);
-    paths.push(output_path(out))?;
-    with_wanted(
-        with_wanted(
-            with_wanted(with_wanted(paths, &beside.labels)?, &beside.listing)?,
-            &beside.map,
-        )?,
-        &beside.watch,
-    )
+    let outputs = only(alloc, Kind::Program, out)?;
+    let outputs = with_wanted(outputs, Kind::Labels, &beside.labels)?;
+    let outputs = with_wanted(outputs, Kind::Listing, &beside.listing)?;
+    let outputs = with_wanted(outputs, Kind::Map, &beside.map)?;
+    with_wanted(outputs, Kind::Watch, &beside.watch)
 }
 
 // The paths of inputs.
@@ -84,6 +86,16 @@ fn one<'a>(alloc: Global, path: &'a str) -> Result<Vec<&'a str>, AllocError>
     let mut paths = Vec::new(alloc);
     paths.push(path)?;
     Ok(paths)
+}
+
+// One output of a kind.
+fn only<'a>(alloc: Global, kind: Kind, path: &'a str) -> Result<Vec<Output<'a>>, AllocError>
+    ensures { IfOk result (λ r. map put_of r.items ≡ (output_path path.entry.now, kind) ∷ []) }
+{
+    let mut outputs = Vec::new(alloc);
+    let path = output_path(path);
+    outputs.push(Output { path, kind })?;
+    Ok(outputs)
 }
 
 impl Job {
@@ -115,25 +127,46 @@ impl Job {
         }
     }
 
-    /// The paths of the files that the job writes.
-    pub fn written(&self, alloc: Global) -> Result<Vec<&str>, AllocError>
-        ensures { IfOk result (λ r. map (λ p. p.now) r.items ≡ written_of self.now) }
+    /// The files that the job writes.
+    pub fn written(&self, alloc: Global) -> Result<Vec<Output<'_>>, AllocError>
+        ensures { IfOk result (λ r. Writes self.now (map put_of r.items)) }
     {
         match self {
             Job::Build { out, beside, .. } => written_by_build(alloc, out.as_str(), beside),
-            Job::Asm { out, .. } | Job::Disk { out, .. } => one(alloc, output_path(out.as_str())),
+            Job::Asm { out, at, .. } => only(
+                alloc,
+                code_kind(out.as_str(), address(at)),
+                out.as_str(),
+            ),
+            Job::Disk { out, .. } => only(alloc, Kind::Image, out.as_str()),
             Job::Assemble {
                 out,
                 labels,
                 listing,
                 ..
             } => {
-                let paths = one(alloc, output_path(out.as_str()))?;
-                with_wanted(with_wanted(paths, labels)?, listing)
+                let outputs = only(alloc, Kind::Code(None), out.as_str())?;
+                let outputs = with_wanted(outputs, Kind::Labels, labels)?;
+                with_wanted(outputs, Kind::Listing, listing)
             }
-            Job::Play { record, .. } => with_wanted(Vec::new(alloc), record),
-            Job::Profile { html, .. } => with_wanted(Vec::new(alloc), html),
+            Job::Play { record, .. } => with_wanted(Vec::new(alloc), Kind::Keys, record),
+            Job::Profile { html, .. } => with_wanted(Vec::new(alloc), Kind::Page, html),
             _ => Ok(Vec::new(alloc)),
+        }
+    }
+
+    /// Whether a file is replaced that looks like something else.
+    pub fn is_forced(&self) -> bool
+        ensures { result ≡ is_forced self.now }
+    {
+        match self {
+            Job::Build { force, .. }
+            | Job::Play { force, .. }
+            | Job::Asm { force, .. }
+            | Job::Assemble { force, .. }
+            | Job::Profile { force, .. }
+            | Job::Disk { force, .. } => *force,
+            _ => false,
         }
     }
 }

@@ -137,6 +137,8 @@ pub enum Job {
         notation: Notation,
         /// The files of the texts that tell of it.
         beside: BuildExtras,
+        /// Whether a file is replaced that looks like something else.
+        force: bool,
     },
     /// Runs a program, and shows what it sends.
     Run {
@@ -162,6 +164,8 @@ pub enum Job {
         record: Option<String>,
         /// Whether the machine's screen is shown, in place of the host form of what is sent.
         screen: bool,
+        /// Whether a file is replaced that looks like something else.
+        force: bool,
     },
     /// Assembles a text, and writes a PRG file.
     Asm {
@@ -169,6 +173,8 @@ pub enum Job {
         out: String,
         /// The address of the first byte.
         at: String,
+        /// Whether a file is replaced that looks like something else.
+        force: bool,
     },
     /// Assembles a text as people write it, and writes a PRG file and what else is wanted.
     Assemble {
@@ -182,6 +188,8 @@ pub enum Job {
         labels: Option<String>,
         /// The listing.
         listing: Option<String>,
+        /// Whether a file is replaced that looks like something else.
+        force: bool,
     },
     /// Lists a PRG file.
     Dis {
@@ -211,12 +219,16 @@ pub enum Job {
         rude: Option<u16>,
         /// The page that is written, if it is wanted. A PRG file has none.
         html: Option<String>,
+        /// Whether a file is replaced that looks like something else.
+        force: bool,
     },
     /// Writes a disk image.
     Disk {
         out: String,
         /// The PRG files, in order.
         files: Vec<String>,
+        /// Whether a file is replaced that looks like something else.
+        force: bool,
     },
     /// Shows everything that is wrong with sources.
     Check {

@@ -1,12 +1,16 @@
 -- What was said to a frame.
-use Rattle.std.proofs.Common.{◌≡◌, ◌≢◌, ℕ, List, Option, Some, Ok, Err, subst}
+use Rattle.std.proofs.Common.{◌≡◌, ℕ, List, Option, Some, Ok, Err, subst}
+use Rattle.std.specs.declared.alloc.Global.{Global}
+use Rattle.std.specs.declared.vec.Vec.{Vec}
 use Rattle.std.specs.Io.KnownBytes.{Appends}
 use Rattle.tb_frames.specs.Frames.{ReadsFrame, WritesFrame, frame_of}
 use Rattle.tb_streams.specs.Streams.{AppendsPrefix}
 use Rattle.tb_frames.specs.declared.reading.Frame.{Frame}
 use Rattle.tb_frames.specs.declared.writing.WriteError.{WriteError}
-use Rattle.tb_frames.specs.declared.writing.WriteError.TheVariants.{Fault}
-use Rattle.tb_language_server.specs.Dialogue.{TakesOne}
+use Rattle.tb_frames.specs.declared.writing.WriteError.TheVariants.{Fault, NoMemory}
+use Rattle.tb_frames.specs.Outcomes.{unwritten}
+use Rattle.tb_language_server.specs.Dialogue.{Streams, TakesFrame, TakesOne, TakesOneOf}
+use Rattle.tb_language_server.specs.declared.server.Reply.TheVariants.{Content}
 use Rattle.tb_language_server.specs.declared.server.Reply.{Reply}
 use Rattle.tb_language_server.specs.declared.server.Server.{Server}
 
@@ -25,7 +29,8 @@ written old new text content is = subst (λ t. Appends old new (frame_of t)) is
 pub begun : (old new : Option (List ℕ)) (text content : List ℕ) → text ≡ content → AppendsPrefix old new (frame_of text) → AppendsPrefix old new (frame_of content)
 begun old new text content is = subst (λ t. AppendsPrefix old new (frame_of t)) is
 
--- a writer failed, by the error that says so
-pub failed_by : (content : List ℕ) (e : WriteError) (old new : Option (List ℕ)) (n m : ℕ) → e ≡ Fault → WritesFrame content (Err e) old new n m
-    → AppendsPrefix old new (frame_of content) × (m ≢ n)
-failed_by content e old new n m is = subst (λ e. WritesFrame content (Err e) old new n m) is
+-- what is said to a frame was not written
+pub not_written : (s : Streams) (old new : Server) (content : Vec ℕ Global) (text : List ℕ) (e : WriteError) → text ≡ content.items
+    → TakesOneOf s old (Content content) new → WritesFrame text (Err e) s.old s.new s.wrote s.wrote_after → TakesFrame s old (Err (unwritten e)) new
+not_written s old new content text Fault is one (wrote, failed) = (content, one, begun s.old s.new text content.items is wrote, failed)
+not_written s old new content text NoMemory is one (same, sound) = record { kept = same; sound = sound }

@@ -13,10 +13,10 @@ use Rattle.tb_frames.specs.declared.reading.FrameError.TheVariants as frame_erro
 use Rattle.tb_frames.specs.declared.reading.Frame.TheVariants as frame
 use Rattle.tb_messages.specs.declared.refusals.Refusal.TheVariants.{NoJson, TooLarge}
 use Rattle.tb_parser.specs.declared.notation.Notation.{Notation}
-use Rattle.tb_language_server.specs.Outcomes.{end_of}
+use Rattle.tb_language_server.specs.Outcomes.{ServerOutcome, end_of}
 use Rattle.tb_language_server.specs.Replies.{IsNew, Refuses, Takes}
-use Rattle.tb_language_server.specs.declared.outcome.ServerOutcome.{ServerOutcome}
-use Rattle.tb_language_server.specs.declared.outcome.ServerOutcome.TheVariants.{Ended, NotShutDown, BadFrame, ReadFault, WriteFault, NoMemory}
+use Rattle.tb_language_server.specs.declared.outcome.Served.TheVariants as served
+use Rattle.tb_streams.specs.declared.outcome.Outcome.TheVariants.{Ended, Refused, ReadFault, WriteFault, NoMemory}
 use Rattle.tb_language_server.specs.declared.life.Stage.TheVariants.{Shut}
 use Rattle.tb_language_server.specs.declared.server.Reply.{Reply}
 use Rattle.tb_language_server.specs.declared.server.Reply.TheVariants.{Nothing, Content, Exit}
@@ -83,9 +83,9 @@ Ends s old new = IsUnwritten s × (ReadsFrame (Ok None) s.had s.left s.read s.re
 -- what a frame leads to: what is said to it is written whole before the next one, or the dialogue ends as it must
 abbrev pub TakesFrame : Streams → Server → Result (Unit {0}) ServerOutcome → Server → Type 0
 TakesFrame s old (Ok done) new = (reply : Reply) × TakesOneOf s old reply new × Written reply s.old s.new × (s.wrote_after ≡ s.wrote)
-TakesFrame s old (Err Ended) new = (new.stage ≡ Shut) × Ends s old new
-TakesFrame s old (Err NotShutDown) new = (new.stage ≢ Shut) × Ends s old new
-TakesFrame s old (Err BadFrame) new = IsUnwritten s × ReadsFrame (Err frame_error.Bad) s.had s.left s.read s.read_after
+TakesFrame s old (Err (Ended served.Ended)) new = (new.stage ≡ Shut) × Ends s old new
+TakesFrame s old (Err (Ended served.NotShutDown)) new = (new.stage ≢ Shut) × Ends s old new
+TakesFrame s old (Err (Refused bad)) new = IsUnwritten s × ReadsFrame (Err frame_error.Bad) s.had s.left s.read s.read_after
 TakesFrame s old (Err ReadFault) new = IsUnwritten s × ReadsFrame (Err frame_error.Fault) s.had s.left s.read s.read_after
 TakesFrame s old (Err WriteFault) new =
     (content : Vec ℕ Global) × TakesOneOf s old (Content content) new × AppendsPrefix s.old s.new (frame_of content.items) × (s.wrote_after ≢ s.wrote)

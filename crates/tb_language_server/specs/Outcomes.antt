@@ -1,21 +1,25 @@
 -- How a server ends.
 use Rattle.std.specs.Prelude.{ℕ}
+use Rattle.tb_streams.specs.Numbers.{DONE, REFUSED}
+use Rattle.tb_streams.specs.declared.outcome.Outcome.{Outcome}
+use Rattle.tb_streams.specs.declared.outcome.Outcome.TheVariants.{Ended}
+use Rattle.tb_frames.specs.declared.outcome.BadFrame.{BadFrame}
 use Rattle.tb_language_server.specs.declared.life.Stage.{Stage}
 use Rattle.tb_language_server.specs.declared.life.Stage.TheVariants.{New, Ready, Shut}
-use Rattle.tb_language_server.specs.declared.outcome.ServerOutcome.{ServerOutcome}
-use Rattle.tb_language_server.specs.declared.outcome.ServerOutcome.TheVariants.{Ended, NotShutDown, BadFrame, ReadFault, WriteFault, NoMemory}
+use Rattle.tb_language_server.specs.declared.outcome.Served.{Served}
+use Rattle.tb_language_server.specs.declared.outcome.Served.TheVariants as served
 
--- the exit status of the program
-abbrev pub status_of : ServerOutcome → ℕ
-status_of Ended = 0
-status_of NotShutDown = 1
-status_of BadFrame = 3
-status_of ReadFault = 3
-status_of WriteFault = 3
-status_of NoMemory = 4
+-- how a server ended
+abbrev pub ServerOutcome : Type 0
+ServerOutcome = Outcome Served BadFrame
+
+-- the exit status of one that was asked to end, or whose input has ended
+abbrev pub status_of : Served → ℕ
+status_of served.Ended = DONE
+status_of served.NotShutDown = REFUSED
 
 -- how a server ends that is asked to, or whose input ends, by its stage
 abbrev pub end_of : Stage → ServerOutcome
-end_of New = NotShutDown
-end_of Ready = NotShutDown
-end_of Shut = Ended
+end_of New = Ended served.NotShutDown
+end_of Ready = Ended served.NotShutDown
+end_of Shut = Ended served.Ended

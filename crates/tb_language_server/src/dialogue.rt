@@ -7,11 +7,11 @@ ghost use Rattle.tb_language_server.specs.Outcomes.{end_of};
 ghost use Rattle.tb_language_server.specs.Replies.{Refuses};
 
 use crate::life::Stage;
-use crate::outcome::ServerOutcome;
+use crate::outcome::{Served, ServerOutcome};
 use crate::server::{Reply, Server};
 use std::alloc::Global;
 use std::io::{Read, Write};
-use tb_frames::{Frame, FrameError, WriteError, read_frame, write_frame};
+use tb_frames::{Frame, read_frame, write_frame};
 use tb_messages::{Refusal, Unreadable, failure, read_value};
 use tb_parser::Notation;
 use tb_streams::Tracked;
@@ -21,8 +21,8 @@ fn end_of(stage: Stage) -> ServerOutcome
     ensures { result ≡ end_of stage }
 {
     match stage {
-        Stage::Shut => ServerOutcome::Ended,
-        Stage::New | Stage::Ready => ServerOutcome::NotShutDown,
+        Stage::Shut => ServerOutcome::Ended(Served::Ended),
+        Stage::New | Stage::Ready => ServerOutcome::Ended(Served::NotShutDown),
     }
 }
 
@@ -30,10 +30,7 @@ fn end_of(stage: Stage) -> ServerOutcome
 fn refuse(alloc: Global, server: &mut Server, refusal: Refusal) -> Result<Reply, ServerOutcome>
     ensures { Replies (λ reply. Refuses null refusal server.old reply server.new) result }
 {
-    match failure(alloc, None, refusal) {
-        Ok(content) => Ok(Reply::Content(content)),
-        Err(_) => Err(ServerOutcome::NoMemory),
-    }
+    Ok(Reply::Content(failure(alloc, None, refusal)?))
 }
 
 // What is said to a content.
@@ -45,10 +42,7 @@ fn reply_to_content(
     ensures { Replies (λ reply. TakesContent content.now server.old reply server.new) result }
 {
     match read_value(alloc, content) {
-        Ok(value) => match server.take(alloc, &value) {
-            Ok(reply) => Ok(reply),
-            Err(_) => Err(ServerOutcome::NoMemory),
-        },
+        Ok(value) => Ok(server.take(alloc, &value)?),
         Err(Unreadable::NotJson) => refuse(alloc, server, Refusal::NoJson),
         Err(Unreadable::NoMemory) => Err(ServerOutcome::NoMemory),
     }
@@ -75,23 +69,13 @@ fn take_frame<R: Read, W: Write>(
         (failures_of reader.old) (failures_of reader.new) (W.contents writer.old.stream) (W.contents writer.new.stream)
         (failures_of writer.old) (failures_of writer.new)) server.old result server.new }
 {
-    let frame = match read_frame(alloc, reader) {
-        Ok(Some(frame)) => frame,
-        Ok(None) => return Err(end_of(server.stage)),
-        Err(FrameError::Fault) => return Err(ServerOutcome::ReadFault),
-        Err(FrameError::Bad) => return Err(ServerOutcome::BadFrame),
-        Err(FrameError::NoMemory) => return Err(ServerOutcome::NoMemory),
+    let Some(frame) = read_frame(alloc, reader)? else {
+        return Err(end_of(server.stage));
     };
-    let content = match reply_to_frame(alloc, server, &frame) {
-        Ok(Reply::Nothing) => return Ok(()),
-        Ok(Reply::Content(content)) => content,
-        Ok(Reply::Exit) => return Err(end_of(server.stage)),
-        Err(outcome) => return Err(outcome),
-    };
-    match write_frame(alloc, writer, content.as_slice()) {
-        Ok(()) => Ok(()),
-        Err(WriteError::Fault) => Err(ServerOutcome::WriteFault),
-        Err(WriteError::NoMemory) => Err(ServerOutcome::NoMemory),
+    match reply_to_frame(alloc, server, &frame)? {
+        Reply::Nothing => Ok(()),
+        Reply::Content(content) => Ok(write_frame(alloc, writer, content.as_slice())?),
+        Reply::Exit => Err(end_of(server.stage)),
     }
 }
 

@@ -11,6 +11,6 @@ mod texts;
 pub use dialogue::serve;
 pub use life::{Decision, Stage, decide};
 pub use notices::{Notice, notice_of};
-pub use outcome::ServerOutcome;
+pub use outcome::{Served, ServerOutcome};
 pub use server::{Reply, Server};
 pub use texts::{OpenText, Texts};

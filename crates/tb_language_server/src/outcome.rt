@@ -1,45 +1,35 @@
 //! How a server ended.
-ghost use Rattle.std.specs.Prelude.{◌≡◌};
-ghost use Rattle.tb_language_server.specs.Outcomes.{status_of};
+use std::fmt;
+use tb_frames::BadFrame;
+use tb_streams::{ExitStatus, Outcome, status};
 
-use tb_streams::status;
-use thiserror::Error;
-
-/// How a server ended.
-#[derive(Clone, Copy, PartialEq, Eq, Debug, Drop, Error)]
-pub enum ServerOutcome {
+/// How a server ended that was asked to, or whose input has ended.
+#[derive(Clone, Copy, PartialEq, Eq, Debug, Drop)]
+pub enum Served {
     /// It was shut down before.
-    #[error("")]
     Ended,
     /// It was not shut down before.
-    #[error("")]
     NotShutDown,
-    /// What the reader gave is no frame, or was cut off.
-    #[error("bad frame")]
-    BadFrame,
-    /// The reader failed.
-    #[error("read fault")]
-    ReadFault,
-    /// The writer failed.
-    #[error("write fault")]
-    WriteFault,
-    /// A growth was refused.
-    #[error("out of memory")]
-    NoMemory,
 }
 
-impl ServerOutcome {
-    /// The exit status of the program.
-    pub fn status(&self) -> u8
-        ensures { result ≡ status_of self.now }
-    {
+/// How a server ended.
+pub type ServerOutcome = Outcome<Served, BadFrame>;
+
+impl ExitStatus for Served {
+    ghost use Rattle.tb_language_server.specs.Outcomes.{status_of};
+
+    ghost exit_status = { status_of };
+
+    fn status(&self) -> u8 {
         match self {
-            ServerOutcome::Ended => status::DONE,
-            ServerOutcome::NotShutDown => status::REFUSED,
-            ServerOutcome::BadFrame | ServerOutcome::ReadFault | ServerOutcome::WriteFault => {
-                status::FAULT
-            }
-            ServerOutcome::NoMemory => status::NO_MEMORY,
+            Served::Ended => status::DONE,
+            Served::NotShutDown => status::REFUSED,
         }
+    }
+}
+
+impl fmt::Display for Served {
+    fn fmt<W: fmt::Write>(&self, _f: &mut fmt::Formatter<W>) -> fmt::Result {
+        Ok(())
     }
 }

@@ -14,10 +14,9 @@ use Rattle.tb_kernal.specs.LawfulEvents.{quiet_is_lawful}
 use Rattle.tb_kernal.proofs.Giving.{ran_over}
 use Rattle.tb_kernal.proofs.Typing.{status_kept, happens_kept}
 use Rattle.tb_streams.specs.HostForm.{host_form_of}
-use Rattle.tb_engines.specs.Outcomes.{Product}
+use Rattle.tb_engines.specs.Outcomes.{Outcome, Product}
 use Rattle.tb_engines.specs.Programs.{start, end_of, RunsContent}
-use Rattle.tb_engines.specs.declared.outcome.Outcome.{Outcome}
-use Rattle.tb_engines.specs.declared.outcome.Outcome.TheVariants.{Ended, Refused, ReadFault, WriteFault, NoMemory}
+use Rattle.tb_streams.specs.declared.outcome.Outcome.TheVariants.{Ended, Refused, ReadFault, WriteFault, NoMemory}
 use Rattle.tb_streams.specs.Lines.{without_return, IsLine}
 use Rattle.tb_streams.specs.Uses.{Use}
 use Rattle.tb_play.specs.Lines.{keys_of, typed_of, TakesLines}

@@ -10,14 +10,13 @@ use Rattle.std.specs.declared.alloc.Global.{Global}
 use Rattle.std.specs.declared.vec.Vec.{Vec}
 use Rattle.tb_streams.specs.KeyFiles.{key_file_of, keys_of_file}
 use Rattle.tb_streams.specs.Uses.{Use, Fails, NeverFails}
-use Rattle.tb_engines.specs.Outcomes.{Product}
+use Rattle.tb_engines.specs.Outcomes.{Outcome, Product}
 use Rattle.tb_engines.specs.Programs.{start, Settings, RunsPrg}
 use Rattle.tb_engines.specs.declared.delivery.NoText.{NoText}
 use Rattle.tb_engines.specs.declared.delivery.NoText.TheVariants.{Refused as NoTextRefused, NoMemory as NoTextNoMemory}
 use Rattle.tb_engines.specs.declared.outcome.End.{End}
 use Rattle.tb_engines.specs.declared.outcome.End.TheVariants.{WaitsForKey}
-use Rattle.tb_engines.specs.declared.outcome.Outcome.{Outcome}
-use Rattle.tb_engines.specs.declared.outcome.Outcome.TheVariants.{Ended, Refused, ReadFault, WriteFault, NoMemory}
+use Rattle.tb_streams.specs.declared.outcome.Outcome.TheVariants.{Ended, Refused, ReadFault, WriteFault, NoMemory}
 use Rattle.tb_play.specs.Talks.{gives_quiet, Plays, WritesBeforeReading}
 use Rattle.tb_opcodes.specs.Bytes.{AreBytes}
 

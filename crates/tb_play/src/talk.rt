@@ -8,7 +8,7 @@ ghost use Rattle.tb_play.specs.Lines.{most_typed};
 use crate::lines::{MOST_TYPED, read_keys};
 use std::alloc::{AllocError, Global};
 use std::io::{Read, Write};
-use tb_engines::{End, Outcome, end_of, without_input};
+use tb_engines::{End, Outcome, end_of};
 use tb_kernal::{Machine, Quiet, Status, run};
 use tb_streams::{Tracked, host_form, key_file, write_output};
 
@@ -60,12 +60,8 @@ fn go_on<W: Write>(
     ensures { GoesOn limit machine.old result machine.new (use_of W.contents writer.old writer.new) }
 {
     let written = machine.sent().len();
-    let Ok(status) = run(machine, &mut Quiet, limit) else {
-        return Err(Outcome::NoMemory);
-    };
-    let Ok(text) = host_form(alloc, sent_after(machine, written)) else {
-        return Err(Outcome::NoMemory);
-    };
+    let status = run(machine, &mut Quiet, limit)?;
+    let text = host_form(alloc, sent_after(machine, written))?;
     match write_output(writer, text.as_slice()) {
         Ok(()) => Ok(status),
         Err(_) => Err(Outcome::WriteFault),
@@ -82,17 +78,11 @@ fn hear<R: Read>(
     requires { vec_len typed.old ≤ most_typed }
     ensures { Hears machine.old typed.old.items result machine.new typed.new.items (use_of R.remaining keys.old keys.new) }
 {
-    let line = match read_keys(alloc, keys, MOST_TYPED - typed.len()) {
-        Ok(Some(line)) => line,
-        Ok(None) => return Ok(false),
-        Err(error) => return Err(without_input(error)),
+    let Some(line) = read_keys(alloc, keys, MOST_TYPED - typed.len())? else {
+        return Ok(false);
     };
-    if machine.type_text(line.as_slice()).is_err() {
-        return Err(Outcome::NoMemory);
-    }
-    if typed.extend_from_slice(line.as_slice()).is_err() {
-        return Err(Outcome::NoMemory);
-    }
+    machine.type_text(line.as_slice())?;
+    typed.extend_from_slice(line.as_slice())?;
     Ok(true)
 }
 

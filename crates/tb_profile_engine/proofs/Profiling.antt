@@ -1,5 +1,5 @@
 -- The run of a program from its start machine, and the profile of the source that makes it.
-use Rattle.std.proofs.Common.{◌≡◌, ℕ, ◌+◌, ◌<◌, ◌≤◌, false, ◌||◌, List, [], ◌∷◌, Result, Ok, Err, map, refl, subst, sym, ap, ◌∙◌, arith}
+use Rattle.std.proofs.Common.{◌≡◌, ℕ, ◌+◌, ◌<◌, ◌≤◌, false, ◌||◌, List, [], ◌∷◌, Result, Ok, Err, map, refl, subst, ap, ◌∙◌, arith}
 use Rattle.std.specs.Prelude.{◌==◌}
 use Rattle.std.proofs.lemmas.Bool.Decides.{nat_tests}
 use Rattle.tb_kernal.specs.Machine.{Content}
@@ -12,10 +12,8 @@ use Rattle.tb_codegen.specs.Compiled.{loaded_of, starts_of, IsCompiled, Addresse
 use Rattle.tb_codegen.specs.declared.compiled.Compiled.{Compiled}
 use Rattle.tb_codegen.specs.declared.settings.CompileSettings.{CompileSettings}
 use Rattle.tb_engines.specs.Programs.{start, Settings}
-use Rattle.tb_engines.specs.Outcomes.{Product}
 use Rattle.tb_engines.specs.declared.delivery.NoText.{NoText}
 use Rattle.tb_engines.specs.declared.delivery.NoText.TheVariants.{Refused, NoMemory}
-use Rattle.tb_engines.specs.Delivery.{Makes}
 use Rattle.tb_driver.specs.Starting.{StartsLoadable}
 use Rattle.tb_profile.specs.Steps.{Step, begins_line}
 use Rattle.tb_profile_table.specs.declared.rows.Row.{Row}
@@ -26,9 +24,8 @@ use Rattle.tb_profile_table.specs.Texts.{Shows}
 use Rattle.tb_engines.specs.declared.outcome.End.{End}
 use Rattle.tb_profile_engine.specs.declared.running.Ran.{Ran}
 use Rattle.tb_profile_engine.specs.declared.engine.Made.{Made}
-use Rattle.tb_profile_engine.specs.declared.engine.Prepared.{Prepared}
 use Rattle.tb_profile_engine.specs.Running.{RunsFrom, IsProfile, ComesTo}
-use Rattle.tb_profile_engine.specs.Profiles.{IsProfileOf, Profiles, MakesTexts, IsPrepared}
+use Rattle.tb_profile_engine.specs.Profiles.{IsProfileOf, Profiles}
 
 -- ---- the machine
 
@@ -90,14 +87,5 @@ module _ {O : Type 0} (facts : End → Facts) (settings : CompileSettings) (s : 
   -- the texts of a profiled run are the profile of the source that makes the program
   pub profiles : (ran : Ran) (made : Made) → HasOutcome settings source (Ok c) → IsProfile s c ran
       → Shows (facts ran.end) source ran.table made.texts → made.end ≡ ran.end
-      → MakesTexts (Profiles facts settings.notation s source c) (Ok made)
+      → Profiles facts settings.notation s source c made.texts made.end
   profiles ran made found is shows ends = (ran, of_outcome found.outcome ran made.texts found.made found.answer is shows, ends)
-
--- ---- what is prepared
-
-pub prepared : (makes : List ℕ → Product → Type 0) (made : Result Made NoText) (p : Prepared) → MakesTexts makes made → IsPrepared made p
-    → Makes (makes p.page.items) p.text
-prepared makes (Ok made) p m (text, page) =
-    subst (λ t. Makes (makes p.page.items) t) (sym text) (subst (λ page. makes page (Ok (made.texts.table.items, made.end))) (sym page) m)
-prepared makes (Err (Refused e)) p m is = absurd m
-prepared makes (Err NoMemory) p m is = subst (λ t. Makes (makes p.page.items) t) (sym is) tt

@@ -6,5 +6,6 @@ mod engine;
 mod prgs;
 mod running;
 
-pub use engine::{Named, Profiled, profile_text};
+pub use engine::{Named, Profiled, profile_source};
 pub use prgs::profile_prg;
+pub use running::Run;

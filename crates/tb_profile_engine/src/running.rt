@@ -4,6 +4,7 @@ ghost use Rattle.tb_codegen.specs.Compiled.{starts_of};
 ghost use Rattle.tb_engines.specs.Programs.{settings_of};
 ghost use Rattle.tb_driver.specs.Starting.{IsLoadable};
 ghost use Rattle.tb_profile_table.specs.Rows.{start_pair};
+ghost use Rattle.tb_profile_engine.specs.Facts.{IsCopy};
 ghost use Rattle.tb_profile_engine.specs.Running.{ComesTo, IsProfile, RunsFrom};
 
 use std::alloc::{AllocError, Global};
@@ -13,6 +14,26 @@ use tb_engines::{End, NoText, end_of};
 use tb_kernal::{Keyboard, Machine, Outside};
 use tb_profile_table::{Start, Table, profile};
 use tb_watch::Watch;
+
+/// What a run is given: what is typed and answered, the most events that it may take, what happens outside, and who hears
+/// how far it is.
+#[derive(Drop)]
+pub struct Run<O, W> {
+    pub keyboard: Keyboard,
+    pub limit: u32,
+    pub outside: O,
+    pub watch: W,
+}
+
+/// What is typed and answered, once more.
+pub fn copy_of(alloc: Global, keyboard: &Keyboard) -> Result<Keyboard, AllocError>
+    ensures { IfOk result (IsCopy keyboard.now) }
+{
+    Ok(Keyboard {
+        text: Vec::from_slice(alloc, keyboard.text.as_slice())?,
+        answers: Vec::from_slice(alloc, keyboard.answers.as_slice())?,
+    })
+}
 
 /// What a run took, and how it ended.
 #[derive(Drop)]

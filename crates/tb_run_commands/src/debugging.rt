@@ -2,11 +2,11 @@
 use std::io;
 use std::rt::Files;
 use std::time::Clock;
-use tb_debug_engine::{Rom, Setting, debug, debug_prg};
-use tb_driver::{Outcome, Tracked, read_input, without_input};
+use tb_debug_engine::{Rom, Setting, debug_prg};
+use tb_driver::{Outcome, Tracked, read_input};
 use tb_file_engine::opened;
-use tb_host::{Host, Progress, read_warned, settings_of};
-use tb_jobs::Settings;
+use tb_host::{Host, Progress, keyboard, labels_in, read_warned, settings_of};
+use tb_jobs::{Failure, Runnable, Settings};
 use tb_kernal::Keyboard;
 use tb_labels::Label;
 
@@ -22,8 +22,26 @@ pub fn setting_of(settings: &Settings, rude: Option<u16>, prompts: bool) -> Sett
     }
 }
 
-/// Debugs a source. Its warnings come before the first stop.
-pub fn debug_source<R: Files + Clock + Print + Eprint + Input + AllocGlobal>(
+/// Debugs a source, or a PRG file with a label file.
+pub fn debug<R: Files + Clock + Print + Eprint + Input + AllocGlobal>(
+    host: &mut Host<'_, R>,
+    what: &Runnable,
+    settings: &Settings,
+    labels: Option<&str>,
+    setting: Setting,
+) -> Result<Outcome, Failure> {
+    let keyboard = keyboard(host, settings)?;
+    let labels = labels_in(host, labels)?;
+    Ok(match what {
+        Runnable::Source(path) => debug_source(host, path.as_str(), settings, keyboard, setting),
+        Runnable::Prg(path) => {
+            debug_file(host, path.as_str(), labels.as_slice(), keyboard, setting)
+        }
+    })
+}
+
+// Debugs a source. Its warnings come before the first stop.
+fn debug_source<R: Files + Clock + Print + Eprint + Input + AllocGlobal>(
     host: &mut Host<'_, R>,
     path: &str,
     settings: &Settings,
@@ -36,7 +54,7 @@ pub fn debug_source<R: Files + Clock + Print + Eprint + Input + AllocGlobal>(
         path,
         settings_of(settings.seed, settings.fit, settings.notation),
     ) {
-        Ok(source) => debug(
+        Ok(source) => tb_debug_engine::debug(
             rt.alloc(),
             &source,
             keyboard,
@@ -49,8 +67,8 @@ pub fn debug_source<R: Files + Clock + Print + Eprint + Input + AllocGlobal>(
     }
 }
 
-/// Debugs a PRG file, with these labels.
-pub fn debug_file<R: Files + Clock + Print + Eprint + Input + AllocGlobal>(
+// Debugs a PRG file, with these labels.
+fn debug_file<R: Files + Clock + Print + Eprint + Input + AllocGlobal>(
     host: &mut Host<'_, R>,
     path: &str,
     labels: &[Label],
@@ -73,6 +91,6 @@ pub fn debug_file<R: Files + Clock + Print + Eprint + Input + AllocGlobal>(
             &mut Tracked::new(io::writer(rt)),
             &mut Progress::new(rt, setting.limit, host.notes),
         ),
-        Err(error) => without_input(error),
+        Err(error) => Outcome::from(error),
     }
 }

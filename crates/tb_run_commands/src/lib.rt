@@ -1,10 +1,12 @@
-//! The commands that play, profile and debug a program, over the files of the system and the standard streams.
+//! The commands that run, play, step through, profile and debug a program, over the files of the system and the standard streams.
 #![tactic(auto)]
 
 mod debugging;
 mod playing;
 mod profiling;
+mod running;
 
-pub use debugging::{debug_file, debug_source, setting_of};
+pub use debugging::{debug, setting_of};
 pub use playing::{Playing, play};
 pub use profiling::profile;
+pub use running::{Ran, run, step};

@@ -2,9 +2,7 @@
 use std::env::VarError;
 use std::rt::{Env, Files};
 use std::{env, io};
-use tb_driver::{
-    CompileSettings, Outcome, Played, Tracked, play_compiled, play_file, read_input, without_input,
-};
+use tb_driver::{CompileSettings, Outcome, Played, Tracked, play_compiled, play_file, read_input};
 use tb_file_engine::{opened, save};
 use tb_host::{Host, read_warned};
 use tb_jobs::{Failure, Runnable, room_for_screen};
@@ -81,10 +79,7 @@ fn play_prg<R: Files + Print + Input + AllocGlobal>(
     playing: Playing<'_>,
 ) -> Result<Played, Outcome> {
     let rt = host.rt;
-    let prg = match read_input(rt.alloc(), &mut opened(host, path)?) {
-        Ok(prg) => prg,
-        Err(error) => return Err(without_input(error)),
-    };
+    let prg = read_input(rt.alloc(), &mut opened(host, path)?)?;
     if playing.screen {
         return Ok(shown(rt, prg.as_slice(), playing.limit));
     }

@@ -10,8 +10,8 @@ use Rattle.tb_kernal.specs.Machine.{Content, state_of}
 use Rattle.tb_kernal.specs.Typing.{with_more}
 use Rattle.tb_screen.specs.Contents.{Content as Screen, first_content}
 use Rattle.tb_terminal.specs.Frames.{frame_of}
-use Rattle.tb_engines.specs.declared.outcome.Outcome.{Outcome}
-use Rattle.tb_engines.specs.declared.outcome.Outcome.TheVariants.{Ended, Refused, ReadFault, WriteFault, NoMemory}
+use Rattle.tb_engines.specs.Outcomes.{Outcome}
+use Rattle.tb_streams.specs.declared.outcome.Outcome.TheVariants.{Ended, Refused, ReadFault, WriteFault, NoMemory}
 use Rattle.tb_streams.specs.Streams.{AppendsPrefix}
 use Rattle.tb_streams.specs.Uses.{Use}
 use Rattle.tb_streams.specs.Lines.{TakesLine, TakesPart}

@@ -4,8 +4,8 @@ use Rattle.tb_kernal.specs.Machine.{Content}
 use Rattle.tb_streams.specs.Uses.{Use}
 use Rattle.tb_engines.specs.Programs.{StartsPrg}
 use Rattle.tb_engines.specs.declared.delivery.NoText.TheVariants.{Refused as NoTextRefused}
-use Rattle.tb_engines.specs.declared.outcome.Outcome.{Outcome}
-use Rattle.tb_engines.specs.declared.outcome.Outcome.TheVariants.{Ended, Refused, ReadFault, WriteFault, NoMemory}
+use Rattle.tb_engines.specs.Outcomes.{Outcome}
+use Rattle.tb_streams.specs.declared.outcome.Outcome.TheVariants.{Ended, Refused, ReadFault, WriteFault, NoMemory}
 use Rattle.tb_screen_play.specs.Talks.{PlaysAndLeaves, WritesBeforeReading}
 
 -- the start machine of a PRG file, with nothing typed, was played

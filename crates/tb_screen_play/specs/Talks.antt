@@ -11,8 +11,8 @@ use Rattle.tb_streams.specs.Streams.{AppendsPrefix}
 use Rattle.tb_streams.specs.Uses.{Use, Fails, NeverFails}
 use Rattle.tb_streams.specs.Lines.{TakesLine, TakesPart, TakesNothing}
 use Rattle.tb_engines.specs.Programs.{end_of}
-use Rattle.tb_engines.specs.declared.outcome.Outcome.{Outcome}
-use Rattle.tb_engines.specs.declared.outcome.Outcome.TheVariants.{Ended, Refused, ReadFault, WriteFault, NoMemory}
+use Rattle.tb_engines.specs.Outcomes.{Outcome}
+use Rattle.tb_streams.specs.declared.outcome.Outcome.TheVariants.{Ended, Refused, ReadFault, WriteFault, NoMemory}
 use Rattle.tb_play.specs.Lines.{most_typed, keys_of, typed_of, TakesLines, TakesSome}
 use Rattle.tb_play.specs.Talks.{Stretch, Stops, Writes}
 use Rattle.tb_screen_play.specs.Screens.{ran, echoed}

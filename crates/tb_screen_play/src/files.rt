@@ -9,7 +9,7 @@ ghost use Rattle.tb_screen_play.specs.Talks.{PlayFaults};
 use crate::talk::play_on_screen;
 use std::alloc::Global;
 use std::io::{Read, Write};
-use tb_engines::{NoText, start_file, without_text};
+use tb_engines::{NoText, Outcome, start_file};
 use tb_kernal::{Keyboard, Machine};
 use tb_play::Played;
 use tb_streams::Tracked;
@@ -44,7 +44,7 @@ pub fn play_file_on_screen<R: Read, W: Write>(
     match start(alloc, file) {
         Ok(mut machine) => play_on_screen(alloc, &mut machine, keys, writer, limit),
         Err(stop) => Played {
-            outcome: without_text(stop),
+            outcome: Outcome::from(stop),
             typed: Vec::new(alloc),
         },
     }

@@ -8,7 +8,7 @@ ghost use Rattle.tb_screen_play.specs.Talks.{Hears};
 
 use std::alloc::Global;
 use std::io::Read;
-use tb_engines::{Outcome, without_input};
+use tb_engines::Outcome;
 use tb_kernal::Machine;
 use tb_play::{MOST_TYPED, keys_of_text};
 use tb_screen::Screen;
@@ -56,17 +56,11 @@ pub fn hear<R: Read>(
     ensures { Hears machine.old screen.old typed.old.items result machine.new screen.new typed.new.items
         (use_of R.remaining keys.old keys.new) }
 {
-    let line = match read_keys(alloc, keys, MOST_TYPED - typed.len()) {
-        Ok(Some(line)) => line,
-        Ok(None) => return Ok(false),
-        Err(error) => return Err(without_input(error)),
+    let Some(line) = read_keys(alloc, keys, MOST_TYPED - typed.len())? else {
+        return Ok(false);
     };
-    if machine.type_text(line.as_slice()).is_err() {
-        return Err(Outcome::NoMemory);
-    }
-    if typed.extend_from_slice(line.as_slice()).is_err() {
-        return Err(Outcome::NoMemory);
-    }
+    machine.type_text(line.as_slice())?;
+    typed.extend_from_slice(line.as_slice())?;
     echo(screen, line.as_slice());
     Ok(true)
 }

@@ -43,13 +43,9 @@ fn go_on<W: Write>(
         (use_of W.contents writer.old writer.new) }
 {
     let written = machine.sent().len();
-    let Ok(status) = run(machine, &mut Quiet, limit) else {
-        return Err(Outcome::NoMemory);
-    };
+    let status = run(machine, &mut Quiet, limit)?;
     screen.print_all(sent_after(machine, written));
-    let Ok(text) = frame(alloc, screen) else {
-        return Err(Outcome::NoMemory);
-    };
+    let text = frame(alloc, screen)?;
     match write_output(writer, text.as_bytes()) {
         Ok(()) => Ok(status),
         Err(_) => Err(Outcome::WriteFault),

@@ -33,7 +33,7 @@ use Rattle.tb_adapter_requests.specs.Said.{Saying, complaint_of, none as no_fram
 use Rattle.tb_debug_adapter.specs.declared.dialogue.Heard.{Heard}
 use Rattle.tb_debug_adapter.specs.declared.dialogue.Heard.TheVariants as heard
 use Rattle.tb_adapter_requests.specs.declared.launching.Plan.{Plan}
-use Rattle.tb_debug_adapter.specs.declared.outcome.AdapterOutcome.{AdapterOutcome}
+use Rattle.tb_debug_adapter.specs.Outcomes.{AdapterOutcome}
 use Rattle.tb_debug_adapter.specs.declared.session.Session.{Session}
 use Rattle.tb_debug_adapter.specs.declared.session.Stage.TheVariants.{Loaded, Started}
 use Rattle.tb_stopped.specs.Told.{SaysAsked, SaysTo, Tells, WhatIsToldIsOfTheRun, command_asked, has_rest, keys_asked, keys_of, more as tells_more, name_of, none, number_asked, number_of, output_in, rests_after, run_of, start_of}

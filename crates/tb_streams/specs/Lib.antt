@@ -4,5 +4,6 @@ pub mod Inputs
 pub mod KeyFiles
 pub mod Lines
 pub mod Numbers
+pub mod Outcomes
 pub mod Streams
 pub mod Uses

@@ -87,7 +87,11 @@ fn say_clash<R: Files + Print + Eprint + Input + AllocGlobal>(
 ) -> Result<(), AllocError> {
     let alloc = host.rt.alloc();
     let kept = named(host, job.kept(alloc)?)?;
-    let written = named(host, job.written(alloc)?)?;
+    let mut paths = Vec::new(alloc);
+    for output in job.written(alloc)? {
+        paths.push(output.path)?;
+    }
+    let written = named(host, paths)?;
     if let Some(clash) = first_clash(kept.as_slice(), written.as_slice()) {
         say(host.rt, clash);
     }

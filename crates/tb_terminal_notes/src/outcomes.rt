@@ -4,11 +4,10 @@ use crate::refusals::{note_source, note_text};
 use crate::saying::say;
 use std::rt::Files;
 use tb_disk_engine::DiskOutcome;
-use tb_driver::{End, Outcome, Refusal};
+use tb_driver::{End, EndNote, Outcome, Refusal};
 use tb_file_reasons::{FileNote, FileReason, disk_note, prg_reason};
 use tb_host::Host;
 use tb_jobs::Job;
-use tb_run_notes::EndNote;
 
 /// Says what helps with how a run, a build or a listing ended.
 pub fn note_outcome<R: Files + Print + Eprint + Input + AllocGlobal>(
@@ -58,13 +57,13 @@ pub fn note_disk<R: Files + Print + Eprint + Input + AllocGlobal>(
     outcome: DiskOutcome,
 ) {
     match (outcome, job) {
-        (DiskOutcome::Refused(refusal), Job::Disk { out, files }) => {
+        (DiskOutcome::Refused(refusal), Job::Disk { out, files, .. }) => {
             if let Some(note) = disk_note(out, files.as_slice(), host.opened, refusal) {
                 say(host.rt, note);
             }
         }
         (DiskOutcome::ReadFault | DiskOutcome::WriteFault, _) => file_note(host),
-        (DiskOutcome::Done, _) => note_replaced(host),
+        (DiskOutcome::Ended(_), _) => note_replaced(host),
         (DiskOutcome::Refused(_) | DiskOutcome::NoMemory, _) => {}
     }
 }

@@ -1,35 +1,14 @@
 //! Checking sources: each is opened when its turn comes, and what there is to say of it is written before the next one.
-ghost use Rattle.std.specs.Prelude.{⊤};
-
-use std::alloc::Global;
 use std::io;
 use std::rt::Files;
-use tb_check_engine::{CheckOutcome, CheckSettings, Sources, check_sources};
-use tb_driver::{InputError, Outcome, Tracked, read_input};
-use tb_file_engine::opened;
+use tb_check_engine::{CheckOutcome, CheckSettings, check_sources};
+use tb_driver::Tracked;
+use tb_file_engine::FileSources;
 use tb_host::Host;
 
-/// The sources that are files of the system.
-#[derive(Drop)]
-pub struct SystemSources<'a, R>(Host<'a, R>);
-
-impl<'a, R> SystemSources<'a, R> {
-    /// Those of a host. What is read of them is noted in no other host.
-    pub fn of(host: &Host<'a, R>) -> SystemSources<'a, R> {
-        SystemSources(Host::new(host.rt, host.notes, host.shows))
-    }
-}
-
-impl<R: Files + Print + Input + AllocGlobal> Sources for SystemSources<'_, R> {
-    ghost reads = { λ _ _ _ _. ⊤ };
-
-    fn read(&mut self, alloc: Global, name: &str) -> Result<Vec<u8>, InputError> {
-        match opened(&mut self.0, name) {
-            Ok(mut file) => read_input(alloc, &mut file),
-            Err(Outcome::NoMemory) => Err(InputError::NoMemory),
-            Err(_) => Err(InputError::Fault),
-        }
-    }
+/// The sources that are files of the system. What is read of them is noted in no other host.
+pub fn sources_of<'a, R>(host: &Host<'a, R>) -> FileSources<Host<'a, R>> {
+    FileSources(Host::new(host.rt, host.notes, host.shows))
 }
 
 /// Checks sources by these settings, and writes what there is to say of them.
@@ -40,6 +19,6 @@ pub fn check_files<R: Files + Print + Input + AllocGlobal>(
 ) -> CheckOutcome {
     let rt = host.rt;
     let mut screen = Tracked::new(io::writer(rt));
-    let mut sources = SystemSources::of(host);
+    let mut sources = sources_of(host);
     check_sources(rt.alloc(), &mut sources, paths, &mut screen, settings)
 }

@@ -1,6 +1,6 @@
 //! Serving an editor: its messages come from standard input, and each is answered on standard output before the next one
 //! is read.
-use crate::checking::SystemSources;
+use crate::checking::sources_of;
 use std::io;
 use std::rt::Files;
 use tb_debug_adapter::AdapterOutcome;
@@ -28,7 +28,7 @@ pub fn serve_debugger<R: Files + Print + Input + AllocGlobal>(
     let rt = host.rt;
     let mut messages = Tracked::new(rt.reader());
     let mut answers = Tracked::new(io::writer(rt));
-    let mut sources = SystemSources::of(host);
+    let mut sources = sources_of(host);
     tb_debug_adapter::serve(
         rt.alloc(),
         notation,

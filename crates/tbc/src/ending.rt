@@ -1,24 +1,21 @@
 //! How a job ended.
-use std::fmt;
-use tb_assembly_engine::{MOST_FILES, TextFailure};
+use std::fmt::{self, Write};
+use tb_assembly_engine::TextOutcome;
 use tb_check_engine::CheckOutcome;
 use tb_debug_adapter::AdapterOutcome;
 use tb_disk_engine::DiskOutcome;
-use tb_driver::{End, Outcome, Refusal, Report};
-use tb_format_engine::FormatOutcome;
+use tb_driver::{NotedRun, Report};
+use tb_file_engine::{FormatOutcome, RenumberOutcome};
 use tb_language_server::ServerOutcome;
-use tb_renumber_engine::RenumberOutcome;
-use tb_run_notes::NotedRun;
+use tb_run_commands::Ran;
 
 /// How a job ended.
 #[derive(Debug, Drop)]
 pub enum Ending {
     /// A call of an engine, with its warnings.
     Report(Report),
-    /// A run, with what its machine told at the end.
-    Run(NotedRun),
-    /// The run of a PRG file, and the name of the place where it stopped, if it has one.
-    Prg(Report, Option<String>),
+    /// A run.
+    Run(Ran),
     /// The making of a disk.
     Disk(DiskOutcome),
     /// A check of sources.
@@ -27,8 +24,8 @@ pub enum Ending {
     Format(FormatOutcome),
     /// The renumbering of a source.
     Renumber(RenumberOutcome),
-    /// The assembling of a text, and why it failed, if it did.
-    Text(Option<TextFailure>),
+    /// The assembling of a text.
+    Text(TextOutcome),
     /// The serving of an editor by a language server.
     Server(ServerOutcome),
     /// The serving of an editor by a debug adapter.
@@ -39,32 +36,52 @@ impl Ending {
     /// The exit status of the program.
     pub fn status(&self) -> u8 {
         match self {
-            Ending::Report(report) | Ending::Run(NotedRun { report, .. }) => report.status(),
-            Ending::Prg(report, _) => report.status(),
+            Ending::Report(report) | Ending::Run(Ran::Source(NotedRun { report, .. })) => {
+                report.status()
+            }
+            Ending::Run(Ran::Plain(outcome, _)) => outcome.status(),
             Ending::Disk(outcome) => outcome.status(),
             Ending::Check(outcome) => outcome.status(),
             Ending::Format(outcome) => outcome.status(),
             Ending::Renumber(outcome) => outcome.status(),
-            Ending::Text(None) => Outcome::Ended(End::Done).status(),
-            Ending::Text(Some(failure)) => failure.status(),
+            Ending::Text(outcome) => outcome.status(),
             Ending::Server(outcome) => outcome.status(),
             Ending::Adapter(outcome) => outcome.status(),
         }
     }
 }
 
-// What is said on standard error of a text that was not assembled.
-fn write_failure<W: fmt::Write>(failure: &TextFailure, f: &mut fmt::Formatter<W>) -> fmt::Result {
-    match failure {
-        TextFailure::Refused(_) | TextFailure::SameFile | TextFailure::IsSource(_) => Ok(()),
-        TextFailure::Item(error) => {
-            let outcome = Outcome::Refused(Refusal::Item(*error));
-            writeln!(f, "tbc: {outcome}")
+// Text behind `tbc: `, which stands before its first piece.
+#[derive(Drop)]
+struct Line<'a, W> {
+    f: &'a mut fmt::Formatter<W>,
+    is_empty: bool,
+}
+
+impl<W: fmt::Write> fmt::Write for Line<'_, W> {
+    fn write_str(&mut self, piece: &str) -> fmt::Result {
+        if piece.is_empty() {
+            return Ok(());
         }
-        TextFailure::TooManyFiles => writeln!(f, "tbc: more than {MOST_FILES} files"),
-        TextFailure::ReadFault => f.write_str("tbc: read fault\n"),
-        TextFailure::WriteFault => f.write_str("tbc: write fault\n"),
-        TextFailure::NoMemory => f.write_str("tbc: out of memory\n"),
+        if self.is_empty {
+            self.is_empty = false;
+            self.f.write_str("tbc: ")?;
+        }
+        self.f.write_str(piece)
+    }
+}
+
+// A line of what there is to say of an outcome; none if that is nothing.
+fn write_line<T: fmt::Display, W: fmt::Write>(
+    outcome: &T,
+    f: &mut fmt::Formatter<W>,
+) -> fmt::Result {
+    let mut line = Line { f, is_empty: true };
+    write!(line, "{outcome}")?;
+    if line.is_empty {
+        Ok(())
+    } else {
+        line.f.write_str("\n")
     }
 }
 
@@ -72,22 +89,17 @@ fn write_failure<W: fmt::Write>(failure: &TextFailure, f: &mut fmt::Formatter<W>
 impl fmt::Display for Ending {
     fn fmt<W: fmt::Write>(&self, f: &mut fmt::Formatter<W>) -> fmt::Result {
         match self {
-            Ending::Report(report) | Ending::Run(NotedRun { report, .. }) => report.fmt(f),
-            Ending::Prg(report, _) => report.fmt(f),
-            Ending::Disk(DiskOutcome::Done) => Ok(()),
-            Ending::Disk(outcome) => writeln!(f, "tbc: {outcome}"),
-            Ending::Check(CheckOutcome::Accepted | CheckOutcome::Refused) => Ok(()),
-            Ending::Check(outcome) => writeln!(f, "tbc: {outcome}"),
-            Ending::Format(FormatOutcome::Done | FormatOutcome::Untidy) => Ok(()),
-            Ending::Format(outcome) => writeln!(f, "tbc: {outcome}"),
-            Ending::Renumber(RenumberOutcome::Engine(Outcome::Ended(End::Done))) => Ok(()),
-            Ending::Renumber(outcome) => writeln!(f, "tbc: {outcome}"),
-            Ending::Text(None) => Ok(()),
-            Ending::Text(Some(failure)) => write_failure(failure, f),
-            Ending::Server(ServerOutcome::Ended | ServerOutcome::NotShutDown) => Ok(()),
-            Ending::Server(outcome) => writeln!(f, "tbc: {outcome}"),
-            Ending::Adapter(AdapterOutcome::Ended) => Ok(()),
-            Ending::Adapter(outcome) => writeln!(f, "tbc: {outcome}"),
+            Ending::Report(report) | Ending::Run(Ran::Source(NotedRun { report, .. })) => {
+                report.fmt(f)
+            }
+            Ending::Run(Ran::Plain(outcome, _)) => write_line(outcome, f),
+            Ending::Disk(outcome) => write_line(outcome, f),
+            Ending::Check(outcome) => write_line(outcome, f),
+            Ending::Format(outcome) => write_line(outcome, f),
+            Ending::Renumber(outcome) => write_line(outcome, f),
+            Ending::Text(outcome) => write_line(outcome, f),
+            Ending::Server(outcome) => write_line(outcome, f),
+            Ending::Adapter(outcome) => write_line(outcome, f),
         }
     }
 }

@@ -1,12 +1,13 @@
 //! What helps with how a job ended, for a person at a terminal.
 use crate::ending::Ending;
 use std::rt::Files;
-use tb_assembly_engine::TextFailure;
+use tb_assembly_engine::TextOutcome;
 use tb_check_engine::CheckOutcome;
 use tb_command_line::{Failure, Job};
-use tb_format_engine::FormatOutcome;
+use tb_driver::Outcome;
+use tb_file_engine::{FormatOutcome, RenumberOutcome, RenumberRefusal};
 use tb_host::Host;
-use tb_renumber_engine::RenumberOutcome;
+use tb_run_commands::Ran;
 use tb_terminal_notes::{
     clash, file_note, note_disk, note_labels, note_outcome, note_place, noted_sources, say,
 };
@@ -18,12 +19,12 @@ pub fn note<R: Files + Print + Eprint + Input + AllocGlobal>(
     done: &Result<Ending, Failure>,
 ) {
     match done {
-        Ok(Ending::Run(run)) => match run.note {
+        Ok(Ending::Run(Ran::Source(run))) => match run.note {
             Some(note) => say(host.rt, note),
             None => note_outcome(host, job, run.report.outcome),
         },
-        Ok(Ending::Prg(report, place)) => {
-            note_outcome(host, job, report.outcome);
+        Ok(Ending::Run(Ran::Plain(outcome, place))) => {
+            note_outcome(host, job, *outcome);
             note_place(host, place);
         }
         Ok(Ending::Report(report)) => note_outcome(host, job, report.outcome),
@@ -33,10 +34,13 @@ pub fn note<R: Files + Print + Eprint + Input + AllocGlobal>(
         Ok(Ending::Format(FormatOutcome::ReadFault | FormatOutcome::WriteFault)) => {
             file_note(host)
         }
-        Ok(Ending::Renumber(RenumberOutcome::Engine(outcome))) => note_outcome(host, job, *outcome),
-        Ok(Ending::Text(Some(TextFailure::ReadFault | TextFailure::WriteFault))) => {
+        Ok(Ending::Renumber(RenumberOutcome::ReadFault | RenumberOutcome::WriteFault)) => {
             file_note(host)
         }
+        Ok(Ending::Renumber(RenumberOutcome::Refused(RenumberRefusal::Source(refusal)))) => {
+            note_outcome(host, job, Outcome::Refused(*refusal))
+        }
+        Ok(Ending::Text(TextOutcome::ReadFault | TextOutcome::WriteFault)) => { file_note(host) }
         Ok(Ending::Text(_)) => {}
         Ok(Ending::Format(_) | Ending::Renumber(_) | Ending::Server(_) | Ending::Adapter(_)) => {}
         Err(Failure::SameFile) => clash(host, job),

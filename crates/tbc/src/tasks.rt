@@ -1,25 +1,16 @@
 //! The commands. Key lists, key files and addresses are looked at before any other file is opened.
 use crate::ending::Ending;
-use std::alloc::Global;
 use std::io;
 use std::rt::{Env, Files};
 use std::time::Clock;
 use tb_assembly_engine::TextNames;
 use tb_check_engine::CheckSettings;
-use tb_command_line::{BuildExtras, Dialect, Failure, Job, Runnable, Settings, VERSION};
-use tb_dialect_engine::dis_text_for;
-use tb_driver::{
-    CompileSettings, End, Outcome, Report, Tracked, address, dis_text, step_prg, step_within,
-    write_output,
-};
-use tb_file_engine::{BuildNames, assemble_file, build_file, disk_file, opened};
-use tb_files::{Barred, may_write};
-use tb_host::{Host, Progress, keyboard, labels_in, named_place, settings_of, size_limit};
-use tb_kernal::{Keyboard, Outside, Quiet, Rude};
-use tb_labels::Label;
-use tb_renumber_engine::Numbering;
-use tb_run_commands::{Playing, debug_file, debug_source, play, profile, setting_of};
-use tb_run_notes::{PrgRun, run_noted, run_prg_watched};
+use tb_command_line::{BuildExtras, Failure, Job, VERSION};
+use tb_driver::{CompileSettings, End, Outcome, Report, Tracked, address, write_output};
+use tb_file_engine::{BuildNames, Numbering, assemble_file, build_file, disk_file, list_file};
+use tb_files::{Barred, Output, may_write};
+use tb_host::{Host, settings_of, size_limit};
+use tb_run_commands::{Playing, debug, play, profile, run, setting_of, step};
 use tb_text_commands::{
     assemble, check_files, format_file, renumber_file, serve_debugger, serve_editor,
 };
@@ -50,7 +41,7 @@ fn run_job<R: Files + Env + Clock + Print + Eprint + Input + AllocGlobal>(
             settings,
             rude,
             labels,
-        } => run_beside(host, what, settings, *rude, name_of(labels))?,
+        } => Ending::Run(run(host, what, settings, *rude, name_of(labels))?),
         Job::Play {
             what,
             seed,
@@ -59,6 +50,7 @@ fn run_job<R: Files + Env + Clock + Print + Eprint + Input + AllocGlobal>(
             limit,
             record,
             screen,
+            ..
         } => {
             let playing = Playing {
                 settings: settings_of(*seed, *fit, *notation),
@@ -74,14 +66,19 @@ fn run_job<R: Files + Env + Clock + Print + Eprint + Input + AllocGlobal>(
             settings,
             rude,
             html,
-        } => Ending::Report(profile_beside(host, what, settings, *rude, name_of(html))?),
+            ..
+        } => Ending::Report(profile(host, what, settings, *rude, name_of(html))?),
         Job::Debug {
             what,
             settings,
             rude,
             labels,
-        } => debug_beside(host, what, settings, *rude, name_of(labels), prompts)?,
-        Job::Step { what, settings } => Ending::Report(step_file(host, what, settings)?),
+        } => {
+            let setting = setting_of(settings, *rude, prompts);
+            let outcome = debug(host, what, settings, name_of(labels), setting)?;
+            plain_ending(host.rt, outcome)
+        }
+        Job::Step { what, settings } => Ending::Report(step(host, what, settings)?),
         Job::Build { .. }
         | Job::Asm { .. }
         | Job::Assemble { .. }
@@ -110,11 +107,12 @@ fn other_job<R: Files + Print + Input + AllocGlobal>(
             fit,
             notation,
             beside,
+            ..
         } => {
             let settings = settings_of(*seed, *fit, *notation);
             Ok(build(host, source, out, settings, beside))
         }
-        Job::Asm { text, out, at } => assemble_at(host, text, out, at),
+        Job::Asm { text, out, at, .. } => assemble_at(host, text, out, at),
         Job::Assemble {
             text,
             out,
@@ -122,17 +120,22 @@ fn other_job<R: Files + Print + Input + AllocGlobal>(
             long,
             labels,
             listing,
+            force,
         } => {
             let names = TextNames {
                 out,
                 labels: name_of(labels),
                 listing: name_of(listing),
+                is_forced: *force,
             };
-            let failure = assemble(host, text, name_of(at), *long, names)?;
-            Ok(Ending::Text(failure))
+            let outcome = assemble(host, text, name_of(at), *long, names)?;
+            Ok(Ending::Text(outcome))
         }
-        Job::Dis { prg, dialect } => Ok(plain_ending(rt, list_file(host, prg, *dialect))),
-        Job::Disk { out, files } => {
+        Job::Dis { prg, dialect } => {
+            let outcome = list_file(rt.alloc(), host, prg, *dialect);
+            Ok(plain_ending(rt, outcome))
+        }
+        Job::Disk { out, files, .. } => {
             Ok(Ending::Disk(disk_file(rt.alloc(), host, out, files.as_slice())))
         }
         Job::Check {
@@ -179,7 +182,7 @@ fn other_job<R: Files + Print + Input + AllocGlobal>(
     }
 }
 
-// Whether the files that a job writes may be written. Nothing is opened for that.
+// Whether the files that a job writes may be written, by where they lead and what they look like.
 fn look_at_files<R: Files + Print + Input + AllocGlobal>(
     host: &Host<'_, R>,
     job: &Job,
@@ -190,10 +193,19 @@ fn look_at_files<R: Files + Print + Input + AllocGlobal>(
         return Ok(());
     }
     let kept = job.kept(alloc)?;
-    match may_write(alloc, host, kept.as_slice(), written.as_slice()) {
+    match may_write(
+        alloc,
+        host,
+        kept.as_slice(),
+        written.as_slice(),
+        job.is_forced(),
+    ) {
         Ok(()) => Ok(()),
         Err(Barred::SameFile) => Err(Failure::SameFile),
         Err(Barred::Source(path)) => Err(Failure::IsSource(String::from_str(alloc, path)?)),
+        Err(Barred::Unlike(Output { path, kind })) => {
+            Err(Failure::Unlike(String::from_str(alloc, path)?, kind))
+        }
         Err(Barred::NoMemory) => Err(Failure::NoMemory),
     }
 }
@@ -236,65 +248,6 @@ fn assemble_at<R: Files + Print + Input + AllocGlobal>(
     Ok(plain_ending(host.rt, outcome))
 }
 
-// A run with a rude ROM, if one is asked for.
-fn run_beside<R: Files + Clock + Print + Eprint + Input + AllocGlobal>(
-    host: &mut Host<'_, R>,
-    what: &Runnable,
-    settings: &Settings,
-    rude: Option<u16>,
-    labels: Option<&str>,
-) -> Result<Ending, Failure> {
-    let keyboard = keyboard(host, settings)?;
-    let labels = labels_in(host, labels)?;
-    let labels = labels.as_slice();
-    Ok(match rude {
-        Some(rude) => run_file(host, what, settings, keyboard, &mut Rude::new(rude), labels),
-        None => run_file(host, what, settings, keyboard, &mut Quiet, labels),
-    })
-}
-
-// A profile with a rude ROM, if one is asked for.
-fn profile_beside<R: Files + Clock + Print + Eprint + Input + AllocGlobal>(
-    host: &mut Host<'_, R>,
-    what: &Runnable,
-    settings: &Settings,
-    rude: Option<u16>,
-    html: Option<&str>,
-) -> Result<Report, Failure> {
-    let keyboard = keyboard(host, settings)?;
-    Ok(match rude {
-        Some(seed) => {
-            let outside = &mut Rude::new(seed);
-            profile(host, what, settings, keyboard, rude, outside, html)
-        }
-        None => profile(host, what, settings, keyboard, rude, &mut Quiet, html),
-    })
-}
-
-fn debug_beside<R: Files + Clock + Print + Eprint + Input + AllocGlobal>(
-    host: &mut Host<'_, R>,
-    what: &Runnable,
-    settings: &Settings,
-    rude: Option<u16>,
-    labels: Option<&str>,
-    prompts: bool,
-) -> Result<Ending, Failure> {
-    let keyboard = keyboard(host, settings)?;
-    let labels = labels_in(host, labels)?;
-    let setting = setting_of(settings, rude, prompts);
-    let outcome = match what {
-        Runnable::Source(source) => debug_source(
-            host,
-            source.as_str(),
-            settings,
-            keyboard,
-            setting,
-        ),
-        Runnable::Prg(prg) => debug_file(host, prg.as_str(), labels.as_slice(), keyboard, setting),
-    };
-    Ok(plain_ending(host.rt, outcome))
-}
-
 // An outcome with no warnings.
 fn plain<R: AllocGlobal>(rt: &R, outcome: Outcome) -> Report {
     Report::new(rt.alloc(), outcome)
@@ -308,114 +261,5 @@ fn show<R: Print>(rt: &R, text: &str) -> Outcome {
     match write_output(&mut Tracked::new(io::writer(rt)), text.as_bytes()) {
         Ok(()) => Outcome::Ended(End::Done),
         Err(_) => Outcome::WriteFault,
-    }
-}
-
-fn run_file<R: Files + Clock + Print + Eprint + Input + AllocGlobal, O: Outside>(
-    host: &mut Host<'_, R>,
-    what: &Runnable,
-    settings: &Settings,
-    keyboard: Keyboard,
-    outside: &mut O,
-    labels: &[Label],
-) -> Ending {
-    let (Runnable::Source(path) | Runnable::Prg(path)) = what;
-    let rt = host.rt;
-    let mut file = match opened(host, path.as_str()) {
-        Ok(file) => file,
-        Err(outcome) => return plain_ending(rt, outcome),
-    };
-    let mut screen = Tracked::new(io::writer(rt));
-    let alloc = rt.alloc();
-    let limit = u64::from(settings.limit.events);
-    match what {
-        Runnable::Source(_) => {
-            Ending::Run(run_noted(
-                alloc,
-                &mut file,
-                &mut screen,
-                settings_of(settings.seed, settings.fit, settings.notation),
-                keyboard,
-                limit,
-                outside,
-                &mut Progress::new(rt, limit, host.notes),
-            ))
-        }
-        Runnable::Prg(_) => {
-            let PrgRun { outcome, place } = run_prg_watched(
-                alloc,
-                &mut file,
-                &mut screen,
-                keyboard,
-                limit,
-                outside,
-                &mut Progress::new(rt, limit, host.notes),
-            );
-            let place = match place {
-                Some(address) => named_place(rt, labels, address),
-                None => None,
-            };
-            Ending::Prg(plain(rt, outcome), place)
-        }
-    }
-}
-
-// The commands come from standard input.
-fn step_file<R: Files + Print + Input + AllocGlobal>(
-    host: &mut Host<'_, R>,
-    what: &Runnable,
-    settings: &Settings,
-) -> Result<Report, Failure> {
-    let (Runnable::Source(path) | Runnable::Prg(path)) = what;
-    let rt = host.rt;
-    let keyboard = keyboard(host, settings)?;
-    let mut file = match opened(host, path.as_str()) {
-        Ok(file) => file,
-        Err(outcome) => return Ok(plain(rt, outcome)),
-    };
-    let mut commands = Tracked::new(rt.reader());
-    let mut screen = Tracked::new(io::writer(rt));
-    let alloc = rt.alloc();
-    let limit = u64::from(settings.limit.events);
-    Ok(match what {
-        Runnable::Source(_) => {
-            step_within(
-                alloc,
-                &mut file,
-                &mut commands,
-                &mut screen,
-                settings_of(settings.seed, settings.fit, settings.notation),
-                keyboard,
-                limit,
-            )
-        }
-        Runnable::Prg(_) => {
-            let outcome = step_prg(
-                alloc,
-                &mut file,
-                &mut commands,
-                &mut screen,
-                keyboard,
-                limit,
-            );
-            plain(rt, outcome)
-        }
-    })
-}
-
-fn list_file<R: Files + Print + Input + AllocGlobal>(
-    host: &mut Host<'_, R>,
-    path: &str,
-    dialect: Option<Dialect>,
-) -> Outcome {
-    let rt = host.rt;
-    let mut file = match opened(host, path) {
-        Ok(file) => file,
-        Err(outcome) => return outcome,
-    };
-    let mut screen = Tracked::new(io::writer(rt));
-    match dialect {
-        Some(dialect) => dis_text_for(rt.alloc(), &mut file, &mut screen, dialect),
-        None => dis_text(rt.alloc(), &mut file, &mut screen),
     }
 }

@@ -3,8 +3,8 @@ ghost use Rattle.std.specs.Prelude.{⊤};
 
 use std::alloc::{AllocError, Global};
 use std::test::Fail;
-use tb_assembly_engine::{Manner, TextFailure, TextNames, assemble_source};
-use tb_files::{FileSystem, Node, Place, Trouble};
+use tb_assembly_engine::{Manner, TextFailure, TextNames, TextRefusal, assemble_source};
+use tb_files::{FileSystem, Kind, Look, Node, Place, Trouble};
 use tb_streams::Tracked;
 use tb_test_support::FailingReader;
 
@@ -23,6 +23,7 @@ const NAMES: TextNames<'static> = TextNames {
     out: "out.prg",
     labels: Some("out.lab"),
     listing: None,
+    is_forced: false,
 };
 
 /// Two files, of which each fails after some bytes; and what was written, or tried.
@@ -51,7 +52,11 @@ impl FileSystem for Shelf {
 
     ghost leads = { λ _ _ _. ⊤ };
 
+    ghost shows = { λ _ _ _. ⊤ };
+
     ghost does = { λ _ _ _. ⊤ };
+
+    ghost holds = { λ _ _ _. ⊤ };
 
     fn place(&self, alloc: Global, path: &str) -> Result<Place, AllocError> {
         let node = Node {
@@ -61,6 +66,16 @@ impl FileSystem for Shelf {
         match path {
             "x/old.S" => Ok(Place::File(node, String::from_str(alloc, path)?)),
             _ => Ok(Place::Elsewhere),
+        }
+    }
+
+    fn look(&self, alloc: Global, path: &str) -> Result<Option<Look>, AllocError> {
+        match path {
+            "x/old.code" => Ok(Some(Look {
+                size: 3,
+                beginning: Vec::from_slice(alloc, b"\x00\x20\x60")?,
+            })),
+            _ => Ok(None),
         }
     }
 
@@ -115,7 +130,7 @@ fn an_include_that_fails_is_an_error(rt: HostRuntime) -> Result<(), Fail> {
     for until_fault in 0..=MORE.len() {
         let mut shelf = Shelf::new(alloc, usize::MAX, until_fault, 2);
         match assembled(alloc, &mut shelf, "x/text.asm") {
-            Err(TextFailure::Refused(said)) => assert_eq!(rt;
+            Err(TextFailure::Refused(TextRefusal::Said(said))) => assert_eq!(rt;
                 said.as_slice(),
                 b"x/text.asm:1:2: error: the file can't be read\n    1 |  .include \"more.asm\"\n      |  ^\n".as_slice()
             ),
@@ -154,11 +169,36 @@ fn no_text_is_overwritten(rt: HostRuntime) -> Result<(), Fail> {
             out,
             labels: None,
             listing: Some("x/old.lst"),
+            is_forced: true,
         };
         let done = assemble_source(alloc, &mut shelf, "x/text.asm", MANNER, names);
-        assert_eq!(rt; matches!(done, Err(TextFailure::IsSource(_))), is_source);
-        assert_eq!(rt; matches!(done, Err(TextFailure::SameFile)), !is_source);
+        assert_eq!(rt; matches!(done, Err(TextFailure::Refused(TextRefusal::IsSource(_)))), is_source);
+        assert_eq!(rt; matches!(done, Err(TextFailure::Refused(TextRefusal::SameFile))), !is_source);
         assert!(rt; shelf.saved.is_empty());
+    }
+    Ok(())
+}
+
+#[test]
+fn code_of_another_address_is_overwritten_by_force_alone(rt: HostRuntime) -> Result<(), Fail> {
+    let alloc = rt.alloc();
+    for is_forced in [false, true] {
+        let mut shelf = Shelf::new(alloc, usize::MAX, usize::MAX, 3);
+        let names = TextNames {
+            out: "x/old.code",
+            labels: None,
+            listing: None,
+            is_forced,
+        };
+        let done = assemble_source(alloc, &mut shelf, "x/text.asm", MANNER, names);
+        match done {
+            Ok(()) => assert!(rt; is_forced),
+            Err(TextFailure::Refused(TextRefusal::Unlike(_, kind))) => {
+                assert!(rt; !is_forced && kind == Kind::Code(Some(0x1000)));
+            }
+            Err(_) => return Err(Fail::new("another refusal")),
+        }
+        assert_eq!(rt; shelf.saved.len(), usize::from(is_forced));
     }
     Ok(())
 }

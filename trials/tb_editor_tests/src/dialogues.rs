@@ -19,7 +19,7 @@ const MESSAGES: [&str; 6] = [
 
 /// What is answered.
 const ANSWERS: [&str; 4] = [
-    r#"{"id":1,"jsonrpc":"2.0","result":{"capabilities":{"codeActionProvider":{"codeActionKinds":["quickfix"]},"completionProvider":{"triggerCharacters":[" "]},"definitionProvider":true,"documentFormattingProvider":true,"documentHighlightProvider":true,"documentSymbolProvider":true,"foldingRangeProvider":true,"hoverProvider":true,"positionEncoding":"utf-16","referencesProvider":true,"renameProvider":{"prepareProvider":true},"semanticTokensProvider":{"full":true,"legend":{"tokenModifiers":["declaration"],"tokenTypes":["keyword","variable","number","string","comment","operator","function"]}},"textDocumentSync":{"change":1,"openClose":true}},"serverInfo":{"name":"tbc","version":"1.0.0"}}}"#,
+    r#"{"id":1,"jsonrpc":"2.0","result":{"capabilities":{"codeActionProvider":{"codeActionKinds":["quickfix"]},"completionProvider":{"triggerCharacters":[" "]},"definitionProvider":true,"documentFormattingProvider":true,"documentHighlightProvider":true,"documentSymbolProvider":true,"foldingRangeProvider":true,"hoverProvider":true,"positionEncoding":"utf-16","referencesProvider":true,"renameProvider":{"prepareProvider":true},"semanticTokensProvider":{"full":true,"legend":{"tokenModifiers":["declaration"],"tokenTypes":["keyword","variable","number","string","comment","operator","function"]}},"textDocumentSync":{"change":1,"openClose":true}},"serverInfo":{"name":"tbc","version":"9.8.7"}}}"#,
     r#"{"jsonrpc":"2.0","method":"textDocument/publishDiagnostics","params":{"diagnostics":[{"code":"syntax","message":"syntax: did you mean PRINT","range":{"end":{"character":8,"line":0},"start":{"character":6,"line":0}},"severity":1,"source":"tbc"}],"uri":"file:///a.bas","version":1}}"#,
     r#"{"jsonrpc":"2.0","method":"textDocument/publishDiagnostics","params":{"diagnostics":[],"uri":"file:///a.bas","version":2}}"#,
     r#"{"id":2,"jsonrpc":"2.0","result":null}"#,
@@ -65,7 +65,7 @@ fn front(bytes: &[u8], count: usize) -> &[u8] {
 fn answers<R: Read + Drop>(alloc: Global, reader: R, wanted: &[u8]) -> (u8, bool) {
     let mut writer = Tracked::new(Vec::new(alloc));
     let mut reader = Tracked::new(reader);
-    let outcome = serve(alloc, "1.0.0", Notation::Plain, &mut reader, &mut writer);
+    let outcome = serve(alloc, "9.8.7", Notation::Plain, &mut reader, &mut writer);
     (outcome.status(), writer.stream.as_slice() == wanted)
 }
 
@@ -86,7 +86,7 @@ fn served(alloc: Global, messages: &[u8], until_fault: usize) -> (u8, Vec<u8>) {
     let reader = FailingReader::new(messages, until_fault, 4096);
     let mut writer = Tracked::new(Vec::new(alloc));
     let mut reader = Tracked::new(reader);
-    let outcome = serve(alloc, "1.0.0", Notation::Plain, &mut reader, &mut writer);
+    let outcome = serve(alloc, "9.8.7", Notation::Plain, &mut reader, &mut writer);
     (outcome.status(), writer.stream)
 }
 
@@ -120,7 +120,7 @@ fn a_writer_that_fails_has_a_prefix(rt: HostRuntime) -> Result<(), Fail> {
     for length in 0..whole.len() {
         let mut reader = Tracked::new(FailingReader::new(messages.as_slice(), usize::MAX, 4096));
         let mut writer = Tracked::new(FailingWriter::new(alloc, length, 7));
-        let outcome = serve(alloc, "1.0.0", Notation::Plain, &mut reader, &mut writer);
+        let outcome = serve(alloc, "9.8.7", Notation::Plain, &mut reader, &mut writer);
         assert_eq!(rt; outcome.status(), 3, "{length}");
         assert_eq!(rt; writer.stream.taken.as_slice(), &whole.as_slice()[..length]);
     }
@@ -334,7 +334,7 @@ fn all_answers_are_prefixes_where_the_writer_fails(rt: HostRuntime) -> Result<()
         let length = step.saturating_mul(23);
         let mut reader = Tracked::new(FailingReader::new(messages.as_slice(), usize::MAX, 4096));
         let mut writer = Tracked::new(FailingWriter::new(alloc, length, 7));
-        let outcome = serve(alloc, "1.0.0", Notation::Plain, &mut reader, &mut writer);
+        let outcome = serve(alloc, "9.8.7", Notation::Plain, &mut reader, &mut writer);
         assert_eq!(rt; outcome.status(), 3, "{length}");
         assert_eq!(rt;
             writer.stream.taken.as_slice(),

@@ -46,7 +46,7 @@ pub fn answered(alloc: Global, messages: &[u8]) -> Vec<u8> {
 pub fn answered_in(alloc: Global, notation: Notation, messages: &[u8]) -> Vec<u8> {
     let mut reader = Tracked::new(FailingReader::new(messages, usize::MAX, 4096));
     let mut writer = Tracked::new(Vec::new(alloc));
-    let _ = serve(alloc, "1.0.0", notation, &mut reader, &mut writer);
+    let _ = serve(alloc, "9.8.7", notation, &mut reader, &mut writer);
     writer.stream
 }
 

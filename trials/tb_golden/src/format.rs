@@ -2,9 +2,8 @@
 use crate::notation::decoded;
 use crate::page::Page;
 use std::str;
-use tb_format_engine::Formatted;
+use tb_format::tidy_text;
 use tb_parser::Notation;
-use tb_streams::Tracked;
 
 /// Appends the answer of a row.
 pub fn put_answer(page: &mut Page, name: &str, given: &str) {
@@ -17,9 +16,8 @@ pub fn put_answer(page: &mut Page, name: &str, given: &str) {
 }
 
 fn put_tidy(page: &mut Page, source: &[u8], notation: Notation) {
-    let formatted = Formatted::read(page.alloc(), &mut Tracked::new(source), notation);
-    if let Some(formatted) = page.held(formatted) {
-        let text = formatted.into_text();
+    let text = tidy_text(page.alloc(), notation, source);
+    if let Some(text) = page.held(text) {
         let shown = str::from_utf8(&text);
         if let Some(shown) = page.held(shown) {
             page.put_debug(&shown);
@@ -30,9 +28,9 @@ fn put_tidy(page: &mut Page, source: &[u8], notation: Notation) {
 
 // Notes if a tidy text is not its own tidy text.
 fn look_again(page: &mut Page, text: &[u8], notation: Notation) {
-    let formatted = Formatted::read(page.alloc(), &mut Tracked::new(text), notation);
-    if let Some(formatted) = page.held(formatted) {
-        if !formatted.is_tidy() {
+    let again = tidy_text(page.alloc(), notation, text);
+    if let Some(again) = page.held(again) {
+        if again.as_slice() != text {
             page.fail();
         }
     }

@@ -7,45 +7,45 @@ use tb_command_line::{Failure, job, room_for_screen};
 static JOBS: [(&[&str], &str); 28] = [
     (
         &["build", "a", "b"],
-        "Ok(Build { source: \"a\", out: \"b\", seed: 1, fit: false, notation: Plain, beside: BuildExtras { labels: None, listing: None, dialect: None, map: None, watch: None } })",
+        "Ok(Build { source: \"a\", out: \"b\", seed: 1, fit: false, notation: Plain, beside: BuildExtras { labels: None, listing: None, dialect: None, map: None, watch: None }, force: false })",
     ),
     (
         &["build", "f.d/a.bas"],
-        "Ok(Build { source: \"f.d/a.bas\", out: \"f.d/a.prg\", seed: 1, fit: false, notation: Plain, beside: BuildExtras { labels: None, listing: None, dialect: None, map: None, watch: None } })",
+        "Ok(Build { source: \"f.d/a.bas\", out: \"f.d/a.prg\", seed: 1, fit: false, notation: Plain, beside: BuildExtras { labels: None, listing: None, dialect: None, map: None, watch: None }, force: false })",
     ),
     (
         &["build", "a.BAS"],
-        "Ok(Build { source: \"a.BAS\", out: \"a.BAS.prg\", seed: 1, fit: false, notation: Plain, beside: BuildExtras { labels: None, listing: None, dialect: None, map: None, watch: None } })",
+        "Ok(Build { source: \"a.BAS\", out: \"a.BAS.prg\", seed: 1, fit: false, notation: Plain, beside: BuildExtras { labels: None, listing: None, dialect: None, map: None, watch: None }, force: false })",
     ),
     (
         &["build", "a"],
-        "Ok(Build { source: \"a\", out: \"a.prg\", seed: 1, fit: false, notation: Plain, beside: BuildExtras { labels: None, listing: None, dialect: None, map: None, watch: None } })",
+        "Ok(Build { source: \"a\", out: \"a.prg\", seed: 1, fit: false, notation: Plain, beside: BuildExtras { labels: None, listing: None, dialect: None, map: None, watch: None }, force: false })",
     ),
     (
         &["build", "-"],
-        "Ok(Build { source: \"-\", out: \"-\", seed: 1, fit: false, notation: Plain, beside: BuildExtras { labels: None, listing: None, dialect: None, map: None, watch: None } })",
+        "Ok(Build { source: \"-\", out: \"-\", seed: 1, fit: false, notation: Plain, beside: BuildExtras { labels: None, listing: None, dialect: None, map: None, watch: None }, force: false })",
     ),
     (
         &["build", "a", "-o", "b"],
-        "Ok(Build { source: \"a\", out: \"b\", seed: 1, fit: false, notation: Plain, beside: BuildExtras { labels: None, listing: None, dialect: None, map: None, watch: None } })",
+        "Ok(Build { source: \"a\", out: \"b\", seed: 1, fit: false, notation: Plain, beside: BuildExtras { labels: None, listing: None, dialect: None, map: None, watch: None }, force: false })",
     ),
     (
         &["build", "-ob", "-"],
-        "Ok(Build { source: \"-\", out: \"b\", seed: 1, fit: false, notation: Plain, beside: BuildExtras { labels: None, listing: None, dialect: None, map: None, watch: None } })",
+        "Ok(Build { source: \"-\", out: \"b\", seed: 1, fit: false, notation: Plain, beside: BuildExtras { labels: None, listing: None, dialect: None, map: None, watch: None }, force: false })",
     ),
     (
         &["build", "--seed", "65535", "a", "b"],
-        "Ok(Build { source: \"a\", out: \"b\", seed: 65535, fit: false, notation: Plain, beside: BuildExtras { labels: None, listing: None, dialect: None, map: None, watch: None } })",
+        "Ok(Build { source: \"a\", out: \"b\", seed: 65535, fit: false, notation: Plain, beside: BuildExtras { labels: None, listing: None, dialect: None, map: None, watch: None }, force: false })",
     ),
     (
         &[
             "build", "a", "b", "--map=m", "--labels", "v", "--watch", "w", "--list", "s",
         ],
-        "Ok(Build { source: \"a\", out: \"b\", seed: 1, fit: false, notation: Plain, beside: BuildExtras { labels: Some(\"v\"), listing: Some(\"s\"), dialect: None, map: Some(\"m\"), watch: Some(\"w\") } })",
+        "Ok(Build { source: \"a\", out: \"b\", seed: 1, fit: false, notation: Plain, beside: BuildExtras { labels: Some(\"v\"), listing: Some(\"s\"), dialect: None, map: Some(\"m\"), watch: Some(\"w\") }, force: false })",
     ),
     (
         &["build", "--fit", "a", "b"],
-        "Ok(Build { source: \"a\", out: \"b\", seed: 1, fit: true, notation: Plain, beside: BuildExtras { labels: None, listing: None, dialect: None, map: None, watch: None } })",
+        "Ok(Build { source: \"a\", out: \"b\", seed: 1, fit: true, notation: Plain, beside: BuildExtras { labels: None, listing: None, dialect: None, map: None, watch: None }, force: false })",
     ),
     (
         &["run", "a"],
@@ -79,49 +79,49 @@ static JOBS: [(&[&str], &str); 28] = [
     ),
     (
         &["play", "a"],
-        "Ok(Play { what: Source(\"a\"), seed: 1, fit: false, notation: Plain, limit: Limit { events: 1000000000 }, record: None, screen: false })",
+        "Ok(Play { what: Source(\"a\"), seed: 1, fit: false, notation: Plain, limit: Limit { events: 1000000000 }, record: None, screen: false, force: false })",
     ),
     (
         &[
             "play", "--prg=p", "--seed", "9", "--limit", "5", "--record", "r",
         ],
-        "Ok(Play { what: Prg(\"p\"), seed: 9, fit: false, notation: Plain, limit: Limit { events: 5 }, record: Some(\"r\"), screen: false })",
+        "Ok(Play { what: Prg(\"p\"), seed: 9, fit: false, notation: Plain, limit: Limit { events: 5 }, record: Some(\"r\"), screen: false, force: false })",
     ),
     (
         &["play", "a", "--fit"],
-        "Ok(Play { what: Source(\"a\"), seed: 1, fit: true, notation: Plain, limit: Limit { events: 1000000000 }, record: None, screen: false })",
+        "Ok(Play { what: Source(\"a\"), seed: 1, fit: true, notation: Plain, limit: Limit { events: 1000000000 }, record: None, screen: false, force: false })",
     ),
     (
         &["play", "--screen", "a"],
-        "Ok(Play { what: Source(\"a\"), seed: 1, fit: false, notation: Plain, limit: Limit { events: 1000000000 }, record: None, screen: true })",
+        "Ok(Play { what: Source(\"a\"), seed: 1, fit: false, notation: Plain, limit: Limit { events: 1000000000 }, record: None, screen: true, force: false })",
     ),
     (
         &["asm", "a", "b", "--at", "c00"],
-        "Ok(Asm { text: \"a\", out: \"b\", at: \"c00\" })",
+        "Ok(Asm { text: \"a\", out: \"b\", at: \"c00\", force: false })",
     ),
     (
         &["asm", "a", "-o", "b", "--at", "c00"],
-        "Ok(Asm { text: \"a\", out: \"b\", at: \"c00\" })",
+        "Ok(Asm { text: \"a\", out: \"b\", at: \"c00\", force: false })",
     ),
     (
         &["assemble", "a.asm"],
-        "Ok(Assemble { text: \"a.asm\", out: \"a.prg\", at: None, long: false, labels: None, listing: None })",
+        "Ok(Assemble { text: \"a.asm\", out: \"a.prg\", at: None, long: false, labels: None, listing: None, force: false })",
     ),
     (
         &["assemble", "a", "b", "--at", "c00", "--labels", "v"],
-        "Ok(Assemble { text: \"a\", out: \"b\", at: Some(\"c00\"), long: false, labels: Some(\"v\"), listing: None })",
+        "Ok(Assemble { text: \"a\", out: \"b\", at: Some(\"c00\"), long: false, labels: Some(\"v\"), listing: None, force: false })",
     ),
     (
         &["assemble", "--long", "a"],
-        "Ok(Assemble { text: \"a\", out: \"a.prg\", at: None, long: true, labels: None, listing: None })",
+        "Ok(Assemble { text: \"a\", out: \"a.prg\", at: None, long: true, labels: None, listing: None, force: false })",
     ),
     (
         &["assemble", "-", "--list=s"],
-        "Ok(Assemble { text: \"-\", out: \"-\", at: None, long: false, labels: None, listing: Some(\"s\") })",
+        "Ok(Assemble { text: \"-\", out: \"-\", at: None, long: false, labels: None, listing: Some(\"s\"), force: false })",
     ),
     (
         &["build", "--petscii", "a"],
-        "Ok(Build { source: \"a\", out: \"a.prg\", seed: 1, fit: false, notation: Signs, beside: BuildExtras { labels: None, listing: None, dialect: None, map: None, watch: None } })",
+        "Ok(Build { source: \"a\", out: \"a.prg\", seed: 1, fit: false, notation: Signs, beside: BuildExtras { labels: None, listing: None, dialect: None, map: None, watch: None }, force: false })",
     ),
     (
         &["run", "a", "--petscii", "--fit"],
@@ -129,12 +129,12 @@ static JOBS: [(&[&str], &str); 28] = [
     ),
     (
         &["play", "a", "--petscii", "--screen"],
-        "Ok(Play { what: Source(\"a\"), seed: 1, fit: false, notation: Signs, limit: Limit { events: 1000000000 }, record: None, screen: true })",
+        "Ok(Play { what: Source(\"a\"), seed: 1, fit: false, notation: Signs, limit: Limit { events: 1000000000 }, record: None, screen: true, force: false })",
     ),
 ];
 
 /// The same, of commands that look at programs or at sources.
-static TOOL_JOBS: [(&[&str], &str); 37] = [
+static TOOL_JOBS: [(&[&str], &str); 39] = [
     (&["dis", "a"], "Ok(Dis { prg: \"a\", dialect: None })"),
     (
         &["dis", "a", "--for", "64tass"],
@@ -150,7 +150,7 @@ static TOOL_JOBS: [(&[&str], &str); 37] = [
     ),
     (
         &["build", "a", "b", "--list", "s", "--for", "xa"],
-        "Ok(Build { source: \"a\", out: \"b\", seed: 1, fit: false, notation: Plain, beside: BuildExtras { labels: None, listing: Some(\"s\"), dialect: Some(Xa), map: None, watch: None } })",
+        "Ok(Build { source: \"a\", out: \"b\", seed: 1, fit: false, notation: Plain, beside: BuildExtras { labels: None, listing: Some(\"s\"), dialect: Some(Xa), map: None, watch: None }, force: false })",
     ),
     (
         &["debug", "a"],
@@ -179,7 +179,7 @@ static TOOL_JOBS: [(&[&str], &str); 37] = [
     ),
     (
         &["profile", "a"],
-        "Ok(Profile { what: Source(\"a\"), settings: Settings { seed: 1, fit: false, notation: Plain, keys: Digits(\"\"), answers: \"\", limit: Limit { events: 10000000 } }, rude: None, html: None })",
+        "Ok(Profile { what: Source(\"a\"), settings: Settings { seed: 1, fit: false, notation: Plain, keys: Digits(\"\"), answers: \"\", limit: Limit { events: 10000000 } }, rude: None, html: None, force: false })",
     ),
     (
         &[
@@ -193,23 +193,31 @@ static TOOL_JOBS: [(&[&str], &str); 37] = [
             "--limit",
             "9",
         ],
-        "Ok(Profile { what: Source(\"a\"), settings: Settings { seed: 1, fit: false, notation: Plain, keys: File(\"k\"), answers: \"\", limit: Limit { events: 9 } }, rude: Some(7), html: Some(\"p\") })",
+        "Ok(Profile { what: Source(\"a\"), settings: Settings { seed: 1, fit: false, notation: Plain, keys: File(\"k\"), answers: \"\", limit: Limit { events: 9 } }, rude: Some(7), html: Some(\"p\"), force: false })",
     ),
     (
         &["profile", "--prg=a", "--rude", "7"],
-        "Ok(Profile { what: Prg(\"a\"), settings: Settings { seed: 1, fit: false, notation: Plain, keys: Digits(\"\"), answers: \"\", limit: Limit { events: 10000000 } }, rude: Some(7), html: None })",
+        "Ok(Profile { what: Prg(\"a\"), settings: Settings { seed: 1, fit: false, notation: Plain, keys: Digits(\"\"), answers: \"\", limit: Limit { events: 10000000 } }, rude: Some(7), html: None, force: false })",
     ),
     (
         &["disk", "o", "a"],
-        "Ok(Disk { out: \"o\", files: [\"a\"] })",
+        "Ok(Disk { out: \"o\", files: [\"a\"], force: false })",
     ),
     (
         &["disk", "b", "-o", "o", "a"],
-        "Ok(Disk { out: \"o\", files: [\"b\", \"a\"] })",
+        "Ok(Disk { out: \"o\", files: [\"b\", \"a\"], force: false })",
+    ),
+    (
+        &["disk", "o", "--force", "a"],
+        "Ok(Disk { out: \"o\", files: [\"a\"], force: true })",
+    ),
+    (
+        &["assemble", "a", "b", "--force"],
+        "Ok(Assemble { text: \"a\", out: \"b\", at: None, long: false, labels: None, listing: None, force: true })",
     ),
     (
         &["disk", "o", "b", "--", "a", "-b"],
-        "Ok(Disk { out: \"o\", files: [\"b\", \"a\", \"-b\"] })",
+        "Ok(Disk { out: \"o\", files: [\"b\", \"a\", \"-b\"], force: false })",
     ),
     (
         &["check", "a"],
@@ -255,7 +263,7 @@ static TOOL_JOBS: [(&[&str], &str); 37] = [
     ),
     (
         &["profile", "a", "--petscii"],
-        "Ok(Profile { what: Source(\"a\"), settings: Settings { seed: 1, fit: false, notation: Signs, keys: Digits(\"\"), answers: \"\", limit: Limit { events: 10000000 } }, rude: None, html: None })",
+        "Ok(Profile { what: Source(\"a\"), settings: Settings { seed: 1, fit: false, notation: Signs, keys: Digits(\"\"), answers: \"\", limit: Limit { events: 10000000 } }, rude: None, html: None, force: false })",
     ),
     (
         &["check", "--petscii", "a"],

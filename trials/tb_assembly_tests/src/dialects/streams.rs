@@ -1,11 +1,11 @@
-//! PRG files over readers and writers that fail.
+//! PRG files that fail in mid-stream.
 use super::listings::{FOR_64TASS, PROGRAM};
 use std::alloc::{AllocError, Global};
 use std::test::Fail;
-use tb_dialect_engine::{Dialect, dis_text_for, spell_listing};
+use tb_dialects::{Dialect, spell};
 use tb_engines::{End, Outcome};
-use tb_streams::Tracked;
-use tb_test_support::{FailingReader, FailingWriter};
+use tb_file_engine::list_file;
+use tb_test_support::Shelf;
 
 fn file(alloc: Global) -> Result<Vec<u8>, AllocError> {
     let mut file = Vec::new(alloc);
@@ -15,25 +15,21 @@ fn file(alloc: Global) -> Result<Vec<u8>, AllocError> {
 }
 
 #[test]
-fn each_fault_of_a_stream_is_told(rt: HostRuntime) -> Result<(), Fail> {
+fn each_fault_of_a_file_is_told(rt: HostRuntime) -> Result<(), Fail> {
     let alloc = rt.alloc();
     let file = file(alloc)?;
-    let wanted = FOR_64TASS.as_bytes();
     for until_fault in 0..=file.len() {
-        let mut reader = Tracked::new(FailingReader::new(file.as_slice(), until_fault, 3));
-        let mut writer = Tracked::new(FailingWriter::new(alloc, usize::MAX, 3));
-        let end = dis_text_for(alloc, &mut reader, &mut writer, Dialect::Tass64);
+        let mut shelf = Shelf::new(alloc, file.as_slice(), until_fault, 1);
+        let end = list_file(alloc, &mut shelf, "a.prg", Some(Dialect::Tass64));
         assert_eq!(rt; end, Outcome::ReadFault);
-        assert!(rt; writer.stream.taken.as_slice().is_empty());
+        assert!(rt; shelf.saved.is_empty());
     }
-    for until_fault in 0..=wanted.len() {
-        let mut reader = Tracked::new(FailingReader::new(file.as_slice(), usize::MAX, 3));
-        let mut writer = Tracked::new(FailingWriter::new(alloc, until_fault, 3));
-        let end = dis_text_for(alloc, &mut reader, &mut writer, Dialect::Tass64);
-        let done = until_fault == wanted.len();
-        assert_eq!(rt; end == Outcome::Ended(End::Done), done);
-        assert_eq!(rt; end == Outcome::WriteFault, !done);
-        assert_eq!(rt; writer.stream.taken.as_slice(), &wanted[..until_fault]);
+    for (room, wanted) in [(0, Outcome::WriteFault), (1, Outcome::Ended(End::Done))] {
+        let mut shelf = Shelf::new(alloc, file.as_slice(), usize::MAX, room);
+        let end = list_file(alloc, &mut shelf, "a.prg", Some(Dialect::Tass64));
+        assert_eq!(rt; end, wanted);
+        assert!(rt; shelf.saved.iter().all(|text| text.as_slice() == FOR_64TASS.as_bytes()));
+        assert_eq!(rt; shelf.saved.len(), room);
     }
     Ok(())
 }
@@ -41,13 +37,13 @@ fn each_fault_of_a_stream_is_told(rt: HostRuntime) -> Result<(), Fail> {
 #[test]
 fn what_is_no_prg_file_is_refused(rt: HostRuntime) -> Result<(), Fail> {
     let alloc = rt.alloc();
-    for (file, status) in [(&[0x01u8][..], 1), (&[0xff, 0xff, 0x00, 0x00][..], 1)] {
-        let mut reader = Tracked::new(FailingReader::new(file, usize::MAX, 3));
-        let mut writer = Tracked::new(FailingWriter::new(alloc, usize::MAX, 3));
-        let end = dis_text_for(alloc, &mut reader, &mut writer, Dialect::Acme);
-        assert_eq!(rt; end.status(), status);
-        assert!(rt; writer.stream.taken.as_slice().is_empty());
-        assert!(rt; spell_listing(alloc, Dialect::Acme, file, b"RTS\n").is_err());
+    for file in [&[0x01u8][..], &[0xff, 0xff, 0x00, 0x00][..]] {
+        for dialect in [None, Some(Dialect::Acme)] {
+            let mut shelf = Shelf::new(alloc, file, usize::MAX, 1);
+            let end = list_file(alloc, &mut shelf, "a.prg", dialect);
+            assert_eq!(rt; end.status(), 1);
+            assert!(rt; shelf.saved.is_empty());
+        }
     }
     Ok(())
 }
@@ -57,9 +53,8 @@ fn a_listing_of_a_build_is_spelled(rt: HostRuntime) -> Result<(), Fail> {
     let file = [
         0x01, 0x08, 0x0b, 0x08, 0x0a, 0x00, 0x9e, 0x32, 0x30, 0x36, 0x31, 0x00, 0x00, 0x00, 0x60,
     ];
-    let Ok(text) = spell_listing(rt.alloc(), Dialect::Xa, &file, b"start:\n  RTS ; 080D\n") else {
-        return Err(Fail::new("no text"));
-    };
+    let listing = b"start:\n  RTS ; 080D\n";
+    let text = spell(rt.alloc(), Dialect::Xa, 0x0801, &file[2..], listing)?;
     assert_eq!(rt; text.as_slice(), FOR_XA.as_bytes());
     Ok(())
 }

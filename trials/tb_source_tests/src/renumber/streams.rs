@@ -1,8 +1,10 @@
-//! Sources over readers and writers that fail.
+//! Sources that fail in mid-stream, and the texts of refusals.
+use std::alloc::Global;
 use std::test::Fail;
-use tb_driver::{End, Outcome, Tracked};
-use tb_renumber_engine::{Notation, Numbering, RenumberOutcome, RenumberedSource};
-use tb_test_support::{FailingReader, FailingWriter, HoldingWriter};
+use tb_file_engine::{Numbering, RenumberOutcome, renumber_file};
+use tb_parser::Notation;
+use tb_streams::Done;
+use tb_test_support::Shelf;
 
 const SOURCE: &[u8] = b"2 GOSUB 4\n3 GOTO 2\n4 RETURN\n";
 
@@ -10,34 +12,28 @@ const NEW: &[u8] = b"5 GOSUB 15\n10 GOTO 5\n15 RETURN\n";
 
 const FIVES: Numbering = Numbering { first: 5, step: 5 };
 
+fn renumbered(alloc: Global, shelf: &mut Shelf<'_>, notation: Notation) -> RenumberOutcome {
+    renumber_file(alloc, shelf, "a.bas", notation, FIVES)
+}
+
 #[test]
-fn each_fault_of_a_stream_is_told(rt: HostRuntime) -> Result<(), Fail> {
+fn each_fault_of_a_source_is_told(rt: HostRuntime) -> Result<(), Fail> {
     let alloc = rt.alloc();
     for until_fault in 0..=SOURCE.len() {
-        let mut reader = Tracked::new(FailingReader::new(SOURCE, until_fault, 3));
-        let end = RenumberedSource::read(alloc, &mut reader, Notation::Plain, FIVES).err();
-        assert_eq!(rt; end, Some(RenumberOutcome::Engine(Outcome::ReadFault)));
+        let mut shelf = Shelf::new(alloc, SOURCE, until_fault, 1);
+        let end = renumbered(alloc, &mut shelf, Notation::Plain);
+        assert_eq!(rt; end, RenumberOutcome::ReadFault);
+        assert!(rt; shelf.saved.is_empty());
     }
-    let mut reader = Tracked::new(FailingReader::new(SOURCE, usize::MAX, 3));
-    let Ok(renumbered) = RenumberedSource::read(alloc, &mut reader, Notation::Plain, FIVES) else {
-        return Err(Fail::new("no answer"));
-    };
-    for until_fault in 0..NEW.len() {
-        let mut writer = Tracked::new(FailingWriter::new(alloc, until_fault, 3));
-        let end = renumbered.write(&mut writer);
-        assert_eq!(rt; end, RenumberOutcome::Engine(Outcome::WriteFault));
-        assert_eq!(rt; writer.stream.taken.as_slice(), &NEW[..until_fault]);
-    }
-    for (fails, wanted) in [
-        (true, Outcome::WriteFault),
-        (false, Outcome::Ended(End::Done)),
+    for (room, wanted) in [
+        (0, RenumberOutcome::WriteFault),
+        (1, RenumberOutcome::Ended(Done)),
     ] {
-        let mut writer = Tracked::new(HoldingWriter::new(alloc, fails));
-        assert_eq!(rt;
-            renumbered.write(&mut writer),
-            RenumberOutcome::Engine(wanted)
-        );
-        assert_eq!(rt; writer.stream.taken.as_slice(), NEW);
+        let mut shelf = Shelf::new(alloc, SOURCE, usize::MAX, room);
+        let end = renumbered(alloc, &mut shelf, Notation::Plain);
+        assert_eq!(rt; end, wanted);
+        assert!(rt; shelf.saved.iter().all(|text| text.as_slice() == NEW));
+        assert_eq!(rt; shelf.saved.len(), room);
     }
     Ok(())
 }
@@ -45,12 +41,16 @@ fn each_fault_of_a_stream_is_told(rt: HostRuntime) -> Result<(), Fail> {
 #[test]
 fn a_source_with_signs_is_read(rt: HostRuntime) -> Result<(), Fail> {
     let alloc = rt.alloc();
-    let source = b"1 PRINT \"{clr}\"\n2 GOTO 1\n";
-    let mut reader = Tracked::new(FailingReader::new(source, usize::MAX, 3));
-    let Ok(renumbered) = RenumberedSource::read(alloc, &mut reader, Notation::Signs, FIVES) else {
-        return Err(Fail::new("no answer"));
+    let mut shelf = Shelf::new(
+        alloc,
+        b"1 PRINT \"{clr}\"\n2 GOTO 1\n",
+        usize::MAX,
+        1,
+    );
+    renumbered(alloc, &mut shelf, Notation::Signs);
+    let [text] = shelf.saved.as_slice() else {
+        return Err(Fail::new("no text"));
     };
-    let text = renumbered.into_text();
     assert_eq!(rt;
         text.as_slice(),
         b"5 PRINT \"{clr}\"\n10 GOTO 5\n".as_slice()
@@ -68,13 +68,11 @@ fn outcomes_have_texts_and_statuses(rt: HostRuntime) -> Result<(), Fail> {
         ("1 PRINT \"{clr}\"", "1:10: bad byte", 1),
         ("", "empty program", 1),
     ] {
-        let mut reader = Tracked::new(FailingReader::new(source.as_bytes(), usize::MAX, 4096));
-        let Err(end) = RenumberedSource::read(rt.alloc(), &mut reader, Notation::Plain, FIVES)
-        else {
-            return Err(Fail::new("no answer"));
-        };
+        let mut shelf = Shelf::new(rt.alloc(), source.as_bytes(), usize::MAX, 1);
+        let end = renumbered(rt.alloc(), &mut shelf, Notation::Plain);
         assert_eq!(rt; format!(in rt.alloc(); "{end}")?.as_str(), wanted);
         assert_eq!(rt; end.status(), status);
+        assert!(rt; shelf.saved.is_empty());
     }
     Ok(())
 }

@@ -5,7 +5,7 @@ use std::io::{Read, Write};
 use std::test::Fail;
 use tb_debug_engine::{Rom, Setting, debug};
 use tb_driver::{CompileSettings, CompiledSource, read_source};
-use tb_engines::Outcome;
+use tb_engines::{Failure, Outcome};
 use tb_streams::Tracked;
 use tb_test_support::{CountingWriter, FailingReader, FailingWriter, HoldingWriter, no_keys};
 use tb_watch::Unwatched;
@@ -134,7 +134,7 @@ fn a_source_that_fails(rt: HostRuntime) -> Result<(), Fail> {
     for until_fault in 0..=LOOP.len() {
         let mut reader = Tracked::new(FailingReader::new(LOOP, until_fault, 3));
         let source = read_source(rt.alloc(), &mut reader, CompileSettings::by_cost(0));
-        assert!(rt; matches!(source, Err(Outcome::ReadFault)), "{until_fault}");
+        assert!(rt; matches!(source, Err(Failure::ReadFault)), "{until_fault}");
     }
     Ok(())
 }

@@ -1,32 +1,29 @@
-//! Disks made of PRG files: names, refusals and their order, streams that fail, inputs that are cut off.
+//! Disks made of PRG files: names, refusals and their order, files that fail, inputs that are cut off.
 use std::alloc::{AllocError, Global};
-use std::io::Read;
 use std::test::Fail;
 use tb_disk::{File, disk};
-use tb_disk_engine::{DiskFiles, DiskOutcome, DiskRefusal, Name};
+use tb_disk_engine::{DiskFailure, DiskFiles, DiskOutcome, DiskRefusal, Name};
+use tb_file_engine::disk_file;
 use tb_prg::PrgError;
-use tb_streams::Tracked;
-use tb_test_support::{FailingReader, FailingWriter};
-
-/// The number of bytes of a disk.
-const DISK: usize = 174_848;
+use tb_streams::Done;
+use tb_test_support::Shelf;
 
 /// Where the disk's name begins, in bytes.
 const TITLE: usize = 357 * 256 + 144;
 
-const TOO_SHORT: DiskOutcome = DiskOutcome::Refused(DiskRefusal::Prg(PrgError::TooShort));
+const TOO_SHORT: DiskFailure = DiskFailure::Refused(DiskRefusal::Prg(PrgError::TooShort));
 
-const RUNS_PAST: DiskOutcome = DiskOutcome::Refused(DiskRefusal::Prg(PrgError::RunsPast));
+const RUNS_PAST: DiskFailure = DiskFailure::Refused(DiskRefusal::Prg(PrgError::RunsPast));
 
-const BAD_NAME: DiskOutcome = DiskOutcome::Refused(DiskRefusal::BadName);
+const BAD_NAME: DiskFailure = DiskFailure::Refused(DiskRefusal::BadName);
 
-const NAME_TWICE: DiskOutcome = DiskOutcome::Refused(DiskRefusal::NameTwice);
+const NAME_TWICE: DiskFailure = DiskFailure::Refused(DiskRefusal::NameTwice);
 
-const FULL: DiskOutcome = DiskOutcome::Refused(DiskRefusal::Full);
+const FULL: DiskFailure = DiskFailure::Refused(DiskRefusal::Full);
 
-const TEXT: DiskOutcome = DiskOutcome::Refused(DiskRefusal::Text);
+const TEXT: DiskFailure = DiskFailure::Refused(DiskRefusal::Text);
 
-const NOT_RAM: DiskOutcome = DiskOutcome::Refused(DiskRefusal::NotRam);
+const NOT_RAM: DiskFailure = DiskFailure::Refused(DiskRefusal::NotRam);
 
 /// A PRG file that only returns.
 const PRG: &[u8] = &[0x00, 0xc0, 0x60];
@@ -38,46 +35,34 @@ const PAST: &[u8] = &[0xff, 0xff, 0x60, 0x60];
 const SHORT: &[u8] = &[0x00];
 
 // The files with one more.
-fn with<R: Read>(
+fn with(
     alloc: Global,
     files: DiskFiles,
     path: &str,
-    reader: R,
-) -> Result<DiskFiles, DiskOutcome>
-where
-    R: Drop,
-{
+    bytes: &[u8],
+) -> Result<DiskFiles, DiskFailure> {
     let name = files.name(alloc, path)?;
-    files.add(alloc, name, &mut Tracked::new(reader))
-}
-
-// What a disk of files comes to that is named by a path.
-fn image(alloc: Global, files: &DiskFiles, path: &str) -> Result<Vec<u8>, DiskOutcome> {
-    let mut made = Tracked::new(Vec::new(alloc));
-    match files.write(alloc, path, &mut made) {
-        DiskOutcome::Done => Ok(made.stream),
-        outcome => Err(outcome),
-    }
+    files.add(name, Vec::from_slice(alloc, bytes)?)
 }
 
 // What a disk of paths and contents comes to.
-fn made(alloc: Global, rows: &[(&str, &[u8])]) -> Result<Vec<u8>, DiskOutcome> {
+fn made(alloc: Global, rows: &[(&str, &[u8])]) -> Result<Vec<u8>, DiskFailure> {
     let mut files = DiskFiles::new(alloc);
     for &(path, bytes) in rows {
         files = with(alloc, files, path, bytes)?;
     }
-    image(alloc, &files, "test.d64")
+    files.image(alloc, "test.d64")
 }
 
 // The name's field that a path gives, with the `$A0` that fill it up.
-fn field(alloc: Global, path: &str) -> Result<[u8; 16], DiskOutcome> {
+fn field(alloc: Global, path: &str) -> Result<[u8; 16], DiskFailure> {
     let name = DiskFiles::new(alloc).name(alloc, path)?;
     Ok(name.field)
 }
 
 #[test]
 fn files_get_names(rt: HostRuntime) -> Result<(), Fail> {
-    let rows: [(&str, Result<&[u8; 16], DiskOutcome>); 13] = [
+    let rows: [(&str, Result<&[u8; 16], DiskFailure>); 13] = [
         (
             "maze.prg",
             Ok(b"MAZE\xa0\xa0\xa0\xa0\xa0\xa0\xa0\xa0\xa0\xa0\xa0\xa0"),
@@ -117,8 +102,8 @@ fn files_get_names(rt: HostRuntime) -> Result<(), Fail> {
 }
 
 // The bytes where the disk's name is.
-fn title(alloc: Global, path: &str) -> Result<[u8; 16], DiskOutcome> {
-    let image = image(alloc, &DiskFiles::new(alloc), path)?;
+fn title(alloc: Global, path: &str) -> Result<[u8; 16], DiskFailure> {
+    let image = DiskFiles::new(alloc).image(alloc, path)?;
     let mut title = [0; 16];
     for (at, sign) in title.iter_mut().enumerate() {
         *sign = image.get(TITLE + at).copied().unwrap_or(0);
@@ -151,13 +136,13 @@ fn disks_get_names(rt: HostRuntime) -> Result<(), Fail> {
 }
 
 // How a disk of paths and contents is refused.
-fn refusal(alloc: Global, rows: &[(&str, &[u8])]) -> Option<DiskOutcome> {
+fn refusal(alloc: Global, rows: &[(&str, &[u8])]) -> Option<DiskFailure> {
     made(alloc, rows).err()
 }
 
 #[test]
 fn the_first_file_is_refused_first(rt: HostRuntime) -> Result<(), Fail> {
-    let rows: [(&[(&str, &[u8])], Option<DiskOutcome>); 20] = [
+    let rows: [(&[(&str, &[u8])], Option<DiskFailure>); 20] = [
         (&[("a", PRG), ("b", PRG)], None),
         (&[("a+", PRG)], Some(BAD_NAME)),
         (&[("a", PRG), ("x/A.prg", PRG)], Some(NAME_TWICE)),
@@ -187,11 +172,11 @@ fn the_first_file_is_refused_first(rt: HostRuntime) -> Result<(), Fail> {
 }
 
 // Two files whose names were both looked at before either was taken in.
-fn taken_unseen(alloc: Global, first: &str, second: &str) -> Result<DiskFiles, DiskOutcome> {
+fn taken_unseen(alloc: Global, first: &str, second: &str) -> Result<DiskFiles, DiskFailure> {
     let files = DiskFiles::new(alloc);
     let names = (files.name(alloc, first)?, files.name(alloc, second)?);
-    let files = files.add(alloc, names.0, &mut Tracked::new(PRG))?;
-    files.add(alloc, names.1, &mut Tracked::new(PRG))
+    let files = files.add(names.0, Vec::from_slice(alloc, PRG)?)?;
+    files.add(names.1, Vec::from_slice(alloc, PRG)?)
 }
 
 // Files are taken in one after another: a name that is taken is refused, whatever was asked before.
@@ -216,7 +201,7 @@ fn many(
     count: usize,
     size: usize,
     last: (&str, &[u8]),
-) -> Result<DiskFiles, DiskOutcome> {
+) -> Result<DiskFiles, DiskFailure> {
     let mut files = DiskFiles::new(alloc);
     let bytes = prg(alloc, size)?;
     for number in 1..count {
@@ -226,9 +211,9 @@ fn many(
     with(alloc, files, last.0, last.1)
 }
 
-fn full(alloc: Global, count: usize, size: usize, last: (&str, &[u8])) -> Option<DiskOutcome> {
+fn full(alloc: Global, count: usize, size: usize, last: (&str, &[u8])) -> Option<DiskFailure> {
     match many(alloc, count, size, last) {
-        Ok(files) => image(alloc, &files, "test.d64").err(),
+        Ok(files) => files.image(alloc, "test.d64").err(),
         Err(outcome) => Some(outcome),
     }
 }
@@ -238,7 +223,7 @@ fn a_full_disk_is_refused_last(rt: HostRuntime) -> Result<(), Fail> {
     let eight_blocks = prg(rt.alloc(), 8 * 254)?;
     let nine_blocks = prg(rt.alloc(), 8 * 254 + 1)?;
     let most = prg(rt.alloc(), 63_489)?;
-    let rows: [(usize, usize, (&str, &[u8]), Option<DiskOutcome>); 9] = [
+    let rows: [(usize, usize, (&str, &[u8]), Option<DiskFailure>); 9] = [
         (144, 2, ("last", PRG), None),
         (145, 2, ("last", PRG), Some(FULL)),
         (145, 2, ("last", SHORT), Some(TOO_SHORT)),
@@ -257,24 +242,34 @@ fn a_full_disk_is_refused_last(rt: HostRuntime) -> Result<(), Fail> {
     Ok(())
 }
 
-// What comes of a file whose reader gives at most `most` bytes at once, and fails after some.
-fn cut_off(alloc: Global, until_fault: usize, most: usize) -> Option<DiskOutcome> {
-    let reader = FailingReader::new(b"\x01\x08 a program", until_fault, most);
-    with(alloc, DiskFiles::new(alloc), "a", reader).err()
+// What comes of a disk with the file that a shelf holds.
+fn disk_on(alloc: Global, shelf: &mut Shelf<'_>) -> Result<DiskOutcome, AllocError> {
+    let mut paths = Vec::new(alloc);
+    paths.push(String::from_str(alloc, "a")?)?;
+    Ok(disk_file(alloc, shelf, "test.d64", paths.as_slice()))
 }
 
 #[test]
-fn a_reader_that_fails(rt: HostRuntime) -> Result<(), Fail> {
+fn a_file_that_fails(rt: HostRuntime) -> Result<(), Fail> {
+    let alloc = rt.alloc();
     let size = 12;
     for most in 1..5 {
-        for until_fault in 0..size + 1 {
-            assert_eq!(rt;
-                cut_off(rt.alloc(), until_fault, most),
-                Some(DiskOutcome::ReadFault)
-            );
+        for until_fault in 0..size + 2 {
+            let mut shelf = Shelf::new(alloc, b"\x01\x08 a program", until_fault, 1);
+            shelf.most = most;
+            let is_whole = until_fault > size;
+            let wanted = if is_whole { DiskOutcome::Ended(Done) } else { DiskOutcome::ReadFault };
+            assert_eq!(rt; disk_on(alloc, &mut shelf)?, wanted);
+            assert_eq!(rt; shelf.saved.len(), usize::from(is_whole));
         }
-        assert_eq!(rt; cut_off(rt.alloc(), size + 1, most), None);
     }
+    Ok(())
+}
+
+#[test]
+fn a_disk_that_is_not_written(rt: HostRuntime) -> Result<(), Fail> {
+    let mut shelf = Shelf::new(rt.alloc(), PRG, usize::MAX, 0);
+    assert_eq!(rt; disk_on(rt.alloc(), &mut shelf)?, DiskOutcome::WriteFault);
     Ok(())
 }
 
@@ -303,36 +298,5 @@ fn each_prefix_of_a_file_is_answered(rt: HostRuntime) -> Result<(), Fail> {
             assert!(rt; is_disk_of(rt.alloc(), file.as_slice().get(..cut).unwrap_or(&[])));
         }
     }
-    Ok(())
-}
-
-// Whether a writer that fails after `until_fault` bytes got that much of the image, and a write fault is answered; and
-// all of it if it takes all.
-fn is_prefix(alloc: Global, files: &DiskFiles, whole: &[u8], until_fault: usize) -> bool {
-    let mut writer = Tracked::new(FailingWriter::new(alloc, until_fault, 4096));
-    let outcome = files.write(alloc, "test.d64", &mut writer);
-    let wanted = if until_fault < whole.len() {
-        DiskOutcome::WriteFault
-    } else {
-        DiskOutcome::Done
-    };
-    let taken = until_fault.min(whole.len());
-    outcome == wanted && whole.get(..taken) == Some(writer.stream.taken.as_slice())
-}
-
-// The same for numbers of bytes from none to all.
-fn are_prefixes(alloc: Global) -> Result<bool, DiskOutcome> {
-    let files = with(alloc, DiskFiles::new(alloc), "a", PRG)?;
-    let whole = image(alloc, &files, "test.d64")?;
-    let mut are = whole.len() == DISK;
-    for step in 0..101 {
-        are = are && is_prefix(alloc, &files, whole.as_slice(), step * 1749);
-    }
-    Ok(are)
-}
-
-#[test]
-fn a_writer_that_fails(rt: HostRuntime) -> Result<(), Fail> {
-    assert_eq!(rt; are_prefixes(rt.alloc()), Ok(true));
     Ok(())
 }

@@ -1,8 +1,7 @@
 //! Pages: what a browser would take for its own is escaped, and each row occurs once.
-use crate::profile::programs::{LOOP, Program, profiles, programs};
+use crate::profile::programs::{LOOP, Program, profiles, programs, shelf_of};
 use std::alloc::Global;
 use std::test::Fail;
-use tb_streams::Tracked;
 
 /// A program whose line has each byte that is escaped.
 const MARKED: Program = Program {
@@ -15,14 +14,9 @@ const MARKED: Program = Program {
 };
 
 fn page_of(alloc: Global, program: &Program) -> Vec<u8> {
-    let mut writer = Tracked::new(Vec::new(alloc));
-    let (_, page) = profiles(
-        alloc,
-        program,
-        &mut Tracked::new(program.source.as_bytes()),
-        &mut writer,
-    );
-    page
+    let mut shelf = shelf_of(alloc, program);
+    profiles(alloc, program, &mut shelf);
+    shelf.saved.pop().unwrap_or(Vec::new(alloc))
 }
 
 // How often a piece occurs in a text.

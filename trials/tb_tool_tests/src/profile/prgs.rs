@@ -1,10 +1,10 @@
-//! Profiles of PRG files, by address, and streams that fail.
+//! Profiles of PRG files, by address, and files that fail.
 use std::alloc::{AllocError, Global};
 use std::test::Fail;
-use tb_driver::{Outcome, Tracked};
+use tb_file_engine::profile_prg_file;
 use tb_kernal::Quiet;
-use tb_profile_engine::profile_prg;
-use tb_test_support::{FailingReader, FailingWriter, keyboard_of};
+use tb_profile_engine::Run;
+use tb_test_support::{Shelf, keyboard_of};
 use tb_watch::Unwatched;
 
 /// A PRG file, what each poll gives, the status, and the table.
@@ -63,69 +63,41 @@ static ROWS: [Row; 5] = [
     (b"\x00\xd0\x60", b"", 1, b""),
 ];
 
-// The status of profiling a file, and what was written.
+// The status of profiling the file that a shelf holds.
 fn profiled(
     alloc: Global,
-    file: &[u8],
+    shelf: &mut Shelf<'_>,
     answers: &'static [u8],
-) -> Result<(u8, Vec<u8>), AllocError> {
-    let mut out = Tracked::new(Vec::new(alloc));
-    let outcome = profile_prg(
-        alloc,
-        &mut Tracked::new(file),
-        &mut out,
-        keyboard_of(alloc, b"", answers)?,
-        1000,
-        &mut Quiet,
-        &mut Unwatched,
-    );
-    Ok((outcome.status(), out.stream))
+) -> Result<u8, AllocError> {
+    let run = Run {
+        keyboard: keyboard_of(alloc, b"", answers)?,
+        limit: 1000,
+        outside: Quiet,
+        watch: Unwatched,
+    };
+    Ok(profile_prg_file(alloc, shelf, "a.prg", run).status())
 }
 
 #[test]
 fn what_instructions_take(rt: HostRuntime) -> Result<(), Fail> {
+    let alloc = rt.alloc();
     for (file, answers, wanted, table) in &ROWS {
-        let (status, written) = profiled(rt.alloc(), file, answers)?;
-        assert_eq!(rt; status, *wanted);
+        let mut shelf = Shelf::new(alloc, file, usize::MAX, 1);
+        assert_eq!(rt; profiled(alloc, &mut shelf, answers)?, *wanted);
+        let written = shelf.saved.pop().unwrap_or(Vec::new(alloc));
         assert_eq!(rt; written.as_slice(), *table);
     }
     Ok(())
 }
 
-// Whether a reader and a writer that fail are noticed.
-fn notices(alloc: Global, until_fault: usize) -> Result<bool, AllocError> {
-    let mut out = Tracked::new(Vec::new(alloc));
-    let read = profile_prg(
-        alloc,
-        &mut Tracked::new(FailingReader::new(SENDS, until_fault, 3)),
-        &mut out,
-        keyboard_of(alloc, b"", b"")?,
-        1000,
-        &mut Quiet,
-        &mut Unwatched,
-    );
-    let mut failing = Tracked::new(FailingWriter::new(alloc, until_fault, 7));
-    let written = profile_prg(
-        alloc,
-        &mut Tracked::new(SENDS),
-        &mut failing,
-        keyboard_of(alloc, b"", b"")?,
-        1000,
-        &mut Quiet,
-        &mut Unwatched,
-    );
-    let prefix = SENT.get(..until_fault) == Some(failing.stream.taken.as_slice());
-    Ok(
-        (read, written) == (Outcome::ReadFault, Outcome::WriteFault)
-            && out.stream.is_empty()
-            && prefix,
-    )
-}
-
 #[test]
-fn streams_that_fail_at_a_profile_of_a_prg(rt: HostRuntime) -> Result<(), Fail> {
+fn files_that_fail_at_a_profile_of_a_prg(rt: HostRuntime) -> Result<(), Fail> {
+    let alloc = rt.alloc();
     for until_fault in 0..=SENDS.len() {
-        assert!(rt; notices(rt.alloc(), until_fault)?, "after {until_fault}");
+        let mut shelf = Shelf::new(alloc, SENDS, until_fault, 1);
+        assert_eq!(rt; profiled(alloc, &mut shelf, b"")?, 3, "after {until_fault}");
+        assert!(rt; shelf.saved.is_empty(), "after {until_fault}");
     }
+    assert_eq!(rt; profiled(alloc, &mut Shelf::new(alloc, SENDS, usize::MAX, 0), b"")?, 3);
     Ok(())
 }

@@ -1,11 +1,10 @@
 //! The programs that are profiled, with their tables.
 use std::alloc::Global;
-use std::io::{Read, Write};
 use tb_driver::CompileSettings;
+use tb_file_engine::profile_file;
 use tb_kernal::Quiet;
-use tb_profile_engine::{Named, Profiled, profile_text};
-use tb_streams::Tracked;
-use tb_test_support::keyboard_of;
+use tb_profile_engine::{Named, Run};
+use tb_test_support::{Shelf, keyboard_of};
 use tb_watch::Unwatched;
 
 /// A source, what is typed, a limit of events, and what comes of it.
@@ -19,31 +18,28 @@ pub struct Program {
     pub table: &'static str,
 }
 
-/// The status and the page of a profile.
-pub fn profiles<R: Read, W: Write>(
-    alloc: Global,
-    program: &Program,
-    reader: &mut Tracked<R>,
-    writer: &mut Tracked<W>,
-) -> (u8, Vec<u8>) {
+/// The status of a profile of the source that a shelf holds: what is written there is the table, and then the page.
+pub fn profiles(alloc: Global, program: &Program, shelf: &mut Shelf<'_>) -> u8 {
     let Ok(keyboard) = keyboard_of(alloc, program.keys, b"") else {
-        return (4, Vec::new(alloc));
+        return 4;
     };
-    let Profiled { report, page } = profile_text(
-        alloc,
-        &Named {
-            name: program.name,
-            rude: None,
-        },
-        reader,
-        writer,
-        CompileSettings::by_cost(1),
+    let named = Named {
+        name: program.name,
+        rude: None,
+    };
+    let run = Run {
         keyboard,
-        program.limit,
-        &mut Quiet,
-        &mut Unwatched,
-    );
-    (report.outcome.status(), page)
+        limit: program.limit,
+        outside: Quiet,
+        watch: Unwatched,
+    };
+    let settings = CompileSettings::by_cost(1);
+    profile_file(alloc, shelf, named, Some("page.html"), settings, run).status()
+}
+
+/// A shelf with a program's source, and room for both texts.
+pub fn shelf_of(alloc: Global, program: &Program) -> Shelf<'static> {
+    Shelf::new(alloc, program.source.as_bytes(), usize::MAX, 2)
 }
 
 /// The first of them.

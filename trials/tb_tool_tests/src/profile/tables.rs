@@ -1,25 +1,17 @@
 //! Whole tables, compared with those that an independent processor counted by the manual's cycles.
-use crate::profile::programs::{profiles, programs};
+use crate::profile::programs::{profiles, programs, shelf_of};
 use std::test::Fail;
-use tb_streams::Tracked;
 
 #[test]
 fn tables_are_those_of_an_independent_count(rt: HostRuntime) -> Result<(), Fail> {
     for program in programs() {
-        let mut writer = Tracked::new(Vec::new(rt.alloc()));
-        let (status, _) = profiles(
-            rt.alloc(),
-            program,
-            &mut Tracked::new(program.source.as_bytes()),
-            &mut writer,
-        );
+        let mut shelf = shelf_of(rt.alloc(), program);
+        let status = profiles(rt.alloc(), program, &mut shelf);
         assert_eq!(rt; status, program.status, "{}", program.name);
-        assert_eq!(rt;
-            writer.stream.as_slice(),
-            program.table.as_bytes(),
-            "{}",
-            program.name
-        );
+        let [table, _] = shelf.saved.as_slice() else {
+            return Err(Fail::new("no table and page"));
+        };
+        assert_eq!(rt; table.as_slice(), program.table.as_bytes(), "{}", program.name);
     }
     Ok(())
 }

@@ -10,4 +10,4 @@ returns c =
     let unwritten : c.new-writer.result.stream.items ≡ [] = search rules in
     is_report_of (λ old name given new. IsHeld old.text.now given) c.args.settings c.args.path.now c.args.text.now _ (λ name given t is. is)
     c.check_sources-outcome.result (map string_bytes c.deref.result.now) _ c.new-writer.result.stream.items c.check_sources-outcome.new.writer.stream.items
-    c.in-Accepted.is named unwritten c.check_sources-outcome.ensures.checks
+    c.in-Ended.is named unwritten c.check_sources-outcome.ensures.checks

@@ -12,6 +12,6 @@ returns g c =
       all.made,
       c.gather.new.files,
       c.in_ok-gathered.ensures,
-      subst (λ x. Writes g.F.FileSystem.leads g.F.FileSystem.does c.gather.new.files (map source_of x) c.args.names all.made c.write.result c.write.new.files)
+      subst (λ x. Writes g.F.FileSystem.leads g.F.FileSystem.shows g.F.FileSystem.does c.gather.new.files (map source_of x) c.args.names all.made c.write.result c.write.new.files)
           c.deref.ensures.value c.write.ensures,
     )

@@ -15,5 +15,5 @@ returns-in-Ok-new c =
 
 pub returns-in-Err : goal.returns-in-Err
 returns-in-Err c =
-    not_begun c.args.source.now.program c.args.keyboard c.args.rom c.in-Err.stop c.without_text.result
-    c.without_text.ensures c.in-Err.ensures.prg
+    not_begun c.args.source.now.program c.args.keyboard c.args.rom c.in-Err.stop c.from.result
+    c.from.ensures c.in-Err.ensures.prg

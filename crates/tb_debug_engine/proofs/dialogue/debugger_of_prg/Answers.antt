@@ -11,4 +11,4 @@ returns-in-Ok-of_prg c =
 
 pub returns-in-Err : goal.returns-in-Err
 returns-in-Err c =
-    not_begun_prg c.args.prg.now c.args.keyboard c.args.rom c.in-Err.stop c.without_text.result c.without_text.ensures c.in-Err.ensures
+    not_begun_prg c.args.prg.now c.args.keyboard c.args.rom c.in-Err.stop c.from.result c.from.ensures c.in-Err.ensures

@@ -1,4 +1,5 @@
 -- The goals of `build_within` in src/sources.rt.
+use Rattle.std.proofs.Common.{◌∙◌}
 use Rattle.tb_driver.specs.Sources.{IsFile}
 use Rattle.tb_streams.specs.Uses.{use_of}
 use Rattle.tb_driver.proofs.ReadSources.{nothing_made, program_made}
@@ -6,7 +7,7 @@ use Rattle.tb_driver.proofs.sources.build_within.Goals as goal
 
 pub returns-in-Err-clause-answers : goal.returns-in-Err-clause-answers
 returns-in-Err-clause-answers g c =
-    nothing_made c.args.settings c.in-Err.outcome c.new.result _ _ c.in-Err.ensures.answers c.new.ensures.outcome c.new.ensures.warnings (λ source. IsFile)
+    nothing_made c.args.settings c.in-Err.stop c.new.result _ _ c.in-Err.ensures.answers (c.new.ensures.outcome ∙ c.of.ensures) c.new.ensures.warnings (λ source. IsFile)
 
 pub returns-clause-answers : goal.returns-clause-answers
 returns-clause-answers g c =

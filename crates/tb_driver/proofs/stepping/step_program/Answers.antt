@@ -4,11 +4,11 @@ use Rattle.tb_play.specs.Plays.{quietly}
 use Rattle.tb_driver.proofs.Stepped.{not_stepped, stepped}
 use Rattle.tb_driver.proofs.stepping.step_program.Goals as goal
 
-pub returns-in-Ok-answers : goal.returns-in-Ok-answers
-returns-in-Ok-answers c =
+pub returns : goal.returns
+returns c =
     stepped (quietly c.args.keyboard.text.items c.args.keyboard.answers.items c.args.limit) c.args.program.now c.args.commands.now c.in_ok-machine.machine
-    c.in-Ok.stepper c.answers.new.stepper c.in-Ok-answers.bytes.items (c.in_ok-machine.ensures.loadable c.requires) c.in-Ok.ensures.held
-    c.in-Ok-answers.ensures
+    c.in-Ok.stepper c.answers.new.stepper c.in_ok-answers.field-0.items (c.in_ok-machine.ensures.loadable c.requires) c.in-Ok.ensures.held
+    c.in_ok-answers.ensures
 
 pub returns-in_err-machine : goal.returns-in_err-machine
 returns-in_err-machine c =

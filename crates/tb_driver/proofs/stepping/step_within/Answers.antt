@@ -1,5 +1,5 @@
 -- The goals of `step_within` in src/stepping.rt.
-use Rattle.std.proofs.Common.{rules}
+use Rattle.std.proofs.Common.{◌∙◌}
 use Rattle.tb_streams.specs.Uses.{use_of}
 use Rattle.tb_play.specs.Plays.{quietly}
 use Rattle.tb_driver.specs.Stepping.{StepsThrough, MadeFromTaken}
@@ -23,15 +23,14 @@ returns-clause-answers g c =
     c.in-Ok.ensures.whole same
     (steps_made s c.args.settings reader source.text.items _ _ source.program warnings c.step_program.result
     c.in-Ok-read_input.ensures.whole c.in-Ok-read_input.ensures.consumed c.as_slice.ensures.value is.answer c.into_warnings.ensures c.step_program.ensures)
-    c.deliver-2.ensures.answers
+    c.deliver.ensures.answers
 
 pub returns-in-Err-compile_source-clause-answers : goal.returns-in-Err-compile_source-clause-answers
 returns-in-Err-compile_source-clause-answers g c =
     let s = quietly c.args.keyboard.text.items c.args.keyboard.answers.items c.args.limit in
     let reader = use_of g.C.Read.remaining c.args.commands.now c.read_input-2.new.reader in
-    let stop = c.in-Err-compile_source.stop in
-    refusal_delivered (λ w text. MadeFromTaken reader (StepsThrough s c.args.settings w text)) _ _ stop
-    c.deliver.result c.new-in-Err-compile_source.result _ _ c.in-Ok.ensures.whole
-    (steps_refused s c.args.settings reader _ _ stop c.in-Ok-read_input.ensures.whole c.in-Ok-read_input.ensures.consumed
-    c.in-Err-compile_source.ensures)
-    c.deliver.ensures.answers c.new-in-Err-compile_source.ensures.outcome c.new-in-Err-compile_source.ensures.warnings
+    let new = c.new-in-Err-compile_source in
+    refusal_delivered c.args.settings (λ w text. MadeFromTaken reader (StepsThrough s c.args.settings w text)) _ _
+    c.in-Err-compile_source.stop new.result _
+    (λ e refused. steps_refused s c.args.settings reader _ _ e c.in-Ok-read_input.ensures.whole c.in-Ok-read_input.ensures.consumed refused)
+    c.in-Ok.ensures.whole c.in-Err-compile_source.ensures (new.ensures.outcome ∙ c.of.ensures) new.ensures.warnings

@@ -9,7 +9,7 @@ returns-clause-answers g c =
 
 pub returns-in-Err-clause-answers : goal.returns-in-Err-clause-answers
 returns-in-Err-clause-answers g c =
-    nothing_written c.args.made c.in-Err.stop c.without_text.result _ c.in-Err.is c.without_text.ensures
+    nothing_written c.args.made c.in-Err.stop c.from.result _ c.in-Err.is c.from.ensures
 
 pub returns-in-Err-clause-faults : goal.returns-in-Err-clause-faults
-returns-in-Err-clause-faults g c = nothing_fails c.in-Err.stop c.without_text.result _ _ c.without_text.ensures
+returns-in-Err-clause-faults g c = nothing_fails c.in-Err.stop c.from.result _ _ c.from.ensures

@@ -1,25 +1,17 @@
 -- The goal of `mapped` in src/building.rt.
-use Rattle.std.proofs.Common.{rules, ◌≡◌, Some, [], ◌∷◌, map, Ok, refl}
-use Rattle.tb_streams.specs.Failures.{failures_of}
-use Rattle.tb_streams.specs.Uses.{Use, use_of}
-use Rattle.tb_build_engine.specs.Maps.{MapsSource}
-use Rattle.tb_file_engine.specs.Outcomes.{stop_of}
-use Rattle.tb_file_engine.proofs.Making.{text_made}
+use Rattle.std.proofs.Common.{Ok, refl, subst, ◌∙◌}
+use Rattle.tb_driver.specs.Sources.{IsAnswer}
+use Rattle.tb_listing.specs.Builds.{IsMade}
 use Rattle.tb_file_engine.proofs.building.mapped.Goals as goal
 
-pub returns-in-Ok : goal.returns-in-Ok
-returns-in-Ok g c =
-    let report = c.map_source-report in
-    let ended : stop_of report.result.outcome ≡ Ok tt = search rules in
-    let reader : Use = use_of g.R.Read.remaining c.args.input.now report.new.reader in
-    let writer : Use =
-    record {
-      old = Some c.new-map.result.stream.items;
-      new = Some report.new.writer.stream.items;
-      old_failures = failures_of c.new-map.result;
-      new_failures = failures_of report.new.writer;
-    } in
-    let empty : writer.old ≡ Some [] = search rules in
-    let text = report.new.writer.stream.items in
-    let warnings = report.result.warnings.items in
-    (text, (warnings, text_made (MapsSource c.args.settings warnings) report.result.outcome reader writer text report.ensures.answers ended empty refl), search rules)
+pub returns : goal.returns
+returns c =
+    let program = c.in_ok-source.source.program in
+    let same = c.in_ok-source.ensures.0 in (
+      refl,
+      program,
+      subst (λ t. IsAnswer c.args.settings t (Ok program)) same c.in_ok-source.ensures.1.answer,
+      c.in_ok-made.made,
+      subst (λ t. IsMade c.args.settings.notation t program c.in_ok-made.made) (c.as_slice.ensures.value ∙ same) c.in_ok-made.ensures,
+      c.in_ok-only.ensures,
+    )

@@ -1,6 +1,6 @@
 -- The goal of `write_disk` in src/disks.rt.
 use Rattle.std.proofs.Common.{[], ◌∷◌, ◌∙◌, ap, map, subst}
-use Rattle.tb_file_engine.specs.Outcomes.{Ends, disk_outcome_of, unwritten_stop}
+use Rattle.tb_files.specs.Deeds.{Transfers}
 use Rattle.tb_file_engine.specs.Texts.{MakesDisk}
 use Rattle.tb_file_engine.specs.declared.disks.Disk.{Disk}
 use Rattle.tb_file_engine.proofs.Entries.{of_disk}
@@ -11,9 +11,6 @@ returns g c =
     let out = c.args.out in
     let work : Disk = record { alloc = c.args.alloc; out = out; taken = c.new.result } in
     let inputs = map (λ p. p.now) c.as_slice.result.now in
-    subst (λ ps. Ends g.F.FileSystem.does (MakesDisk ps out.now) unwritten_stop disk_outcome_of c.args.files.now ps (out.now ∷ []) c.disk_outcome_of.result c.transfer.new.files)
-    (ap (map (λ p. p.now)) c.as_slice.ensures.value ∙ c.in-Ok.ensures) (
-      c.transfer.result,
-      c.disk_outcome_of.ensures,
-      of_disk g.F.FileSystem.does unwritten_stop work c.new.ensures c.args.files.now inputs (out.now ∷ []) c.transfer.result c.transfer.new.files c.transfer.ensures,
-    )
+    subst (λ ps. Transfers g.F.FileSystem.does g.F.FileSystem.holds (MakesDisk ps out.now) c.args.files.now ps (out.now ∷ []) c.transfer.result c.transfer.new.files)
+    (ap (map (λ p. p.now)) c.as_slice.ensures.value ∙ c.in-Ok.ensures)
+    (of_disk g.F.FileSystem.does g.F.FileSystem.holds work c.new.ensures c.args.files.now inputs (out.now ∷ []) c.transfer.result c.transfer.new.files c.transfer.ensures)

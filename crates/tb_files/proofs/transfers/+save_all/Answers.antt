@@ -4,8 +4,8 @@ use Rattle.tb_files.specs.Deeds.{Saves}
 use Rattle.tb_files.proofs.Orders.{first_of, saved_more}
 use Rattle.tb_files.proofs.transfers.+save_all.Goals as goal
 
-pub returns-in-Ok-clause-broken : goal.returns-in-Ok-clause-broken
-returns-in-Ok-clause-broken g t c =
+pub returns-clause-broken : goal.returns-clause-broken
+returns-clause-broken g t c =
     let all = c.args.outputs.now in
     let each = c.args.texts.now in
     let none : Bor (List ℕ) = record { ref_ptr = (0, 0); now = [] } in

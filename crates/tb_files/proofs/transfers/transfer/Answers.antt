@@ -1,10 +1,13 @@
--- The goals of `transfer` in src/transfers.rt.
+-- The goal of `transfer` in src/transfers.rt.
 use Rattle.std.proofs.Common.{map}
-use Rattle.tb_files.proofs.Orders.{nothing_written}
+use Rattle.tb_files.specs.Deeds.{Works}
+use Rattle.tb_files.proofs.Orders.{all_opened, nothing_made}
 use Rattle.tb_files.proofs.transfers.transfer.Goals as goal
 
-pub returns-in_err-texts : goal.returns-in_err-texts
-returns-in_err-texts g c =
-    nothing_written g.F.FileSystem.does g.W.Work.takes g.W.Work.makes g.W.Work.unwritten_end c.from_residual-in_err-texts.result
-    c.from_residual-in_err-texts.ensures.0 c.args.files.now c.take_all.new.files c.args.work.now
-    (map (λ p. p.now) c.args.inputs.now) (map (λ p. p.now) c.args.outputs.now) c.in_ok-take_all.ensures.done
+pub returns-in-Err-make : goal.returns-in-Err-make
+returns-in-Err-make g c =
+    let inputs = map (λ p. p.now) c.args.inputs.now in
+    let taken = c.in_default.ensures.taken in
+    nothing_made g.F.FileSystem.does g.F.FileSystem.holds (Works g.W.Work.takes g.W.Work.makes c.args.work.now inputs) c.args.files.now
+    inputs (map (λ p. p.now) c.args.outputs.now) c.in-Err-make.failure c.of-in-Err-make.result c.of-in-Err-make.ensures c.take_all.new.files
+    (all_opened g.F.FileSystem.does g.F.FileSystem.holds c.args.files.now c.take_all.new.files inputs taken.0 taken.1)

@@ -10,7 +10,7 @@ returns-in-Ok-clause-dialogue g c =
 
 pub returns-in-Err-clause-dialogue : goal.returns-in-Err-clause-dialogue
 returns-in-Err-clause-dialogue g c =
-    inr (subst (IsUnplayed c.args.file.now) (sym c.without_text.ensures) (unplayed c.args.file.now c.in-Err.stop c.in-Err.ensures), search rules, refl, refl)
+    inr (subst (IsUnplayed c.args.file.now) (sym c.from.ensures) (unplayed c.args.file.now c.in-Err.stop c.in-Err.ensures), search rules, refl, refl)
 
 pub returns-in-Ok-clause-written_first : goal.returns-in-Ok-clause-written_first
 returns-in-Ok-clause-written_first g c =

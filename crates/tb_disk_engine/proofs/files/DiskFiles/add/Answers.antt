@@ -4,7 +4,7 @@ use Rattle.tb_disk_engine.specs.Programs.{Judges}
 use Rattle.tb_disk_engine.proofs.Adding.{refused}
 use Rattle.tb_disk_engine.proofs.files.DiskFiles.add.Goals as goal
 
-pub returns-in-Err-clause-adds : goal.returns-in-Err-clause-adds
-returns-in-Err-clause-adds g c =
-    refused c.args.self c.args.name (g.R.Read.remaining c.args.reader.now.stream) c.in-Ok.bytes.items c.in-Err.refusal c.if-has.ensures
-    c.in-Ok.ensures.whole (subst (λ bytes. Judges bytes (Err c.in-Err.refusal)) c.as_slice.ensures.value c.in-Err.ensures)
+pub returns-in-Err : goal.returns-in-Err
+returns-in-Err c =
+    refused c.args.self c.args.name c.args.bytes.items c.in-Err.refusal c.if-has.ensures
+    (subst (λ bytes. Judges bytes (Err c.in-Err.refusal)) c.as_slice.ensures.value c.in-Err.ensures)

@@ -1,3 +1,0 @@
-pub mod Files
-pub mod Builds
-pub mod Maps

@@ -1,2 +1,0 @@
-pub mod Renumbers
-pub mod Outcomes

@@ -1,0 +1,157 @@
+//! Running and stepping: standard output shows what a program sends, or answers the commands of standard input.
+use std::io;
+use std::rt::Files;
+use std::time::Clock;
+use tb_driver::{NotedRun, Outcome, Report, Tracked, run_noted, step_prg, step_within};
+use tb_engines::{PrgRun, run_prg_watched};
+use tb_file_engine::opened;
+use tb_host::{Host, Progress, keyboard, labels_in, named_place, settings_of};
+use tb_jobs::{Failure, Runnable, Settings};
+use tb_kernal::{Keyboard, Outside, Quiet, Rude};
+use tb_labels::Label;
+
+/// How a run ended.
+#[derive(Debug, Drop)]
+pub enum Ran {
+    /// Of a source, with what its machine told at the end.
+    Source(NotedRun),
+    /// Of a PRG file, and the name of the place where it stopped, if it has one; or of what could not be opened.
+    Plain(Outcome, Option<String>),
+}
+
+/// Runs a source, or a PRG file with a label file, beside a rude ROM if one is asked for.
+pub fn run<R: Files + Clock + Print + Eprint + Input + AllocGlobal>(
+    host: &mut Host<'_, R>,
+    what: &Runnable,
+    settings: &Settings,
+    rude: Option<u16>,
+    labels: Option<&str>,
+) -> Result<Ran, Failure> {
+    let keyboard = keyboard(host, settings)?;
+    let labels = labels_in(host, labels)?;
+    let labels = labels.as_slice();
+    Ok(match rude {
+        Some(rude) => run_beside(host, what, settings, keyboard, &mut Rude::new(rude), labels),
+        None => run_beside(host, what, settings, keyboard, &mut Quiet, labels),
+    })
+}
+
+fn run_beside<R: Files + Clock + Print + Eprint + Input + AllocGlobal, O: Outside>(
+    host: &mut Host<'_, R>,
+    what: &Runnable,
+    settings: &Settings,
+    keyboard: Keyboard,
+    outside: &mut O,
+    labels: &[Label],
+) -> Ran {
+    match what {
+        Runnable::Source(path) => run_source(host, path.as_str(), settings, keyboard, outside),
+        Runnable::Prg(path) => {
+            run_prg(
+                host,
+                path.as_str(),
+                u64::from(settings.limit.events),
+                keyboard,
+                outside,
+                labels,
+            )
+        }
+    }
+}
+
+fn run_source<R: Files + Clock + Print + Eprint + Input + AllocGlobal, O: Outside>(
+    host: &mut Host<'_, R>,
+    path: &str,
+    settings: &Settings,
+    keyboard: Keyboard,
+    outside: &mut O,
+) -> Ran {
+    let rt = host.rt;
+    let mut file = match opened(host, path) {
+        Ok(file) => file,
+        Err(outcome) => return Ran::Plain(outcome, None),
+    };
+    let limit = u64::from(settings.limit.events);
+    Ran::Source(run_noted(
+        rt.alloc(),
+        &mut file,
+        &mut Tracked::new(io::writer(rt)),
+        settings_of(settings.seed, settings.fit, settings.notation),
+        keyboard,
+        limit,
+        outside,
+        &mut Progress::new(rt, limit, host.notes),
+    ))
+}
+
+fn run_prg<R: Files + Clock + Print + Eprint + Input + AllocGlobal, O: Outside>(
+    host: &mut Host<'_, R>,
+    path: &str,
+    limit: u64,
+    keyboard: Keyboard,
+    outside: &mut O,
+    labels: &[Label],
+) -> Ran {
+    let rt = host.rt;
+    let mut file = match opened(host, path) {
+        Ok(file) => file,
+        Err(outcome) => return Ran::Plain(outcome, None),
+    };
+    let PrgRun { outcome, place } = run_prg_watched(
+        rt.alloc(),
+        &mut file,
+        &mut Tracked::new(io::writer(rt)),
+        keyboard,
+        limit,
+        outside,
+        &mut Progress::new(rt, limit, host.notes),
+    );
+    let place = match place {
+        Some(address) => named_place(rt, labels, address),
+        None => None,
+    };
+    Ran::Plain(outcome, place)
+}
+
+/// Steps through a source or a PRG file by commands from standard input.
+pub fn step<R: Files + Print + Input + AllocGlobal>(
+    host: &mut Host<'_, R>,
+    what: &Runnable,
+    settings: &Settings,
+) -> Result<Report, Failure> {
+    let (Runnable::Source(path) | Runnable::Prg(path)) = what;
+    let rt = host.rt;
+    let alloc = rt.alloc();
+    let keyboard = keyboard(host, settings)?;
+    let mut file = match opened(host, path.as_str()) {
+        Ok(file) => file,
+        Err(outcome) => return Ok(Report::new(alloc, outcome)),
+    };
+    let mut commands = Tracked::new(rt.reader());
+    let mut screen = Tracked::new(io::writer(rt));
+    let limit = u64::from(settings.limit.events);
+    Ok(match what {
+        Runnable::Source(_) => {
+            step_within(
+                alloc,
+                &mut file,
+                &mut commands,
+                &mut screen,
+                settings_of(settings.seed, settings.fit, settings.notation),
+                keyboard,
+                limit,
+            )
+        }
+        Runnable::Prg(_) => {
+            let outcome = step_prg(
+                alloc,
+                &mut file,
+                &mut commands,
+                &mut screen,
+                keyboard,
+                limit,
+            );
+            Report::new(alloc, outcome)
+        }
+    })
+}

@@ -1,8 +1,0 @@
--- in which line a machine is
-pub mod Places
--- by which fault a program ended
-pub mod Faults
--- what a machine tells at the end of a run
-pub mod Notes
--- a run with what its machine tells
-pub mod Runs
