@@ -35,7 +35,7 @@
   (dap--step "stepBack" session))
 
 (defun tinybasic-dap-reverse-continue (session)
-  "Take SESSION back to a breakpoint, to where a watched variable changes, or to the beginning."
+  "Take SESSION back to a breakpoint, a change of a watched variable, or the start."
   (interactive (list (dap--cur-active-session-or-die)))
   (dap--step "reverseContinue" session))
 

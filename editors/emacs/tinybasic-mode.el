@@ -2,8 +2,8 @@
 
 ;;; Commentary:
 
-;; Colours for Tiny BASIC, and what `tbc check' says while one types (flymake).
-;; Put this file on the load path:
+;; Colours for Tiny BASIC, what `tbc check' says while one types (flymake), and
+;; `tbc lsp' as eglot's server.  Put this file on the load path:
 ;;
 ;;   (require 'tinybasic-mode)
 ;;
@@ -87,6 +87,12 @@
 
 ;;;###autoload
 (add-to-list 'auto-mode-alist '("\\.tbas\\'" . tinybasic-mode))
+
+;; A program that is set later is the one that is started.
+(defvar eglot-server-programs)
+(with-eval-after-load 'eglot
+  (add-to-list 'eglot-server-programs
+               `(tinybasic-mode . ,(lambda (&rest _) (list tinybasic-program "lsp")))))
 
 (defun tinybasic-file-p ()
   "Whether the buffer visits Tiny BASIC, by its name and first line.
