@@ -19,7 +19,7 @@ from itertools import chain
 from pathlib import Path
 
 TOP = Path(__file__).resolve().parent.parent
-sys.path[:0] = [str(TOP / "tools"), str(TOP / "tools/foreign")]
+sys.path[:0] = [str(TOP / "tools"), str(TOP / "tools/try/foreign")]
 sys.dont_write_bytecode = True
 import interpreter
 import looping_programs

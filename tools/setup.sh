@@ -1,5 +1,5 @@
 # shellcheck shell=bash
-# What the scripts of this folder share: a folder that is removed when they end, the built program, the clock. To be
+# What the scripts of tools/ share: a folder that is removed when they end, the built program, the clock. To be
 # sourced.
 set -eu
 root=$(cd "$(dirname "${BASH_SOURCE[0]}")/.." && pwd)

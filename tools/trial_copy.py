@@ -4,10 +4,10 @@
 The copy has the sources of the program and of the crates below it, and no definitions: a trial run tests no contract, and
 the toolchain would read them for a hint alone. With the WORDs of a command of tbc, the matches of jobs in
 crates/tbc/src/tasks.rt keep the arms of that command and of texts. Then whatever nothing names any more is left out:
-functions, types, variants, modules and crates; of the program, and of the crates that have its commands. What is kept is word for word what the repository has, but for one
-function: where the words are `run FILE` and no more, the copy takes the FILE without reading options, so that it doesn't
-need the reader of the command line, which is a third of all that there is to build. Ends with status 1 if there is no
-such match; whether the copy means anything is left to the compiler."""
+functions, types, variants, modules and crates; of the program, and of the crates that have its commands. What is kept is
+word for word what the repository has, but for one function: where the words are `run FILE` and no more, the copy takes the
+FILE without reading options, so that it doesn't need the reader of the command line, which is a third of all that there is
+to build. Ends with status 1 if there is no such match; whether the copy means anything is left to the compiler."""
 import re
 import shutil
 import sys
@@ -22,7 +22,7 @@ MODULE = re.compile(r"(?:pub )?mod \w+;")
 MATCH = re.compile(r"(?m)^ {4}(?:Ok\(Some\()?match job \{\n")
 OTHERS = {"fn run_job<": "return Ok(None)", "fn other_job<": "Err(Failure::NoMemory)"}  # what all other commands do there
 AT_A_TERMINAL = {"hinting", "noting"}  # modules of what is said to a person
-PARTS = ("tb_run_commands", "tb_text_commands")  # the crates of the program's commands
+PARTS = ("tb_run_commands", "tb_text_commands", "tb_file_engine")  # the crates of the program's commands, from above
 # What takes the place of the function that makes a job of words, where they are `run FILE`.
 RUN_FILE = """fn job_of_words<R: Env + AllocGlobal>(rt: &R) -> Result<Job, Failure> {
     let mut words = words(rt)?;
@@ -161,6 +161,21 @@ def crates(text):
     return {name.strip(): below.split() for name, colon, below in rows if colon}
 
 
+def files_of(crate):
+    return {it: items_of(it.read_text()) for it in sorted((ROOT / "crates" / crate / "src").glob("*.rt"))}
+
+
+def reached(table, program):
+    """The crates that a program needs, and itself."""
+    needed, left = set(), [program]
+    while left:
+        name = left.pop()
+        if name in table and name not in needed:
+            needed.add(name)
+            left += table[name]
+    return needed
+
+
 def with_one_command(files, tasks, command):
     """The files of the program with that command alone."""
     for start, other in OTHERS.items():
@@ -197,7 +212,7 @@ def main(folder, program, *command):
     to, source = Path(folder), ROOT / "crates" / program / "src"
     table = crates((ROOT / "crates.txt").read_text())
     if command:
-        files = {it: items_of(it.read_text()) for it in sorted(source.glob("*.rt"))}
+        files = files_of(program)
         if is_plain(command):
             files = without_reader(files, source / "main.rt")
             table[program].append("tb_jobs")
@@ -206,17 +221,14 @@ def main(folder, program, *command):
         used = all_names(files)
         table[program] = [it for it in table[program] if it in used]
         for part in PARTS:
-            if part in table[program]:
-                whole = {it: items_of(it.read_text()) for it in sorted((ROOT / "crates" / part / "src").glob("*.rt"))}
-                kept[part] = narrowed(whole, brought(files, part))
+            above = [it for it in reached(table, program) if part in table[it]]
+            if above:
+                wanted = set().union(*(brought(kept.get(it) or files_of(it), part) for it in above))
+                kept[part] = narrowed(files_of(part), wanted)
                 table[part] = [it for it in table[part] if it in all_names(kept[part])]
-    needed, left = set(), [program]
-    while left:
-        name = left.pop()
-        if name in table and name not in needed:
-            needed.add(name)
-            left += table[name]
-            shutil.copytree(ROOT / "crates" / name / "src", to / "crates" / name / "src")
+    needed = reached(table, program)
+    for name in needed:
+        shutil.copytree(ROOT / "crates" / name / "src", to / "crates" / name / "src")
     for name, files in kept.items() if command else ():
         for file in (ROOT / "crates" / name / "src").glob("*.rt"):
             copied = to / "crates" / name / "src" / file.name

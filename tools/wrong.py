@@ -4,7 +4,8 @@
 A wrong body, crates/NAME/wrong/EDIT.edit or must-fail/EDIT.edit, is a change of a function that breaks its contract. Its
 control, controls/EDIT.edit, changes the same function by the same means, and means the same as before. In a copy of the
 crate each becomes a function next to the one that it changes, with that one's contract and proof, so that none hides
-another. One check of these functions, over the libraries as they were proved, has to refuse each wrong body, and to prove
+another. An edit says what it changes: `old:` and `new:` are lines of the function. One with `fn:`, a name, and `new:` has a
+body in place of the function's own, which may call that function: then the promise alone refuses it. One check of these functions, over the libraries as they were proved, has to refuse each wrong body, and to prove
 each control: a wrong body whose control is refused too would show nothing.
 
 What changes no function alone (a table, a constant) stays in must-fail/, where `rt ci` tries each by itself. Its control
@@ -38,6 +39,7 @@ from pathlib import Path
 ROOT = Path(__file__).resolve().parent.parent
 KIT = Path(shutil.which("rt")).resolve().parent.parent
 CHANGE = re.compile(r"^old: (.*)\nnew: ?(.*)$", re.M)
+BODY = re.compile(r"^fn: (?:(\w+)::)?(\w+)\nnew: (.*)$", re.M)
 FN = r"(?:pub(?:\(\w+\))? )?(?:const )?fn "
 REFUSED = re.compile(r"not proved$|no proof: .* did not prove |no proof: expected ")
 CLAUSE = "it is not proved that what the function ensures"
@@ -48,17 +50,36 @@ KEPT = Path(os.environ.get("XDG_CACHE_HOME") or Path.home() / ".cache") / "tbc-w
 PARTS = 6
 
 
+def with_body(text, of, name, body):
+    """The function of this name, of a type if one is named, as it is and with another body."""
+    for found in re.finditer(rf"^ *{FN}{name}\b", text, re.M):
+        at = function_at(text, found.start())
+        if at and at[2] == (of or ""):
+            (start, end), indent, _ = at
+            head = text.index(f"\n{indent}{{", found.start()) + 1
+            return text[start:end], f"{text[start:head]}{indent}{{\n{indent}    {body}\n{indent}}}\n"
+    return f"fn {name}\n", ""
+
+
 def changes(edit):
-    """The file that an edit changes, its pairs of texts, and whether it changes that file alone."""
+    """The file that an edit changes, its pairs of texts, and whether it changes that file alone. Of a body it is the whole
+    function that changes."""
     text = edit.read_text()
     files = re.findall(r"^file: (.*)$", text, re.M)
-    return files[0].strip(), CHANGE.findall(text), len(files) == 1
+    pairs = CHANGE.findall(text)
+    if whole := BODY.search(text):
+        pairs = [with_body((edit.parent.parent / files[0]).read_text(), *whole.groups())]
+    return files[0].strip(), pairs, len(files) == 1
+
+
+def is_whole(pairs):
+    return "\n" in pairs[0][0]
 
 
 def function_at(text, place):
     """The span of the function that has this place, its indent, and its type if it is a method of an inherent impl."""
     for indent in ("", "    "):
-        for found in re.finditer(rf"^(?:{indent}(?:///|#\[).*\n)*{indent}{FN}(?s:.*?)^{indent}\}}\n", text, re.M):
+        for found in re.finditer(rf"^(?:{indent}(?:///|#\[).*\n)*{indent}{FN}(?s:.*?)^{indent}\{{?\}}\n", text, re.M):
             if not found.start() <= place < found.end():
                 continue
             if not indent:
@@ -66,7 +87,7 @@ def function_at(text, place):
             above = [*re.finditer(r"^(impl|trait|mod)\b.*\{$", text[: found.start()], re.M)]
             if not above or text[: found.start()].rfind("\n}\n") > above[-1].start() or not re.match(r"impl(?!.* for )", above[-1][0]):
                 return None
-            return found.span(), indent, re.sub(r"<.*", "", above[-1][0].split()[-2])
+            return found.span(), indent, re.match(r"impl(?:<[^{]*?>)? (\w+)", above[-1][0])[1]
     return None
 
 
@@ -77,8 +98,9 @@ def steps(text):
 
 
 def brought(pairs):
-    """The calls, branches and loops that these pairs bring."""
-    return sum((steps(new) for _, new in pairs), Counter()) - sum((steps(old) for old, _ in pairs), Counter())
+    """The calls, branches and loops that these pairs bring; a body brings all that it has."""
+    new = sum((steps(new) for _, new in pairs), Counter())
+    return new if is_whole(pairs) else new - sum((steps(old) for old, _ in pairs), Counter())
 
 
 def place_of(text, line):
@@ -120,7 +142,7 @@ def applied(text, pairs):
 
 def sibling(copy, file, name, text, pairs):
     """Where the function that these pairs change ends, and that function changed and under this name; its proof goes
-    along. None if they do not change one function alone."""
+    along, but for a body of its own. None if they do not change one function alone."""
     found = function_at(text, text.index(pairs[0][0])) if text.count(pairs[0][0]) == 1 else None
     body = found and applied(text[slice(*found[0])], pairs)
     if not body:
@@ -131,7 +153,7 @@ def sibling(copy, file, name, text, pairs):
     within = ".".join(["", "proofs", *parts, *([of] if of else []), ""])
     folder = copy.joinpath("proofs", *parts, of)
     for own, new in ((was, name), (f"+{was}", f"+{name}")):
-        if (folder / own).is_dir():
+        if (folder / own).is_dir() and not is_whole(pairs):
             shutil.copytree(folder / own, folder / new)
             for answers in (folder / new).rglob("*.antt"):
                 answers.write_text(answers.read_text().replace(f"{within}{own}.", f"{within}{new}."))
@@ -281,7 +303,7 @@ def changed_since(commit):
     contracts = {it[1] for it in paths if it[2] in ("src", "specs")}
     for crate in every_crate():
         code = "".join(it.read_text() for it in ROOT.glob(f"crates/{crate}/src/**/*.rt"))
-        if crate.startswith("tb_gate_") and contracts & {*re.findall(r"\btb_\w+", code)}:
+        if crate == "tb_gate" and contracts & {*re.findall(r"\btb_\w+", code)}:
             changed.add(crate)
     return changed
 
