@@ -445,6 +445,7 @@ const tasks = strict('tasks', {
     const child = spawn(task.execution.process, task.execution.args)
     let printed = ''
     child.stdout.on('data', bytes => { printed += bytes })
+    child.stdin.on('error', () => {}) // (a program that asks for nothing may end first)
     child.stdin.end(host.typed)
     child.on('close', status => host.tasks.push({ name: task.name, printed, status }))
     return strict('TaskExecution', { task })
