@@ -16,8 +16,8 @@ is made in place, and then the check is of the whole copy.
     tools/wrong.py --pairs
 
 --landing tries a sixth of the crates: which one, the number in .ci/landing says, so that each has its turn at least every
-sixth landing. It also tries those that changed since the last landing, and those of the group Gate above a crate whose
-code or definitions changed. What it leaves out it names. --pairs tries nothing: it compares each wrong body with its
+sixth landing. It also tries those of which more than comments and imports changed since the last landing, and those
+of the group Gate above a crate whose code or definitions changed. What it leaves out it names. --pairs tries nothing: it compares each wrong body with its
 control, as each run does first. The control changes the same place, and brings as many calls, branches and loops.
 
 Where all was as it must be, that is kept in ~/.cache/tbc-wrong, by the sum of all that was read; --anew takes nothing
@@ -295,11 +295,25 @@ def every_crate():
     return sorted({it.parent.name for kind in ("wrong", "must-fail", "controls") for it in ROOT.glob(f"crates/*/{kind}")})
 
 
+def code_of(text):
+    """A text without comments on lines of their own, and without the imports of one line, which a moved name changes."""
+    without = ("//", "-- ", "use ", "pub use ", "ghost use ")
+    return [it for line in text.splitlines() if (it := line.strip()) and not it.startswith(without)]
+
+
+def is_changed(path, commit):
+    """Whether more than comments and imports changed in a file since then."""
+    file = ROOT / path
+    before = subprocess.run(["git", "show", f"{commit}:{path}"], cwd=ROOT, capture_output=True, text=True)
+    return before.returncode or not file.exists() or code_of(before.stdout) != code_of(file.read_text())
+
+
 def changed_since(commit):
-    """The crates of which something changed since then that is read here, and those of the group Gate that name a crate
-    whose code or definitions changed."""
-    paths = [it.split("/") for it in git("diff", "--name-only", "--no-renames", commit, "--", "crates").splitlines()]
-    changed = {it[1] for it in paths if it[2] in READ}
+    """The crates of which more than comments and imports changed since then in what is read here, and those of the group
+    Gate that name a crate whose code or definitions changed."""
+    names = git("diff", "--name-only", "--no-renames", commit, "--", "crates").splitlines()
+    paths = [it.split("/") for it in names if it.split("/")[2] in READ and is_changed(it, commit)]
+    changed = {it[1] for it in paths}
     contracts = {it[1] for it in paths if it[2] in ("src", "specs")}
     for crate in every_crate():
         code = "".join(it.read_text() for it in ROOT.glob(f"crates/{crate}/src/**/*.rt"))

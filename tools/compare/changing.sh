@@ -1,17 +1,27 @@
 #!/usr/bin/env bash
 # Compares docs/CHANGING.md with the code.
-#  - Each file or folder that the page names between backticks is there: from crates/ or trials/ on, as `tb_lower/src/needs.rt` or
-#    (without `.antt`) `tb_lower/specs/Need`, or else from the top.
+#  - Each file or folder that the page names between backticks is there: from crates/ or trials/ on, as `tb_meaning/src/needs.rt` or
+#    (without `.antt`) `tb_meaning/specs/Need`, or else from the top.
 #  - After a colon come names that the file defines, as in `tb_lower/src/lowering.rt:lower,lower_line`.
 #  - Each name alone between backticks is a word of the code, of the definitions or of the proofs.
-#  - Each file that names `Return` is in a table of the section "A statement".
+#  - A section on a kind of change names each file that names an example of it, as `Return` for a statement; or the folder
+#    that has the file.
 # Says what differs, and then ends with status 1.
 . "$(dirname "${BASH_SOURCE[0]}")/../setup.sh"
 page=$root/docs/CHANGING.md
 
-# Crates whose `Return` is another one, and those in which a statement needs no place of its own.
-others='tb_opcodes|tb_gate|tb_refutations' # RTI and RTS; contracts once more; images
-tests='tb_bench' # the section's last paragraph names what tests need
+# Sections, each with the name of an example, and the crates and files that mean something else by it, or need no place.
+examples='A statement|Return|tb_opcodes|tb_gate|tb_refutations|tb_bench
+A statement|Goto|tb_gate|tb_refutations|tb_bench
+A cleverer piece of code|Remains|
+A new command|Renumber|tb_file_engine
+A command of the debugger|Registers|tb_adapter_values|tb_commands|tb_cpu|tb_inspection
+A request of the language server|Folds|tb_check_engine|tb_disk|tb_outline
+A request of the debug adapter|Disassemble|
+A refusal|Unnumbered|
+An assembler that listings are for|Acme|
+A note of `check`|ThenNumber|
+A note of `check`|EvenBound|'
 
 bad=0
 say() { echo "docs/CHANGING.md: $*"; bad=1; }
@@ -43,8 +53,17 @@ spans "$page" | grep -xE '[A-Za-z_][A-Za-z0-9_]*' >names
 find "$root"/crates/*/{src,specs,proofs} "$root"/trials/*/src -type f -exec grep -ohwFf names {} + 2>/dev/null | sort -u >known
 for name in $(sort -u names | comm -23 - known); do say "no file has the name $name"; done
 
-sed -n '/^## A statement$/,/^## /p' "$page" | grep '^|' >tables
-(cd "$root/crates" && grep -rwl Return -- */src */specs */proofs) | grep -vE "^($others|$tests)/" | sed 's/\.antt$//' | sort >wanted
-spans tables | sed 's/:.*//' | sort -u >found
-for name in $(comm -23 wanted found); do say "the tables of \"A statement\" lack $name"; done
+while IFS='|' read -r section example others; do
+    awk -v heading="## $section" '/^## / { here = $0 == heading } here' "$page" >told
+    [ -s told ] || say "there is no section \"$section\""
+    spans told | sed 's/:.*//' >found
+    (cd "$root/crates" && grep -rwl "$example" -- */src */specs */proofs) >all || true
+    { grep -vE "^(${others:-none})/" all || true; } | sed 's/\.antt$//' | sort >wanted
+    [ -s wanted ] || say "no file has the example of \"$section\", $example"
+    while read -r file; do
+        name=$file
+        until [ "$name" = . ] || grep -qxF "$name" found; do name=$(dirname "$name"); done
+        [ "$name" != . ] || say "\"$section\" lacks $file"
+    done <wanted
+done <<<"$examples"
 exit "$bad"

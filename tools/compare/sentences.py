@@ -1,6 +1,7 @@
 #!/usr/bin/env python3
-"""Finds sentences of more than 35 words in README.md, CONTRIBUTING.md and docs/*.md. Prints the place of each and how many
-words it has, and ends with status 1 if there is one.
+"""Finds sentences of more than 35 words in README.md, CONTRIBUTING.md, docs/*.md and the heads of crates, which are the lines
+`//!` at the top of their first files. Prints the place of each and how many words it has, and ends with status 1 if there
+is one.
 
 A sentence ends with a full stop, `?` or `!`, or with its paragraph or its item of a list. Tables, code, headings, comments,
 the texts of pictures and quotations, as that of the theorem, have none. A word has a letter or a digit. What is between
@@ -11,8 +12,8 @@ from pathlib import Path
 
 ROOT = Path(__file__).resolve().parents[2]
 MOST = 35
-SKIPPED = {"PROVED.md"}  # its paragraphs on crates are to go into these crates
-DOCUMENTS = [ROOT / "README.md", ROOT / "CONTRIBUTING.md", *sorted(it for it in ROOT.glob("docs/*.md") if it.name not in SKIPPED)]
+DOCUMENTS = [ROOT / "README.md", ROOT / "CONTRIBUTING.md", *sorted(ROOT.glob("docs/*.md"))]
+CODE = sorted(it for it in ROOT.glob("*/*/src/*.r[ts]") if it.stem in ("lib", "main"))
 
 FENCE = re.compile(r"^( *)```.*?^ *```", re.M | re.S)
 ITEM = re.compile(r"(?:[-*]|\d+\.) +")
@@ -21,6 +22,11 @@ PICTURE = re.compile(r"!\[[^]]*\]\([^)]*\)")
 TARGET = re.compile(r"\]\([^)\s]*\)")  # what a link leads to
 NAMES = re.compile(r"`[^`]*`(?:(?:,|,? and|,? or) `[^`]*`)*")
 END = re.compile(r"(?<!\.)[.?!][)\"'*]*(?= +[A-Z0-9`$(\[\"'*-]| *$)")
+
+
+def head(text):
+    """The head of a file of code."""
+    return re.sub(r"^//! ?", "", re.match(r"(?://!.*\n)*", text)[0], flags=re.M)
 
 
 def blocks(text):
@@ -59,10 +65,11 @@ def words(sentence):
 
 
 def main():
+    texts = {**{it: it.read_text() for it in DOCUMENTS}, **{it: head(it.read_text()) for it in CODE}}
     found = [
-        f"{document.relative_to(ROOT)}:{line}: a sentence of {words(sentence)} words"
-        for document in DOCUMENTS
-        for block in blocks(document.read_text())
+        f"{file.relative_to(ROOT)}:{line}: a sentence of {words(sentence)} words"
+        for file, text in texts.items()
+        for block in blocks(text)
         for line, sentence in sentences(block)
         if words(sentence) > MOST
     ]

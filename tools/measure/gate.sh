@@ -3,7 +3,7 @@
 # first, and how quiet the machine was: what share of the time in which processors were needed the host gave to other
 # machines, and, before and after the gate, how many additions a processor does at once (`additions.c`). It runs a copy
 # of rt that puts `time` before each of the prover's commands. `taskset -c 0,1` before it shows the gate on two
-# processors. Its words are those of `rt ci`: `--anew` takes nothing that earlier runs kept.
+# processors.
 . "$(dirname "${BASH_SOURCE[0]}")/../setup.sh"
 needs rt awk cc nproc python3 /usr/bin/time
 kit=$(dirname "$(readlink -f "$(command -v rt)")")

@@ -1,6 +1,6 @@
 #!/usr/bin/env bash
-# Tries ./tbc in copies of this repository: one that is built, one that isn't. Another rt, which only writes what the
-# toolchain would, takes the toolchain's place, except in one trial run. Prints what differs, and then ends with
+# Tries ./tbc in copies of this repository: one that is built, one that isn't. Another rt and another build.py, which only
+# write what the toolchain would, take their place, except in one trial run. Prints what differs, and then ends with
 # status 1.
 #
 #   tools/try/wrapper.sh            what it answers, and how many lines a trial run compiles
@@ -72,18 +72,26 @@ case $1:${AS-} in
         ;;
     try:long) echo $$ >"$STUB/pid"; exec sleep 1000 ;;
     try:*) echo 'error[some]: no such thing' >&2; exit 1 ;;
-    ci:good)
-        printf '== tb_words\nfn f: proved\nrt: tb_words proved\nrt: tb_opcodes is kept: an earlier run proved the same\n'
-        mkdir -p crates/tbc/out && cp "$TBC" crates/tbc/out/tbc
-        ;;
-    ci:bad) printf '== tb_words\nfn f: not proved\nrt: tb_words NOT PROVED\n'; exec sleep 1000 ;;
-    ci:killed) printf '== tb_words\nrt: the check was killed, most likely for memory: once more\nrt: tb_words NOT PROVED\n'; exit 1 ;;
-    ci:long) echo $$ >"$STUB/pid"; exec sleep 1000 ;;
-    ci:slow) echo $$ >"$STUB/pid"; sleep 2; printf 'rt: tb_words proved\nrt: tb_opcodes proved\n'; exec sleep 1000 ;;
 esac
 END
-chmod +x stub/rt
-export STUB=$work/stub TBC=$tbc
+# The other python3, which stands in for tools/build.py and nothing else.
+cat >stub/python3 <<'END'
+#!/usr/bin/env bash
+case $1:${AS-} in
+    */tools/build.py:good)
+        printf '== tb_words\nfn f: proved\nrt: tb_words proved\nrt: tb_opcodes is kept: an earlier build proved the same\n'
+        cp "$TBC" "${1%/tools/*}/crates/tbc/out/tbc"
+        ;;
+    */tools/build.py:bad) printf '== tb_words\nfn f: not proved\nrt: tb_words NOT PROVED\n'; exec sleep 1000 ;;
+    */tools/build.py:killed) printf '== tb_words\nrt: the check was killed, most likely for memory: once more\nrt: tb_words NOT PROVED\n'; exit 1 ;;
+    */tools/build.py:long) echo $$ >"$STUB/pid"; exec sleep 1000 ;;
+    */tools/build.py:slow) echo $$ >"$STUB/pid"; sleep 2; printf 'rt: tb_words proved\nrt: tb_opcodes proved\n'; exec sleep 1000 ;;
+    *) exec "$PYTHON" "$@" ;;
+esac
+END
+chmod +x stub/rt stub/python3
+PYTHON=$(python3 -c 'import sys; print(sys.executable)') # itself: what starts it may change PATH
+export STUB=$work/stub TBC=$tbc PYTHON
 printf '10 PRINT "HELLO"\n20 END\n' >hello.bas
 printf '10 INPUT A\n' >wait.bas
 PATH=$work/stub:$real_path AS=good built/tbc --build >/dev/null 2>&1
@@ -244,9 +252,7 @@ touch built/crates/tb_words/src/new.rt
 stale crates/tb_words/src/new.rt
 rm built/crates/tb_words/src/new.rt
 
-# Building: how far it is, what it took, the first crate that fails, no prover still running, and no copy left
-mkdir rooms
-export TMPDIR=$work/rooms
+# Building: how far it is, what it took, the first crate that fails, and no prover still running
 AS=good row 0 'tbc: proving the * crates of the program, * side by side
 tbc: 2 of * crates done, *
 tbc: built in * s: */out/tbc' '' unbuilt/tbc --build
@@ -271,8 +277,6 @@ done
 rm -f stub/pid
 AS=slow unbuilt/tbc --build 2>&1 >/dev/null | head -n 1 >/dev/null
 is_so 'a build whose pipe is closed leaves a prover' test ! -d "/proc/$(<stub/pid)"
-is_so 'a build leaves its copy' test -z "$(ls rooms)"
-unset TMPDIR
 
 # Trial runs by the toolchain itself: the first answer of all, and one with an option
 PATH=$real_path

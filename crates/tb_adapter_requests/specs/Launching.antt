@@ -4,13 +4,15 @@ use Rattle.std.specs.Str.{bytes_eq}
 use Rattle.serde_json.specs.Data.{Data}
 use Rattle.serde_json.specs.Find.{as_number, as_u64, get}
 use Rattle.tb_adapter_values.specs.Arguments.{flag_in, number_in, optional_text, text_in}
-use Rattle.tb_codegen.specs.declared.settings.CompileSettings.{CompileSettings}
-use Rattle.tb_codegen.specs.declared.settings.SizeLimit.{SizeLimit}
-use Rattle.tb_parser.specs.declared.notation.Notation.{Notation}
-use Rattle.tb_parser.specs.declared.notation.Notation.TheVariants.{Plain, Signs}
-use Rattle.tb_codegen.specs.declared.settings.SizeLimit.TheVariants.{Cost, Memory}
+use Rattle.tb_compiled.specs.declared.settings.CompileSettings.{CompileSettings}
+use Rattle.tb_compiled.specs.declared.settings.SizeLimit.{SizeLimit}
+use Rattle.tb_text.specs.declared.notation.Notation.{Notation}
+use Rattle.tb_text.specs.declared.notation.Notation.TheVariants.{Plain, Signs}
+use Rattle.tb_compiled.specs.declared.settings.SizeLimit.TheVariants.{Cost, Memory}
 use Rattle.tb_debug.specs.declared.rom.Rom.{Rom}
 use Rattle.tb_debug.specs.declared.rom.Rom.TheVariants.{Quiet, Rude}
+use Rattle.tb_compiled.specs.Numbers.{USUAL_SEED}
+use Rattle.tb_engines.specs.Numbers.{MOST_EVENTS, USUAL_EVENTS}
 use Rattle.tb_adapter_requests.specs.declared.launching.Launch.{Launch}
 use Rattle.tb_adapter_requests.specs.declared.launching.Plan.{Plan}
 
@@ -18,9 +20,9 @@ use Rattle.tb_adapter_requests.specs.declared.launching.Plan.{Plan}
 abbrev pub seed_by : ℕ → Option ℕ
 seed_by n = if nat_le n 65535 then Some n else None
 
--- the first state of RND: 1, if nothing else is asked for
+-- the first state of RND: the usual one, if nothing else is asked for
 abbrev pub seed_in : Data → Option ℕ
-seed_in d = option_and_then seed_by (number_in d (codes "seed") 1)
+seed_in d = option_and_then seed_by (number_in d (codes "seed") USUAL_SEED)
 
 -- when a program is too large: by what it costs, or only if it doesn't fit the memory
 abbrev pub size_by : Bool → SizeLimit
@@ -59,11 +61,11 @@ rom_in d = rom_by (get (codes "rude") d)
 
 -- a limit
 abbrev pub limit_by : ℕ → Option ℕ
-limit_by n = if nat_le 1 n && nat_le n 1000000000 then Some n else None
+limit_by n = if nat_le 1 n && nat_le n MOST_EVENTS then Some n else None
 
 -- how many events a movement takes at most
 abbrev pub limit_in : Data → Option ℕ
-limit_in d = option_and_then limit_by (number_in d (codes "limit") 10000000)
+limit_in d = option_and_then limit_by (number_in d (codes "limit") USUAL_EVENTS)
 
 -- how a run is debugged
 abbrev pub plan_by : ℕ → Bool → Bool → Plan

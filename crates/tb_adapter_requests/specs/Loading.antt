@@ -10,21 +10,21 @@ use Rattle.tb_adapter_messages.specs.declared.refusals.Refusal.TheVariants.{BadK
 use Rattle.tb_check.specs.Findings.{AreFindings}
 use Rattle.tb_check.specs.declared.examination.Findings.{Findings}
 use Rattle.tb_check_engine.specs.Reports.{report}
-use Rattle.tb_codegen.specs.Compiled.{prg_of}
-use Rattle.tb_codegen.specs.declared.settings.CompileSettings.{CompileSettings}
+use Rattle.tb_compiled.specs.Compiled.{prg_of}
+use Rattle.tb_compiled.specs.declared.settings.CompileSettings.{CompileSettings}
 use Rattle.tb_check.specs.declared.settings.CheckSettings.{CheckSettings}
 use Rattle.tb_compile_errors.specs.declared.refusals.CompileError.{CompileError}
 use Rattle.tb_compile_errors.specs.declared.refusals.CompileError.TheVariants as compile_error
-use Rattle.tb_driver.specs.Sources.{Compiles}
-use Rattle.tb_driver.specs.declared.reading.CompiledSource.{CompiledSource}
+use Rattle.tb_compiled.specs.Answers.{Compiles}
+use Rattle.tb_sources.specs.declared.reading.CompiledSource.{CompiledSource}
 use Rattle.tb_engines.specs.Programs.{StartsPrg}
 use Rattle.tb_engines.specs.Texts as texts
 use Rattle.tb_engines.specs.declared.delivery.NoText.TheVariants.{Refused as Unstartable}
 use Rattle.tb_engines.specs.declared.outcome.Refusal.{Refusal as StartRefusal}
 use Rattle.tb_kernal.specs.declared.machine.Keyboard.{Keyboard}
-use Rattle.tb_lower.specs.declared.lowering.LowerError.TheVariants.{TooDeep, NoMemory as NoLowerMemory}
+use Rattle.tb_meaning.specs.declared.needs.LowerError.TheVariants.{TooDeep, NoMemory as NoLowerMemory}
 use Rattle.tb_navigation.specs.Remarks.{shown}
-use Rattle.tb_parser.specs.Lines.{lines_of_file}
+use Rattle.tb_text.specs.Lines.{lines_of_file}
 use Rattle.tb_parser.specs.declared.errors.SourceError.{SourceError}
 use Rattle.tb_streams.specs.declared.stream.InputError.{InputError}
 use Rattle.tb_streams.specs.declared.stream.InputError.TheVariants as input_error
@@ -35,6 +35,7 @@ use Rattle.tb_adapter_requests.specs.declared.loading.Compiling.TheVariants.{Fit
 use Rattle.tb_adapter_requests.specs.declared.loading.Loaded.{Loaded}
 use Rattle.tb_adapter_requests.specs.declared.loading.Loading.{Loading}
 use Rattle.tb_adapter_requests.specs.declared.loading.Loading.TheVariants as loading
+use Rattle.tb_compiled.specs.Promise.{Own}
 
 -- a text that is held is read, if there is memory for it
 abbrev pub IsHeld : List ℕ → Result (List ℕ) InputError → Type 0
@@ -66,18 +67,18 @@ abbrev pub check_settings : CompileSettings → CheckSettings
 check_settings settings = record { size = settings.size; notation = settings.notation }
 
 -- what `check` says of a source under its path: of all that is found in it
-abbrev pub IsReport : CheckSettings → (path text said : List ℕ) → Type 0
-IsReport settings path text said = (found : Findings) × AreFindings settings text found × (said ≡ report path (lines_of_file text) found)
+abbrev pub IsReport : Own → CheckSettings → (path text said : List ℕ) → Type 0
+IsReport own settings path text said = (found : Findings) × AreFindings own settings text found × (said ≡ report path (lines_of_file text) found)
 
 -- what `check` says of a source, and then the refusal
-abbrev pub IsUnfit : CheckSettings → (path text : List ℕ) → CompileError → List Saying → Type 0
-IsUnfit settings path text e told =
-    (said : List ℕ) × IsReport settings path text said × (told ≡ output_of (codes "stderr") (shown said) ∷ refused (error_text e) true ∷ [])
+abbrev pub IsUnfit : Own → CheckSettings → (path text : List ℕ) → CompileError → List Saying → Type 0
+IsUnfit own settings path text e told =
+    (said : List ℕ) × IsReport own settings path text said × (told ≡ output_of (codes "stderr") (shown said) ∷ refused (error_text e) true ∷ [])
 
 -- what comes of compiling a source at a path
-abbrev pub CompilesTo : CompileSettings → (path text : List ℕ) → Compiling → Type 0
-CompilesTo settings path text (Fit s) = (s.text.items ≡ text) × Compiles settings text (Ok s.program)
-CompilesTo settings path text (Unfit told) = (e : CompileError) × Compiles settings text (Err e) × IsUnfit (check_settings settings) path text e (map seen told.items)
+abbrev pub CompilesTo : Own → CompileSettings → (path text : List ℕ) → Compiling → Type 0
+CompilesTo own settings path text (Fit s) = (s.text.items ≡ text) × Compiles own settings text (Ok s.program)
+CompilesTo own settings path text (Unfit told) = (e : CompileError) × Compiles own settings text (Err e) × IsUnfit own (check_settings settings) path text e (map seen told.items)
 
 -- ---- loading
 
@@ -107,21 +108,21 @@ Starts a text answers s (loading.Unloaded told) =
     (why : StartRefusal) × StartsPrg text answers (prg_of s.program) (Err (Unstartable why)) × IsRefused ReadFault (loading.Unloaded told)
 
 -- what comes of a source that was read
-abbrev pub Compiled : Asked → (text answers source : List ℕ) → Loading → Type 0
-Compiled a text answers source l =
-    ((s : CompiledSource) × CompilesTo a.settings a.path source (Fit s) × Starts a text answers s l)
-    ⊎ ((told : Vec _ Global) × CompilesTo a.settings a.path source (Unfit told) × (l ≡ loading.Unloaded told))
+abbrev pub Compiled : Own → Asked → (text answers source : List ℕ) → Loading → Type 0
+Compiled own a text answers source l =
+    ((s : CompiledSource) × CompilesTo own a.settings a.path source (Fit s) × Starts a text answers s l)
+    ⊎ ((told : Vec _ Global) × CompilesTo own a.settings a.path source (Unfit told) × (l ≡ loading.Unloaded told))
 
 -- what comes of reading one
-abbrev pub ReadsTo : Asked → (text answers : List ℕ) → Result (List ℕ) InputError → Loading → Type 0
-ReadsTo a text answers (Ok source) l = Compiled a text answers source l
-ReadsTo a text answers (Err e) l = (e ≡ input_error.Fault) × IsRefused ReadFault l
+abbrev pub ReadsTo : Own → Asked → (text answers : List ℕ) → Result (List ℕ) InputError → Loading → Type 0
+ReadsTo own a text answers (Ok source) l = Compiled own a text answers source l
+ReadsTo own a text answers (Err e) l = (e ≡ input_error.Fault) × IsRefused ReadFault l
 
-abbrev pub Reads : {S : Type 0} → (S → List ℕ → Result (List ℕ) InputError → S → Type 0) → Asked → (text answers : List ℕ) → S → Loading → S → Type 0
-Reads reads a text answers s l t = (given : Result (List ℕ) InputError) × reads s a.path given t × ReadsTo a text answers given l
+abbrev pub Reads : {S : Type 0} → Own → (S → List ℕ → Result (List ℕ) InputError → S → Type 0) → Asked → (text answers : List ℕ) → S → Loading → S → Type 0
+Reads own reads a text answers s l t = (given : Result (List ℕ) InputError) × reads s a.path given t × ReadsTo own a text answers given l
 
 -- what comes of a launch
-abbrev pub Loads : {S : Type 0} → (S → List ℕ → Result (List ℕ) InputError → S → Type 0) → Asked → S → Loading → S → Type 0
-Loads reads a s l t =
-    ((k : Keyboard) × IsKeyboard a.keys a.answers (Some k) × Reads reads a k.text.items k.answers.items s l t)
+abbrev pub Loads : {S : Type 0} → Own → (S → List ℕ → Result (List ℕ) InputError → S → Type 0) → Asked → S → Loading → S → Type 0
+Loads own reads a s l t =
+    ((k : Keyboard) × IsKeyboard a.keys a.answers (Some k) × Reads own reads a k.text.items k.answers.items s l t)
     ⊎ (IsKeyboard a.keys a.answers None × (t ≡ s) × IsRefused BadKeys l)

@@ -5,17 +5,9 @@ ghost use Rattle.tb_adapter_requests.specs.Launching as spec;
 
 use serde_json::Value;
 use tb_adapter_values::{flag_in, number_in, optional_text, text_in};
-use tb_codegen::{CompileSettings, Notation, SizeLimit};
+use tb_compiled::{CompileSettings, Notation, SizeLimit, USUAL_SEED};
 use tb_debug::Rom;
-
-/// How many events a movement takes at most, if nothing else is asked for.
-const USUAL_LIMIT: u64 = 10_000_000;
-
-/// The most events that may be asked for.
-const MOST_LIMIT: u64 = 1_000_000_000;
-
-/// The first state of RND, if nothing else is asked for.
-const USUAL_SEED: u64 = 1;
+use tb_engines::{MOST_EVENTS, USUAL_EVENTS};
 
 /// The most that a seed is.
 const MOST_SEED: u64 = 65_535;
@@ -58,7 +50,7 @@ fn seed_by(number: u64) -> Option<u16>
 fn seed_in(arguments: &Value) -> Option<u16>
     ensures { result ≡ spec.seed_in (view arguments.now) }
 {
-    seed_by(number_in(arguments, "seed", USUAL_SEED)?)
+    seed_by(number_in(arguments, "seed", u64::from(USUAL_SEED))?)
 }
 
 // When a program is too large: by what it costs, or only if it doesn't fit the memory.
@@ -131,7 +123,7 @@ fn rom_in(arguments: &Value) -> Option<Rom>
 fn limit_by(number: u64) -> Option<u64>
     ensures { result ≡ spec.limit_by number }
 {
-    if 1 <= number && number <= MOST_LIMIT {
+    if 1 <= number && number <= u64::from(MOST_EVENTS) {
         Some(number)
     } else {
         None
@@ -142,7 +134,7 @@ fn limit_by(number: u64) -> Option<u64>
 fn limit_in(arguments: &Value) -> Option<u64>
     ensures { result ≡ spec.limit_in (view arguments.now) }
 {
-    limit_by(number_in(arguments, "limit", USUAL_LIMIT)?)
+    limit_by(number_in(arguments, "limit", u64::from(USUAL_EVENTS))?)
 }
 
 // How the run is debugged.

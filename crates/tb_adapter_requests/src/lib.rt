@@ -1,5 +1,11 @@
-//! Requests to a debug adapter, one by one: which program is launched, how it is loaded, what is set and asked, and what is
-//! told of a stop.
+//! Requests to a debug adapter, one by one: which program is launched, how it is loaded, what is set and asked, and
+//! what is told of a stop.
+//!
+//! `launch_in`, `question_in`, `breakpoints_in` and `watches_in` are what arguments ask for. `load` reads and compiles
+//! the source, in the notation that the launch asks for, or else in the adapter's own (`Loads`). A source that is
+//! refused is told as `check` reports it (`IsReport`), and then in the words of `run`. `stack`, `variables`, `memory`
+//! and `code` answer by their definitions over the debugger, and `stop_event` tells a stop. `frames_of` numbers
+//! messages on from the number that it is given (`AreFrames`).
 #![tactic(auto)]
 
 mod asking;

@@ -1,6 +1,6 @@
 //! Programs that are loaded as they are launched.
 ghost use Rattle.std.specs.Prelude.{◌≡◌, ◌∷◌, [], IfOk, codes, map, string_bytes};
-ghost use Rattle.tb_codegen.specs.declared.settings.CompileSettings.{CompileSettings};
+ghost use Rattle.tb_compiled.specs.declared.settings.CompileSettings.{CompileSettings};
 ghost use Rattle.tb_adapter_requests.specs.Launching.{asked_of};
 ghost use Rattle.tb_adapter_requests.specs.Loading as spec;
 ghost use Rattle.tb_adapter_requests.specs.Loading.{CompilesTo, IsHeld, IsKeyboard, IsReport, IsUnfit, Loads, Reads, Starts};
@@ -12,14 +12,14 @@ use std::alloc::{AllocError, Global};
 use tb_adapter_messages::Refusal;
 use tb_check::CheckSettings;
 use tb_check_engine::{CheckOutcome, Sources, check_sources};
-use tb_codegen::{CompileError, CompileSettings, Notation, compile_within};
+use tb_compiled::{Compile, CompileError, CompileSettings, Notation};
 use tb_debug::Rom;
-use tb_driver::{CompiledSource, start_program};
 use tb_engines::{NoText, TOO_DEEP, TooLarge, source_text};
 use tb_kernal::{Keyboard, Machine};
-use tb_lower::LowerError;
+use tb_meaning::LowerError;
 use tb_navigation::shown;
 use tb_parser::SourceError;
+use tb_sources::{CompiledSource, start_program};
 use tb_streams::{InputError, KeyError, Tracked, key_list};
 
 /// A program that is loaded.
@@ -69,19 +69,20 @@ impl Sources for Held<'_> {
 }
 
 // What `check` says of a source.
-fn report(
+fn report<K: Compile>(
+    compiler: &K,
     alloc: Global,
     path: &str,
     text: &[u8],
     settings: CheckSettings,
 ) -> Result<Vec<u8>, AllocError>
-    ensures { IfOk result (λ said. IsReport settings path.now text.now said.items) }
+    ensures { IfOk result (λ said. IsReport K.own settings path.now text.now said.items) }
 {
     let mut names = Vec::new(alloc);
     names.push(String::from_str(alloc, path)?)?;
     let mut held = Held { text };
     let mut writer = Tracked::new(Vec::new(alloc));
-    let outcome = check_sources(alloc, &mut held, &names, &mut writer, settings);
+    let outcome = check_sources(compiler, alloc, &mut held, &names, &mut writer, settings);
     match outcome {
         CheckOutcome::NoMemory | CheckOutcome::WriteFault => Err(AllocError),
         CheckOutcome::Ended(_) | CheckOutcome::Refused(_) | CheckOutcome::ReadFault => {
@@ -126,16 +127,17 @@ fn error_text(alloc: Global, error: CompileError) -> Result<String, AllocError>
 }
 
 // What is said of a source that is refused.
-fn unfit(
+fn unfit<K: Compile>(
+    compiler: &K,
     alloc: Global,
     path: &str,
     text: &[u8],
     settings: CheckSettings,
     error: CompileError,
 ) -> Result<Vec<Said>, AllocError>
-    ensures { IfOk result (λ said. IsUnfit settings path.now text.now error (map seen said.items)) }
+    ensures { IfOk result (λ said. IsUnfit K.own settings path.now text.now error (map seen said.items)) }
 {
-    let report = report(alloc, path, text, settings)?;
+    let report = report(compiler, alloc, path, text, settings)?;
     let told = output(alloc, "stderr", shown(&report))?;
     let why = error_text(alloc, error)?;
     let mut said = Vec::new(alloc);
@@ -145,15 +147,16 @@ fn unfit(
 }
 
 // What comes of compiling a source.
-fn compiled(
+fn compiled<K: Compile>(
+    compiler: &K,
     alloc: Global,
     path: &str,
     text: Vec<u8>,
     settings: CompileSettings,
 ) -> Result<Compiling, AllocError>
-    ensures { IfOk result (CompilesTo settings path.now text.items) }
+    ensures { IfOk result (CompilesTo K.own settings path.now text.items) }
 {
-    match compile_within(alloc, &text, settings) {
+    match compiler.compile(alloc, &text, settings) {
         Ok(program) => Ok(Compiling::Fit(CompiledSource { text, program })),
         Err(CompileError::NoMemory) => Err(AllocError),
         Err(error) => {
@@ -161,7 +164,7 @@ fn compiled(
                 size: settings.size,
                 notation: settings.notation,
             };
-            Ok(Compiling::Unfit(unfit(alloc, path, &text, checked, error)?))
+            Ok(Compiling::Unfit(unfit(compiler, alloc, path, &text, checked, error)?))
         }
     }
 }
@@ -216,15 +219,16 @@ fn started(
 }
 
 // A source that was read is compiled and loaded.
-fn compiled_and_started(
+fn compiled_and_started<K: Compile>(
+    compiler: &K,
     alloc: Global,
     launch: &Launch<'_>,
     keyboard: Keyboard,
     text: Vec<u8>,
 ) -> Result<Loading, AllocError>
-    ensures { IfOk result (spec.Compiled (asked_of launch.now) keyboard.text.items keyboard.answers.items text.items) }
+    ensures { IfOk result (spec.Compiled K.own (asked_of launch.now) keyboard.text.items keyboard.answers.items text.items) }
 {
-    match compiled(alloc, launch.path, text, launch.settings)? {
+    match compiled(compiler, alloc, launch.path, text, launch.settings)? {
         Compiling::Fit(source) => {
             let loading = started(alloc, launch, keyboard, source)?;
             Ok(loading)
@@ -234,32 +238,34 @@ fn compiled_and_started(
 }
 
 // A source is read, compiled and loaded.
-fn read_and_compiled<S: Sources>(
+fn read_and_compiled<K: Compile, S: Sources>(
+    compiler: &K,
     alloc: Global,
     sources: &mut S,
     launch: &Launch<'_>,
     keyboard: Keyboard,
 ) -> Result<Loading, AllocError>
-    ensures { IfOk result (λ loading. Reads S.reads (asked_of launch.now) keyboard.text.items keyboard.answers.items sources.old loading sources.new) }
+    ensures { IfOk result (λ loading. Reads K.own S.reads (asked_of launch.now) keyboard.text.items keyboard.answers.items sources.old loading sources.new) }
 {
     match sources.read(alloc, launch.path) {
-        Ok(text) => compiled_and_started(alloc, launch, keyboard, text),
+        Ok(text) => compiled_and_started(compiler, alloc, launch, keyboard, text),
         Err(InputError::Fault) => unloaded(alloc, Refusal::ReadFault),
         Err(InputError::NoMemory) => Err(AllocError),
     }
 }
 
 /// Loads what is launched.
-pub fn load<S: Sources>(
+pub fn load<K: Compile, S: Sources>(
+    compiler: &K,
     alloc: Global,
     sources: &mut S,
     launch: &Launch<'_>,
 ) -> Result<Loading, AllocError>
-    ensures { IfOk result (λ loading. Loads S.reads (asked_of launch.now) sources.old loading sources.new) }
+    ensures { IfOk result (λ loading. Loads K.own S.reads (asked_of launch.now) sources.old loading sources.new) }
 {
     match keyboard_of(alloc, launch.keys, launch.answers)? {
         Some(keyboard) => {
-            let loading = read_and_compiled(alloc, sources, launch, keyboard)?;
+            let loading = read_and_compiled(compiler, alloc, sources, launch, keyboard)?;
             Ok(loading)
         }
         None => unloaded(alloc, Refusal::BadKeys),

@@ -1,4 +1,8 @@
 //! What requests to a debug adapter ask for, with their arguments, and the bodies of answers and events.
+//!
+//! `command_of` is the command of a request by its name. `text_in`, `list_in`, `flag_in`, `number_in`, `offset_in` and
+//! `optional_text` read a member of its arguments: what it usually is where it is left out, or that it has not the
+//! form. The bodies of answers and events are the values that `specs/Bodies` and `specs/Stops` name.
 #![tactic(auto)]
 
 mod arguments;

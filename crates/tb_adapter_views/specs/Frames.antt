@@ -3,7 +3,7 @@ use Rattle.std.specs.Prelude.{ℕ, ◌+◌, ◌==◌, min, List, [], ◌∷◌, 
 use Rattle.serde_json.specs.Data.{Data}
 use Rattle.serde_json.specs.View.{items_of}
 use Rattle.tb_adapter_values.specs.Bodies.{frame_value, stack_body, start_value}
-use Rattle.tb_codegen.specs.Compiled.{start_in, starts_of}
+use Rattle.tb_compiled.specs.Compiled.{start_in, starts_of}
 use Rattle.tb_debug.specs.Telling.{line_here, returns_here}
 use Rattle.tb_debug.specs.declared.debugger.Debugger.{Debugger}
 use Rattle.tb_adapter_views.specs.Sources.{before, line_of, source_of, text_of}

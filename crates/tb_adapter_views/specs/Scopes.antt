@@ -10,7 +10,7 @@ use Rattle.tb_cpu.specs.declared.registers.Regs.{Regs}
 use Rattle.tb_inspection.specs.Texts.{status_text}
 use Rattle.tb_kernal.specs.Machine.{state_of, status}
 use Rattle.tb_kernal.specs.declared.status.Status.{Status}
-use Rattle.tb_runtime16.specs.Addresses.{VARS}
+use Rattle.tb_kept.specs.Addresses.{VARS}
 use Rattle.tb_debug.specs.Debuggers.{begun_by}
 use Rattle.tb_debug.specs.Telling.{variables_here}
 use Rattle.tb_debug.specs.declared.debugger.Debugger.{Debugger}

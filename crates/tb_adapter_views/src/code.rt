@@ -1,7 +1,7 @@
 //! The code of a run's memory, cut as listings cut it.
 ghost use Rattle.std.specs.Prelude.{◌≡◌, ◌≤◌, ◌<◌, ◌∷◌, ◌++◌, [], IfOk, OnOk, length, map, string_bytes};
 ghost use Rattle.serde_json.specs.View.{items_view, view};
-ghost use Rattle.tb_codegen.specs.Compiled.{pair_of, starts_of};
+ghost use Rattle.tb_compiled.specs.Compiled.{pair_of, starts_of};
 ghost use Rattle.tb_debug.specs.Lines.{line_at};
 ghost use Rattle.tb_disasm.specs.Lines.{entry_of};
 ghost use Rattle.tb_memmap.specs.Bytes.{at};
@@ -15,7 +15,7 @@ use crate::texts::reference;
 use hex::encode_upper;
 use serde_json::{Value, json};
 use std::alloc::{AllocError, Global};
-use tb_codegen::{Compiled, LineStart};
+use tb_compiled::{Compiled, LineStart};
 use tb_debug::Debugger;
 use tb_disasm::{Content, first_line, write_item};
 use tb_memmap::{BASIC_START, CODE_START, Memory};

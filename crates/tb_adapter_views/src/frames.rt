@@ -1,7 +1,7 @@
 //! The frames of a run: the line at which it is, and the lines from which subroutines were called.
 ghost use Rattle.std.specs.Prelude.{◌≡◌, ◌∷◌, ◌++◌, ◌+◌, ◌<◌, ◌^◌, [], IfOk, OnOk, length, map};
 ghost use Rattle.serde_json.specs.View.{view};
-ghost use Rattle.tb_codegen.specs.Compiled.{start_in, starts_of};
+ghost use Rattle.tb_compiled.specs.Compiled.{start_in, starts_of};
 ghost use Rattle.tb_adapter_views.specs.Frames as spec;
 
 use crate::sources::{SourceFile, before};
@@ -9,7 +9,7 @@ use crate::texts::reference;
 use serde_json::Value;
 use std::alloc::{AllocError, Global};
 use tb_adapter_values::{frame_value, stack_body, start_value};
-use tb_codegen::{Compiled, LineStart};
+use tb_compiled::{Compiled, LineStart};
 use tb_debug::Debugger;
 
 /// A line of the program, and where its code is.

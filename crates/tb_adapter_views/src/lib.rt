@@ -1,4 +1,13 @@
-//! What a debug adapter shows of a run: frames, variables, registers, memory and code, with the lines of the source's file.
+//! What a debug adapter shows of a run: frames, variables, registers, memory and code, with the lines of the source's
+//! file.
+//!
+//! - `stack_value`: the line that begins here or was begun last, and for each line to return to the GOSUB's
+//!   (`stack_of`). `scope_value`: the variables, registers, and the time and status of the run (`scope_of`).
+//!   `evaluate`: the value of a text over them, or why it has none (`HasValue`).
+//! - `memory_value`: the bytes from a place on up to the first that is closed, in base64, and how many are left
+//!   (`memory_of`). `code_value`: exactly as many instructions as are asked for, cut as `dis` cuts the image
+//!   (`code_of`).
+//! - `SourceFile::breakable`: the first line from a place on that gives the program its line.
 #![tactic(auto)]
 
 mod code;

@@ -10,8 +10,8 @@ use tb_adapter_values::{named_value, variable_value, variables_body};
 use tb_cpu::Regs;
 use tb_debug::{Debugger, Variables};
 use tb_inspection::status_text;
+use tb_kept::VARS;
 use tb_kernal::Status;
-use tb_runtime16::VARS;
 
 // The variable at an index in the alphabet, with its value.
 fn variable_at(alloc: Global, index: usize, value: i16) -> Result<Value, AllocError>

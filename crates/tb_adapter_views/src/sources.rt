@@ -1,7 +1,7 @@
 //! The file of the source that is debugged, and which of its lines give the program its lines.
 ghost use Rattle.std.specs.Prelude.{◌≡◌, ◌≤◌, IfOk, Some, None, length, map, option_map};
 ghost use Rattle.serde_json.specs.View.{view};
-ghost use Rattle.tb_codegen.specs.Compiled.{pair_of, starts_of};
+ghost use Rattle.tb_compiled.specs.Compiled.{pair_of, starts_of};
 ghost use Rattle.tb_navigation.specs.Remarks as remarks;
 ghost use Rattle.tb_source_names.specs.Lines.{does};
 ghost use Rattle.tb_source_names.specs.Sources.{edits_of};
@@ -10,7 +10,7 @@ ghost use Rattle.tb_adapter_views.specs.Sources as spec;
 use serde_json::Value;
 use std::alloc::{AllocError, Global};
 use tb_adapter_values::source_value;
-use tb_codegen::{Compiled, LineStart};
+use tb_compiled::{Compiled, LineStart};
 use tb_navigation::shown;
 use tb_source_names::{Line, Source};
 

@@ -8,6 +8,7 @@ use crate::methods::Method;
 use crate::params::{Asked, OfNames, asked_of};
 use serde_json::Value;
 use std::alloc::{AllocError, Global};
+use tb_compiled::Compile;
 use tb_completion::completion;
 use tb_fixes::{LineRange, actions};
 use tb_formatting::formatting;
@@ -15,11 +16,11 @@ use tb_hover::hover;
 use tb_messages::Refusal;
 use tb_navigation::{definition, highlights, references, symbols};
 use tb_outline::{folds, semantic_tokens};
-use tb_parser::Notation;
 use tb_place_values::Place;
 use tb_rename::{prepare, rename};
 use tb_source_names::{Source, read_source};
 use tb_streams::MOST_INPUT;
+use tb_text::Notation;
 
 // What is read of a text: nothing of one that has too many bytes.
 fn readable(text: &[u8]) -> &[u8]
@@ -29,35 +30,37 @@ fn readable(text: &[u8]) -> &[u8]
 }
 
 // The fixes on lines.
-fn fixes(
+fn fixes<K: Compile>(
+    compiler: &K,
     alloc: Global,
     notation: Notation,
     uri: &str,
     text: &[u8],
     range: Option<LineRange>,
 ) -> Result<Value, AllocError>
-    ensures { IfOk result (λ v. AnswersRange notation range uri.now text.now (view v)) }
+    ensures { IfOk result (λ v. AnswersRange K.own notation range uri.now text.now (view v)) }
 {
     match range {
-        Some(range) => actions(alloc, notation, uri, text, range),
+        Some(range) => actions(compiler, alloc, notation, uri, text, range),
         None => Ok(Value::Array(Vec::new(alloc))),
     }
 }
 
 // What is answered from the names of a source.
-fn named(
+fn named<K: Compile>(
+    compiler: &K,
     alloc: Global,
     uri: &str,
     text: &[u8],
     source: &Source<'_>,
     asked: OfNames,
 ) -> Result<Value, AllocError>
-    ensures { IfOk result (λ v. AnswersNamed source.now.notation asked uri.now text.now source.now.lines.items (view v)) }
+    ensures { IfOk result (λ v. AnswersNamed K.own source.now.notation asked uri.now text.now source.now.lines.items (view v)) }
 {
     match asked {
         OfNames::Hover(place) => {
             let (line, character) = (place.line as usize, place.character as usize);
-            hover(alloc, text, source, line, character)
+            hover(compiler, alloc, text, source, line, character)
         }
         OfNames::Definition(place) => {
             let (line, character) = (place.line as usize, place.character as usize);
@@ -86,17 +89,18 @@ fn named(
 }
 
 // What is answered from the names of a text.
-fn names(
+fn names<K: Compile>(
+    compiler: &K,
     alloc: Global,
     notation: Notation,
     uri: &str,
     text: &[u8],
     asked: OfNames,
 ) -> Result<Value, AllocError>
-    ensures { IfOk result (λ v. AnswersNames notation asked uri.now text.now (view v)) }
+    ensures { IfOk result (λ v. AnswersNames K.own notation asked uri.now text.now (view v)) }
 {
     let source = read_source(alloc, notation, text)?;
-    named(alloc, uri, text, &source, asked)
+    named(compiler, alloc, uri, text, &source, asked)
 }
 
 // What is answered to a new name for a variable.
@@ -117,43 +121,46 @@ fn renaming(
 }
 
 // What is answered to what is asked of a text.
-fn answer_asked(
+fn answer_asked<K: Compile>(
+    compiler: &K,
     alloc: Global,
     notation: Notation,
     uri: &str,
     text: &[u8],
     asked: Asked,
 ) -> Result<Result<Value, Refusal>, AllocError>
-    ensures { IfOk result (AnswersAsked notation asked uri.now text.now) }
+    ensures { IfOk result (AnswersAsked K.own notation asked uri.now text.now) }
 {
     match asked {
-        Asked::Names(asked) => Ok(Ok(names(alloc, notation, uri, text, asked)?)),
-        Asked::Actions(range) => Ok(Ok(fixes(alloc, notation, uri, text, range)?)),
+        Asked::Names(asked) => Ok(Ok(names(compiler, alloc, notation, uri, text, asked)?)),
+        Asked::Actions(range) => Ok(Ok(fixes(compiler, alloc, notation, uri, text, range)?)),
         Asked::Formatting => Ok(Ok(formatting(alloc, notation, text)?)),
         Asked::Rename(place, letter) => renaming(alloc, notation, uri, text, place, letter),
     }
 }
 
-// The same, or that the params have not the form that the request asks for.
-fn answer_if_asked(
+// The answer to a request, or that its params have not the form that it asks for.
+fn answer_if_asked<K: Compile>(
+    compiler: &K,
     alloc: Global,
     notation: Notation,
     uri: &str,
     text: &[u8],
     asked: Option<Asked>,
 ) -> Result<Result<Value, Refusal>, AllocError>
-    ensures { IfOk result (AnswersBy notation asked uri.now text.now) }
+    ensures { IfOk result (AnswersBy K.own notation asked uri.now text.now) }
 {
     let Some(asked) = asked else {
         return Ok(Err(Refusal::BadParams));
     };
-    let answer = answer_asked(alloc, notation, uri, readable(text), asked)?;
+    let answer = answer_asked(compiler, alloc, notation, uri, readable(text), asked)?;
     Ok(answer)
 }
 
 /// What is answered to a request on a text that is read in a notation, or why it is refused. Fails only if memory runs
 /// out.
-pub fn answer(
+pub fn answer<K: Compile>(
+    compiler: &K,
     alloc: Global,
     notation: Notation,
     method: Method,
@@ -161,7 +168,14 @@ pub fn answer(
     text: &[u8],
     params: &Value,
 ) -> Result<Result<Value, Refusal>, AllocError>
-    ensures { IfOk result (Answers notation method uri.now text.now (view params.now)) }
+    ensures { IfOk result (Answers K.own notation method uri.now text.now (view params.now)) }
 {
-    answer_if_asked(alloc, notation, uri, text, asked_of(method, params))
+    answer_if_asked(
+        compiler,
+        alloc,
+        notation,
+        uri,
+        text,
+        asked_of(method, params),
+    )
 }

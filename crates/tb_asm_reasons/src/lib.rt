@@ -1,4 +1,8 @@
 //! Why a text is not assembled: the line and its place, and what helps.
+//!
+//! `line_text` says why a line of assembler text is bad: at the first byte that belongs to no part of it, or else at a
+//! word (`line_fault`, by cases). `item_text` names the line of an item that is refused, and its label (`item_rows`).
+//! Both show that line of the text.
 #![tactic(auto)]
 
 mod errors;

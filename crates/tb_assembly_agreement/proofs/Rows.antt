@@ -7,7 +7,7 @@ use Rattle.tb_asm.specs.declared.items.Operand.TheVariants.{Nothing, Byte, Word,
 use Rattle.tb_asm.specs.Names.{name_from}
 use Rattle.tb_asm.specs.Layout.{Entry, instr, label, bytes, word}
 use Rattle.tb_asm.specs.Text.{items_of_text}
-use Rattle.tb_parser.specs.Lines.{lines_from}
+use Rattle.tb_text.specs.Lines.{lines_from}
 use Rattle.tb_assembly_meaning.specs.Meaning.{items_of}
 use Rattle.tb_assembly_files.specs.Expansion.{Course, expansion}
 use Rattle.tb_assembly_agreement.specs.Items.{all_shortened}

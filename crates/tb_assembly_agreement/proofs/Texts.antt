@@ -4,7 +4,7 @@ use Rattle.std.specs.List.{slice_get}
 use Rattle.std.proofs.lemmas.Bool.{or_parts}
 use Rattle.std.proofs.lemmas.List.{append-nil, map-append}
 use Rattle.std.proofs.lemmas.Option.{slice_get-map}
-use Rattle.tb_parser.specs.Lines.{longer, lines_from, lines_of_file}
+use Rattle.tb_text.specs.Lines.{longer, lines_from, lines_of_file}
 use Rattle.tb_asm.specs.Layout.{Entry}
 use Rattle.tb_asm.specs.Text.{begins_with_10, put, split_lines, with_line, text_items, items_of_text, line_items}
 use Rattle.tb_assembly_text.specs.Tokens.{tokens_of}

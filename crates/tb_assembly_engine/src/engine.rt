@@ -84,7 +84,7 @@ pub fn assemble_source<F: FileSystem>(
     manner: Manner,
     names: TextNames<'_>,
 ) -> Result<(), TextFailure>
-    ensures { Assembles F.leads F.shows F.does F.Input.remaining text.now files.old manner names.entry result files.new }
+    ensures { Assembles F.leads F.shows F.does F.holds text.now files.old manner names.entry result files.new }
 {
     let gathered = gather(alloc, files, text, manner)?;
     write(alloc, files, &gathered.library, names, &gathered.made)

@@ -1,18 +1,17 @@
 //! A text with all that it includes, file by file.
-ghost use Rattle.std.specs.Prelude.{◌≡◌, ◌∷◌, ◌++◌, [], IfOk, IfSome, MatchResult, None, Ok, OnErr, OnOk, map, option_map};
-ghost use Rattle.tb_files.specs.Deeds.{Opens};
-ghost use Rattle.tb_streams.specs.Streams.{Reads};
+ghost use Rattle.std.specs.Prelude.{◌≡◌, ◌∷◌, ◌++◌, [], Err, MatchResult, Ok, OnErr, OnOk, map, option_map};
+ghost use Rattle.tb_files.specs.Deeds.{ReadsFile};
+ghost use Rattle.tb_streams.specs.declared.stream.InputError.TheVariants.{NoMemory};
 ghost use Rattle.tb_assembly_files.specs.Libraries.{Source, source_of};
 ghost use Rattle.tb_assembly_output.specs.Assembled.{Answers};
-ghost use Rattle.tb_assembly_engine.specs.Gathering.{IsRead, Takes};
+ghost use Rattle.tb_assembly_engine.specs.Gathering.{GivesText, LacksMemory, Takes};
 ghost use Rattle.tb_assembly_engine.specs.Deeds.{Fails, IsMade, Stops};
 
 use crate::outcome::{TextFailure, TextRefusal};
 use std::alloc::{AllocError, Global};
-use std::io::Read;
 use tb_assembly_output::{Assembled, Assembly, AssemblyError, Manner, SourceFile, assemble_texts};
-use tb_files::{FileSystem, Trouble};
-use tb_streams::{InputError, Tracked, read_input};
+use tb_files::{FileSystem, read_file};
+use tb_streams::InputError;
 
 /// The most files that a text and all that it includes may be in.
 pub const MOST_FILES: usize = 256;
@@ -24,30 +23,20 @@ pub struct Gathered {
     pub made: Assembly,
 }
 
-// All that a reader has, if it can be read.
-fn text_of<R: Read>(alloc: Global, input: &mut Tracked<R>) -> Result<Option<Vec<u8>>, AllocError>
-    ensures { IfOk result (λ text. IfSome text (λ t. Reads (R.remaining input.old.stream) t.items)) }
-{
-    match read_input(alloc, input) {
-        Ok(text) => Ok(Some(text)),
-        Err(InputError::Fault) => Ok(None),
-        Err(InputError::NoMemory) => Err(AllocError),
-    }
-}
-
 // The text of the file at a path, if it can be read.
 fn read_text<F: FileSystem>(
     alloc: Global,
     files: &mut F,
     path: &str,
 ) -> Result<Option<Vec<u8>>, AllocError>
-    ensures opens { F.does files.old (Opens path.now) files.new }
-    ensures text { IfOk result (λ text. IsRead F.Input.remaining (option_map (λ t. t.items) text)) }
+    ensures { MatchResult result
+        (λ text. GivesText F.does F.holds files.old path.now (option_map (λ t. t.items) text) files.new)
+        (λ _. ReadsFile F.does F.holds files.old path.now (Err NoMemory) files.new) }
 {
-    match files.open(path) {
-        Ok(mut input) => text_of(alloc, &mut input),
-        Err(Trouble::Fault) => Ok(None),
-        Err(Trouble::NoMemory) => Err(AllocError),
+    match read_file(alloc, files, path) {
+        Ok(text) => Ok(Some(text)),
+        Err(InputError::Fault) => Ok(None),
+        Err(InputError::NoMemory) => Err(AllocError),
     }
 }
 
@@ -58,8 +47,8 @@ fn text_at<F: FileSystem>(
     path: &[u8],
 ) -> Result<Option<Vec<u8>>, AllocError>
     ensures { MatchResult result
-        (λ text. Takes F.does F.Input.remaining files.old path.now (option_map (λ t. t.items) text) files.new)
-        (λ _. Takes F.does F.Input.remaining files.old path.now None files.new) }
+        (λ text. Takes F.does F.holds files.old path.now (option_map (λ t. t.items) text) files.new)
+        (λ _. LacksMemory F.does F.holds files.old path.now files.new) }
 {
     match str::from_utf8(path) {
         Ok(name) => read_text(alloc, files, name),
@@ -74,9 +63,9 @@ fn take_file<F: FileSystem>(
     path: Vec<u8>,
     library: &mut Vec<SourceFile>,
 ) -> Result<(), AllocError>
-    ensures taken { OnOk result ((s : Source) × (s.path ≡ path.items) × Takes F.does F.Input.remaining files.old s.path s.text files.new
+    ensures taken { OnOk result ((s : Source) × (s.path ≡ path.items) × Takes F.does F.holds files.old s.path s.text files.new
         × (map source_of library.new.items ≡ map source_of library.old.items ++ s ∷ [])) }
-    ensures stopped { OnErr result (Takes F.does F.Input.remaining files.old path.items None files.new) }
+    ensures stopped { OnErr result (LacksMemory F.does F.holds files.old path.items files.new) }
 {
     let text = text_at(alloc, files, &path)?;
     library.push(SourceFile { path, text })?;
@@ -102,8 +91,8 @@ pub fn gather<F: FileSystem>(
     manner: Manner,
 ) -> Result<Gathered, TextFailure>
     ensures { MatchResult result
-        (λ r. IsMade F.does F.Input.remaining text.now files.old manner (map source_of r.library.items) r.made files.new)
-        (λ why. Stops F.does F.Input.remaining text.now files.old manner why files.new) }
+        (λ r. IsMade F.does F.holds text.now files.old manner (map source_of r.library.items) r.made files.new)
+        (λ why. Stops F.does F.holds text.now files.old manner why files.new) }
 {
     let mut library = Vec::new(alloc);
     let path = Vec::from_slice(alloc, text.as_bytes())?;

@@ -1,5 +1,5 @@
 //! Writing what was made.
-ghost use Rattle.std.specs.Prelude.{◌≡◌, ◌∷◌, ◌++◌, [], IfOk, map, option_map};
+ghost use Rattle.std.specs.Prelude.{◌≡◌, ◌∷◌, ◌++◌, [], IfOk, Ok, map, option_map};
 ghost use Rattle.tb_files.specs.Checks.{put_of};
 ghost use Rattle.tb_files.specs.Deeds.{Saves};
 ghost use Rattle.tb_assembly_engine.specs.Deeds.{Puts, load_address, outputs_of, save_of, saves_of, wanted};
@@ -62,7 +62,7 @@ pub fn outputs_of<'a>(
 
 // Writes a text to a path.
 fn save<F: FileSystem>(files: &mut F, path: &str, text: &[u8]) -> Result<(), TextFailure>
-    ensures { Puts F.does files.old (Saves path.now text.now ∷ []) result files.new }
+    ensures { Puts F.does files.old (Saves path.now text.now (Ok tt) ∷ []) result files.new }
 {
     match files.save(path, text) {
         Ok(()) => Ok(()),

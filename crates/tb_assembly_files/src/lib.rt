@@ -1,5 +1,9 @@
-//! Assembler text in files: the statements of a text with those of the files that it includes, or all that is wrong with
-//! their lines.
+//! Assembler text in files: the statements of a text with those of the files that it includes, or all that is wrong
+//! with their lines.
+//!
+//! `expand` answers the statements of a text with those of all that it includes, each with its place. Or it answers
+//! all lines that are bad, in order, or the path of the first file that is wanted (`Expands`, by `expansion`). What an
+//! include is, is one definition (`including`): circles, the depth and files that can't be read are cases of it.
 #![tactic(auto)]
 
 mod expanding;

@@ -64,7 +64,7 @@ fn far_marks(alloc: Global, symbols: &Symbols, laid: &[Laid<'_>]) -> Result<Vec<
     Ok(marks)
 }
 
-// Those of statements whose image begins at an address.
+// Which statements of an image that begins at an address are branches that do not reach, and may become long.
 fn marks_of(alloc: Global, at: u16, statements: &[Statement]) -> Result<Vec<bool>, AllocError>
     ensures { IfOk result (λ marks. marks.items ≡ map (is_far (names_of at (map said_of statements.now))) (spots_of at (map said_of statements.now))) }
 {

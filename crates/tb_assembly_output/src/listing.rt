@@ -10,8 +10,8 @@ use tb_assembly_files::{Place, SourceFile, text_at};
 use tb_assembly_meaning::{Laid, Spot};
 use tb_assembly_text::Clause;
 use tb_disasm::{disassemble, first_line, write_byte, write_item, write_word};
-use tb_parser::next_line;
 use tb_source_text::{cut, push_shown};
+use tb_text::next_line;
 
 // How many bytes of data are in a row.
 const ROW: usize = 16;

@@ -1,4 +1,7 @@
-//! What there is to say of an assembler text: all that is wrong with it, each with its line, its place, and what helps.
+//! What there is to say of an assembler text: all that is wrong with it, each with its line, its place, and what
+//! helps.
+//!
+//! `report` is that text by its definition (`specs/Reports`): each row, each line, each caret, each note.
 #![tactic(auto)]
 
 mod causes;

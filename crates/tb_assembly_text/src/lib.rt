@@ -1,4 +1,8 @@
-//! Assembler text as people write it: the tokens of a line, its expressions, and its statements, or the line's first fault.
+//! Assembler text as people write it: the tokens of a line, its expressions, and its statements, or the line's first
+//! fault.
+//!
+//! `read_line` appends the statements of a line by their definition (`said_in`), or answers its first fault
+//! (`pushes`). The label to which local names belong is then the line's last, if it has one (`scope`).
 #![tactic(auto)]
 
 mod expressions;

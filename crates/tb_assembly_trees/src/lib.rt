@@ -1,4 +1,8 @@
 //! How the operators of expressions bind: laws, each the contract of a function that does nothing.
+//!
+//! An expression that is written with precedence is a tree whose operators bind as they should (`IsBound`). It is read
+//! as the steps of that tree (`reads_trees`). Its value is the tree's: the value of its operands, and of its operator
+//! with them, or the first fault among them (`values_of_trees`).
 #![tactic(auto)]
 
 ghost use Rattle.tb_assembly_trees.specs.Laws.{ReadsTrees, RunsTrees, ValuesOfTrees};

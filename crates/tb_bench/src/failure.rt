@@ -1,15 +1,14 @@
 //! Why no answer is written.
 use std::alloc::{AllocError, AllocFailed};
 use tb_asm::{AsmError, AsmErrorKind, TextError};
-use tb_codegen::CompileError;
+use tb_compiled::CompileError;
 use tb_disasm::ListError;
 use tb_disk::DiskError;
-use tb_driver::KeyError;
-use tb_lower::LowerError;
+use tb_meaning::LowerError;
 use tb_memmap::LoadError;
 use tb_parser::{SourceError, SourceErrorKind};
 use tb_prg::PrgError;
-use tb_streams::InputError;
+use tb_streams::{InputError, KeyError};
 use thiserror::Error;
 
 /// Why no answer is written.

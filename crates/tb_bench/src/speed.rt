@@ -30,7 +30,7 @@ const LOOP: [u8; 12] = [
     0xe8, 0xd0, 0xfd, 0xc8, 0xd0, 0xfa, 0xee, 0x00, 0xc0, 0x4c, 0x00, 0x0c,
 ];
 
-// The same at $C000, where people put their routines.
+// The tight loop at $C000, where people put their routines.
 const HIGH: [u8; 12] = [
     0xe8, 0xd0, 0xfd, 0xc8, 0xd0, 0xfa, 0xee, 0x00, 0xc1, 0x4c, 0x00, 0xc0,
 ];
@@ -69,7 +69,7 @@ fn measure_steps<R: Clock + AllocGlobal>(
     Ok((millis_since(rt, start)?, regs.pc))
 }
 
-// The same for this many events of the machine.
+// Runs a program for this many events of the machine: the milliseconds that it took, and the PC after it.
 fn measure<R: Clock + AllocGlobal, O: Outside + Drop>(
     rt: &R,
     program: Program,

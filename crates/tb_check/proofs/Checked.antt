@@ -4,9 +4,9 @@ use Rattle.tb_syntax.specs.Source.{Program}
 use Rattle.tb_parser.specs.declared.errors.LineFault.{LineFault}
 use Rattle.tb_parser.specs.declared.errors.SourceError.{SourceError}
 use Rattle.tb_parser.specs.Answers.{refusal_of}
-use Rattle.tb_parser.specs.declared.notation.Notation.{Notation}
+use Rattle.tb_text.specs.declared.notation.Notation.{Notation}
 use Rattle.tb_parser.specs.Files.{LinesIn, edited, end as lines_end, bad as lines_bad, good as lines_good, at_end, refused_at}
-use Rattle.tb_parser.specs.Lines.{lines_from, lines_of_file}
+use Rattle.tb_text.specs.Lines.{lines_from, lines_of_file}
 use Rattle.tb_parser.specs.Readings.{Edit, LineIn, Refusal}
 use Rattle.tb_check.specs.BadLines.{BadLinesAre, none, good, bad, FirstIs}
 

@@ -5,7 +5,7 @@ use Rattle.std.specs.Prelude.{nat_lt, not}
 use Rattle.std.proofs.lemmas.Bool.Decides.{nat_tests}
 use Rattle.std.proofs.lemmas.Bool.{eqb-true}
 use Rattle.tb_syntax.specs.Source.{Program, Statement}
-use Rattle.tb_lower.specs.Need.{statement_need}
+use Rattle.tb_meaning.specs.Need.{statement_need}
 use Rattle.tb_parser.specs.Files.{line_at, with_line, without_line}
 use Rattle.tb_check.specs.Entries.{Entry, deep_here, deep_of, is_deep, is_one_of, numbered_of}
 use Rattle.tb_check.specs.Lines.{with_entries, with_entry}

@@ -2,9 +2,9 @@
 use Rattle.std.proofs.Common.{◌≡◌, ℕ, ◌+◌, List, [], ◌∷◌, ◌++◌, map, Some, None, Ok, refl, ap, sym, ◌∙◌, subst, append_assoc, append-nil, option_map, inl}
 use Rattle.std.proofs.lemmas.List.{map-append}
 use Rattle.tb_syntax.specs.Source.{Program}
-use Rattle.tb_parser.specs.declared.notation.Notation.{Notation}
+use Rattle.tb_text.specs.declared.notation.Notation.{Notation}
 use Rattle.tb_parser.specs.Files.{edited}
-use Rattle.tb_parser.specs.Lines.{lines_from, lines_of_file}
+use Rattle.tb_text.specs.Lines.{lines_from, lines_of_file}
 use Rattle.tb_parser.specs.Readings.{Edit, LineIn, Nothing, Sets, Deletes}
 use Rattle.tb_check.specs.Entries.{Entry, EntriesAre, IsEntry, entry_by, numbered_of, none, left_out, entered}
 use Rattle.tb_check.specs.Lines.{pushed, with_entries, with_entry}

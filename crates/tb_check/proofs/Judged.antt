@@ -6,9 +6,9 @@ use Rattle.tb_syntax.specs.Source.{Program}
 use Rattle.tb_syntax.specs.declared.statements.Statement.{Statement}
 use Rattle.tb_meaning.specs.Cost.{cost}
 use Rattle.tb_parser.specs.Files.{at_end}
-use Rattle.tb_parser.specs.declared.notation.Notation.{Notation}
-use Rattle.tb_parser.specs.Lines.{lines_of_file}
-use Rattle.tb_codegen.specs.Answers.{SourceMakes}
+use Rattle.tb_text.specs.declared.notation.Notation.{Notation}
+use Rattle.tb_text.specs.Lines.{lines_of_file}
+use Rattle.tb_compiled.specs.Answers.{SourceMakes}
 use Rattle.tb_check.specs.declared.settings.CheckSettings.{CheckSettings}
 use Rattle.tb_check.specs.BadLines.{BadLinesAre, FirstIs}
 use Rattle.tb_check.specs.Entries.{DeepLinesAre}
@@ -27,6 +27,7 @@ use Rattle.tb_check.specs.declared.warnings.LineWarning.{LineWarning}
 use Rattle.tb_check.proofs.Checked.{first_is}
 use Rattle.tb_check.proofs.Depth.{deep_of_file}
 use Rattle.tb_check.proofs.Makes.{made, made_small, some_left}
+use Rattle.tb_compiled.specs.Promise.{Own}
 
 module _ (notation : Notation) (source : List ℕ) (lines : SourceLines) (read : AreRead notation source lines) where
   -- the cost of the program can be counted
@@ -37,8 +38,8 @@ module _ (notation : Notation) (source : List ℕ) (lines : SourceLines) (read :
   pub made_some : lines.bad.items ≡ [] → lines.program ≢ [] → SourceMakes notation source (Ok (lines_of lines.program))
   made_some none some = some_left notation source lines.program some (made notation source lines read none)
 
-module _ (settings : CheckSettings) (source : List ℕ) (lines : SourceLines) (read : AreRead settings.notation source lines) where
-  judged : (v : Verdict) → JudgesLines settings.size lines.bad.items lines.program v → Judges settings source v
+module _ (own : Own) (settings : CheckSettings) (source : List ℕ) (lines : SourceLines) (read : AreRead settings.notation source lines) where
+  judged : (v : Verdict) → JudgesLines own settings.size lines.bad.items lines.program v → Judges own settings source v
   judged (BadLines found) j = (
     subst (BadLinesAre settings.notation 1 (lines_of_file source)) (sym j.0) read.bad,
     subst (FirstIs settings.notation source) (sym j.0) (first_is settings.notation source lines.bad.items read.bad),
@@ -51,7 +52,7 @@ module _ (settings : CheckSettings) (source : List ℕ) (lines : SourceLines) (r
   judged (Accepted p) j = (lines_of lines.program, made_some settings.notation source lines read j.0 j.1, j.2)
 
   -- the clause `judged` of `judge`
-  pub judged_on : {E : Type 0} (r : Result Verdict E) → IfOk r (JudgesLines settings.size lines.bad.items lines.program) → IfOk r (Judges settings source)
+  pub judged_on : {E : Type 0} (r : Result Verdict E) → IfOk r (JudgesLines own settings.size lines.bad.items lines.program) → IfOk r (Judges own settings source)
   judged_on (Ok v) j = judged v j
   judged_on (Err e) j = tt
 
@@ -72,7 +73,7 @@ module _ (settings : CheckSettings) (source : List ℕ) (lines : SourceLines) (r
   abbrev Warned : Program → List LineWarning → Type 0
   Warned p found = found ≡ warnings_on p lines.numbered.items
 
-  told : (v : Verdict) (f : Findings) → JudgesLines settings.size lines.bad.items lines.program v → Tells settings.notation (lines_of_file source) Remain Warned v f
+  told : (v : Verdict) (f : Findings) → JudgesLines own settings.size lines.bad.items lines.program v → Tells settings.notation (lines_of_file source) Remain Warned v f
       → Tells settings.notation (lines_of_file source) AreDeep (WarningsAre settings.notation source) v f
   told (BadLines errors) (findings.BadLines bad) j t = t
   told (BadLines errors) findings.Empty j t = t
@@ -96,7 +97,7 @@ module _ (settings : CheckSettings) (source : List ℕ) (lines : SourceLines) (r
 
   -- the clause `findings` of `examine`
   pub found_on : (v : Verdict) (f : Findings) (texts : List (List ℕ)) (numbered : List NumberedLine) → texts ≡ texts_of lines → numbered ≡ lines.numbered.items
-      → JudgesLines settings.size lines.bad.items lines.program v → ToldBy texts numbered v f → AreFindings settings source f
+      → JudgesLines own settings.size lines.bad.items lines.program v → ToldBy texts numbered v f → AreFindings own settings source f
   found_on v f texts numbered written same j t =
       let here = subst (λ ls. ToldBy ls numbered v f) (written ∙ read.texts) t in
       (v, judged v j, told v f j (subst (λ ns. ToldBy (lines_of_file source) ns v f) same here))

@@ -10,10 +10,6 @@ pub mod Makes
 -- ── verdicts ──
 -- lines that are too deep
 pub mod Depth
--- items that differ in nothing but bytes settle alike
-pub mod Shapes
--- the first state of RND doesn't change a program's size
-pub mod Seeds
 -- the verdict and the compiler's answer
 pub mod Agreed
 -- what the compiler tells of a program's size

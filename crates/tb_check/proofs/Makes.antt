@@ -4,15 +4,15 @@ use Rattle.tb_syntax.specs.Source.{Program, Statement}
 use Rattle.tb_syntax.specs.PlainData.{lines_of}
 use Rattle.tb_syntax.specs.declared.statements.Statement.{Statement as RustStatement}
 use Rattle.tb_meaning.specs.Cost.{cost}
-use Rattle.tb_parser.specs.declared.notation.Notation.{Notation}
+use Rattle.tb_text.specs.declared.notation.Notation.{Notation}
 use Rattle.tb_parser.specs.Files.{LinesIn, at_end, edited, end, good}
-use Rattle.tb_parser.specs.Lines.{lines_of_file}
+use Rattle.tb_text.specs.Lines.{lines_of_file}
 use Rattle.tb_parser.specs.Readings.{Edit, LineIn, Nothing, Sets, Deletes}
 use Rattle.tb_parser.proofs.Rising.{lines_rise}
 use Rattle.tb_parser.proofs.Texts.{lines_stated}
 use Rattle.tb_parser.proofs.Unique.{line_one, ok_err}
-use Rattle.tb_codegen.specs.Answers.{SourceMakes}
-use Rattle.tb_codegen.proofs.SmallPrograms.{are_small, cost_small}
+use Rattle.tb_compiled.specs.Answers.{SourceMakes}
+use Rattle.tb_compiled.proofs.SmallPrograms.{are_small, cost_small}
 use Rattle.tb_check.specs.BadLines.{BadLinesAre, none as no_bad, good as good_line}
 use Rattle.tb_check.specs.Entries.{Entry, EntriesAre, IsEntry, none, left_out, entered}
 use Rattle.tb_check.specs.Lines.{AreRead, with_entries, with_entry}

@@ -1,8 +1,8 @@
 -- The loop that reads the lines of a file.
 use Rattle.std.proofs.Common.{◌≡◌, ℕ, ◌+◌, List, [], ◌∷◌, ◌++◌, ap, sym, ◌∙◌, append_assoc, append-nil, inl, inr}
 use Rattle.tb_syntax.specs.PlainData.{lines_of}
-use Rattle.tb_parser.specs.declared.notation.Notation.{Notation}
-use Rattle.tb_parser.specs.Lines.{lines_from, lines_of_file}
+use Rattle.tb_text.specs.declared.notation.Notation.{Notation}
+use Rattle.tb_text.specs.Lines.{lines_from, lines_of_file}
 use Rattle.tb_check.specs.Lines.{AreRead, Says, texts_of}
 use Rattle.tb_check.specs.declared.lines.SourceLines.{SourceLines}
 use Rattle.tb_check.proofs.Checked.{FoundTo, no_line, past_bad_line, past_good_line}

@@ -1,24 +1,21 @@
 -- A verdict compared with what the compiler answers.
 use Rattle.std.specs.Prelude.{◌≡◌, ℕ, List, [], ◌∷◌, Option, Some, None, Result, Ok, Err}
-use Rattle.tb_lower.specs.declared.lowering.LowerError.TheVariants as deep
+use Rattle.tb_meaning.specs.declared.needs.LowerError.TheVariants as deep
 use Rattle.tb_parser.specs.declared.errors.SourceError.{SourceError}
 use Rattle.tb_parser.specs.declared.errors.SourceErrorKind.TheVariants as kind
 use Rattle.tb_parser.specs.Answers.{refusal_of}
-use Rattle.tb_parser.specs.Files.{Outcome, refused_at}
+use Rattle.tb_parser.specs.Files.{refused_at}
 use Rattle.tb_parser.specs.Readings.{Refusal, at_column}
 use Rattle.tb_compile_errors.specs.declared.refusals.CompileError.TheVariants.{Source, Lower, TooLarge, NoMemory}
 use Rattle.tb_compile_errors.specs.declared.refusals.CompileError.{CompileError}
-use Rattle.tb_codegen.specs.Answers.{OutcomeAnswer, RefusalAnswer, SourceMakes}
-use Rattle.tb_codegen.specs.declared.compiled.Compiled.{Compiled}
-use Rattle.tb_codegen.specs.declared.settings.CompileSettings.{CompileSettings}
+use Rattle.tb_compiled.specs.Answers.{AnswersFor, RefusalAnswer}
+use Rattle.tb_compiled.specs.Promise.{Own}
+use Rattle.tb_compiled.specs.declared.compiled.Compiled.{Compiled}
+use Rattle.tb_compiled.specs.declared.settings.CompileSettings.{CompileSettings}
 use Rattle.tb_check.specs.declared.settings.CheckSettings.{CheckSettings}
 use Rattle.tb_check.specs.declared.judging.ProgramFaults.{ProgramFaults}
 use Rattle.tb_check.specs.declared.judging.Verdict.{Verdict}
 use Rattle.tb_check.specs.declared.judging.Verdict.TheVariants.{BadLines, Empty, Refused, Accepted}
-
--- what the compiler promises of its answer for a source
-abbrev pub Compiles : CompileSettings → List ℕ → Result Compiled CompileError → Type 0
-Compiles settings source answer = (outcome : Outcome) → SourceMakes settings.notation source outcome → OutcomeAnswer settings outcome answer
 
 -- the compiler's refusal is the first of the bad lines
 abbrev pub RefusesFirst : List SourceError → Result Compiled CompileError → Type 0
@@ -57,7 +54,7 @@ AgreesWith (Accepted p) answer = Accepts answer
 abbrev pub with_seed : ℕ → CheckSettings → CompileSettings
 with_seed seed settings = record { seed = seed; size = settings.size; notation = settings.notation }
 
--- whatever the compiler may answer for a source, with any seed, agrees with a verdict
-abbrev pub Agrees : CheckSettings → List ℕ → Verdict → Type 0
-Agrees settings source v =
-    (seed : ℕ) (answer : Result Compiled CompileError) → Compiles (with_seed seed settings) source answer → AgreesWith v answer
+-- whatever a compiler may answer for a source, with any seed, agrees with a verdict
+abbrev pub Agrees : Own → CheckSettings → List ℕ → Verdict → Type 0
+Agrees own settings source v =
+    (seed : ℕ) (answer : Result Compiled CompileError) → AnswersFor own (with_seed seed settings) source answer → AgreesWith v answer

@@ -3,9 +3,9 @@ use Rattle.std.specs.Prelude.{◌≡◌, ℕ, ◌+◌, List, [], ◌∷◌, Some
 use Rattle.tb_syntax.specs.Source.{Program}
 use Rattle.tb_parser.specs.declared.errors.SourceError.{SourceError}
 use Rattle.tb_parser.specs.Answers.{refusal_of}
-use Rattle.tb_parser.specs.declared.notation.Notation.{Notation}
+use Rattle.tb_text.specs.declared.notation.Notation.{Notation}
 use Rattle.tb_parser.specs.Files.{LinesIn, at_end, refused_at}
-use Rattle.tb_parser.specs.Lines.{lines_of_file}
+use Rattle.tb_text.specs.Lines.{lines_of_file}
 use Rattle.tb_parser.specs.Readings.{Edit, LineIn, Refusal}
 
 -- the bad ones of lines of which the first has the number n, each with its first fault

@@ -3,9 +3,9 @@ use Rattle.std.specs.Prelude.{◌≡◌, ◌⊎◌, ℕ, ◌+◌, nat_lt, Bool, 
 use Rattle.std.specs.Prelude.{◌∷◌, ◌++◌, map, Option, Some, None, is_none, Ok, Err}
 use Rattle.std.specs.List.{list_any}
 use Rattle.tb_syntax.specs.Source.{Statement}
-use Rattle.tb_lower.specs.Need.{statement_need}
-use Rattle.tb_parser.specs.declared.notation.Notation.{Notation}
-use Rattle.tb_parser.specs.Lines.{lines_of_file}
+use Rattle.tb_meaning.specs.Need.{statement_need}
+use Rattle.tb_text.specs.declared.notation.Notation.{Notation}
+use Rattle.tb_text.specs.Lines.{lines_of_file}
 use Rattle.tb_parser.specs.Readings.{Edit, LineIn, Refusal, Nothing, Sets, Deletes}
 use Rattle.tb_check.specs.declared.lines.NumberedLine.{NumberedLine}
 

@@ -5,19 +5,20 @@ use Rattle.std.specs.List.{slice_get}
 use Rattle.tb_syntax.specs.PlainData.{lines_of}
 use Rattle.tb_syntax.specs.Source.{Program}
 use Rattle.tb_parser.specs.declared.errors.SourceError.{SourceError}
-use Rattle.tb_parser.specs.Lines.{lines_of_file}
+use Rattle.tb_text.specs.Lines.{lines_of_file}
 use Rattle.tb_check.specs.Entries.{DeepLinesAre, Entry, EntriesAre, numbered_of}
 use Rattle.tb_check.specs.Notes.{note_on}
 use Rattle.tb_check.specs.Verdicts.{Judges}
 use Rattle.tb_check.specs.Warnings.{warnings_on}
 use Rattle.tb_check.specs.declared.judging.Verdict.{Verdict}
 use Rattle.tb_check.specs.declared.judging.Verdict.TheVariants as verdict
-use Rattle.tb_parser.specs.declared.notation.Notation.{Notation}
+use Rattle.tb_text.specs.declared.notation.Notation.{Notation}
 use Rattle.tb_check.specs.declared.settings.CheckSettings.{CheckSettings}
 use Rattle.tb_check.specs.declared.examination.BadLine.{BadLine}
 use Rattle.tb_check.specs.declared.examination.Findings.{Findings}
 use Rattle.tb_check.specs.declared.examination.Findings.TheVariants.{BadLines, Empty, Refused, Accepted}
 use Rattle.tb_check.specs.declared.warnings.LineWarning.{LineWarning}
+use Rattle.tb_compiled.specs.Promise.{Own}
 
 -- a fault of one of these lines in a notation, with its note
 abbrev pub noted : Notation → List (List ℕ) → SourceError → BadLine
@@ -38,7 +39,7 @@ abbrev pub WarningsAre : Notation → List ℕ → Program → List LineWarning 
 WarningsAre notation source p found = (es : List Entry) × EntriesAre notation 1 (lines_of_file source) es × (found ≡ warnings_on p (map numbered_of es))
 
 -- findings of a source
-abbrev pub AreFindings : CheckSettings → List ℕ → Findings → Type 0
-AreFindings settings source f =
-    (v : Verdict) × Judges settings source v
+abbrev pub AreFindings : Own → CheckSettings → List ℕ → Findings → Type 0
+AreFindings own settings source f =
+    (v : Verdict) × Judges own settings source v
     × Tells settings.notation (lines_of_file source) (λ numbers deep. DeepLinesAre settings.notation source deep) (WarningsAre settings.notation source) v f

@@ -5,8 +5,8 @@ use Rattle.tb_syntax.specs.PlainData.{lines_of}
 use Rattle.tb_parser.specs.declared.errors.LineFault.{LineFault}
 use Rattle.tb_parser.specs.Answers.{refusal_of}
 use Rattle.tb_parser.specs.Files.{edited, with_line, without_line}
-use Rattle.tb_parser.specs.declared.notation.Notation.{Notation}
-use Rattle.tb_parser.specs.Lines.{lines_of_file}
+use Rattle.tb_text.specs.declared.notation.Notation.{Notation}
+use Rattle.tb_text.specs.Lines.{lines_of_file}
 use Rattle.tb_parser.specs.Readings.{Edit, LineIn, Refusal}
 use Rattle.tb_check.specs.BadLines.{BadLinesAre}
 use Rattle.tb_check.specs.Entries.{Entry, EntriesAre, entry_by, numbered_of}

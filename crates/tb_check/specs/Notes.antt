@@ -7,8 +7,8 @@ use Rattle.std.specs.List.{slice_get, starts_with, ends_with}
 use Rattle.tb_parser.specs.declared.errors.SourceError.{SourceError}
 use Rattle.tb_parser.specs.declared.errors.SourceErrorKind.{SourceErrorKind}
 use Rattle.tb_parser.specs.declared.errors.SourceErrorKind.TheVariants.{BadByte, NotCompiled, Syntax}
-use Rattle.tb_parser.specs.declared.notation.Notation.{Notation}
-use Rattle.tb_parser.specs.declared.notation.Notation.TheVariants.{Plain, Signs}
+use Rattle.tb_text.specs.declared.notation.Notation.{Notation}
+use Rattle.tb_text.specs.declared.notation.Notation.TheVariants.{Plain, Signs}
 use Rattle.tb_signs.specs.Names.{byte_named}
 use Rattle.tb_signs.specs.Near.{near_name}
 use Rattle.tb_check.specs.declared.notes.Note.{Note}

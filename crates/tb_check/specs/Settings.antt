@@ -1,6 +1,6 @@
 -- How sources are checked.
-use Rattle.tb_parser.specs.declared.notation.Notation.{Notation}
-use Rattle.tb_codegen.specs.declared.settings.SizeLimit.TheVariants.{Cost}
+use Rattle.tb_text.specs.declared.notation.Notation.{Notation}
+use Rattle.tb_compiled.specs.declared.settings.SizeLimit.TheVariants.{Cost}
 use Rattle.tb_check.specs.declared.settings.CheckSettings.{CheckSettings}
 
 -- with a notation, and too large by the cost

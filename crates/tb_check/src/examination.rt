@@ -1,6 +1,6 @@
 //! All that there is to say of a source.
 ghost use Rattle.std.specs.Prelude.{◌≡◌, ◌∷◌, ◌++◌, [], IfOk, OnOk, map};
-ghost use Rattle.tb_parser.specs.Lines.{lines_of_file};
+ghost use Rattle.tb_text.specs.Lines.{lines_of_file};
 ghost use Rattle.tb_check.specs.Findings.{AreFindings, Tells, noted};
 ghost use Rattle.tb_check.specs.Remaining.{remaining};
 ghost use Rattle.tb_check.specs.Warnings.{warnings_on};
@@ -12,7 +12,9 @@ use crate::remaining::remaining_lines;
 use crate::settings::CheckSettings;
 use crate::warnings::{LineWarning, warnings};
 use std::alloc::{AllocError, Global};
-use tb_parser::{Notation, SourceError};
+use tb_compiled::Compile;
+use tb_parser::SourceError;
+use tb_text::Notation;
 
 /// A bad line's first fault, with a note if there is one.
 #[derive(Clone, Copy, Drop)]
@@ -48,16 +50,17 @@ pub struct Examined<'a> {
 }
 
 /// Looks at a source. Fails only if memory runs out.
-pub fn examine(
+pub fn examine<'a, K: Compile>(
+    compiler: &K,
     alloc: Global,
-    source: &[u8],
+    source: &'a [u8],
     settings: CheckSettings,
-) -> Result<Examined<'_>, AllocError>
+) -> Result<Examined<'a>, AllocError>
     ensures lines { IfOk result (λ seen. map (λ t. t.now) seen.lines.items ≡ lines_of_file source.now) }
-    ensures findings { IfOk result (λ seen. AreFindings settings source.now seen.findings) }
+    ensures findings { IfOk result (λ seen. AreFindings K.own settings source.now seen.findings) }
 {
     let lines = read_lines(alloc, source, settings.notation)?;
-    let verdict = verdict_on(alloc, source, lines.bad, lines.program, settings)?;
+    let verdict = verdict_on(compiler, alloc, source, lines.bad, lines.program, settings)?;
     let looked = Looked {
         notation: settings.notation,
         texts: &lines.texts,

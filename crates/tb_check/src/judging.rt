@@ -3,18 +3,16 @@ ghost use Rattle.std.specs.Prelude.{◌≡◌, ◌≢◌, ◌<◌, ◌↔◌, []
 ghost use Rattle.tb_syntax.specs.PlainData.{lines_of};
 ghost use Rattle.tb_meaning.specs.Cost as costs;
 ghost use Rattle.tb_check.specs.Agreement.{Agrees};
-ghost use Rattle.tb_codegen.specs.Answers.{SourceMakes};
-ghost use Rattle.tb_codegen.specs.Refusals.{IsExcess};
-ghost use Rattle.tb_codegen.specs.declared.settings.SizeLimit.TheVariants.{Cost, Memory};
+ghost use Rattle.tb_compiled.specs.Answers.{SourceMakes};
+ghost use Rattle.tb_compiled.specs.Refusals.{IsExcess};
+ghost use Rattle.tb_compiled.specs.declared.settings.SizeLimit.TheVariants.{Cost, Memory};
 ghost use Rattle.tb_check.specs.Verdicts.{HasFaults, Judges, JudgesLines, JudgesProgram, MakesShallow, TellsSizeOf, deep_lines};
 
 use crate::lines::read_lines;
 use crate::settings::CheckSettings;
 use std::alloc::{AllocError, Global};
-use tb_codegen::{
-    CompileError, CompileSettings, MOST_COST, Notation, SizeLimit, compile_within, cost,
-};
-use tb_lower::{SLOT_COUNT, statement_need};
+use tb_compiled::{Compile, CompileError, CompileSettings, MOST_COST, Notation, SizeLimit, cost};
+use tb_meaning::{SLOT_COUNT, statement_need};
 use tb_parser::SourceError;
 use tb_syntax::Program;
 
@@ -54,17 +52,23 @@ pub enum Verdict {
 const SEED: u16 = 1;
 
 /// Judges a source. Fails only if memory runs out.
-pub fn judge(alloc: Global, source: &[u8], settings: CheckSettings) -> Result<Verdict, AllocError>
-    ensures judged { IfOk result (Judges settings source.now) }
+pub fn judge<K: Compile>(
+    compiler: &K,
+    alloc: Global,
+    source: &[u8],
+    settings: CheckSettings,
+) -> Result<Verdict, AllocError>
+    ensures judged { IfOk result (Judges K.own settings source.now) }
     // What the compiler answers agrees with it.
-    ensures agrees { IfOk result (Agrees settings source.now) }
+    ensures agrees { IfOk result (Agrees K.own settings source.now) }
 {
     let lines = read_lines(alloc, source, settings.notation)?;
-    verdict_on(alloc, source, lines.bad, lines.program, settings)
+    verdict_on(compiler, alloc, source, lines.bad, lines.program, settings)
 }
 
 /// Judges the bad lines of a source and the program that its other lines make.
-pub fn verdict_on(
+pub fn verdict_on<K: Compile>(
+    compiler: &K,
     alloc: Global,
     source: &[u8],
     bad: Vec<SourceError>,
@@ -73,18 +77,19 @@ pub fn verdict_on(
 ) -> Result<Verdict, AllocError>
     requires small { bad.items ≡ [] → costs.cost (lines_of program) < 4294967296 }
     requires made { bad.items ≡ [] → program ≢ [] → SourceMakes settings.notation source.now (Ok (lines_of program)) }
-    ensures { IfOk result (JudgesLines settings.size bad.items program) }
+    ensures { IfOk result (JudgesLines K.own settings.size bad.items program) }
 {
     if !bad.is_empty() {
         Ok(Verdict::BadLines(bad))
     } else if program.is_empty() {
         Ok(Verdict::Empty)
     } else {
-        judge_program(alloc, source, program, settings)
+        judge_program(compiler, alloc, source, program, settings)
     }
 }
 
-fn judge_program(
+fn judge_program<K: Compile>(
+    compiler: &K,
     alloc: Global,
     source: &[u8],
     program: Program,
@@ -92,9 +97,9 @@ fn judge_program(
 ) -> Result<Verdict, AllocError>
     requires small { costs.cost (lines_of program) < 4294967296 }
     requires made { SourceMakes settings.notation source.now (Ok (lines_of program)) }
-    ensures { IfOk result (JudgesProgram settings.size (lines_of program)) }
+    ensures { IfOk result (JudgesProgram K.own settings.size (lines_of program)) }
 {
-    let faults = faults_of(alloc, source, &program, settings)?;
+    let faults = faults_of(compiler, alloc, source, &program, settings)?;
     Ok(if faults.is_empty() {
         Verdict::Accepted(program)
     } else {
@@ -102,7 +107,8 @@ fn judge_program(
     })
 }
 
-fn faults_of(
+fn faults_of<K: Compile>(
+    compiler: &K,
     alloc: Global,
     source: &[u8],
     program: &Program,
@@ -110,12 +116,17 @@ fn faults_of(
 ) -> Result<ProgramFaults, AllocError>
     requires small { costs.cost (lines_of program.now) < 4294967296 }
     requires made { SourceMakes settings.notation source.now (Ok (lines_of program.now)) }
-    ensures { IfOk result (HasFaults settings.size (lines_of program.now)) }
+    ensures { IfOk result (HasFaults K.own settings.size (lines_of program.now)) }
 {
     let deep = deep_lines(alloc, program)?;
     let too_large = match settings.size {
         SizeLimit::Cost => excess(program),
-        SizeLimit::Memory if deep.is_empty() => overrun(alloc, source, settings.notation)?,
+        SizeLimit::Memory if deep.is_empty() => overrun(
+            compiler,
+            alloc,
+            source,
+            settings.notation,
+        )?,
         SizeLimit::Memory => None,
     };
     Ok(ProgramFaults { deep, too_large })
@@ -145,16 +156,21 @@ fn excess(program: &Program) -> Option<u32>
 
 // The bytes that a source's program takes, if those are too many. What the compiler promises is of sources, so the source
 // is read once more.
-fn overrun(alloc: Global, source: &[u8], notation: Notation) -> Result<Option<u32>, AllocError>
+fn overrun<K: Compile>(
+    compiler: &K,
+    alloc: Global,
+    source: &[u8],
+    notation: Notation,
+) -> Result<Option<u32>, AllocError>
     requires { MakesShallow notation source.now }
-    ensures { IfOk result (TellsSizeOf notation Memory source.now) }
+    ensures { IfOk result (TellsSizeOf K.own notation Memory source.now) }
 {
     let settings = CompileSettings {
         seed: SEED,
         size: SizeLimit::Memory,
         notation,
     };
-    match compile_within(alloc, source, settings) {
+    match compiler.compile(alloc, source, settings) {
         Ok(_) => Ok(None),
         Err(CompileError::TooLarge(bytes)) => Ok(Some(bytes)),
         Err(CompileError::NoMemory) => Err(AllocError),

@@ -1,17 +1,16 @@
 //! The lines of a source, each read once.
 ghost use Rattle.std.specs.Prelude.{◌≡◌, ◌≢◌, ◌∷◌, ◌++◌, [], IfOk, OnOk, option_map};
 ghost use Rattle.tb_parser.specs.Answers.{edit_of};
-ghost use Rattle.tb_parser.specs.Lines.{lines_of_file};
+ghost use Rattle.tb_text.specs.Lines.{lines_of_file};
 ghost use Rattle.tb_parser.specs.declared.errors.SourceErrorKind.TheVariants.{NoMemory};
 ghost use Rattle.tb_check.specs.BadLines.{BadLinesAre, FirstIs};
 ghost use Rattle.tb_check.specs.Entries.{entry_by, numbered_of};
 ghost use Rattle.tb_check.specs.Lines.{AreRead, DoesEdit, HasFault, Says, texts_of};
 
 use std::alloc::{AllocError, Global};
-use tb_parser::{
-    LineEdit, LineFault, Notation, SourceError, SourceErrorKind, apply, next_line, read_line_in,
-};
+use tb_parser::{LineEdit, LineFault, SourceError, SourceErrorKind, apply, read_line_in};
 use tb_syntax::Program;
+use tb_text::{Notation, next_line};
 
 /// A line of a file that has a number.
 #[derive(Clone, Copy, Drop)]
@@ -60,7 +59,7 @@ pub fn read_lines(
     Ok(lines)
 }
 
-/// The bad lines of a source, in order, each with its first fault: line and column as `compile` counts them. A bad line
+/// The bad lines of a source, in order, each with its first fault: line and column as compilers count them. A bad line
 /// hides no later one, and a line that is replaced later is looked at too.
 pub fn bad_lines(
     alloc: Global,

@@ -10,8 +10,9 @@ use crate::rules::note_by_rules;
 use crate::surroundings::code_around;
 use std::alloc::{AllocError, Global};
 use tb_grammar::THEN;
-use tb_parser::{Notation, SourceError, SourceErrorKind};
+use tb_parser::{SourceError, SourceErrorKind};
 use tb_signs::{byte_named, near_name};
+use tb_text::Notation;
 
 /// The bytes with which some editors begin a file.
 const BYTE_ORDER_MARK: &[u8] = &[0xef, 0xbb, 0xbf];
@@ -292,7 +293,7 @@ fn before_spaces(text: &[u8]) -> &[u8]
 #[derive(Drop)]
 struct Word<'a> {
     letters: &'a [u8],
-    // The same with the `$` that follows, if one does.
+    // The letters with the `$` that follows, if one does.
     whole: &'a [u8],
     // How many of the letters are before the place.
     before: usize,

@@ -1,5 +1,5 @@
 //! How sources are checked.
-use tb_codegen::{Notation, SizeLimit};
+use tb_compiled::{Notation, SizeLimit};
 
 /// How sources are checked.
 #[derive(Clone, Copy, Debug, PartialEq, Eq, Drop)]

@@ -20,7 +20,7 @@ pub enum Situation {
     Anywhere,
     /// PRINT was there.
     InPrint,
-    /// The same; and no letter is right before the place.
+    /// PRINT was there, and no letter is right before the place.
     AtItem,
     /// An IF has no relation behind it, and no letter is right before the place.
     WithoutRelation,

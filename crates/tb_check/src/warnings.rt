@@ -13,12 +13,12 @@ use crate::lines::NumberedLine;
 use crate::remaining::{last_lines, outdone_by};
 use std::alloc::{AllocError, Global};
 use tb_meaning::{Warning as MissingJump, constant, warnings as missing_jumps};
-use tb_syntax::{Expr, Operator, PrintItem, Program, Statement};
+use tb_syntax::{Expr, HIGHEST_LINE, Operator, PrintItem, Program, Statement};
 
 /// The largest bound of RND that is warned of: there is a better one for each up to it.
 const LARGEST_BOUND: u16 = 15_000;
 
-/// The highest number of a line, and the largest one of a variable.
+/// The largest number of a variable.
 const HIGHEST_NUMBER: u16 = 32_767;
 
 /// What there is to warn of.
@@ -204,7 +204,7 @@ fn warn_of_targets(
 {
     match statement {
         Statement::Goto(Expr::Number(target)) | Statement::Gosub(Expr::Number(target))
-            if HIGHEST_NUMBER < *target => { push(found, line, Warning::HighTarget(*target)) }
+            if HIGHEST_LINE < *target => { push(found, line, Warning::HighTarget(*target)) }
         Statement::If(_, _, _, statement) => warn_of_targets(line, statement, found),
         _ => Ok(()),
     }

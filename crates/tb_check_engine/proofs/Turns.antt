@@ -16,6 +16,7 @@ use Rattle.tb_check_engine.specs.declared.engine.Seen.{Seen}
 use Rattle.tb_check_engine.specs.declared.engine.Seen.TheVariants as seen
 use Rattle.tb_check_engine.specs.Outcomes.{CheckOutcome}
 use Rattle.tb_streams.specs.declared.outcome.Outcome.TheVariants.{Ended, Refused, ReadFault, WriteFault, NoMemory}
+use Rattle.tb_compiled.specs.Promise.{Own}
 
 -- the turn of a source
 abbrev pub turn_of : List ℕ → Look → Turn
@@ -25,22 +26,22 @@ turn_of name look = record { name = name; look = look }
 abbrev pub marks : Bool → Bool → Marks
 marks refused unread = record { is_refused = refused; is_unread = unread }
 
-module _ {S : Type 0} (reads : S → List ℕ → Result (List ℕ) InputError → S → Type 0) (settings : CheckSettings) where
+module _ {S : Type 0} (own : Own) (reads : S → List ℕ → Result (List ℕ) InputError → S → Type 0) (settings : CheckSettings) where
   -- one more source was looked at
-  looks_more : (s t u : S) (turns : List Turn) (turn : Turn) → Looks reads settings s turns t → IsLook reads settings t turn.name turn.look u
-      → Looks reads settings s (turns ++ turn ∷ []) u
-  looks_more s t u [] turn same last = (u, subst (λ t. IsLook reads settings t turn.name turn.look u) same last, refl)
+  looks_more : (s t u : S) (turns : List Turn) (turn : Turn) → Looks own reads settings s turns t → IsLook own reads settings t turn.name turn.look u
+      → Looks own reads settings s (turns ++ turn ∷ []) u
+  looks_more s t u [] turn same last = (u, subst (λ t. IsLook own reads settings t turn.name turn.look u) same last, refl)
   looks_more s t u (first ∷ turns) turn (r, one, others) last = (r, one, looks_more r t u turns turn others last)
 
   -- no source was told of yet
-  told_none : (s : S) (names : List (List ℕ)) (old : Option (List ℕ)) → Told reads settings s (take 0 names) old s old
+  told_none : (s : S) (names : List (List ℕ)) (old : Option (List ℕ)) → Told own reads settings s (take 0 names) old s old
   told_none s names old = record { turns = []; named = refl; looks = refl; wrote = Appends-nil old }
 
   -- one more source was told of
   told_more : (s t u : S) (names : List (List ℕ)) (i : ℕ) (old mid new : Option (List ℕ)) (name : List ℕ) (look : Look)
-      → i < length names → name ≡ get_or names i [] → (told : Told reads settings s (take i names) old t mid)
-      → IsLook reads settings t name look u → Appends mid new (said_of name look)
-      → Told reads settings s (take (i + 1) names) old u new
+      → i < length names → name ≡ get_or names i [] → (told : Told own reads settings s (take i names) old t mid)
+      → IsLook own reads settings t name look u → Appends mid new (said_of name look)
+      → Told own reads settings s (take (i + 1) names) old u new
   told_more s t u names i old mid new name look within is told last wrote =
       record {
         turns = told.turns ++ turn_of name look ∷ [];
@@ -54,7 +55,7 @@ module _ {S : Type 0} (reads : S → List ℕ → Result (List ℕ) InputError �
 
   -- a source was read, and told of as far as its writer took it
   pub next_told : (s t : S) (name source read : List ℕ) (answer : Result Seen CheckOutcome) (old new : Option (List ℕ)) → source ≡ read
-      → reads s name (Ok read) t → Tells settings name source answer old new → ChecksNext reads settings s name old answer t new
+      → reads s name (Ok read) t → Tells own settings name source answer old new → ChecksNext own reads settings s name old answer t new
   next_told s t name source read (Ok answer) old new same gave (found, are, wrote, is) =
       (Saw source found, (subst (λ x. reads s name (Ok x) t) (sym same) gave, are), wrote, is)
   next_told s t name source read (Err WriteFault) old new same gave (found, are, wrote) =
@@ -66,19 +67,19 @@ module _ {S : Type 0} (reads : S → List ℕ → Result (List ℕ) InputError �
 
   -- a check that stops at a source
   pub stopped : (s t u : S) (names : List (List ℕ)) (i : ℕ) (old mid new : Option (List ℕ)) (name : List ℕ) (e : CheckOutcome)
-      → name ≡ get_or names i [] → Told reads settings s (take i names) old t mid
-      → ChecksNext reads settings t name mid (Err e) u new → Checks reads settings s names old e u new
+      → name ≡ get_or names i [] → Told own reads settings s (take i names) old t mid
+      → ChecksNext own reads settings t name mid (Err e) u new → Checks own reads settings s names old e u new
   stopped s t u names i old mid new name WriteFault is told (look, looks, wrote) =
-      (i, t, mid, told, look, subst (λ n. IsLook reads settings t n look u) is looks, subst (λ n. AppendsPrefix mid new (said_of n look)) is wrote)
+      (i, t, mid, told, look, subst (λ n. IsLook own reads settings t n look u) is looks, subst (λ n. AppendsPrefix mid new (said_of n look)) is wrote)
   stopped s t u names i old mid new name NoMemory is told (given, gave, kept) =
-      (i, t, subst (Told reads settings s (take i names) old t) (sym kept) told, given, subst (λ n. reads t n given u) is gave)
+      (i, t, subst (Told own reads settings s (take i names) old t) (sym kept) told, given, subst (λ n. reads t n given u) is gave)
   stopped s t u names i old mid new name (Ended end) is told none = absurd none
   stopped s t u names i old mid new name (Refused never) is told none = absurd none
   stopped s t u names i old mid new name ReadFault is told none = absurd none
 
   -- a check whose sources were all told of
-  pub ended : (refused unread : Bool) (s t : S) (names : List (List ℕ)) (old new : Option (List ℕ)) (told : Told reads settings s names old t new)
-      → marks refused unread ≡ marks_of told.turns → Checks reads settings s names old (ending (marks refused unread)) t new
+  pub ended : (refused unread : Bool) (s t : S) (names : List (List ℕ)) (old new : Option (List ℕ)) (told : Told own reads settings s names old t new)
+      → marks refused unread ≡ marks_of told.turns → Checks own reads settings s names old (ending (marks refused unread)) t new
   ended refused true s t names old new told is = (told, ap ending is)
   ended true false s t names old new told is = (told, ap ending is)
   ended false false s t names old new told is = (told, ap ending is)
@@ -115,33 +116,33 @@ marks_more turns name Missed =
     ap (λ b. marks b true) (sym (or_false refused) ∙ sym (list_any-append (λ t. is_refusal t.look) turns (turn ∷ [])))
     ∙ ap (λ b. marks (list_any (λ t. is_refusal t.look) (turns ++ turn ∷ [])) b) (sym (or_true unread) ∙ sym (list_any-append (λ t. is_miss t.look) turns (turn ∷ [])))
 
-module _ {S : Type 0} (reads : S → List ℕ → Result (List ℕ) InputError → S → Type 0) (settings : CheckSettings) where
+module _ {S : Type 0} (own : Own) (reads : S → List ℕ → Result (List ℕ) InputError → S → Type 0) (settings : CheckSettings) where
   -- sources were told of, and this is what came of them
   abbrev pub Stands : S → List (List ℕ) → Option (List ℕ) → S → Option (List ℕ) → Marks → Type 0
-  Stands s names old t new m = (told : Told reads settings s names old t new) × (m ≡ marks_of told.turns)
+  Stands s names old t new m = (told : Told own reads settings s names old t new) × (m ≡ marks_of told.turns)
 
   -- before the first source
   pub stands_first : (s : S) (names : List (List ℕ)) (old : Option (List ℕ)) → Stands s (take 0 names) old s old (marks false false)
   unfolding told_none
-  stands_first s names old = (told_none reads settings s names old, refl)
+  stands_first s names old = (told_none own reads settings s names old, refl)
 
   -- with one more source
   pub stands_more : (s t u : S) (names : List (List ℕ)) (i : ℕ) (old mid new : Option (List ℕ)) (name : List ℕ) (answer : Seen) (m n : Marks)
       → i < length names → name ≡ get_or names i [] → Stands s (take i names) old t mid m
-      → ChecksNext reads settings t name mid (Ok answer) u new → n ≡ marked m answer
+      → ChecksNext own reads settings t name mid (Ok answer) u new → n ≡ marked m answer
       → Stands s (take (i + 1) names) old u new n
   unfolding told_more
   stands_more s t u names i old mid new name answer m n within is (told, are) (look, looks, wrote, seen) with_it = (
-    told_more reads settings s t u names i old mid new name look within is told looks wrote,
+    told_more own reads settings s t u names i old mid new name look within is told looks wrote,
     with_it ∙ ap (λ m. marked m answer) are ∙ ap (marked (marks_of told.turns)) seen ∙ marks_more told.turns name look,
   )
 
   -- after the last source
   pub stands_last : (s t : S) (names : List (List ℕ)) (i : ℕ) (old new : Option (List ℕ)) (m : Marks) (e : CheckOutcome) → take i names ≡ names
-      → Stands s (take i names) old t new m → e ≡ ending m → Checks reads settings s names old e t new
+      → Stands s (take i names) old t new m → e ≡ ending m → Checks own reads settings s names old e t new
   stands_last s t names i old new m e all stands is =
       let (told, are) = subst (λ l. Stands s l old t new m) all stands in
-      subst (λ e. Checks reads settings s names old e t new) (sym is) (ended reads settings m.is_refused m.is_unread s t names old new told are)
+      subst (λ e. Checks own reads settings s names old e t new) (sym is) (ended own reads settings m.is_refused m.is_unread s t names old new told are)
 
 -- the name of the source whose turn it is
 pub named_at : (names : List (String Global)) (i : ℕ) (name : String Global) (text : List ℕ) → i < length names → name ≡ get_or names i name

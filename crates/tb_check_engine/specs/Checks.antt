@@ -8,7 +8,7 @@ use Rattle.tb_streams.specs.Streams.{AppendsPrefix}
 use Rattle.tb_streams.specs.declared.stream.InputError.{InputError}
 use Rattle.tb_streams.specs.declared.stream.InputError.TheVariants.{Fault}
 use Rattle.tb_check.specs.declared.settings.CheckSettings.{CheckSettings}
-use Rattle.tb_parser.specs.Lines.{lines_of_file}
+use Rattle.tb_text.specs.Lines.{lines_of_file}
 use Rattle.tb_check.specs.Findings.{AreFindings}
 use Rattle.tb_check.specs.declared.examination.Findings.{Findings}
 use Rattle.tb_check.specs.declared.examination.Findings.TheVariants as findings
@@ -19,6 +19,7 @@ use Rattle.tb_check_engine.specs.declared.engine.Seen.TheVariants as seen
 use Rattle.tb_check_engine.specs.Outcomes.{CheckOutcome}
 use Rattle.tb_check_engine.specs.declared.outcome.Checked.TheVariants as checked
 use Rattle.tb_streams.specs.declared.outcome.Outcome.TheVariants.{Ended, Refused, ReadFault, WriteFault, NoMemory}
+use Rattle.tb_compiled.specs.Promise.{Own}
 
 -- what reading a source gives, by its bytes
 abbrev pub bytes_of : Result (Vec ℕ Global) InputError → Result (List ℕ) InputError
@@ -64,22 +65,22 @@ is_miss (Saw source found) = false
 is_miss Missed = true
 
 -- a source was read by its name, and this is what is found in it; or reading it failed
-abbrev pub IsLook : {S : Type 0} → (S → List ℕ → Result (List ℕ) InputError → S → Type 0) → CheckSettings → S → List ℕ → Look → S → Type 0
-IsLook reads settings s name (Saw source found) t = reads s name (Ok source) t × AreFindings settings source found
-IsLook reads settings s name Missed t = reads s name (Err Fault) t
+abbrev pub IsLook : {S : Type 0} → Own → (S → List ℕ → Result (List ℕ) InputError → S → Type 0) → CheckSettings → S → List ℕ → Look → S → Type 0
+IsLook own reads settings s name (Saw source found) t = reads s name (Ok source) t × AreFindings own settings source found
+IsLook own reads settings s name Missed t = reads s name (Err Fault) t
 
 -- ---- all sources
 
 -- sources were read one after the other
-abbrev pub Looks : {S : Type 0} → (S → List ℕ → Result (List ℕ) InputError → S → Type 0) → CheckSettings → S → List Turn → S → Type 0
-Looks reads settings s [] u = u ≡ s
-Looks reads settings s (turn ∷ turns) u = (t : _) × IsLook reads settings s turn.name turn.look t × Looks reads settings t turns u
+abbrev pub Looks : {S : Type 0} → Own → (S → List ℕ → Result (List ℕ) InputError → S → Type 0) → CheckSettings → S → List Turn → S → Type 0
+Looks own reads settings s [] u = u ≡ s
+Looks own reads settings s (turn ∷ turns) u = (t : _) × IsLook own reads settings s turn.name turn.look t × Looks own reads settings t turns u
 
 -- the sources with these names were read one after the other, and what is said of each of them was written, in order
-pub record Told {S : Type 0} (reads : S → List ℕ → Result (List ℕ) InputError → S → Type 0) (settings : CheckSettings) (s : S) (names : List (List ℕ)) (old : Option (List ℕ)) (t : S) (new : Option (List ℕ)) : Type 0 where
+pub record Told {S : Type 0} (own : Own) (reads : S → List ℕ → Result (List ℕ) InputError → S → Type 0) (settings : CheckSettings) (s : S) (names : List (List ℕ)) (old : Option (List ℕ)) (t : S) (new : Option (List ℕ)) : Type 0 where
   pub turns : List Turn
   pub named : map (λ t. t.name) turns ≡ names
-  pub looks : Looks reads settings s turns t
+  pub looks : Looks own reads settings s turns t
   pub wrote : Appends old new (flat_map said turns)
 
 -- what came of sources, all in all
@@ -97,15 +98,15 @@ name_at names n = slice_index_or names n []
 
 -- What a check did, by how it ended. All sources were told of. Or the writer failed at what is said of the n-th one, of
 -- which a prefix was written. Or memory ran out when the n-th one was read or looked at, of which nothing was written.
-abbrev pub Checks : {S : Type 0} → (S → List ℕ → Result (List ℕ) InputError → S → Type 0) → CheckSettings → S → List (List ℕ) → Option (List ℕ) → CheckOutcome → S → Option (List ℕ) → Type 0
-Checks reads settings s names old WriteFault t new =
-    (n : ℕ) × (u : _) × (mid : Option (List ℕ)) × Told reads settings s (take n names) old u mid
-    × (look : Look) × IsLook reads settings u (name_at names n) look t × AppendsPrefix mid new (said_of (name_at names n) look)
-Checks reads settings s names old NoMemory t new =
-    (n : ℕ) × (u : _) × Told reads settings s (take n names) old u new
+abbrev pub Checks : {S : Type 0} → Own → (S → List ℕ → Result (List ℕ) InputError → S → Type 0) → CheckSettings → S → List (List ℕ) → Option (List ℕ) → CheckOutcome → S → Option (List ℕ) → Type 0
+Checks own reads settings s names old WriteFault t new =
+    (n : ℕ) × (u : _) × (mid : Option (List ℕ)) × Told own reads settings s (take n names) old u mid
+    × (look : Look) × IsLook own reads settings u (name_at names n) look t × AppendsPrefix mid new (said_of (name_at names n) look)
+Checks own reads settings s names old NoMemory t new =
+    (n : ℕ) × (u : _) × Told own reads settings s (take n names) old u new
     × (given : Result (List ℕ) InputError) × reads u (name_at names n) given t
-Checks reads settings s names old outcome t new =
-    (told : Told reads settings s names old t new) × (outcome ≡ ending (marks_of told.turns))
+Checks own reads settings s names old outcome t new =
+    (told : Told own reads settings s names old t new) × (outcome ≡ ending (marks_of told.turns))
 
 -- a write fault comes only if the writer failed in this call
 abbrev pub WriteFaults : CheckOutcome → ℕ → ℕ → Type 0
@@ -134,21 +135,21 @@ outcome_of (Ok seen) = Ended checked.Accepted
 outcome_of (Err outcome) = outcome
 
 -- a source was looked at, and told of as far as its writer took it
-abbrev pub Tells : CheckSettings → List ℕ → List ℕ → Result Seen CheckOutcome → Option (List ℕ) → Option (List ℕ) → Type 0
-Tells settings name source (Ok answer) old new =
-    (found : Findings) × AreFindings settings source found × Appends old new (report name (lines_of_file source) found)
+abbrev pub Tells : Own → CheckSettings → List ℕ → List ℕ → Result Seen CheckOutcome → Option (List ℕ) → Option (List ℕ) → Type 0
+Tells own settings name source (Ok answer) old new =
+    (found : Findings) × AreFindings own settings source found × Appends old new (report name (lines_of_file source) found)
     × (answer ≡ seen_of (Saw source found))
-Tells settings name source (Err WriteFault) old new =
-    (found : Findings) × AreFindings settings source found × AppendsPrefix old new (report name (lines_of_file source) found)
-Tells settings name source (Err NoMemory) old new = new ≡ old
-Tells settings name source (Err e) old new = ⊥
+Tells own settings name source (Err WriteFault) old new =
+    (found : Findings) × AreFindings own settings source found × AppendsPrefix old new (report name (lines_of_file source) found)
+Tells own settings name source (Err NoMemory) old new = new ≡ old
+Tells own settings name source (Err e) old new = ⊥
 
 -- the same of a source that was read by its name
-abbrev pub ChecksNext : {S : Type 0} → (S → List ℕ → Result (List ℕ) InputError → S → Type 0) → CheckSettings → S → List ℕ → Option (List ℕ) → Result Seen CheckOutcome → S → Option (List ℕ) → Type 0
-ChecksNext reads settings s name old (Ok answer) t new =
-    (look : Look) × IsLook reads settings s name look t × Appends old new (said_of name look) × (answer ≡ seen_of look)
-ChecksNext reads settings s name old (Err WriteFault) t new =
-    (look : Look) × IsLook reads settings s name look t × AppendsPrefix old new (said_of name look)
-ChecksNext reads settings s name old (Err NoMemory) t new =
+abbrev pub ChecksNext : {S : Type 0} → Own → (S → List ℕ → Result (List ℕ) InputError → S → Type 0) → CheckSettings → S → List ℕ → Option (List ℕ) → Result Seen CheckOutcome → S → Option (List ℕ) → Type 0
+ChecksNext own reads settings s name old (Ok answer) t new =
+    (look : Look) × IsLook own reads settings s name look t × Appends old new (said_of name look) × (answer ≡ seen_of look)
+ChecksNext own reads settings s name old (Err WriteFault) t new =
+    (look : Look) × IsLook own reads settings s name look t × AppendsPrefix old new (said_of name look)
+ChecksNext own reads settings s name old (Err NoMemory) t new =
     (given : Result (List ℕ) InputError) × reads s name given t × (new ≡ old)
-ChecksNext reads settings s name old (Err e) t new = ⊥
+ChecksNext own reads settings s name old (Err e) t new = ⊥

@@ -1,20 +1,21 @@
 -- What is said of the line for which a source is refused.
 use Rattle.std.specs.Prelude.{ℕ, ◌≡◌, ◌-◌, ◌==◌, Bool, false, List, [], ◌∷◌, flat_map, Option, Some, None, if◌then◌else◌}
 use Rattle.std.specs.List.{slice_get}
-use Rattle.tb_parser.specs.Lines.{lines_of_file}
+use Rattle.tb_text.specs.Lines.{lines_of_file}
 use Rattle.tb_parser.specs.declared.errors.SourceError.{SourceError}
 use Rattle.tb_source_text.specs.Lines.{numbered}
-use Rattle.tb_lower.specs.declared.lowering.LowerError.{LowerError}
-use Rattle.tb_lower.specs.declared.lowering.LowerError.TheVariants as lower
+use Rattle.tb_meaning.specs.declared.needs.LowerError.{LowerError}
+use Rattle.tb_meaning.specs.declared.needs.LowerError.TheVariants as lower
 use Rattle.tb_compile_errors.specs.declared.refusals.CompileError.{CompileError}
 use Rattle.tb_compile_errors.specs.declared.refusals.CompileError.TheVariants as compile
 use Rattle.tb_check.specs.Settings.{by_cost}
-use Rattle.tb_parser.specs.declared.notation.Notation.{Notation}
+use Rattle.tb_text.specs.declared.notation.Notation.{Notation}
 use Rattle.tb_check.specs.Findings.{AreFindings}
 use Rattle.tb_check.specs.declared.examination.BadLine.{BadLine}
 use Rattle.tb_check.specs.declared.examination.Findings.{Findings}
 use Rattle.tb_check.specs.declared.examination.Findings.TheVariants.{BadLines, Empty, Refused, Accepted}
 use Rattle.tb_check_engine.specs.Reports.{bad_line_rows, deep_rows}
+use Rattle.tb_compiled.specs.Promise.{Own}
 
 -- a line that was found has a number
 abbrev pub has_number : ℕ → Option (ℕ × List ℕ) → Bool
@@ -55,7 +56,7 @@ refusal_rows name lines numbered (compile.TooLarge n) found = []
 refusal_rows name lines numbered compile.NoMemory found = []
 
 -- the same of a source, by what there is to say of it
-pub record TellsRefusal (notation : Notation) (name source : List ℕ) (e : CompileError) (text : List ℕ) : Type 0 where
+pub record TellsRefusal (own : Own) (notation : Notation) (name source : List ℕ) (e : CompileError) (text : List ℕ) : Type 0 where
   pub found : Findings
-  pub are : AreFindings (by_cost notation) source found
+  pub are : AreFindings own (by_cost notation) source found
   pub says : text ≡ refusal_rows name (lines_of_file source) (numbered source) e found

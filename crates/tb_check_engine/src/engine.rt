@@ -9,6 +9,7 @@ use crate::sources::Sources;
 use std::alloc::Global;
 use std::io::Write;
 use tb_check::{CheckSettings, Findings, examine};
+use tb_compiled::Compile;
 use tb_streams::{InputError, Tracked, write_output};
 
 /// What came of a source.
@@ -71,17 +72,18 @@ fn is_refused(findings: &Findings) -> bool
 }
 
 // Looks at a source under a name, and writes what there is to say of it.
-fn tell<W: Write>(
+fn tell<K: Compile, W: Write>(
+    compiler: &K,
     alloc: Global,
     name: &str,
     source: &[u8],
     writer: &mut Tracked<W>,
     settings: CheckSettings,
 ) -> Result<Seen, CheckOutcome>
-    ensures tells { Tells settings name.now source.now result (W.contents writer.old.stream) (W.contents writer.new.stream) }
+    ensures tells { Tells K.own settings name.now source.now result (W.contents writer.old.stream) (W.contents writer.new.stream) }
     ensures faults { WriteFaults (outcome_of result) (failures_of writer.old) (failures_of writer.new) }
 {
-    let seen = examine(alloc, source, settings)?;
+    let seen = examine(compiler, alloc, source, settings)?;
     let shown = Source {
         name,
         lines: seen.lines.as_slice(),
@@ -96,19 +98,20 @@ fn tell<W: Write>(
 }
 
 // Reads the source whose turn it is, and writes what there is to say of it. One that can't be read hides no other one.
-fn check_next<S: Sources, W: Write>(
+fn check_next<K: Compile, S: Sources, W: Write>(
+    compiler: &K,
     alloc: Global,
     sources: &mut S,
     name: &str,
     writer: &mut Tracked<W>,
     settings: CheckSettings,
 ) -> Result<Seen, CheckOutcome>
-    ensures next { ChecksNext S.reads settings sources.old name.now (W.contents writer.old.stream)
+    ensures next { ChecksNext K.own S.reads settings sources.old name.now (W.contents writer.old.stream)
         result sources.new (W.contents writer.new.stream) }
     ensures faults { WriteFaults (outcome_of result) (failures_of writer.old) (failures_of writer.new) }
 {
     match sources.read(alloc, name) {
-        Ok(source) => tell(alloc, name, source.as_slice(), writer, settings),
+        Ok(source) => tell(compiler, alloc, name, source.as_slice(), writer, settings),
         Err(InputError::Fault) => Ok(Seen::Unread),
         Err(InputError::NoMemory) => Err(CheckOutcome::NoMemory),
     }
@@ -116,14 +119,15 @@ fn check_next<S: Sources, W: Write>(
 
 /// Checks the sources with these names. Each one is read, and what there is
 /// to say of it is written, before the next one is read; so what is in memory is of one source at a time.
-pub fn check_sources<S: Sources, W: Write>(
+pub fn check_sources<K: Compile, S: Sources, W: Write>(
+    compiler: &K,
     alloc: Global,
     sources: &mut S,
     names: &[String],
     writer: &mut Tracked<W>,
     settings: CheckSettings,
 ) -> CheckOutcome
-    ensures checks { Checks S.reads settings sources.old (map string_bytes names.now) (W.contents writer.old.stream)
+    ensures checks { Checks K.own S.reads settings sources.old (map string_bytes names.now) (W.contents writer.old.stream)
         result sources.new (W.contents writer.new.stream) }
     ensures faults { WriteFaults result (failures_of writer.old) (failures_of writer.new) }
 {
@@ -132,7 +136,7 @@ pub fn check_sources<S: Sources, W: Write>(
         is_unread: false,
     };
     for name in names {
-        match check_next(alloc, sources, name.as_str(), writer, settings) {
+        match check_next(compiler, alloc, sources, name.as_str(), writer, settings) {
             Ok(seen) => marks = marks.with(seen),
             Err(outcome) => return outcome,
         }

@@ -1,4 +1,16 @@
-//! What there is to say of sources, as a text, over any sources and any writer.
+//! What there is to say of sources, as a text, with any compiler, over any sources and writer.
+//!
+//! `check_sources` reads sources by their names, one after the other (`Sources`). What is said of each is written
+//! before the next one is read.
+//!
+//! - All names have their turn, in order, and what was written is the texts of their findings, one after the other
+//!   (`checks`, `Told`). It ends as accepted, refused, or with a read fault by what came of them (`ending`). A source
+//!   counts as refused exactly if it has a fault, and is passed over exactly if reading it failed.
+//! - At a write fault the texts of the first n were written whole, and a prefix of the next one's. It comes only if
+//!   the writer failed in that call (`faults`). If memory ran out at one source, nothing of it was told.
+//! - The text for what is found is a definition (`report` of `specs/Reports`). So are the texts of notes and warnings
+//!   (`specs/Texts`) and the rows that show a line and a caret (`specs/Rows`). `refusal_text` is that of a refused
+//!   line (`TellsRefusal`). `Checked` has its statuses (`exit_status`).
 #![tactic(auto)]
 
 mod engine;

@@ -8,28 +8,28 @@ ghost use Rattle.tb_check_engine.specs.Reports.{lines_in};
 use crate::reports::{Source, push_bad_line, push_deep_line};
 use std::alloc::{AllocError, Global};
 use tb_check::{BadLine, CheckSettings, Findings, SourceError, examine};
-use tb_codegen::{Notation, SizeLimit};
-use tb_compile_errors::CompileError;
-use tb_lower::LowerError;
+use tb_compiled::{Compile, CompileError, Notation, SizeLimit};
+use tb_meaning::LowerError;
 use tb_source_text::{Numbered, numbered_lines};
 
 /// What `check` says of the line for which a source under a name is refused: what is wrong, the line, its place, and what
 /// helps. Nothing if it is refused for no single line, or isn't refused for that.
-pub fn refusal_text(
+pub fn refusal_text<K: Compile>(
+    compiler: &K,
     alloc: Global,
     name: &str,
     source: &[u8],
     notation: Notation,
     error: CompileError,
 ) -> Result<Vec<u8>, AllocError>
-    ensures { IfOk result (λ text. TellsRefusal notation name.now source.now error text.items) }
+    ensures { IfOk result (λ text. TellsRefusal K.own notation name.now source.now error text.items) }
 {
     // Neither bad lines nor lines that are too deep depend on the limit of the size.
     let settings = CheckSettings {
         size: SizeLimit::Cost,
         notation,
     };
-    let seen = examine(alloc, source, settings)?;
+    let seen = examine(compiler, alloc, source, settings)?;
     let numbered = numbered_lines(alloc, source)?;
     let shown = Source {
         name,

@@ -1,11 +1,11 @@
 -- What is said of a source in the notation without signs, said of the program of a good source.
 use Rattle.std.proofs.Common.{ℕ, List, Result, Ok, Err}
 use Rattle.std.specs.Prelude.{IfOk}
-use Rattle.tb_parser.specs.declared.notation.Notation.TheVariants.{Plain}
+use Rattle.tb_text.specs.declared.notation.Notation.TheVariants.{Plain}
 use Rattle.tb_parser.proofs.Programs.{program_of}
 use Rattle.tb_compile_errors.specs.declared.refusals.CompileError.{CompileError}
-use Rattle.tb_codegen.specs.declared.compiled.Compiled.{Compiled}
-use Rattle.tb_codegen.specs.Theorem.{KeepsSourceIn, KeepsItsSource, MarksLinesIn, MarksItsLines}
+use Rattle.tb_compiled.specs.declared.compiled.Compiled.{Compiled}
+use Rattle.tb_compiled.specs.Theorem.{KeepsSourceIn, KeepsItsSource, MarksLinesIn, MarksItsLines}
 
 -- what is compiled without signs keeps the program of its source
 pub keeps_its_source : (seed : ℕ) (source : List ℕ) (r : Result Compiled CompileError) → IfOk r (KeepsSourceIn Plain seed source) → IfOk r (KeepsItsSource seed source)

@@ -1,10 +1,10 @@
--- ── what is read ──
--- bounds of a text that is read as a statement
-pub mod Reading
+-- ── how much is taken ──
 -- cheap programs fit, and where the lines of programs are
 pub mod Sized
--- what a file's program has
-pub mod SmallPrograms
+-- items of the same shapes settle alike
+pub mod Shapes
+-- the first state of RND doesn't change how many bytes a program takes
+pub mod Seeds
 -- code that takes more bytes than there are
 pub mod TooLong
 -- ── where code is ──
@@ -13,6 +13,8 @@ pub mod Placed
 -- the texts of a line are in its settled code
 pub mod Texts
 -- ── what is promised ──
+-- what is linked is what the door says of a compiled program
+pub mod Promised
 -- what is compiled keeps its program
 pub mod Kept
 -- what is compiled marks the lines of its program

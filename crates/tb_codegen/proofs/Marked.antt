@@ -18,15 +18,16 @@ use Rattle.tb_selection.proofs.Closed.{all_closed}
 use Rattle.tb_settling.specs.Settled.{IsLaid}
 use Rattle.tb_program_code.specs.Program.{program_code}
 use Rattle.tb_simulation.specs.Layout.{label_address}
-use Rattle.tb_simulation.specs.LineStarts.{MarksLines}
+use Rattle.tb_kept.specs.LineStarts.{MarksLines}
 use Rattle.tb_correctness.specs.Laid.{ArePolled}
 use Rattle.tb_correctness.proofs.Whole.Compiled.{image_marks}
 use Rattle.tb_simulation.proofs.Numbers.{start_of_line}
-use Rattle.tb_codegen.specs.Compiled.{start_in, starts_in}
+use Rattle.tb_compiled.specs.Compiled.{start_in}
+use Rattle.tb_codegen.specs.Compiled.{starts_in}
 use Rattle.tb_codegen.proofs.Kept.{all_polled}
 use Rattle.tb_codegen.specs.Coded.{IsListed}
 use Rattle.tb_codegen.proofs.Sized.{same_numbers}
-use Rattle.tb_codegen.proofs.SmallPrograms.{count_numbers}
+use Rattle.tb_compiled.proofs.SmallPrograms.{count_numbers}
 
 -- where a compiled program's lines begin
 start_labelled : (labels : List (Name × ℕ)) (ns : List ℕ) (n : ℕ) → has_line ns n ≡ true → label_address labels (Line n) ≡ unwrap_or (start_in (starts_in labels ns) n) 0

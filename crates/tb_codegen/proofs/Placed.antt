@@ -13,7 +13,8 @@ use Rattle.tb_templates.specs.Labels.{label_of}
 use Rattle.tb_program_code.specs.Layout.{LabelsAt}
 use Rattle.tb_program_code.specs.Program.{line_code, lines_code}
 use Rattle.tb_program_code.proofs.Settled.{labels_behind, line_at, some_bytes}
-use Rattle.tb_codegen.specs.Compiled.{starts_in, stands_at, AreKnown, AddressesRise}
+use Rattle.tb_codegen.specs.Compiled.{starts_in, stands_at, AreKnown}
+use Rattle.tb_compiled.specs.Compiled.{AddressesRise}
 
 -- each line has a label in the settled code of the lines
 pub lines_known : (labels : List (Name × ℕ)) (ns : List ℕ) (seed a : ℕ) (lines : SlotCode) (fs : List Form)

@@ -4,7 +4,7 @@ use Rattle.tb_syntax.specs.Source.{Program, numbers}
 use Rattle.tb_asm.specs.Layout.{Entry, size, labels_from, image_of, address_in}
 use Rattle.tb_asm.specs.Settle.{kept, items_from, SettlesTo}
 use Rattle.tb_lower.specs.Lowered as lowered
-use Rattle.tb_lower.specs.declared.lowering.LowerError.TheVariants as deep
+use Rattle.tb_meaning.specs.declared.needs.LowerError.TheVariants as deep
 use Rattle.tb_parser.specs.Files.{Outcome}
 use Rattle.tb_prg.specs.Prg.{header}
 use Rattle.tb_compile_errors.specs.declared.refusals.CompileError.{CompileError}
@@ -13,10 +13,12 @@ use Rattle.tb_runtime16.specs.Addresses.{PROLOGUE_AT}
 use Rattle.tb_templates.specs.declared.labels.Target.TheVariants.{Table}
 use Rattle.tb_templates.specs.Labels.{label_of}
 use Rattle.tb_program_code.specs.Program.{program_code}
-use Rattle.tb_codegen.specs.declared.compiled.Compiled.{Compiled}
-use Rattle.tb_codegen.specs.Compiled.{IsCompiled, starts_in, table_of}
-use Rattle.tb_codegen.specs.Answers.{HasOutcome, OutcomeAnswer, LinesMake, ProgramAnswer, AreSame, GivesSame}
-use Rattle.tb_codegen.specs.Settings.{by_cost, by_memory}
+use Rattle.tb_compiled.specs.declared.compiled.Compiled.{Compiled}
+use Rattle.tb_codegen.specs.Templates.{templates}
+use Rattle.tb_codegen.specs.Compiled.{IsLinked, starts_in}
+use Rattle.tb_compiled.specs.Compiled.{IsCompiled, table_of}
+use Rattle.tb_compiled.specs.Answers.{HasOutcome, OutcomeAnswer, LinesMake, ProgramAnswer, AreSame, GivesSame}
+use Rattle.tb_compiled.specs.Settings.{by_cost, by_memory}
 use Rattle.tb_settling.proofs.Rounds.{one_way}
 
 same_items : (at : ℕ) (es items others : List Entry) → SettlesTo at es items → SettlesTo at es others → items ≡ others
@@ -25,7 +27,7 @@ same_items at es items others a b = a.are ∙ ap (items_from at) (one_way at (ma
 some_same : (a b : ℕ) → ◌≡◌ {A = Option ℕ} (Some a) (Some b) → a ≡ b
 some_same a b e = cc
 
-compiled_same : (seed : ℕ) (p : Program) (c d : Compiled) → IsCompiled seed p c → IsCompiled seed p d → AreSame c d
+compiled_same : (seed : ℕ) (p : Program) (c d : Compiled) → IsLinked seed p c → IsLinked seed p d → AreSame c d
 compiled_same seed p c d a b =
     let e = same_items PROLOGUE_AT (program_code seed (lowered.program_code p)) a.items b.items a.settled b.settled in
     record {
@@ -35,23 +37,20 @@ compiled_same seed p c d a b =
       warned = a.warned ∙ sym b.warned;
     }
 
-program_same : (seed : ℕ) (p : Program) (c : Compiled) (r : Result Compiled CompileError) → IsCompiled seed p c → ProgramAnswer (by_memory seed) p r → GivesSame c r
-program_same seed p c (Ok d) a h = compiled_same seed p c d a h.1
+program_same : (seed : ℕ) (p : Program) (c : Compiled) (r : Result Compiled CompileError) → IsCompiled templates seed p c → ProgramAnswer templates (by_memory seed) p r
+    → GivesSame c r
+program_same seed p c (Ok d) a h = compiled_same seed p c d a.made h.1.made
 program_same seed p c (Err (Source e)) a h = h
 program_same seed p c (Err (Lower deep.NoMemory)) a h = h
-program_same seed p c (Err (Lower (deep.TooDeep n))) a h = let e : None ≡ Some n = sym a.shallow ∙ h in true≢false (sym (ap is_some e))
-program_same seed p c (Err (TooLarge n)) a h =
-    let es = program_code seed (lowered.program_code p) in
-    let b = h.1.takes in let g = h.1.past in let f = a.ends in
-    let e = ap size (a.settled.are ∙ ap (items_from PROLOGUE_AT) (one_way PROLOGUE_AT (map kept es) a.settled.forms h.1.forms a.settled.settled h.1.rounds)) in
-    absurd (omega (arith, e, b, f, g))
+program_same seed p c (Err (Lower (deep.TooDeep n))) a h = let e : None ≡ Some n = sym a.of.shallow ∙ h in true≢false (sym (ap is_some e))
+program_same seed p c (Err (TooLarge n)) a h = let e = a.taken in let ends = a.of.ends in let past = h.1.0 in absurd (omega (arith, e, ends, past))
 program_same seed p c (Err NoMemory) a h = tt
 
 -- if one answer is a compiled program, the other shows the same program or memory ran out
-pub gives_same : (seed : ℕ) (source : List ℕ) (r : Result Compiled CompileError) → ((outcome : Outcome) → LinesMake source outcome → OutcomeAnswer (by_memory seed) outcome r)
-    → (c : Compiled) → HasOutcome (by_cost seed) source (Ok c) → GivesSame c r
+pub gives_same : (seed : ℕ) (source : List ℕ) (r : Result Compiled CompileError) → ((outcome : Outcome) → LinesMake source outcome → OutcomeAnswer templates (by_memory seed) outcome r)
+    → (c : Compiled) → HasOutcome templates (by_cost seed) source (Ok c) → GivesSame c r
 gives_same seed source r only c h = by h.outcome h.answer (only h.outcome h.made)
   where
-    by : (o : Outcome) → OutcomeAnswer (by_cost seed) o (Ok c) → OutcomeAnswer (by_memory seed) o r → GivesSame c r
+    by : (o : Outcome) → OutcomeAnswer templates (by_cost seed) o (Ok c) → OutcomeAnswer templates (by_memory seed) o r → GivesSame c r
     by (Ok p) a b = program_same seed p c r a.1 b
     by (Err e) a b = absurd a

@@ -10,13 +10,14 @@ use Rattle.tb_syntax.specs.Texts.{HasShortTexts}
 use Rattle.tb_meaning.specs.Cost.{cost}
 use Rattle.tb_lower.specs.Lowered as lowered
 use Rattle.tb_meaning.specs.Missing.{missing_targets}
-use Rattle.tb_lower.specs.Need.{too_deep}
+use Rattle.tb_meaning.specs.Need.{too_deep}
 use Rattle.tb_lower.specs.Ranges.{IsCodeInRange}
 use Rattle.tb_lower.specs.Slots.{Instr, Put, Load, Store, Negate, Compute, Random, SendText, SendNumber, SendZone, SendNewline, Input, Poll, Hold, LeaveUnless}
 use Rattle.tb_lower.specs.Slots.{Jump, Call, JumpTo, CallTo, Return, End, SlotCode}
 use Rattle.tb_parser.specs.Files.{AreStated}
 use Rattle.tb_prg.specs.Prg.{header}
-use Rattle.tb_runtime16.specs.Addresses.{PROLOGUE_AT, LINES_AT}
+use Rattle.tb_runtime16.specs.Addresses.{PROLOGUE_AT}
+use Rattle.tb_kept.specs.Addresses.{LINES_AT}
 use Rattle.tb_settling.specs.Settled.{IsLaid}
 use Rattle.tb_settling.proofs.Forms.{forms_most, items_size, kept_forms, settled_forms}
 use Rattle.tb_templates.specs.declared.labels.Target.TheVariants.{Past, Table}
@@ -28,14 +29,15 @@ use Rattle.tb_program_code.proofs.Fitting.{statement_room, program_fits}
 use Rattle.tb_program_code.proofs.Prices.{program_price}
 use Rattle.tb_program_code.proofs.Taken.{block_size, program_most}
 use Rattle.tb_words.specs.Words.{word_of}
-use Rattle.tb_codegen.specs.declared.compiled.Compiled.{Compiled}
-use Rattle.tb_codegen.specs.Compiled.{prg_of, starts_of, table_of, warnings_of, IsCompiled, starts_in, stands_at, AreKnown, AddressesRise, most_cost}
-use Rattle.tb_codegen.specs.Coded.{IsListed, TakesTooMuch}
-use Rattle.tb_codegen.specs.Texts.{LinesHoldTexts, offset_of}
+use Rattle.tb_compiled.specs.declared.compiled.Compiled.{Compiled}
+use Rattle.tb_compiled.specs.Compiled.{prg_of, starts_of, table_of, warnings_of, AddressesRise, most_cost}
+use Rattle.tb_codegen.specs.Compiled.{IsLinked, starts_in, stands_at, AreKnown}
+use Rattle.tb_codegen.specs.Coded.{IsListed, SettlesTooLong}
+use Rattle.tb_compiled.specs.Texts.{LinesHoldTexts, offset_of}
 use Rattle.tb_program_code.proofs.Settled.{Sections, sections}
 use Rattle.tb_codegen.proofs.Placed.{lines_known, lines_begin_in_order, start_numbers}
 use Rattle.tb_codegen.proofs.Texts.{lines_texts}
-use Rattle.tb_codegen.proofs.SmallPrograms.{AreSmall, are_small, small_spaced, small_short, few_lines, count_numbers}
+use Rattle.tb_compiled.proofs.SmallPrograms.{AreSmall, are_small, small_spaced, small_short, few_lines, count_numbers}
 
 -- ── counts ──
 one_room : (i : Instr) → 1 ≤ room i
@@ -107,9 +109,9 @@ listed p same stated rises ranges =
     subst IsListed (sym same) (listed_code p small rises (subst (IsCodeInRange 256) same (ranges 256 (small_short p small))))
 
 -- a program whose cost is small enough does not take too much
-pub cheap_fits : (seed : ℕ) (p : Program) {code : SlotCode} {n : ℕ} → code ≡ lowered.program_code p → AreStated p → cost p ≤ most_cost → TakesTooMuch n seed code → ⊥
+pub cheap_fits : (seed : ℕ) (p : Program) {code : SlotCode} {n : ℕ} → code ≡ lowered.program_code p → AreStated p → cost p ≤ most_cost → SettlesTooLong n seed code → ⊥
 cheap_fits seed p {code} {n} same stated cheap long =
-    let t = subst (TakesTooMuch n seed) same long in
+    let t = subst (SettlesTooLong n seed) same long in
     let es = program_code seed (lowered.program_code p) in
     let a = program_fits p (small_spaced p (are_small p stated)) in
     let b = program_most seed (lowered.program_code p) (cost p) a (program_price p) in
@@ -172,7 +174,7 @@ pub made : {seed : ℕ} {p : Program} {code : SlotCode} (c : Compiled) {from : �
     → code ≡ lowered.program_code p → IsListed code → too_deep p ≡ None
     → (l : IsLaid PROLOGUE_AT (program_code seed code) from image labels) → PROLOGUE_AT + size l.items ≤ 0xA000
     → prg_of c ≡ header ++ image → starts_of c ≡ starts_in labels (numbers code) → address_in labels (label_of Table) ≡ Some (table_of c)
-    → map (λ w. (w.line, word_of w.target)) (warnings_of c) ≡ missing_targets p → IsCompiled seed p c
+    → map (λ w. (w.line, word_of w.target)) (warnings_of c) ≡ missing_targets p → IsLinked seed p c
 made {seed} {p} {code} c same s shallow l ends file starts table warned =
     let own = labels_from PROLOGUE_AT l.items in
     let own_numbers : numbers code ≡ numbers p = ap numbers same ∙ same_numbers p in

@@ -22,7 +22,7 @@ use Rattle.tb_syntax.specs.Texts.{statement_texts}
 use Rattle.tb_lower.proofs.Weighed.{same_texts}
 use Rattle.tb_templates.specs.declared.labels.Inner.TheVariants as inner
 use Rattle.tb_templates.specs.declared.labels.Target.TheVariants as target
-use Rattle.tb_runtime16.specs.Addresses.{POINTER}
+use Rattle.tb_kept.specs.Addresses.{POINTER}
 use Rattle.tb_opcodes.specs.Opcodes as opcodes
 use Rattle.tb_templates.specs.Templates.{address, byte_sent, only_byte, sent, text_call, jump, here}
 use Rattle.tb_program_code.proofs.Sent.{IsOnly, only, only_is, other}
@@ -40,7 +40,7 @@ use Rattle.tb_selection.specs.Select.{select}
 use Rattle.tb_selection.proofs.Bracketed.{brackets}
 use Rattle.tb_codegen.specs.Compiled.{stands_at, starts_in}
 use Rattle.tb_program_code.proofs.Settled.{joined_items, labels_behind, line_at, total_size}
-use Rattle.tb_codegen.specs.Texts.{TextsStand, none, text, offset_of, end_before, LinesHoldTexts}
+use Rattle.tb_compiled.specs.Texts.{TextsStand, none, text, offset_of, end_before, LinesHoldTexts}
 
 lower : (image : List ℕ) (to from from' : ℕ) (texts : List (List ℕ)) → from ≤ from' → TextsStand image to from' texts → TextsStand image to from texts
 lower image to from from' _ l (none _ h) = none from (omega (arith, l, h))

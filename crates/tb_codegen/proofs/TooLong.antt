@@ -9,11 +9,12 @@ use Rattle.tb_lower.specs.Slots.{SlotCode}
 use Rattle.tb_runtime16.specs.Addresses.{PROLOGUE_AT}
 use Rattle.tb_settling.specs.Settled.{EndsFrom, IsLaid}
 use Rattle.tb_program_code.specs.Program.{program_code}
-use Rattle.tb_codegen.specs.Coded.{TakesTooMuch, told_of}
+use Rattle.tb_codegen.specs.Coded.{SettlesTooLong}
+use Rattle.tb_compiled.specs.Refusals.{told_of}
 
 -- code whose image is longer than the room takes too much
 pub image_takes : {seed : ℕ} {code : SlotCode} {from : ℕ} {image : List ℕ} {labels : List (Name × ℕ)} {n : ℕ} (bytes : ℕ)
-    → IsLaid PROLOGUE_AT (program_code seed code) from image labels → bytes + 1011 ≡ length image → 37888 < bytes → n ≡ told_of bytes → TakesTooMuch n seed code
+    → IsLaid PROLOGUE_AT (program_code seed code) from image labels → bytes + 1011 ≡ length image → 37888 < bytes → n ≡ told_of bytes → SettlesTooLong n seed code
 image_takes bytes l takes past told =
     let a = ap length l.bytes_are in
     let b = all_size (labels_from PROLOGUE_AT l.items) PROLOGUE_AT l.items in
@@ -31,7 +32,7 @@ told_most : (bytes : ℕ) → 62464 ≤ bytes → told_of bytes ≡ 62464
 told_most bytes h = grind (arith, nat_tests)
 
 -- and so does code that ends past 65,535
-pub end_takes : {seed : ℕ} {code : SlotCode} {n : ℕ} → EndsFrom 65536 PROLOGUE_AT (program_code seed code) → n ≡ 62464 → TakesTooMuch n seed code
+pub end_takes : {seed : ℕ} {code : SlotCode} {n : ℕ} → EndsFrom 65536 PROLOGUE_AT (program_code seed code) → n ≡ 62464 → SettlesTooLong n seed code
 end_takes e told =
     let a = e.beyond in
     let all = PROLOGUE_AT + size (items_from PROLOGUE_AT e.forms) in

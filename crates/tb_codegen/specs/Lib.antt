@@ -1,8 +1,4 @@
-pub mod Answers
 pub mod Coded
 pub mod Compiled
-pub mod Numbers
-pub mod Refusals
-pub mod Settings
-pub mod Texts
-pub mod Theorem
+-- what the compiler says of its own programs
+pub mod Templates

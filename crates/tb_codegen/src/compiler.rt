@@ -6,27 +6,23 @@ ghost use Rattle.tb_meaning.specs.Cost as cost;
 ghost use Rattle.tb_lower.specs.PlainData.{code_of};
 ghost use Rattle.tb_lower.specs.Refusals.{IsRefusal};
 ghost use Rattle.tb_parser.specs.Files.{AreStated, Outcome};
-ghost use Rattle.tb_parser.specs.Lines.{lines_of_file};
+ghost use Rattle.tb_text.specs.Lines.{lines_of_file};
 ghost use Rattle.tb_parser.specs.Signed.{LackSigns};
-ghost use Rattle.tb_codegen.specs.declared.compiled.Compiled.{Compiled};
-ghost use Rattle.tb_codegen.specs.Answers.{GivesSame, HasOutcome, LinesMake, OutcomeAnswer, ProgramAnswer, SourceMakes};
+ghost use Rattle.tb_compiled.specs.declared.compiled.Compiled.{Compiled};
+ghost use Rattle.tb_compiled.specs.Answers.{GivesSame, HasOutcome, LinesMake, OutcomeAnswer, ProgramAnswer, SourceMakes};
 ghost use Rattle.tb_codegen.specs.Coded.{IsSlotCode};
-ghost use Rattle.tb_codegen.specs.Refusals.{IsExcess};
-ghost use Rattle.tb_codegen.specs.Settings.{by_cost, by_memory};
-ghost use Rattle.tb_codegen.specs.Theorem.{KeepsItsSource, KeepsProgram, KeepsSourceIn, MarksItsLines, MarksLinesIn, MarksProgram};
+ghost use Rattle.tb_codegen.specs.Templates.{templates};
+ghost use Rattle.tb_compiled.specs.Refusals.{IsExcess};
+ghost use Rattle.tb_compiled.specs.Settings.{by_cost, by_memory};
+ghost use Rattle.tb_compiled.specs.Theorem.{KeepsItsSource, KeepsProgram, KeepsSourceIn, MarksItsLines, MarksLinesIn, MarksProgram};
 
-use crate::compiled::Compiled;
-use crate::costs::cost;
 use crate::linking::linked;
-use crate::settings::{CompileSettings, SizeLimit};
 use std::alloc::Global;
-use tb_compile_errors::CompileError;
-use tb_lower::{LowerError, SlotCode, lower};
+use tb_compiled::{Compile, CompileError, CompileSettings, Compiled, MOST_COST, SizeLimit, cost};
+use tb_lower::{SlotCode, lower};
+use tb_meaning::LowerError;
 use tb_parser::parse_in;
 use tb_syntax::Program;
-
-/// The most that a program may cost, in bytes.
-pub const MOST_COST: u32 = 37_888;
 
 /// What a program is compiled with.
 #[derive(Clone, Copy, Debug, PartialEq, Eq, Drop)]
@@ -35,13 +31,30 @@ pub struct Options {
     pub seed: u16,
 }
 
+/// The compiler of Tiny BASIC, as the tools use it.
+#[derive(Clone, Copy, Drop)]
+pub struct TinyBasic;
+
+impl Compile for TinyBasic {
+    ghost own = { templates };
+
+    fn compile(
+        &self,
+        alloc: Global,
+        source: &[u8],
+        settings: CompileSettings,
+    ) -> Result<Compiled, CompileError> {
+        compile_within(alloc, source, settings)
+    }
+}
+
 /// The PRG file of a source text, with the addresses of its lines. Refused, in this order: a text that is not a program,
 /// an expression that needs more than 16 slots, a cost above [`MOST_COST`]; or memory runs out.
 pub fn compile(alloc: Global, source: &[u8], options: Options) -> Result<Compiled, CompileError>
     // What the file's lines make is answered,
-    ensures found { HasOutcome (by_cost options.seed) source.now result }
+    ensures found { HasOutcome templates (by_cost options.seed) source.now result }
     // and whatever they make is what is answered.
-    ensures only { (outcome : Outcome) → LinesMake source.now outcome → OutcomeAnswer (by_cost options.seed) outcome result }
+    ensures only { (outcome : Outcome) → LinesMake source.now outcome → OutcomeAnswer templates (by_cost options.seed) outcome result }
     // A compiled file's code, loaded at $0801, keeps the program that its source makes, whatever the ROM does.
     ensures keeps { IfOk result (KeepsItsSource options.seed source.now) }
     // When it comes to the address that start_of answers for a line, the program begins that line, in the same state.
@@ -59,11 +72,11 @@ pub fn compile_to_fit(
     options: Options,
 ) -> Result<Compiled, CompileError>
     // What the file's lines make is answered,
-    ensures found { HasOutcome (by_memory options.seed) source.now result }
+    ensures found { HasOutcome templates (by_memory options.seed) source.now result }
     // and whatever they make is what is answered.
-    ensures only { (outcome : Outcome) → LinesMake source.now outcome → OutcomeAnswer (by_memory options.seed) outcome result }
+    ensures only { (outcome : Outcome) → LinesMake source.now outcome → OutcomeAnswer templates (by_memory options.seed) outcome result }
     // If `compile` answers a program, it is the same one.
-    ensures same { (compiled : Compiled) → HasOutcome (by_cost options.seed) source.now (Ok compiled) → GivesSame compiled result }
+    ensures same { (compiled : Compiled) → HasOutcome templates (by_cost options.seed) source.now (Ok compiled) → GivesSame compiled result }
     // A compiled file's code, loaded at $0801, keeps the program that its source makes, whatever the ROM does.
     ensures keeps { IfOk result (KeepsItsSource options.seed source.now) }
     // When it comes to the address that start_of answers for a line, the program begins that line, in the same state.
@@ -79,10 +92,10 @@ pub fn compile_within(
     source: &[u8],
     settings: CompileSettings,
 ) -> Result<Compiled, CompileError>
-    ensures found { HasOutcome settings source.now result }
-    ensures only { (outcome : Outcome) → SourceMakes settings.notation source.now outcome → OutcomeAnswer settings outcome result }
+    ensures found { HasOutcome templates settings source.now result }
+    ensures only { (outcome : Outcome) → SourceMakes settings.notation source.now outcome → OutcomeAnswer templates settings outcome result }
     // If no text has a brace or a bracket, what the lines make without signs is answered.
-    ensures plain { LackSigns (lines_of_file source.now) → (outcome : Outcome) → LinesMake source.now outcome → OutcomeAnswer settings outcome result }
+    ensures plain { LackSigns (lines_of_file source.now) → (outcome : Outcome) → LinesMake source.now outcome → OutcomeAnswer templates settings outcome result }
     ensures keeps { IfOk result (KeepsSourceIn settings.notation settings.seed source.now) }
     ensures marks { IfOk result (MarksLinesIn settings.notation settings.seed source.now) }
 {
@@ -98,7 +111,7 @@ fn compile_program(
 ) -> Result<Compiled, CompileError>
     requires stated { AreStated (lines_of program.now) }
     requires rising { Rises 1 32768 (numbers (lines_of program.now)) }
-    ensures answer { ProgramAnswer settings (lines_of program.now) result }
+    ensures answer { ProgramAnswer templates settings (lines_of program.now) result }
     ensures keeps { 1 ≤ length (lines_of program.now) → IfOk result (KeepsProgram settings.seed (lines_of program.now)) }
     ensures marks { 1 ≤ length (lines_of program.now) → IfOk result (MarksProgram settings.seed (lines_of program.now)) }
 {

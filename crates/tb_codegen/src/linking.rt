@@ -8,19 +8,21 @@ ghost use Rattle.tb_runtime16.specs.Addresses.{PROLOGUE_AT};
 ghost use Rattle.tb_settling.specs.Settled.{IsLaid};
 ghost use Rattle.tb_templates.specs.Labels.{label_of};
 ghost use Rattle.tb_program_code.specs.Program.{program_code};
-ghost use Rattle.tb_codegen.specs.Compiled.{AreKnown, IsCompiled, pair_of, starts_in};
-ghost use Rattle.tb_codegen.specs.Coded.{IsListed, IsSlotCode, IsTooLong, told_of};
-ghost use Rattle.tb_codegen.specs.Theorem.{KeepsProgram, MarksProgram};
+ghost use Rattle.tb_codegen.specs.Compiled.{AreKnown, IsLinked, starts_in};
+ghost use Rattle.tb_compiled.specs.Compiled.{pair_of};
+ghost use Rattle.tb_codegen.specs.Coded.{IsListed, IsSlotCode, IsTooLong};
+ghost use Rattle.tb_compiled.specs.Refusals.{told_of};
+ghost use Rattle.tb_compiled.specs.Theorem.{KeepsProgram, MarksProgram};
 
-use crate::compiled::{Compiled, LineStart};
 use std::alloc::{AllocError, Global};
 use tb_asm::{AsmErrorKind, Image};
-use tb_compile_errors::CompileError;
+use tb_compiled::{CompileError, Compiled, LineStart};
+use tb_kept::LINES_AT;
 use tb_lower::{SlotCode, SlotLine};
 use tb_meaning::warnings;
 use tb_prg::write;
 use tb_program_code::program_items;
-use tb_runtime16::{BLOCK_AT, LINES_AT};
+use tb_runtime16::BLOCK_AT;
 use tb_settling::assemble_settled;
 use tb_syntax::Program;
 use tb_templates::{Target, label};
@@ -42,18 +44,16 @@ pub fn linked(
     seed: u16,
 ) -> Result<Compiled, CompileError>
     requires { IsSlotCode (lines_of program.now) (code_of code.now) }
-    ensures compiled { IfOk result (IsCompiled seed (lines_of program.now)) }
+    ensures compiled { IfOk result (IsLinked seed (lines_of program.now)) }
     ensures keeps { 1 ≤ length (lines_of program.now) → IfOk result (KeepsProgram seed (lines_of program.now)) }
     ensures marks { 1 ≤ length (lines_of program.now) → IfOk result (MarksProgram seed (lines_of program.now)) }
     ensures refused { IfErr result (IsTooLong seed (code_of code.now)) }
 {
     let image = fitted(alloc, code, seed)?;
-    Ok(Compiled {
-        prg: write(alloc, &image)?,
-        starts: line_starts(alloc, &image, code.lines())?,
-        table: label_address(&image, Target::Table),
-        warnings: warnings(alloc, program)?,
-    })
+    let prg = write(alloc, &image)?;
+    let starts = line_starts(alloc, &image, code.lines())?;
+    let table = label_address(&image, Target::Table);
+    Ok(Compiled::new(prg, starts, table, warnings(alloc, program)?))
 }
 
 // The image of slot code, if it ends by `$9FFF`.

@@ -1,7 +1,9 @@
 -- The texts that say numbers say those of tb_jobs, by computing.
 use Rattle.std.proofs.Common.{◌≡◌, ◌++◌, codes, refl}
 use Rattle.std.specs.Fmt.{decimal, digits}
-use Rattle.tb_jobs.specs.Numbers.{MOST_EVENTS, USUAL_EVENTS, USUAL_SEED, USUAL_STEP}
+use Rattle.tb_engines.specs.Numbers.{MOST_EVENTS, USUAL_EVENTS}
+use Rattle.tb_compiled.specs.Numbers.{USUAL_SEED}
+use Rattle.tb_jobs.specs.Numbers.{USUAL_STEP}
 use Rattle.tb_command_line.specs.declared.arguments.TheConstants.{LIMIT_HELP, PLAY_LIMIT_HELP, MOST_EVENTS_TEXT, USUAL_EVENTS_TEXT, USUAL_SEED_TEXT, USUAL_STEP_TEXT}
 
 -- the usual seed

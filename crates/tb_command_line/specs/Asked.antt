@@ -4,7 +4,9 @@ use Rattle.clap.specs.Words.{first_value, rows_of, subcommand_name_of, subcomman
 use Rattle.clap.specs.declared.parser.matches.ArgMatches.{ArgMatches}
 use Rattle.clap.specs.declared.parser.matches.Found.{Found}
 use Rattle.tb_files.specs.Names.{IsUsualOut}
-use Rattle.tb_jobs.specs.Numbers.{MOST_EVENTS, USUAL_SEED, USUAL_STEP}
+use Rattle.tb_engines.specs.Numbers.{MOST_EVENTS}
+use Rattle.tb_compiled.specs.Numbers.{USUAL_SEED}
+use Rattle.tb_jobs.specs.Numbers.{USUAL_STEP}
 use Rattle.tb_jobs.specs.declared.jobs.Job.{Job}
 use Rattle.tb_jobs.specs.declared.jobs.Job.TheVariants as job
 use Rattle.tb_command_line.specs.Table.{name_of}

@@ -8,9 +8,10 @@ use Rattle.clap.specs.Words.{first_value, matched_of, one_text, raw_values}
 use Rattle.clap.specs.declared.parser.matches.Found.{Found}
 use Rattle.tb_dialects.specs.declared.dialect.Dialect.{Dialect}
 use Rattle.tb_dialects.specs.declared.dialect.Dialect.TheVariants.{Tass64, Ca65, Acme, Xa}
-use Rattle.tb_parser.specs.declared.notation.Notation.{Notation}
-use Rattle.tb_parser.specs.declared.notation.Notation.TheVariants.{Plain, Signs}
-use Rattle.tb_jobs.specs.Numbers.{MOST_EVENTS, USUAL_EVENTS, USUAL_SEED}
+use Rattle.tb_text.specs.declared.notation.Notation.{Notation}
+use Rattle.tb_text.specs.declared.notation.Notation.TheVariants.{Plain, Signs}
+use Rattle.tb_engines.specs.Numbers.{MOST_EVENTS, USUAL_EVENTS}
+use Rattle.tb_compiled.specs.Numbers.{USUAL_SEED}
 use Rattle.tb_jobs.specs.declared.jobs.BuildExtras.{BuildExtras}
 use Rattle.tb_jobs.specs.declared.jobs.FormatTarget.{FormatTarget}
 use Rattle.tb_jobs.specs.declared.jobs.FormatTarget.TheVariants.{Output, InPlace, Check}

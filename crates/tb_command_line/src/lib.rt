@@ -1,4 +1,13 @@
 //! The command line of `tbc`: its words become a job.
+//!
+//! - Each command is found by its name, and by no other (`rows`, `command_named`). The help says the numbers of events
+//!   that `Limit` allows (`proofs/Numbers`).
+//! - Which job a command gives is a table, by cases (`IsJob` of `specs/Asked`). Each part of a job is the value of an
+//!   argument that is named there, or else the usual one, in what the library clap found in the words (`job_of`,
+//!   `with_matches`). A run has exactly one of SOURCE and PRG, by its type.
+//! - That clap finds in the words what they say is not said here: its clauses speak of parsers no value of which may
+//!   begin with a hyphen, as one of `--type` may. So `job`, which is given the words alone, promises no more than the
+//!   limit. The rest only tests show.
 #![tactic(auto)]
 
 mod arguments;

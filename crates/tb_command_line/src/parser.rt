@@ -5,7 +5,8 @@ use crate::taken::arguments_of;
 use clap::{Arg, ArgAction, Command, value_parser};
 use std::alloc::{AllocError, Global};
 use std::convert::AsStr;
-use tb_jobs::{HIGHEST_LINE, MOST_EVENTS};
+use tb_jobs::MOST_EVENTS;
+use tb_syntax::HIGHEST_LINE;
 
 /// The version of the program.
 pub const VERSION: &str = "2.0.0";

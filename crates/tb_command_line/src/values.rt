@@ -1,7 +1,8 @@
 //! The values of arguments that the parser found.
 ghost use Rattle.std.specs.Prelude.{◌≡◌, codes, map, option_map, string_bytes, IfOk};
 ghost use Rattle.clap.specs.Words.{first_value, found_of};
-ghost use Rattle.tb_jobs.specs.Numbers.{USUAL_SEED, USUAL_STEP};
+ghost use Rattle.tb_compiled.specs.Numbers.{USUAL_SEED};
+ghost use Rattle.tb_jobs.specs.Numbers.{USUAL_STEP};
 ghost use Rattle.tb_command_line.specs.Values as spec;
 
 use crate::arguments::{

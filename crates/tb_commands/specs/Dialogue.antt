@@ -7,7 +7,7 @@ use Rattle.tb_meaning.specs.declared.evaluation.EvalError.{EvalError}
 use Rattle.tb_kernal.specs.declared.events.Event.{Event}
 use Rattle.tb_kernal.specs.Machine.{Content, state_of, status, SameKeyboard}
 use Rattle.tb_cpu.specs.Operands.{word_in}
-use Rattle.tb_runtime16.specs.Addresses.{NOTES}
+use Rattle.tb_kept.specs.Addresses.{NOTES}
 use Rattle.tb_stepper.specs.Holding.{Holds, machines}
 use Rattle.tb_stepper.specs.History.{Stepped, ReachesLine, begins_at, line_of}
 use Rattle.tb_inspection.specs.Readings.{variable_in, variables_in}

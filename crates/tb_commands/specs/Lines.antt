@@ -1,6 +1,6 @@
 -- The lines of a text.
 use Rattle.std.specs.Prelude.{ℕ, List, [], ◌∷◌, ◌==◌, if◌then◌else◌}
-use Rattle.tb_parser.specs.Lines.{longer}
+use Rattle.tb_text.specs.Lines.{longer}
 
 -- each ends at a byte 10, or at the end of the text
 unfoldable pub lines_of : List ℕ → List (List ℕ)

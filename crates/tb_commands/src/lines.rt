@@ -6,7 +6,7 @@ ghost use Rattle.tb_commands.specs.Lines.{lines_of};
 /// the text.
 ///
 /// A byte 13 ends no line here: the commands of `step` are a format of their own, whose lines end at 10 alone. That is
-/// why this isn't the reader of a source's lines (`tb_parser::next_line`), which come from many editors and end at 10,
+/// why this isn't the reader of a source's lines (`tb_text::next_line`), which come from many editors and end at 10,
 /// 13 or both, nor that of lines from a stream (`tb_streams::read_line`), which takes a reader's bytes one by one, and
 /// leaves it to the caller to take a 13 off (`without_return`).
 pub fn next_line(text: &[u8]) -> Option<(&[u8], &[u8])>

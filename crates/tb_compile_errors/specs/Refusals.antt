@@ -1,6 +1,6 @@
 -- How the refusals of a source's parts become refusals of the source.
-use Rattle.tb_lower.specs.declared.lowering.LowerError.{LowerError}
-use Rattle.tb_lower.specs.declared.lowering.LowerError.TheVariants as deep
+use Rattle.tb_meaning.specs.declared.needs.LowerError.{LowerError}
+use Rattle.tb_meaning.specs.declared.needs.LowerError.TheVariants as deep
 use Rattle.tb_parser.specs.declared.errors.SourceError.{SourceError}
 use Rattle.tb_parser.specs.declared.errors.SourceErrorKind.{SourceErrorKind}
 use Rattle.tb_parser.specs.declared.errors.SourceErrorKind.TheVariants as source_kind

@@ -3,7 +3,7 @@ ghost use Rattle.std.specs.Prelude.{◌≡◌};
 ghost use Rattle.tb_compile_errors.specs.Refusals.{of_source, of_lower};
 
 use std::alloc::AllocError;
-use tb_lower::LowerError;
+use tb_meaning::LowerError;
 use tb_parser::{SourceError, SourceErrorKind};
 
 /// Why a source text is not compiled, in the order of the checks.

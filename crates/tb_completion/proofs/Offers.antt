@@ -1,7 +1,7 @@
 -- What is offered, candidate by candidate.
 use Rattle.std.proofs.Common.{ℕ, suc, ◌+◌, ◌<◌, ◌≤◌, true, false, List, [], ◌∷◌, ◌++◌, length, get_or, drop, sym, ap, subst, ◌∙◌, add-one, append_assoc, append-nil, drop-cons}
 use Rattle.std.proofs.Math.ListN.{drop_of_length-le}
-use Rattle.tb_parser.specs.declared.notation.Notation.{Notation}
+use Rattle.tb_text.specs.declared.notation.Notation.{Notation}
 use Rattle.tb_completion.specs.Offered.{AppendsOffered, Offers, left_out, none, offered}
 use Rattle.tb_completion.specs.declared.candidates.Candidate.{Candidate}
 use Rattle.tb_completion.specs.declared.typed.Typed.{Typed}

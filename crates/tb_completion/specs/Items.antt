@@ -6,7 +6,7 @@ use Rattle.serde_json.specs.View.{items_of}
 use Rattle.tb_places.specs.Columns.{place_at, units_of}
 use Rattle.tb_places.specs.declared.spans.Span.{Span}
 use Rattle.tb_edit_values.specs.Edits.{edit_value}
-use Rattle.tb_parser.specs.declared.notation.Notation.{Notation}
+use Rattle.tb_text.specs.declared.notation.Notation.{Notation}
 use Rattle.tb_source_names.specs.declared.lines.Line.{Line as SourceLine}
 use Rattle.tb_completion.specs.Candidates.{candidates, spelling, written}
 use Rattle.tb_completion.specs.Offered.{Offers}

@@ -2,7 +2,7 @@
 use Rattle.std.specs.Prelude.{ℕ, ◌≡◌, ◌⊎◌, Bool, true, false, ◌&&◌, ◌||◌, ◌==◌, not, List, [], ◌∷◌, ◌++◌, Option, None, Ok, Err, codes}
 use Rattle.std.specs.Char.{to_ascii_uppercase}
 use Rattle.tb_parser.specs.Readings.{Edit, LineIn, Refusal}
-use Rattle.tb_parser.specs.declared.notation.Notation.{Notation}
+use Rattle.tb_text.specs.declared.notation.Notation.{Notation}
 use Rattle.tb_parser.specs.declared.errors.SourceErrorKind.TheVariants.{Syntax}
 use Rattle.tb_parser.specs.declared.lexer.TokenKind.{TokenKind}
 use Rattle.tb_completion.specs.Candidates.{spelled}

@@ -4,7 +4,8 @@ ghost use Rattle.tb_completion.specs.Offered as spec;
 
 use crate::candidates::{Candidate, Word};
 use std::alloc::{AllocError, Global};
-use tb_parser::{Notation, SourceErrorKind, read_line_in};
+use tb_parser::{SourceErrorKind, read_line_in};
+use tb_text::Notation;
 
 impl Word {
     /// The shortest that may follow it, where nothing else is open.

@@ -11,9 +11,7 @@ use std::alloc::{AllocError, Global};
 use tb_edit_values::edit_value;
 use tb_places::{Span, column, place_at};
 use tb_source_names::Source;
-
-/// The most bytes that a line has.
-const LONGEST_LINE: usize = 255;
+use tb_text::LONGEST_LINE;
 
 // A word that is offered in place of a span.
 fn word_value(alloc: Global, word: Word, span: Span) -> Result<Value, AllocError>
@@ -111,7 +109,7 @@ fn offered_items(
     Ok(items)
 }
 
-// The same, but nothing behind the end of the longest line.
+// What is offered behind the beginning of a line, but nothing behind the end of the longest line.
 fn items(
     alloc: Global,
     source: &Source<'_>,

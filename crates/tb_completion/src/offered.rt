@@ -7,7 +7,8 @@ use crate::candidates::Candidate;
 use crate::continued::goes_on;
 use crate::typed::Typed;
 use std::alloc::{AllocError, Global};
-use tb_parser::{Notation, SourceErrorKind, read_line_in};
+use tb_parser::{SourceErrorKind, read_line_in};
+use tb_text::Notation;
 
 /// How a candidate is spelled.
 pub fn spelled(alloc: Global, candidate: Candidate) -> Result<String, AllocError>
@@ -107,7 +108,7 @@ fn push_offered(
     Ok(())
 }
 
-/// Those of these candidates that are offered behind what is typed, where lines are read in a notation.
+/// The candidates that are offered behind what is typed, where lines are read in a notation.
 pub fn offered(
     alloc: Global,
     notation: Notation,

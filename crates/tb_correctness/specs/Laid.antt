@@ -7,7 +7,8 @@ use Rattle.tb_syntax.specs.Source.{numbers, Rises}
 use Rattle.tb_meaning.specs.Control.{first_place, has_line, content_at}
 use Rattle.tb_lower.specs.Slots.{Instr, Poll, SlotCode}
 use Rattle.tb_lower.specs.Ranges.{AreInRange}
-use Rattle.tb_runtime16.specs.Addresses.{PROLOGUE_AT, LINES_AT}
+use Rattle.tb_runtime16.specs.Addresses.{PROLOGUE_AT}
+use Rattle.tb_kept.specs.Addresses.{LINES_AT}
 use Rattle.tb_runtime16.specs.Block.{block_bytes}
 use Rattle.tb_settling.specs.Settled.{AreFormsOf}
 use Rattle.tb_templates.specs.declared.labels.Target.TheVariants as target

@@ -5,11 +5,11 @@ use Rattle.tb_syntax.specs.Source.{Program, numbers}
 use Rattle.tb_lower.specs.Follows.{Follows}
 use Rattle.tb_lower.specs.Slots.{SlotCode}
 use Rattle.tb_reaching.specs.View.{part_at}
-use Rattle.tb_simulation.specs.Theorem.{Keeps}
+use Rattle.tb_kept.specs.Keeps.{Keeps}
 use Rattle.tb_selection.specs.Laws.{AreClosed}
 use Rattle.tb_simulation.specs.Layout.{layout_of}
 use Rattle.tb_correctness.specs.Laid.{ArePolled, Laid}
-use Rattle.tb_simulation.specs.LineStarts.{MarksLines}
+use Rattle.tb_kept.specs.LineStarts.{MarksLines}
 
 -- bytes from an address on hold the routine block and the settled code of the program's slot code, with the labels right;
 -- each of its lists takes an answer first and reads nothing that it doesn't write

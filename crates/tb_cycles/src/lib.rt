@@ -1,8 +1,10 @@
 //! The cycles of instructions of the NMOS 6502, as the MCS6500 Programming Manual gives them.
 //!
-//! The definition is `specs/Cycles.antt`: a base by kind and mode, one more for a page that a reading instruction's
-//! index crosses, one more for a branch that is taken, or two if that branch leads into another page. The code has
-//! tables of its own, in the order of the opcodes, and the proof compares them with it. No call takes memory.
+//! The definition is `specs/Cycles.antt`. There is a base by kind and mode, and one more for a page that a reading
+//! instruction's index crosses. A branch that is taken costs one more, or two if it leads into another page. `base` is
+//! that of each opcode. `cycles` is the value for the instruction at PC. The code has tables of its own, in the order
+//! of the opcodes, and the proof compares them with it. No call takes memory. That sim65 counts the same cycles is
+//! tried (`tools/try/cycles.sh`).
 #![tactic(auto)]
 
 ghost use Rattle.std.specs.Prelude.{◌≡◌, ◌+◌, ◌≤◌, ◌%◌, ◌<◌, true};
@@ -215,7 +217,7 @@ fn extra_at(opcode: u8, regs: &Regs, memory: &Memory) -> u8
     }
 }
 
-// The same by decoding.
+// The cycles on top of an opcode's base, found by decoding it.
 #[inline(never)]
 fn decoded_extra(opcode: u8, regs: &Regs, memory: &Memory) -> u8
     ensures value { result ≡ extra_by (decoded opcode) regs.now (reading (at memory.now)) }

@@ -7,7 +7,7 @@ use Rattle.tb_kernal.specs.declared.status.Status.TheVariants.{Running}
 use Rattle.tb_kernal.specs.Machine.{status, happens}
 use Rattle.tb_words.specs.Prefixes.{IsPrefix}
 use Rattle.tb_words.proofs.Prefixes.{prefix_same, prefix_trans}
-use Rattle.tb_reaching.proofs.Grows.{sends_on}
+use Rattle.tb_kernal.proofs.EventLists.{sends_on}
 use Rattle.std.specs.Prelude.{ℤ, ◌&&◌, true, false, if◌then◌else◌}
 use Rattle.tb_debug.specs.Roms.{after, event_at}
 use Rattle.tb_inspection.specs.Readings.{values_in}

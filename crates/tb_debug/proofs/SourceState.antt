@@ -4,14 +4,10 @@ use Rattle.std.specs.Prelude.{if◌then◌else◌, nat_eq, map, Some, None}
 use Rattle.std.proofs.lemmas.Bool.{eqb-true, ne_eqb}
 use Rattle.std.proofs.lemmas.Bool.Decides.{nat_tests}
 use Rattle.tb_cpu.specs.Operands.{word_in}
-use Rattle.tb_asm.specs.declared.names.Name.{Name}
 use Rattle.tb_meaning.specs.Control.{At, Past, Place, deepest, has_line}
-use Rattle.tb_runtime16.specs.Addresses.{NOTES}
-use Rattle.tb_templates.specs.declared.labels.Target.TheVariants.{Line}
-use Rattle.tb_templates.specs.Labels.{label_of}
-use Rattle.tb_simulation.specs.Layout.{is_start}
-use Rattle.tb_simulation.specs.LineStarts.{HoldsReturns, StandsFor}
-use Rattle.tb_codegen.specs.Compiled.{AddressesRise, stands_at, starts_in}
+use Rattle.tb_kept.specs.Addresses.{NOTES}
+use Rattle.tb_kept.specs.LineStarts.{is_start, HoldsReturns, StandsFor}
+use Rattle.tb_compiled.specs.Compiled.{AddressesRise}
 use Rattle.tb_debug.specs.Lines.{line_at}
 use Rattle.tb_inspection.specs.Readings.{return_in}
 use Rattle.tb_debug.specs.Readings.{lines_of_returns, depth_in}
@@ -20,38 +16,39 @@ use Rattle.tb_debug.specs.Sources.{line_of}
 
 -- ---- the lines of places
 
-module _ (labels : List (Name × ℕ)) where
-  abbrev at_label : ℕ → ℕ
-  at_label n = stands_at labels (label_of (Line n))
+-- lines with the addresses where they begin
+abbrev pub placed : (ℕ → ℕ) → List ℕ → List (ℕ × ℕ)
+placed at ns = map (λ n. (n, at n)) ns
 
-  above : (ns : List ℕ) (low n : ℕ) → AddressesRise low (starts_in labels ns) → has_line ns n ≡ true → low ≤ at_label n
+module _ (place : ℕ → ℕ) where
+  above : (ns : List ℕ) (low n : ℕ) → AddressesRise low (placed place ns) → has_line ns n ≡ true → low ≤ place n
   above [] low n rise has = absurd (cc)
-  above (m ∷ ns) low n (here, rest) has = go (nat_eq m n) refl (above ns (at_label m + 1) n rest) has
+  above (m ∷ ns) low n (here, rest) has = go (nat_eq m n) refl (above ns (place m + 1) n rest) has
     where
-      go : (t : Bool) → nat_eq m n ≡ t → (has_line ns n ≡ true → at_label m + 1 ≤ at_label n) → (t || has_line ns n) ≡ true → low ≤ at_label n
-      go true is later has = subst (λ k. low ≤ at_label k) (eqb-true m n is) here
+      go : (t : Bool) → nat_eq m n ≡ t → (has_line ns n ≡ true → place m + 1 ≤ place n) → (t || has_line ns n) ≡ true → low ≤ place n
+      go true is later has = subst (λ k. low ≤ place k) (eqb-true m n is) here
       go false is later has = omega (arith, here, later has)
 
   same_place : (a : ℕ) → nat_eq a a ≡ true
   same_place a = grind (arith, nat_tests)
 
   -- a line of the program is found where it begins
-  found_there : (ns : List ℕ) (low n : ℕ) → AddressesRise low (starts_in labels ns) → has_line ns n ≡ true
-      → line_at (starts_in labels ns) (at_label n) ≡ Some n
+  found_there : (ns : List ℕ) (low n : ℕ) → AddressesRise low (placed place ns) → has_line ns n ≡ true
+      → line_at (placed place ns) (place n) ≡ Some n
   found_there [] low n rise has = absurd (cc)
   found_there (m ∷ ns) low n (here, rest) has =
-      go (nat_eq m n) refl (above ns (at_label m + 1) n rest) (found_there ns (at_label m + 1) n rest) has
+      go (nat_eq m n) refl (above ns (place m + 1) n rest) (found_there ns (place m + 1) n rest) has
     where
-      go : (t : Bool) → nat_eq m n ≡ t → (has_line ns n ≡ true → at_label m + 1 ≤ at_label n)
-          → (has_line ns n ≡ true → line_at (starts_in labels ns) (at_label n) ≡ Some n) → (t || has_line ns n) ≡ true
-          → (if nat_eq (at_label n) (at_label m) then Some m else line_at (starts_in labels ns) (at_label n)) ≡ Some n
+      go : (t : Bool) → nat_eq m n ≡ t → (has_line ns n ≡ true → place m + 1 ≤ place n)
+          → (has_line ns n ≡ true → line_at (placed place ns) (place n) ≡ Some n) → (t || has_line ns n) ≡ true
+          → (if nat_eq (place n) (place m) then Some m else line_at (placed place ns) (place n)) ≡ Some n
       go true is later found has =
           let same : m ≡ n = eqb-true m n is in
-          ap (λ k. if nat_eq (at_label n) (at_label k) then Some k else line_at (starts_in labels ns) (at_label n)) same
-          ∙ ap (λ b. if b then Some n else line_at (starts_in labels ns) (at_label n)) (same_place (at_label n))
+          ap (λ k. if nat_eq (place n) (place k) then Some k else line_at (placed place ns) (place n)) same
+          ∙ ap (λ b. if b then Some n else line_at (placed place ns) (place n)) (same_place (place n))
       go false is later found has =
           let behind = later has in
-          ap (λ b. if b then Some m else line_at (starts_in labels ns) (at_label n)) (ne_eqb (at_label n) (at_label m) (λ e. omega (arith, e, behind)))
+          ap (λ b. if b then Some m else line_at (placed place ns) (place n)) (ne_eqb (place n) (place m) (λ e. omega (arith, e, behind)))
           ∙ found has
 
   -- if no line begins at an address, none is found
@@ -64,18 +61,18 @@ module _ (labels : List (Name × ℕ)) where
       go true later e = absurd (cc)
       go false later e = later e
 
-  module _ (start : ℕ → ℕ) (ns : List ℕ) (low : ℕ) (rise : AddressesRise low (starts_in labels ns))
-      (firsts : (n : ℕ) → has_line ns n ≡ true → start n ≡ at_label n) (same : (a : ℕ) → is_start start ns a ≡ begins_at (starts_in labels ns) a) where
-    place_told : (p : Place) (a : ℕ) → StandsFor start ns p a → line_at (starts_in labels ns) a ≡ line_of p
-    place_told (At n) a (has, is) = ap (line_at (starts_in labels ns)) (is ∙ firsts n has) ∙ found_there ns low n rise has
-    place_told Past a none = none_there (starts_in labels ns) a (sym (same a) ∙ none)
+  module _ (start : ℕ → ℕ) (ns : List ℕ) (low : ℕ) (rise : AddressesRise low (placed place ns))
+      (firsts : (n : ℕ) → has_line ns n ≡ true → start n ≡ place n) (same : (a : ℕ) → is_start start ns a ≡ begins_at (placed place ns) a) where
+    place_told : (p : Place) (a : ℕ) → StandsFor start ns p a → line_at (placed place ns) a ≡ line_of p
+    place_told (At n) a (has, is) = ap (line_at (placed place ns)) (is ∙ firsts n has) ∙ found_there ns low n rise has
+    place_told Past a none = none_there (placed place ns) a (sym (same a) ∙ none)
 
     -- the lines that the return list leads to are those of the places
     pub returns_told : (m : ℕ → ℕ) (ps : List Place) → HoldsReturns start ns m ps
-        → lines_of_returns (starts_in labels ns) m (length ps) ≡ map line_of ps
+        → lines_of_returns (placed place ns) m (length ps) ≡ map line_of ps
     returns_told m [] held = refl
     returns_told m (p ∷ ps) held =
-        let here : line_at (starts_in labels ns) (return_in m (length ps)) ≡ line_of p = place_told p (return_in m (length ps)) held.0 in
+        let here : line_at (placed place ns) (return_in m (length ps)) ≡ line_of p = place_told p (return_in m (length ps)) held.0 in
         let rest = returns_told m ps held.1 in
         λ i. here i ∷ rest i
 

@@ -1,7 +1,7 @@
 -- What is debugged: the program of a source, or any other, in which each address is a line whose number is the address.
 use Rattle.std.specs.Prelude.{ℕ, Bool, true, false, nat_lt, List, [], length, Option, Some, None}
-use Rattle.tb_codegen.specs.Compiled.{line_in, start_in, starts_of, table_of}
-use Rattle.tb_codegen.specs.declared.compiled.Compiled.{Compiled}
+use Rattle.tb_compiled.specs.Compiled.{line_in, start_in, starts_of, table_of}
+use Rattle.tb_compiled.specs.declared.compiled.Compiled.{Compiled}
 use Rattle.tb_debug.specs.Lines.{line_at}
 use Rattle.tb_debug.specs.Readings.{returns_of}
 use Rattle.tb_debug.specs.Runs.{begins_at}

@@ -10,7 +10,7 @@ use Rattle.tb_disasm.specs.declared.listing.Line.{Line}
 use Rattle.tb_disasm.specs.Lines.{shown}
 use Rattle.tb_disasm.specs.Listing.{line_at as code_line}
 use Rattle.tb_debug.specs.Lines.{line_at}
-use Rattle.tb_runtime16.specs.Addresses.{NOTES}
+use Rattle.tb_kept.specs.Addresses.{NOTES}
 
 -- how many returns are told: as many as the return list holds, and no more than it may hold
 abbrev pub depth_in : (ℕ → ℕ) → ℕ

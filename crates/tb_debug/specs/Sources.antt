@@ -4,21 +4,21 @@ use Rattle.std.specs.Int.{cast_signed, w16}
 use Rattle.tb_memmap.specs.Regions.{BASIC_START}
 use Rattle.tb_meaning.specs.Control.{At, Past, Place}
 use Rattle.tb_kernal.specs.Machine.{State, state_of}
-use Rattle.tb_simulation.specs.Theorem.{Starts}
-use Rattle.tb_simulation.specs.LineStarts.{BeginsLine, MarksLines}
+use Rattle.tb_kept.specs.Keeps.{Starts}
+use Rattle.tb_kept.specs.LineStarts.{BeginsLine, MarksLines}
 use Rattle.tb_syntax.specs.Source.{Program}
-use Rattle.tb_codegen.specs.Compiled.{IsCompiled, loaded_of, start_of}
+use Rattle.tb_compiled.specs.Compiled.{IsBuiltFrom, loaded_of, start_of}
 use Rattle.tb_inspection.specs.Readings.{value_in}
 use Rattle.tb_debug.specs.Debuggees.{program_of, returns_from}
-use Rattle.tb_codegen.specs.declared.compiled.Compiled.{Compiled}
+use Rattle.tb_compiled.specs.declared.compiled.Compiled.{Compiled}
 use Rattle.tb_debug.specs.declared.rom.Rom.{Rom}
 use Rattle.tb_debug.specs.declared.debugger.Debugger.{Debugger}
 use Rattle.tb_debug.specs.Runs.{first_point}
 use Rattle.tb_debug.specs.Debuggers.{OnRun}
 
--- a compiled program as `compile` makes it of a source program, with the option's first RND state
+-- a compiled program as a compiler makes it of a source program, with the option's first RND state
 pub record IsMadeOf (source : Program) (seed : ℕ) (c : Compiled) : Type 0 where
-  pub compiled : IsCompiled seed source c
+  pub compiled : IsBuiltFrom source c
   pub marks : MarksLines BASIC_START (loaded_of c) source seed (start_of c)
 
 -- a debugger on the run of a source program's code from a start, with a ROM
@@ -40,7 +40,7 @@ pub record ShowsLine (source : Program) (seed : ℕ) (start : State) (c : Compil
   pub variables : (x : ℕ) → x < 26 → value_in (state_of d.present.machine).mem x ≡ cast_signed w16 (slice_index begins.state.vars x)
   pub returns : returns_from d.debuggee (state_of d.present.machine).mem ≡ map line_of begins.state.returns
 
--- if `compile` made the program, and the run is one from its start, the line that begins here shows its source
+-- if a compiler made the program, and the run is one from its start, the line that begins here shows its source
 abbrev pub ShowsSource : Debugger → Option ℕ → Type 0
 ShowsSource d here =
     (source : Program) (seed : ℕ) (start : State) (rom : Rom) (c : Compiled) → Debugs source seed start rom c d

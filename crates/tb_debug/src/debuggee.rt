@@ -6,7 +6,7 @@ ghost use Rattle.tb_debug.specs.Debuggees.{code_line_of, depth_from, has_no_sour
 
 use crate::readings::{depth_in, line_from, returns};
 use std::alloc::{AllocError, Global};
-use tb_codegen::Compiled;
+use tb_compiled::Compiled;
 use tb_memmap::Memory;
 
 /// What is debugged.

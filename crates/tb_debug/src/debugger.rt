@@ -19,7 +19,7 @@ use crate::readings::variables_in;
 use crate::rom::Rom;
 use crate::starts::Starts;
 use std::alloc::{AllocError, Global};
-use tb_codegen::Compiled;
+use tb_compiled::Compiled;
 use tb_inspection::Variables;
 use tb_kernal::Machine;
 use tb_watch::{Unwatched, Watch};
@@ -107,7 +107,7 @@ impl<'a> Debugger<'a> {
     /// The line that begins here.
     pub fn line_here(&self) -> Option<u16>
         ensures line { result ≡ line_from self.now.debuggee self.now.present.machine.regs.pc }
-        // If `compile` made the program, and the run is one from its start, the source goes on at that line after as many
+        // If a compiler made the program, and the run is one from its start, the source goes on at that line after as many
         // lines as were begun, with what the machine holds.
         ensures source { ShowsSource self.now result }
     {

@@ -30,7 +30,8 @@ pub fn take_event<O: Outside>(machine: &mut Machine, outside: &mut O) -> Result<
     }
 }
 
-/// The same in a machine that runs. Beside a quiet outside it takes no longer than in a run.
+/// Lets an outside's next event happen in a machine that runs: whether it was the program's own. Beside a quiet outside it
+/// takes no longer than in a run.
 pub fn take_quickly<O: Outside>(machine: &mut Machine, outside: &mut O) -> Result<bool, AllocError>
     requires running { status (state_of machine.old) ≡ Running }
     ensures { IfOk result (λ own. Took O.gives outside.old machine.old own outside.new machine.new) }

@@ -13,6 +13,7 @@ use crate::starts::Starts;
 use std::alloc::{AllocError, Global};
 use tb_inspection::Variables;
 use tb_kernal::{Machine, Status};
+use tb_memmap::PROGRAM_END;
 
 /// Where a way along the run ended.
 #[derive(Clone, Copy, PartialEq, Eq, Debug, Drop)]
@@ -26,9 +27,6 @@ pub enum Reached {
     /// As many events as the limit were taken.
     Limit,
 }
-
-/// Where the first ROM begins.
-const FIRST_ROM: u16 = 0xa000;
 
 /// The most events that are counted.
 const MOST_EVENTS: u64 = u64::MAX;
@@ -66,7 +64,7 @@ impl Moment {
         }
     }
 
-    /// The same moment, with these bytes as what was sent.
+    /// A copy of the moment, with these bytes as what was sent.
     pub fn copied(&self, alloc: Global, sent: &[u8]) -> Result<Moment, AllocError>
         ensures { IfOk result (λ m. m ≡ record self.now { machine = record self.now.machine { sent = sent.now; room = 0 } }) }
     {
@@ -176,7 +174,7 @@ impl Moment {
             return false;
         }
         // A service of the ROM is no instruction that is gone over.
-        if FIRST_ROM <= self.machine.regs().pc {
+        if PROGRAM_END <= self.machine.regs().pc {
             return false;
         }
         let went = self.machine.go_to_mark(starts.marks(), limit);

@@ -4,13 +4,13 @@ ghost use Rattle.tb_memmap.specs.Bytes.{at, peek};
 ghost use Rattle.tb_disasm.specs.Lines.{shown};
 ghost use Rattle.tb_kernal.specs.Machine.{state_of};
 ghost use Rattle.tb_meaning.specs.Control.{deepest};
-ghost use Rattle.tb_codegen.specs.Compiled.{pair_of, starts_of};
+ghost use Rattle.tb_compiled.specs.Compiled.{pair_of, starts_of};
 ghost use Rattle.tb_inspection.specs.Readings.{values_in};
 ghost use Rattle.tb_debug.specs.Readings.{IsCodeLine, as_read, bytes_of, code_bytes, code_of, depth_in, returns_of};
 ghost use Rattle.tb_debug.specs.Lines.{line_at};
 
 use std::alloc::{AllocError, Global};
-use tb_codegen::{Compiled, LineStart};
+use tb_compiled::{Compiled, LineStart};
 use tb_disasm::{Line, first_line};
 use tb_inspection::{Variables, depth, return_address, variables};
 use tb_kernal::Machine;

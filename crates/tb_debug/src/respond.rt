@@ -62,7 +62,7 @@ impl<'a> Debugger<'a> {
         }
     }
 
-    // Does the same for a command that types nothing and isn't the end.
+    // Answers a command that types nothing and isn't the end.
     fn act<W: Watch>(
         &mut self,
         alloc: Global,
@@ -88,7 +88,7 @@ impl<'a> Debugger<'a> {
         }
     }
 
-    // The same as `walk`, of which a watch hears the beginning and the end.
+    // Does what `walk` does, and a watch hears of the beginning and the end.
     fn walk_watched<W: Watch>(
         &mut self,
         alloc: Global,
@@ -232,7 +232,7 @@ impl<'a> Debugger<'a> {
         }
     }
 
-    // The same to one that is answered.
+    // The answer to a command that doesn't move the run, if it needs no source or there is one.
     fn answer(&mut self, alloc: Global, command: Command<'_>) -> Result<Answer, AllocError>
         requires { IsTold command self.old }
         ensures run { OnOk result (KeepsRun self.old self.new) }

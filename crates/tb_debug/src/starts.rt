@@ -1,13 +1,13 @@
 //! Where lines begin.
 ghost use Rattle.std.specs.Prelude.{◌≡◌, ◌<◌, ℕ, false, true, length, map, replicate, vec_len, IfOk};
-ghost use Rattle.tb_codegen.specs.Compiled.{pair_of};
+ghost use Rattle.tb_compiled.specs.Compiled.{pair_of};
 ghost use Rattle.tb_debug.specs.Debuggees.{begins_in};
 ghost use Rattle.tb_debug.specs.Runs.{begins_at, is_marked};
 
 use crate::debuggee::Debuggee;
 use std::alloc::{AllocError, Global};
 use std::marker::Model;
-use tb_codegen::LineStart;
+use tb_compiled::LineStart;
 
 /// How many addresses there are.
 const ADDRESSES: usize = 65_536;
@@ -29,7 +29,7 @@ impl Model for Starts {
 }
 
 impl Starts {
-    /// Those of what is debugged.
+    /// The addresses where the lines of a debuggee begin.
     pub fn new(alloc: Global, debuggee: Debuggee<'_>) -> Result<Starts, AllocError>
         ensures { IfOk result (λ s. (a : ℕ) → is_marked s a ≡ begins_in debuggee.entry a) }
     {

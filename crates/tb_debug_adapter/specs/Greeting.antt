@@ -7,7 +7,7 @@ use Rattle.tb_adapter_messages.specs.declared.refusals.Refusal.TheVariants as re
 use Rattle.tb_adapter_values.specs.Bodies.{capabilities_body}
 use Rattle.tb_adapter_values.specs.declared.requests.Command.{Command}
 use Rattle.tb_adapter_values.specs.declared.requests.Command.TheVariants as command
-use Rattle.tb_parser.specs.declared.notation.Notation.{Notation}
+use Rattle.tb_text.specs.declared.notation.Notation.{Notation}
 use Rattle.tb_streams.specs.declared.stream.InputError.{InputError}
 use Rattle.tb_adapter_requests.specs.Launching.{Asked, is_understood, launch_in}
 use Rattle.tb_adapter_requests.specs.Loading.{Loads}
@@ -16,6 +16,7 @@ use Rattle.tb_debug_adapter.specs.declared.greeting.Greeting.{Greeting}
 use Rattle.tb_debug_adapter.specs.declared.greeting.Greeting.TheVariants as greeting
 use Rattle.tb_adapter_requests.specs.declared.loading.Loading.{Loading}
 use Rattle.tb_adapter_requests.specs.declared.loading.Loading.TheVariants as loading
+use Rattle.tb_compiled.specs.Promise.{Own}
 
 -- this is said, and nothing else
 abbrev pub SaysAlone : Saying → Greeting → Type 0
@@ -45,24 +46,24 @@ greeted (loading.Loaded l) = greeting.Launched l
 greeted (loading.Unloaded said) = greeting.Said said
 
 -- what comes of `launch`
-abbrev pub Launches : {S : Type 0} → (S → List ℕ → Result (List ℕ) InputError → S → Type 0) → Option Asked → S → Greeting → S → Type 0
-Launches reads (Some a) s g t = (l : Loading) × Loads reads a s l t × (g ≡ greeted l)
-Launches reads None s g t = Refuses refusal.BadArguments g × (t ≡ s)
+abbrev pub Launches : {S : Type 0} → Own → (S → List ℕ → Result (List ℕ) InputError → S → Type 0) → Option Asked → S → Greeting → S → Type 0
+Launches own reads (Some a) s g t = (l : Loading) × Loads own reads a s l t × (g ≡ greeted l)
+Launches own reads None s g t = Refuses refusal.BadArguments g × (t ≡ s)
 
 -- why a request comes too early
 abbrev pub too_early : Bool → Refusal
 too_early before = if before then refusal.NotLaunched else refusal.NotInitialized
 
 -- what comes of `launch`, by whether the adapter was initialized, which has a notation
-abbrev pub LaunchesAfter : {S : Type 0} → (S → List ℕ → Result (List ℕ) InputError → S → Type 0) → Notation → Bool → Data → S → Greeting → S → Type 0
-LaunchesAfter reads usual true a s g t = Launches reads (launch_in usual a) s g t
-LaunchesAfter reads usual false a s g t = Refuses refusal.NotInitialized g × (t ≡ s)
+abbrev pub LaunchesAfter : {S : Type 0} → Own → (S → List ℕ → Result (List ℕ) InputError → S → Type 0) → Notation → Bool → Data → S → Greeting → S → Type 0
+LaunchesAfter own reads usual true a s g t = Launches own reads (launch_in usual a) s g t
+LaunchesAfter own reads usual false a s g t = Refuses refusal.NotInitialized g × (t ≡ s)
 
 -- what comes of a request before a program is launched, by whether the adapter was initialized
-abbrev pub Greets : {S : Type 0} → (S → List ℕ → Result (List ℕ) InputError → S → Type 0) → Notation → Option Command → Data → Bool → S → Greeting → Bool → S
+abbrev pub Greets : {S : Type 0} → Own → (S → List ℕ → Result (List ℕ) InputError → S → Type 0) → Notation → Option Command → Data → Bool → S → Greeting → Bool → S
     → Type 0
-Greets reads usual None a before s g after t = Refuses refusal.UnknownCommand g × (after ≡ before) × (t ≡ s)
-Greets reads usual (Some command.Disconnect) a before s g after t = IsDone g × (after ≡ before) × (t ≡ s)
-Greets reads usual (Some command.Initialize) a before s g after t = Initializes before (is_understood a) g after × (t ≡ s)
-Greets reads usual (Some command.Launch) a before s g after t = LaunchesAfter reads usual before a s g t × (after ≡ before)
-Greets reads usual (Some c) a before s g after t = Refuses (too_early before) g × (after ≡ before) × (t ≡ s)
+Greets own reads usual None a before s g after t = Refuses refusal.UnknownCommand g × (after ≡ before) × (t ≡ s)
+Greets own reads usual (Some command.Disconnect) a before s g after t = IsDone g × (after ≡ before) × (t ≡ s)
+Greets own reads usual (Some command.Initialize) a before s g after t = Initializes before (is_understood a) g after × (t ≡ s)
+Greets own reads usual (Some command.Launch) a before s g after t = LaunchesAfter own reads usual before a s g t × (after ≡ before)
+Greets own reads usual (Some c) a before s g after t = Refuses (too_early before) g × (after ≡ before) × (t ≡ s)

@@ -15,7 +15,7 @@ use Rattle.tb_adapter_values.specs.declared.requests.Movement.TheVariants as mov
 use Rattle.tb_adapter_views.specs.Evaluation.{HasValue, seen as value_seen}
 use Rattle.tb_adapter_views.specs.Sources.{is_same_file}
 use Rattle.tb_adapter_views.specs.declared.evaluation.Evaluated.{Evaluated}
-use Rattle.tb_codegen.specs.Compiled.{warnings_of}
+use Rattle.tb_compiled.specs.Compiled.{warnings_of}
 use Rattle.tb_debug.specs.Begins.{GoesBy, StandsBy, StepsBy}
 use Rattle.tb_debug.specs.Debuggers.{KeepsRun, KeepsRunTyped, OnRun, RewindsBy, begun_by}
 use Rattle.tb_debug.specs.Leading.{Continues, GoesOut, GoesOver, ReverseContinues}

@@ -18,13 +18,13 @@ use tb_adapter_requests::{Loaded, Plan, Said, complaint, frames_of};
 use tb_adapter_values::{Command, command_of};
 use tb_adapter_views::SourceFile;
 use tb_check_engine::Sources;
-use tb_codegen::Notation;
+use tb_compiled::{Compile, Notation};
 use tb_debug::{Debugger, Rom};
-use tb_driver::CompiledSource;
 use tb_frames::{Frame, read_frame};
 use tb_kernal::Machine;
 use tb_messages::{Unreadable, read_value};
 use tb_source_names::read_source;
+use tb_sources::CompiledSource;
 use tb_streams::{Done, Tracked, write_output};
 
 /// What a frame holds: a value, or why it is none.
@@ -200,7 +200,8 @@ fn say_greeting<W: Write>(
 }
 
 // Takes a request before a launch.
-fn take_early_request<S: Sources, W: Write>(
+fn take_early_request<K: Compile, S: Sources, W: Write>(
+    compiler: &K,
     alloc: Global,
     notation: Notation,
     next: &mut u64,
@@ -210,20 +211,29 @@ fn take_early_request<S: Sources, W: Write>(
     arguments: &Value,
     writer: &mut Tracked<W>,
 ) -> Result<Turn, AdapterOutcome>
-    ensures { spec.GreetsOrRunsOut S.reads notation asker.entry.seq asker.entry.command.now (view arguments.now) initialized.old sources.old result
+    ensures { spec.GreetsOrRunsOut K.own S.reads notation asker.entry.seq asker.entry.command.now (view arguments.now) initialized.old sources.old result
         initialized.new sources.new
         (spec.written (W.contents writer.old.stream) (failures_of writer.old) next.old)
         (spec.written (W.contents writer.new.stream) (failures_of writer.new) next.new) }
 {
     let command = command_of(asker.command);
-    match greet(alloc, notation, initialized, sources, command, arguments) {
+    match greet(
+        compiler,
+        alloc,
+        notation,
+        initialized,
+        sources,
+        command,
+        arguments,
+    ) {
         Ok(greeting) => say_greeting(alloc, next, asker, greeting, is_end(command), writer),
         Err(_) => Err(AdapterOutcome::NoMemory),
     }
 }
 
 // Takes a message before a launch.
-fn take_early<S: Sources, W: Write>(
+fn take_early<K: Compile, S: Sources, W: Write>(
+    compiler: &K,
     alloc: Global,
     notation: Notation,
     next: &mut u64,
@@ -232,7 +242,7 @@ fn take_early<S: Sources, W: Write>(
     message: Message<'_>,
     writer: &mut Tracked<W>,
 ) -> Result<Turn, AdapterOutcome>
-    ensures { spec.GreetsMessage S.reads notation (asked_of message.entry) initialized.old sources.old result initialized.new sources.new
+    ensures { spec.GreetsMessage K.own S.reads notation (asked_of message.entry) initialized.old sources.old result initialized.new sources.new
         (spec.written (W.contents writer.old.stream) (failures_of writer.old) next.old)
         (spec.written (W.contents writer.new.stream) (failures_of writer.new) next.new) }
 {
@@ -246,6 +256,7 @@ fn take_early<S: Sources, W: Write>(
             let asker = Asker { seq, command };
             let arguments = given(arguments, &null);
             take_early_request(
+                compiler,
                 alloc,
                 notation,
                 next,
@@ -262,7 +273,8 @@ fn take_early<S: Sources, W: Write>(
 }
 
 // Takes a frame before a launch.
-fn take_early_frame<S: Sources, R: Read, W: Write>(
+fn take_early_frame<K: Compile, S: Sources, R: Read, W: Write>(
+    compiler: &K,
     alloc: Global,
     notation: Notation,
     next: &mut u64,
@@ -271,7 +283,7 @@ fn take_early_frame<S: Sources, R: Read, W: Write>(
     reader: &mut Tracked<R>,
     writer: &mut Tracked<W>,
 ) -> Result<Turn, AdapterOutcome>
-    ensures { spec.GreetsFrame S.reads notation
+    ensures { spec.GreetsFrame K.own S.reads notation
         (spec.early initialized.old sources.old (R.remaining reader.old.stream) (failures_of reader.old)
         (spec.written (W.contents writer.old.stream) (failures_of writer.old) next.old))
         result
@@ -280,6 +292,7 @@ fn take_early_frame<S: Sources, R: Read, W: Write>(
 {
     match hear(alloc, reader) {
         Ok(Heard::Value(value)) => take_early(
+            compiler,
             alloc,
             notation,
             next,
@@ -294,7 +307,8 @@ fn take_early_frame<S: Sources, R: Read, W: Write>(
 }
 
 // Answers messages up to a launch.
-fn wait<S: Sources, R: Read, W: Write>(
+fn wait<K: Compile, S: Sources, R: Read, W: Write>(
+    compiler: &K,
     alloc: Global,
     notation: Notation,
     next: &mut u64,
@@ -302,7 +316,7 @@ fn wait<S: Sources, R: Read, W: Write>(
     reader: &mut Tracked<R>,
     writer: &mut Tracked<W>,
 ) -> Result<Launched, AdapterOutcome>
-    ensures { spec.Waits S.reads notation
+    ensures { spec.Waits K.own S.reads notation
         (spec.early false sources.old (R.remaining reader.old.stream) (failures_of reader.old)
         (spec.written (W.contents writer.old.stream) (failures_of writer.old) next.old))
         result
@@ -312,6 +326,7 @@ fn wait<S: Sources, R: Read, W: Write>(
     let mut initialized = false;
     for _ in 0..u64::MAX {
         match take_early_frame(
+            compiler,
             alloc,
             notation,
             next,
@@ -501,14 +516,15 @@ fn debug<R: Read, W: Write>(
 
 /// Reads messages and answers each before the next one is read, up to the end. A launch that doesn't ask for another
 /// notation has this one.
-pub fn serve<S: Sources, R: Read, W: Write>(
+pub fn serve<K: Compile, S: Sources, R: Read, W: Write>(
+    compiler: &K,
     alloc: Global,
     notation: Notation,
     sources: &mut S,
     reader: &mut Tracked<R>,
     writer: &mut Tracked<W>,
 ) -> AdapterOutcome
-    ensures { spec.Serves S.reads notation
+    ensures { spec.Serves K.own S.reads notation
         (spec.early false sources.old (R.remaining reader.old.stream) (failures_of reader.old)
         (spec.written (W.contents writer.old.stream) (failures_of writer.old) 1))
         result
@@ -516,7 +532,9 @@ pub fn serve<S: Sources, R: Read, W: Write>(
         (spec.written (W.contents writer.new.stream) (failures_of writer.new) next)) }
 {
     let mut next = 1;
-    match wait(alloc, notation, &mut next, sources, reader, writer) {
+    match wait(
+        compiler, alloc, notation, &mut next, sources, reader, writer,
+    ) {
         Ok(launched) => debug(alloc, &mut next, launched, reader, writer),
         Err(outcome) => outcome,
     }

@@ -12,7 +12,7 @@ use tb_adapter_messages::Refusal;
 use tb_adapter_requests::{Launch, Loaded, Loading, Said, is_understood, launch_in, load};
 use tb_adapter_values::{Command, capabilities_body};
 use tb_check_engine::Sources;
-use tb_codegen::Notation;
+use tb_compiled::{Compile, Notation};
 
 /// What comes of a request before a program is launched.
 #[derive(Drop)]
@@ -67,15 +67,16 @@ fn greeted(loading: Loading) -> Greeting
 }
 
 // What comes of `launch`.
-fn launch<S: Sources>(
+fn launch<K: Compile, S: Sources>(
+    compiler: &K,
     alloc: Global,
     sources: &mut S,
     launch: Option<Launch<'_>>,
 ) -> Result<Greeting, AllocError>
-    ensures { IfOk result (λ greeting. spec.Launches S.reads (option_map asked_of launch.entry) sources.old greeting sources.new) }
+    ensures { IfOk result (λ greeting. spec.Launches K.own S.reads (option_map asked_of launch.entry) sources.old greeting sources.new) }
 {
     match launch {
-        Some(launch) => Ok(greeted(load(alloc, sources, &launch)?)),
+        Some(launch) => Ok(greeted(load(compiler, alloc, sources, &launch)?)),
         None => unwelcome(alloc, Refusal::BadArguments),
     }
 }
@@ -100,7 +101,8 @@ fn done(alloc: Global) -> Result<Greeting, AllocError>
 
 /// What comes of a request before a program is launched, by whether the adapter was initialized. Sources are read in
 /// the notation, if no launch asks for another one.
-pub fn greet<S: Sources>(
+pub fn greet<K: Compile, S: Sources>(
+    compiler: &K,
     alloc: Global,
     notation: Notation,
     initialized: &mut bool,
@@ -108,7 +110,7 @@ pub fn greet<S: Sources>(
     command: Option<Command>,
     arguments: &Value,
 ) -> Result<Greeting, AllocError>
-    ensures { IfOk result (λ greeting. spec.Greets S.reads notation command (view arguments.now) initialized.old sources.old greeting initialized.new sources.new) }
+    ensures { IfOk result (λ greeting. spec.Greets K.own S.reads notation command (view arguments.now) initialized.old sources.old greeting initialized.new sources.new) }
 {
     match command {
         None => unwelcome(alloc, Refusal::UnknownCommand),
@@ -117,7 +119,7 @@ pub fn greet<S: Sources>(
             initialize_once(alloc, initialized, is_understood(arguments))
         }
         Some(Command::Launch) if *initialized => {
-            launch(alloc, sources, launch_in(arguments, notation))
+            launch(compiler, alloc, sources, launch_in(arguments, notation))
         }
         Some(_) => unwelcome(alloc, too_early(*initialized)),
     }

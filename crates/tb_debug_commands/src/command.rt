@@ -99,7 +99,7 @@ pub fn read_after<'a>(last: Option<Command<'a>>, line: &'a [u8]) -> Command<'a>
     }
 }
 
-/// The same without a source, where each address is a line: a place may be an address, `b $ADDR` or `g $ADDR`.
+/// The command that a line is after a move without a source, where each address is a line: `b $ADDR` or `g $ADDR`.
 pub fn read_without_source<'a>(last: Option<Command<'a>>, line: &'a [u8]) -> Command<'a>
     ensures { asked_of result ≡ asked_without_source (option_map asked_of last.entry) line.now }
 {

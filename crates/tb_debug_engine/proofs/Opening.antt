@@ -9,18 +9,18 @@ use Rattle.tb_kernal.specs.declared.status.Status.TheVariants.{Returned, Running
 use Rattle.tb_prg.specs.Prg.{content_of}
 use Rattle.tb_opcodes.specs.Bytes.{AreBytes}
 use Rattle.tb_syntax.specs.Source.{Program}
-use Rattle.tb_simulation.specs.Theorem.{Starts}
+use Rattle.tb_kept.specs.Keeps.{Starts}
 use Rattle.tb_prg.specs.declared.PrgError.{PrgError}
 use Rattle.tb_engines.specs.Programs.{StartsContent, StartsPrg, start}
 use Rattle.tb_engines.specs.Delivery.{outcome_without}
 use Rattle.tb_engines.specs.declared.delivery.NoText.{NoText}
 use Rattle.tb_engines.specs.declared.delivery.NoText.TheVariants.{NoMemory as NoMachine, Refused as CantLoad}
-use Rattle.tb_driver.proofs.Loadable.{machine_at_start, starts_loadable}
-use Rattle.tb_driver.proofs.Output.{bytes_behind, compiled_loads, in_ram, starts}
+use Rattle.tb_sources.proofs.Loadable.{machine_at_start, starts_loadable}
+use Rattle.tb_sources.proofs.Output.{bytes_behind, compiled_loads, in_ram, starts}
 use Rattle.tb_engines.specs.Outcomes.{Outcome}
 use Rattle.tb_streams.specs.declared.outcome.Outcome.TheVariants.{Ended, Refused, ReadFault, WriteFault, NoMemory}
-use Rattle.tb_codegen.specs.Compiled.{loaded_of, prg_of}
-use Rattle.tb_codegen.specs.declared.compiled.Compiled.{Compiled}
+use Rattle.tb_compiled.specs.Compiled.{loaded_of, prg_of}
+use Rattle.tb_compiled.specs.declared.compiled.Compiled.{Compiled}
 use Rattle.tb_debug.specs.Begins.{standing_by, standing_of}
 use Rattle.tb_debug.specs.Debuggees.{has_no_source, program_of}
 use Rattle.tb_debug.specs.Debuggers.{IsAtStart, IsOpening, KeepsRun, OnRun}
@@ -38,10 +38,10 @@ use Rattle.tb_debug_engine.specs.declared.dialogue.Setting.{Setting}
 use Rattle.tb_debug_engine.specs.Streams.{Stream}
 use Rattle.tb_debug_engine.specs.declared.sources.Written.{Written}
 
--- a program that `compile` made is loaded at $0801, below $A000
+-- a program that a compiler made is loaded at $0801, below $A000
 loads : (source : Program) (seed : ℕ) (c : Compiled) → IsMadeOf source seed c
     → (content_of (prg_of c) ≡ Ok (BASIC_START, loaded_of c)) × (BASIC_START + length (loaded_of c) ≤ 0xa000)
-loads source seed c made = compiled_loads seed c source made.compiled
+loads source seed c made = compiled_loads c source made.compiled
 
 -- the machine that `run` starts for it is one from which its line starts are known
 shows_so : (c : Compiled) (text answers : List ℕ) (rom : Rom) (at : ℕ) (bytes : List ℕ) (d : Debugger) → content_of (prg_of c) ≡ Ok (at, bytes)

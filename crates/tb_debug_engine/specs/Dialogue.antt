@@ -13,8 +13,8 @@ use Rattle.tb_engines.specs.Outcomes.{Outcome}
 use Rattle.tb_engines.specs.declared.outcome.Refusal.{Refusal}
 use Rattle.tb_streams.specs.declared.outcome.Outcome.TheVariants.{Ended, Refused, ReadFault, WriteFault, NoMemory}
 use Rattle.tb_play.specs.Lines.{TakesLines}
-use Rattle.tb_codegen.specs.Compiled.{prg_of}
-use Rattle.tb_codegen.specs.declared.compiled.Compiled.{Compiled}
+use Rattle.tb_compiled.specs.Compiled.{prg_of}
+use Rattle.tb_compiled.specs.declared.compiled.Compiled.{Compiled}
 use Rattle.tb_debug_commands.specs.Commands.{Asked, asked_after, asked_of, asked_without_source, last_move}
 use Rattle.tb_debug_commands.specs.declared.command.Command.{Command}
 use Rattle.tb_debug.specs.Debuggees.{has_no_source, program_of}
@@ -35,7 +35,7 @@ use Rattle.tb_debug_engine.specs.Labels.{translated}
 use Rattle.tb_debug_engine.specs.Sources.{AreWritten, IsUnwritten, labels_of, shown_of}
 use Rattle.tb_debug_engine.specs.Streams.{Stream, Streams, Takes, TakesNone, TakesSome, FailsToTake, Writes, WritesNone, FailsToWrite}
 use Rattle.tb_labels.specs.declared.labels.Label.{Label}
-use Rattle.tb_driver.specs.declared.reading.CompiledSource.{CompiledSource}
+use Rattle.tb_sources.specs.declared.reading.CompiledSource.{CompiledSource}
 use Rattle.tb_debug_engine.specs.declared.sources.Written.{Written}
 
 -- ---- one line
@@ -153,7 +153,7 @@ abbrev pub started : ℕ → List ℕ → Keyboard → State
 started at bytes keyboard = state_of (start at bytes keyboard.text.items keyboard.answers.items)
 
 -- a debugger of a program at the first line of its run from the machine that `run` starts, with this keyboard, with a ROM.
--- At each line's beginning to which its commands lead, a program that `compile` made shows its source: `line_here` says what.
+-- At each line's beginning to which its commands lead, a program that a compiler made shows its source: `line_here` says what.
 pub record IsBegun (program : Compiled) (keyboard : Keyboard) (rom : Rom) (d : Debugger) : Type 0 where
   pub of : program_of d.debuggee ≡ Some program
   pub at : ℕ
@@ -163,7 +163,7 @@ pub record IsBegun (program : Compiled) (keyboard : Keyboard) (rom : Rom) (d : D
   pub opens : IsOpening (first_point (started at bytes keyboard) rom) d
   pub shows : (source : Program) (seed : ℕ) → IsMadeOf source seed program → sources.Debugs source seed (started at bytes keyboard) rom program d
 
--- why a program is not debugged: its machine can't be started, as that of any program that `compile` made can
+-- why a program is not debugged: its machine can't be started, as that of any program that a compiler made can
 pub record IsBarred (program : Compiled) (keyboard : Keyboard) (why : Refusal) : Type 0 where
   pub unloadable : StartsPrg keyboard.text.items keyboard.answers.items (prg_of program) (Err (CantLoad why))
   pub unmade : (source : Program) (seed : ℕ) → ¬ (IsMadeOf source seed program)

@@ -15,10 +15,10 @@ use crate::texts::push_answer;
 use std::alloc::Global;
 use std::io::{Read, Write};
 use tb_debug::{Answer, Command, Debugger, Rom, last_move, read_after, read_without_source};
-use tb_driver::{CompiledSource, are_bytes, start_program};
 use tb_engines::{End, Outcome, start_file};
 use tb_kernal::Keyboard;
 use tb_labels::Label;
+use tb_sources::{CompiledSource, are_bytes, start_program};
 use tb_streams::{MOST_INPUT, StreamFailure, Tracked, read_line, without_return, write_output};
 use tb_watch::Watch;
 

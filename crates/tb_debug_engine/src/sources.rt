@@ -1,13 +1,13 @@
 //! A source's lines as they are written.
 ghost use Rattle.std.specs.Prelude.{◌≡◌, IfOk, map};
-ghost use Rattle.tb_codegen.specs.Compiled.{pair_of};
+ghost use Rattle.tb_compiled.specs.Compiled.{pair_of};
 ghost use Rattle.tb_debug_engine.specs.Sources.{AreWritten, IsUnwritten};
 
 use std::alloc::{AllocError, Global};
-use tb_codegen::LineStart;
-use tb_driver::CompiledSource;
+use tb_compiled::LineStart;
 use tb_labels::Label;
 use tb_source_text::{Numbered, numbered_lines};
+use tb_sources::CompiledSource;
 
 /// The lines of a source as they are written.
 #[derive(Drop)]
@@ -21,7 +21,7 @@ pub struct Written<'a> {
 }
 
 impl<'a> Written<'a> {
-    /// Those of a source.
+    /// The lines of a source, as they were written.
     pub fn new(alloc: Global, source: &'a CompiledSource) -> Result<Written<'a>, AllocError>
         ensures { IfOk result (AreWritten source.now) }
     {
@@ -32,7 +32,7 @@ impl<'a> Written<'a> {
         })
     }
 
-    /// Those of no source, with the labels of a PRG file.
+    /// No lines, since there is no source, but the labels of a PRG file.
     pub fn none(alloc: Global, labels: &'a [Label]) -> Written<'a>
         ensures { IsUnwritten labels.entry.now result }
     {

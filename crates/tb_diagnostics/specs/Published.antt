@@ -4,13 +4,14 @@ use Rattle.serde_json.specs.Data.{Data, array, member, no_members, number, objec
 use Rattle.serde_json.specs.Find.{of_integer}
 use Rattle.serde_json.specs.View.{items_of}
 use Rattle.tb_streams.specs.Streams.{most_input}
-use Rattle.tb_parser.specs.Lines.{lines_of_file}
-use Rattle.tb_parser.specs.declared.notation.Notation.{Notation}
+use Rattle.tb_text.specs.Lines.{lines_of_file}
+use Rattle.tb_text.specs.declared.notation.Notation.{Notation}
 use Rattle.tb_check.specs.Settings.{by_cost}
 use Rattle.tb_check.specs.Findings.{AreFindings}
 use Rattle.tb_check.specs.declared.examination.Findings.{Findings}
 use Rattle.tb_messages.specs.Messages.{Says}
 use Rattle.tb_diagnostics.specs.Diagnostics.{diagnostics_of, too_long}
+use Rattle.tb_compiled.specs.Promise.{Own}
 
 -- the params of what is published, with the version of the text if that is known
 abbrev pub params_of : List ℕ → Option ℤ → List Data → Data
@@ -26,11 +27,11 @@ published_of uri version found =
 
 -- diagnostics of a source: those of its findings, which are what `check` says of it in a notation; or that it has too
 -- many bytes
-abbrev pub Diagnoses : Notation → List ℕ → List ℕ → List Data → Type 0
-Diagnoses notation uri source found =
-    (length source ≤ most_input → (f : Findings) × AreFindings (by_cost notation) source f × (found ≡ diagnostics_of uri (lines_of_file source) f))
+abbrev pub Diagnoses : Own → Notation → List ℕ → List ℕ → List Data → Type 0
+Diagnoses own notation uri source found =
+    (length source ≤ most_input → (f : Findings) × AreFindings own (by_cost notation) source f × (found ≡ diagnostics_of uri (lines_of_file source) f))
     × (most_input < length source → found ≡ too_long ∷ [])
 
 -- a content that publishes diagnostics of a source
-abbrev pub Publishes : Notation → List ℕ → Option ℤ → List ℕ → List ℕ → Type 0
-Publishes notation uri version source content = (found : List Data) × Diagnoses notation uri source found × Says content (published_of uri version found)
+abbrev pub Publishes : Own → Notation → List ℕ → Option ℤ → List ℕ → List ℕ → Type 0
+Publishes own notation uri version source content = (found : List Data) × Diagnoses own notation uri source found × Says content (published_of uri version found)

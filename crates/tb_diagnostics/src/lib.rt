@@ -1,4 +1,9 @@
 //! What `check` finds of a source, as a language server publishes it: ranges, severities, codes and texts.
+//!
+//! `diagnose`: the diagnostics of a source are those of findings that are the source's by the clause of `examine`
+//! (`AreFindings`). There is one for each bad line, line that is too deep, or warning, in their order, with range,
+//! severity, code, text and note. Or it says that the source has more than 1,048,576 bytes (`Diagnoses`). `publish`
+//! and `publish_none`: the content reads as the message with just these (`Publishes`).
 #![tactic(auto)]
 
 mod codes;

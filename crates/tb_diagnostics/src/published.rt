@@ -8,17 +8,18 @@ use crate::findings::{Lines, diagnostics, too_long};
 use serde_json::{Value, json};
 use std::alloc::{AllocError, Global};
 use tb_check::{CheckSettings, examine};
-use tb_codegen::{Notation, SizeLimit};
+use tb_compiled::{Compile, Notation, SizeLimit};
 use tb_streams::MOST_INPUT;
 
 /// The diagnostics of a source that is read in a notation.
-pub fn diagnose(
+pub fn diagnose<K: Compile>(
+    compiler: &K,
     alloc: Global,
     notation: Notation,
     uri: &str,
     source: &[u8],
 ) -> Result<Vec<Value>, AllocError>
-    ensures { IfOk result (λ found. Diagnoses notation uri.now source.now (map view found.items)) }
+    ensures { IfOk result (λ found. Diagnoses K.own notation uri.now source.now (map view found.items)) }
 {
     if source.len() > MOST_INPUT {
         return too_long(alloc);
@@ -27,7 +28,7 @@ pub fn diagnose(
         size: SizeLimit::Cost,
         notation,
     };
-    let examined = examine(alloc, source, settings)?;
+    let examined = examine(compiler, alloc, source, settings)?;
     let text = Lines {
         uri,
         lines: examined.lines.as_slice(),
@@ -59,16 +60,17 @@ fn message(
 }
 
 /// The content that publishes what `check` finds of a source that is read in a notation.
-pub fn publish(
+pub fn publish<K: Compile>(
+    compiler: &K,
     alloc: Global,
     notation: Notation,
     uri: &str,
     version: Option<i64>,
     source: &[u8],
 ) -> Result<Vec<u8>, AllocError>
-    ensures { IfOk result (λ content. Publishes notation uri.now version source.now content.items) }
+    ensures { IfOk result (λ content. Publishes K.own notation uri.now version source.now content.items) }
 {
-    let found = diagnose(alloc, notation, uri, source)?;
+    let found = diagnose(compiler, alloc, notation, uri, source)?;
     let message = message(alloc, uri, version, found)?;
     message.to_vec(alloc)
 }

@@ -4,3 +4,4 @@ pub mod Programs
 pub mod Assembly
 pub mod Texts
 pub mod Ends
+pub mod Numbers

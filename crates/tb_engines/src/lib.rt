@@ -1,9 +1,16 @@
-//! The engines that compile nothing: assembling a text, listing a PRG file and running one, over any reader and writer;
-//! and how a call of an engine ends.
+//! The engines that compile nothing: assembling a text, listing a PRG file and running one, over any reader and
+//! writer; and how a call of an engine ends.
+//!
+//! `run_prg`, `asm_text` and `dis_text` have one relation, by cases on the outcome (`answers`): the text written, the
+//! refusal, a prefix at a write fault, and otherwise nothing written. Status 3 comes only if a stream failed in that
+//! call or gave too many bytes (`faults`). `End` and `Refusal` have their statuses (`exit_status`). `run_prg_watched`,
+//! of which `run_prg` is one, also tells the program counter at the end of that run, and none if the program returned
+//! (`TellsFile`, `end_place`). It must be told wherever the run's text was written.
 #![tactic(auto)]
 
 mod assembly;
 mod delivery;
+mod limits;
 mod loading;
 mod outcome;
 mod programs;
@@ -12,6 +19,7 @@ mod texts;
 
 pub use assembly::{asm_text, assemble_prg, dis_text, list_prg};
 pub use delivery::{NoText, Text, deliver};
+pub use limits::{MOST_EVENTS, USUAL_EVENTS, constants_are_numbers};
 pub use loading::{start_file, start_machine, start_regs};
 pub use outcome::{End, Failure, Outcome, Refusal};
 pub use programs::{PrgRun, end_of, run_machine, run_prg, run_prg_watched};

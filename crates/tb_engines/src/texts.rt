@@ -7,7 +7,7 @@ use std::fmt;
 use tb_asm::AsmErrorKind;
 use tb_compile_errors::CompileError;
 use tb_cpu::Wrong;
-use tb_lower::LowerError;
+use tb_meaning::LowerError;
 use tb_parser::{SourceError, SourceErrorKind};
 use tb_prg::PrgError;
 

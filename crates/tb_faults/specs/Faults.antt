@@ -3,7 +3,7 @@ use Rattle.std.specs.Prelude.{ℕ, nat_eq, Bool, List, [], ◌∷◌, ◌++◌, 
 use Rattle.std.specs.Fmt.{decimal}
 use Rattle.std.specs.List.{find, ends_with}
 use Rattle.tb_cpu.specs.Operands.{word_in}
-use Rattle.tb_runtime16.specs.Addresses.{LINE}
+use Rattle.tb_kept.specs.Addresses.{LINE}
 use Rattle.tb_faults.specs.declared.faults.FaultKind.{FaultKind}
 use Rattle.tb_faults.specs.declared.faults.FaultKind.TheVariants.{Stopped, NoSuchLine, DividedByZero, BadBound, TooManyCalls, NoCall, NoNumber, RanPast}
 

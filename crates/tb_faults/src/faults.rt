@@ -5,9 +5,9 @@ ghost use Rattle.tb_memmap.specs.Bytes.{at};
 ghost use Rattle.tb_faults.specs.Faults.{fault_in, fault_text, is_fault, line_in, meaning_of, number_of};
 
 use std::alloc::{AllocError, Global};
+use tb_kept::LINE;
 use tb_kernal::Machine;
 use tb_memmap::Memory;
-use tb_runtime16::LINE;
 
 /// A fault of a program.
 #[derive(Clone, Copy, PartialEq, Eq, Debug, Drop)]

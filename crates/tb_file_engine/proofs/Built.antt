@@ -3,12 +3,12 @@ use Rattle.std.proofs.Common.{◌≡◌, ℕ, Bool, true, List, [], ◌∷◌, �
 use Rattle.std.specs.declared.alloc.Global.{Global}
 use Rattle.tb_prg.specs.Prg.{content_of}
 use Rattle.tb_files.specs.Deeds.{Deed, OfOne, Refuses, Transfers}
-use Rattle.tb_codegen.specs.Compiled.{prg_of}
-use Rattle.tb_codegen.specs.declared.compiled.Compiled.{Compiled}
-use Rattle.tb_codegen.specs.declared.settings.CompileSettings.{CompileSettings}
-use Rattle.tb_codegen.specs.declared.settings.SizeLimit.{SizeLimit}
-use Rattle.tb_codegen.specs.declared.settings.SizeLimit.TheVariants.{Cost, Memory}
-use Rattle.tb_parser.specs.declared.notation.Notation.{Notation}
+use Rattle.tb_compiled.specs.Compiled.{prg_of}
+use Rattle.tb_compiled.specs.declared.compiled.Compiled.{Compiled}
+use Rattle.tb_compiled.specs.declared.settings.CompileSettings.{CompileSettings}
+use Rattle.tb_compiled.specs.declared.settings.SizeLimit.{SizeLimit}
+use Rattle.tb_compiled.specs.declared.settings.SizeLimit.TheVariants.{Cost, Memory}
+use Rattle.tb_text.specs.declared.notation.Notation.{Notation}
 use Rattle.tb_streams.specs.declared.outcome.Outcome.TheVariants as outcome
 use Rattle.tb_engines.specs.Outcomes.{Outcome}
 use Rattle.tb_listing.specs.Builds.{IsMade}
@@ -72,8 +72,8 @@ module _ {F : Type 0} (does : F → Deed → F → Type 0) (holds : F → List �
   -- there was no memory for a build, whatever limits its size
   nothing_built : (source : List ℕ) (names : BuildNames) (settings : CompileSettings) (size : SizeLimit) → settings.size ≡ size
       → Builds does holds f source names settings outcome.NoMemory f
-  nothing_built source names settings Cost is = (outcome.NoMemory, f, inl (0, refl), tt, rw is (refl, refl))
-  nothing_built source names settings Memory is = (outcome.NoMemory, f, inl (0, refl), tt, rw is (refl, refl))
+  nothing_built source names settings Cost is = (outcome.NoMemory, f, inl (inl (0, refl)), tt, rw is (refl, refl))
+  nothing_built source names settings Memory is = (outcome.NoMemory, f, inl (inl (0, refl)), tt, rw is (refl, refl))
 
   pub not_built : (source : List ℕ) (names : BuildNames) (settings : CompileSettings) (ends : Outcome) → ends ≡ outcome.NoMemory
       → Builds does holds f source names settings ends f

@@ -2,3 +2,4 @@ pub mod Undone
 pub mod Changing
 pub mod Built
 pub mod Entries
+pub mod Fair

@@ -9,12 +9,12 @@ module _ {F : Type 0} (does : F → Deed → F → Type 0) (holds : F → List �
   -- a disk was refused
   pub disk_refused : (makes : Done → List (List ℕ) → List (List ℕ) → Type 0) (inputs outputs : List (List ℕ)) (e : DiskRefusal)
       → Transfers does holds makes f inputs outputs (outcome.Refused e) f
-  disk_refused makes inputs outputs e = (0, refl)
+  disk_refused makes inputs outputs e = inl (0, refl)
 
   -- there was no memory for a disk
   pub disk_unmade : (makes : Done → List (List ℕ) → List (List ℕ) → Type 0) (inputs outputs : List (List ℕ))
       → Transfers {R = DiskRefusal} does holds makes f inputs outputs outcome.NoMemory f
-  disk_unmade makes inputs outputs = inl (0, refl)
+  disk_unmade makes inputs outputs = inl (inl (0, refl))
 
 -- a disk was not made
 pub ruleset undone = (disk_refused, disk_unmade)

@@ -1,10 +1,14 @@
 -- How commands over files end.
-use Rattle.std.specs.Prelude.{◌≡◌, ◌⊎◌, ℕ}
+use Rattle.std.specs.Prelude.{◌≡◌, ℕ, List, Option, Result, Ok, Err}
+use Rattle.tb_streams.specs.Failures.{failures_of}
 use Rattle.tb_streams.specs.Numbers.{DONE, REFUSED}
 use Rattle.tb_streams.specs.Outcomes.{Failure}
 use Rattle.tb_streams.specs.declared.outcome.Outcome.TheVariants as outcome
+use Rattle.tb_streams.specs.declared.tracked.Tracked.{Tracked}
+use Rattle.tb_files.specs.Deeds.{Deed, Opens, Saves}
+use Rattle.tb_files.specs.declared.system.Trouble.TheVariants as trouble
 use Rattle.tb_engines.specs.Outcomes.{Outcome}
-use Rattle.tb_engines.specs.declared.outcome.End.TheVariants as end
+use Rattle.tb_engines.specs.declared.outcome.End.TheVariants as ends
 use Rattle.tb_engines.specs.declared.outcome.Refusal.{Refusal as EngineRefusal}
 use Rattle.tb_renumber.specs.declared.refusals.Refusal.{Refusal}
 use Rattle.tb_renumber.specs.declared.refusals.Refusal.TheVariants as refusal
@@ -31,10 +35,21 @@ abbrev pub of_refusal : Refusal → Failure RenumberRefusal
 of_refusal refusal.NoMemory = outcome.NoMemory
 of_refusal e = outcome.Refused (Renumber e)
 
--- a file was not opened
-abbrev pub IsFault : Outcome → Type 0
-IsFault e = (e ≡ outcome.ReadFault) ⊎ (e ≡ outcome.NoMemory)
+-- what opening a file did, by what it answered: a reader of what the file holds, or why there is none
+abbrev pub OpensFile : {F I : Type 0} → (F → Deed → F → Type 0) → (F → List ℕ → Option (List ℕ) → Type 0) → (I → Option (List ℕ))
+    → F → List ℕ → Result (Tracked I) Outcome → F → Type 0
+OpensFile does holds remaining f path (Ok input) g =
+    does f (Opens path (Ok tt)) g × holds f path (remaining input.stream) × (failures_of input ≡ 0)
+OpensFile does holds remaining f path (Err outcome.ReadFault) g = does f (Opens path (Err trouble.Fault)) g
+OpensFile does holds remaining f path (Err outcome.NoMemory) g = does f (Opens path (Err trouble.NoMemory)) g
+OpensFile does holds remaining f path (Err (outcome.Ended end)) g = ⊥
+OpensFile does holds remaining f path (Err (outcome.Refused e)) g = ⊥
+OpensFile does holds remaining f path (Err outcome.WriteFault) g = ⊥
 
--- a file was written, or not
-abbrev pub IsSaved : Outcome → Type 0
-IsSaved e = (e ≡ outcome.Ended end.Done) ⊎ ((e ≡ outcome.WriteFault) ⊎ (e ≡ outcome.NoMemory))
+-- what writing a file did, by how it ended
+abbrev pub SavesFile : {F : Type 0} → (F → Deed → F → Type 0) → F → List ℕ → List ℕ → Outcome → F → Type 0
+SavesFile does f path bytes (outcome.Ended end) g = (end ≡ ends.Done) × does f (Saves path bytes (Ok tt)) g
+SavesFile does f path bytes outcome.WriteFault g = does f (Saves path bytes (Err trouble.Fault)) g
+SavesFile does f path bytes outcome.NoMemory g = does f (Saves path bytes (Err trouble.NoMemory)) g
+SavesFile does f path bytes (outcome.Refused e) g = ⊥
+SavesFile does f path bytes outcome.ReadFault g = ⊥

@@ -4,13 +4,14 @@ use Rattle.tb_streams.specs.declared.outcome.Outcome.{Outcome as AnyOutcome}
 use Rattle.tb_streams.specs.declared.outcome.Outcome.TheVariants.{Ended, Refused, ReadFault, WriteFault, NoMemory}
 use Rattle.tb_files.specs.Deeds.{Deed, OfOne, Product, Refuses, Transfers}
 use Rattle.tb_files.specs.Names.{standard}
-use Rattle.tb_codegen.specs.declared.settings.CompileSettings.{CompileSettings}
+use Rattle.tb_compiled.specs.declared.settings.CompileSettings.{CompileSettings}
 use Rattle.tb_engines.specs.Programs.{Settings}
 use Rattle.tb_engines.specs.declared.outcome.End.{End}
 use Rattle.tb_engines.specs.declared.outcome.Refusal.{Refusal}
 use Rattle.tb_engines.specs.declared.report.Report.{Report}
 use Rattle.tb_profile_table.specs.declared.texts.Texts.{Texts}
 use Rattle.tb_profile_engine.specs.Prgs.{ProfilesPrg}
+use Rattle.tb_codegen.specs.Templates.{templates}
 use Rattle.tb_profile_engine.specs.Profiles.{MakesProfile}
 use Rattle.tb_profile_engine.specs.declared.engine.Named.{Named}
 use Rattle.tb_profile_engine.specs.declared.engine.Profiled.{Profiled}
@@ -25,7 +26,7 @@ pages true texts = texts.table.items ∷ texts.page.items ∷ []
 -- profiling makes the table of a source's run, and its page, if that is wanted; or the compiler refuses the source
 abbrev pub MakesPages : {O : Type 0} → Named → Settings O → CompileSettings → Bool → List ℕ → Product Told Refusal → Type 0
 MakesPages named s settings is_wanted source (Ok made) =
-    (p : Profiled) × MakesProfile named s settings source (Ok p)
+    (p : Profiled) × MakesProfile templates named s settings source (Ok p)
     × (made.0.end ≡ p.end) × (made.0.warnings ≡ p.warnings) × (made.1 ≡ pages is_wanted p.texts)
 MakesPages named s settings is_wanted source (Err e) = IsNotCompiled settings source e
 

@@ -7,18 +7,19 @@ use Rattle.tb_streams.specs.declared.outcome.NoRefusal.{NoRefusal}
 use Rattle.tb_streams.specs.declared.outcome.Done.{Done as AllDone}
 use Rattle.tb_files.specs.Deeds.{Product}
 use Rattle.tb_compile_errors.specs.declared.refusals.CompileError.{CompileError}
-use Rattle.tb_codegen.specs.Compiled.{prg_of}
-use Rattle.tb_codegen.specs.declared.compiled.Compiled.{Compiled}
-use Rattle.tb_codegen.specs.declared.settings.CompileSettings.{CompileSettings}
-use Rattle.tb_codegen.specs.declared.settings.SizeLimit.TheVariants.{Cost}
-use Rattle.tb_parser.specs.declared.notation.Notation.{Notation}
+use Rattle.tb_compiled.specs.Compiled.{prg_of}
+use Rattle.tb_compiled.specs.declared.compiled.Compiled.{Compiled}
+use Rattle.tb_compiled.specs.declared.settings.CompileSettings.{CompileSettings}
+use Rattle.tb_compiled.specs.declared.settings.SizeLimit.TheVariants.{Cost}
+use Rattle.tb_text.specs.declared.notation.Notation.{Notation}
 use Rattle.tb_engines.specs.Assembly.{Assembles}
 use Rattle.tb_engines.specs.Outcomes as engine
 use Rattle.tb_engines.specs.declared.outcome.End.{End}
 use Rattle.tb_engines.specs.declared.outcome.End.TheVariants as end
 use Rattle.tb_engines.specs.declared.outcome.Refusal.{Refusal}
 use Rattle.tb_engines.specs.declared.outcome.Refusal.TheVariants as engine_refusal
-use Rattle.tb_driver.specs.Sources.{Compiles}
+use Rattle.tb_codegen.specs.Templates.{templates}
+use Rattle.tb_compiled.specs.Answers.{Compiles}
 use Rattle.tb_listing.specs.Builds.{IsMade}
 use Rattle.tb_listing.specs.declared.build.Made.{Made}
 use Rattle.tb_monitor.specs.Files.{watch_text}
@@ -59,12 +60,12 @@ MakesListing dialect file product = IsOnly (Lists dialect file) product
 
 -- the compiler refuses a source by these settings
 abbrev pub IsNotCompiled : CompileSettings → List ℕ → Refusal → Type 0
-IsNotCompiled settings source e = (error : CompileError) × Compiles settings source (Err error) × (e ≡ engine_refusal.Source error)
+IsNotCompiled settings source e = (error : CompileError) × Compiles templates settings source (Err error) × (e ≡ engine_refusal.Source error)
 
 -- mapping makes the map of a source's program by these settings
 abbrev pub MakesMap : CompileSettings → List ℕ → Product End Refusal → Type 0
 MakesMap settings source (Ok made) =
-    (made.0 ≡ end.Done) × (program : Compiled) × Compiles settings source (Ok program)
+    (made.0 ≡ end.Done) × (program : Compiled) × Compiles templates settings source (Ok program)
     × (told : Made) × IsMade settings.notation source program told × (made.1 ≡ told.map.items ∷ [])
 MakesMap settings source (Err e) = IsNotCompiled settings source e
 
@@ -167,5 +168,5 @@ Tells names notation source program texts =
 -- the source
 abbrev pub MakesBuild : BuildNames → CompileSettings → List ℕ → Product End Refusal → Type 0
 MakesBuild names settings source (Ok made) =
-    (made.0 ≡ end.Done) × (program : Compiled) × Compiles settings source (Ok program) × Tells names settings.notation source program made.1
+    (made.0 ≡ end.Done) × (program : Compiled) × Compiles templates settings source (Ok program) × Tells names settings.notation source program made.1
 MakesBuild names settings source (Err e) = IsNotCompiled settings source e

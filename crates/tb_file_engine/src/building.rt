@@ -1,6 +1,7 @@
 //! Building a source's file: the PRG file, and the files of the texts that tell of its program.
 ghost use Rattle.std.specs.Prelude.{◌≡◌, ◌++◌, ℕ, IfOk, List, map, option_map};
-ghost use Rattle.tb_driver.specs.Reading.{IsCompilation};
+ghost use Rattle.tb_sources.specs.Reading.{IsCompilation};
+ghost use Rattle.tb_codegen.specs.Templates.{templates};
 ghost use Rattle.tb_files.specs.Deeds.{Makes};
 ghost use Rattle.tb_file_engine.specs.Builds.{Builds, Maps, costs_too_much, ends_by};
 ghost use Rattle.tb_file_engine.specs.Listings.{IsPrg};
@@ -10,14 +11,15 @@ ghost use Rattle.tb_file_engine.specs.Texts.{AreWanted, IsListing, MakesBuild, M
 use crate::listing::spell_listing;
 use crate::saving::only;
 use std::alloc::{AllocError, Global};
-use tb_codegen::{CompileError, CompileSettings, SizeLimit};
+use tb_codegen::TinyBasic;
+use tb_compiled::{CompileError, CompileSettings, SizeLimit};
 use tb_dialects::Dialect;
-use tb_driver::{CompiledSource, compile_source};
 use tb_engines::{End, Failure, Outcome, Refusal, Report};
 use tb_files::{FileSystem, Maker, convert};
 use tb_listing::{Made, make};
 use tb_meaning::Warning;
 use tb_monitor::watch_file;
+use tb_sources::{CompiledSource, compile_source};
 
 /// What a build writes: the PRG file, and the label file, the listing, the map and the watch file, if they are wanted.
 #[derive(Clone, Copy)]
@@ -116,7 +118,7 @@ fn texts_of(
     settings: CompileSettings,
     names: BuildNames<'_>,
 ) -> Result<Vec<Vec<u8>>, AllocError>
-    requires { IsCompilation settings source.now.text.items source.now.program }
+    requires { IsCompilation templates settings source.now.text.items source.now.program }
     ensures { IfOk result (λ texts. Tells names.entry settings.notation source.now.text.items source.now.program (map (λ t. t.items) texts.items)) }
 {
     let prg = source.program.prg();
@@ -142,7 +144,7 @@ fn built(
 ) -> Result<(End, Vec<Vec<u8>>), Failure>
     ensures { Makes (MakesBuild names.entry settings source.items) result }
 {
-    let source = compile_source(alloc, source, settings)?;
+    let source = compile_source(&TinyBasic, alloc, source, settings)?;
     let texts = texts_of(alloc, &source, settings, names)?;
     *told = source.program.into_warnings();
     Ok((End::Done, texts))
@@ -183,7 +185,7 @@ fn mapped(
 ) -> Result<(End, Vec<Vec<u8>>), Failure>
     ensures { Makes (MakesMap settings source.items) result }
 {
-    let source = compile_source(alloc, source, settings)?;
+    let source = compile_source(&TinyBasic, alloc, source, settings)?;
     let made = make(
         alloc,
         source.text.as_slice(),

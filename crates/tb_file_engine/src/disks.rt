@@ -1,8 +1,8 @@
 //! Disk images of PRG files.
-ghost use Rattle.std.specs.Prelude.{◌≡◌, ◌≢◌, ◌∷◌, [], false, map, string_bytes, IfOk};
+ghost use Rattle.std.specs.Prelude.{◌≡◌, ◌≢◌, ◌∷◌, [], false, map, string_bytes, IfErr, IfOk};
 ghost use Rattle.tb_disk_engine.specs.Files.{entries};
 ghost use Rattle.tb_streams.specs.declared.outcome.Outcome.TheVariants.{Refused};
-ghost use Rattle.tb_files.specs.Deeds.{Transfers};
+ghost use Rattle.tb_files.specs.Deeds.{IsNoFault, Transfers};
 ghost use Rattle.tb_files.specs.Names.{ends_as, image_ending, standard};
 ghost use Rattle.tb_file_engine.specs.Memory.{Joins};
 ghost use Rattle.tb_file_engine.specs.Texts.{IsDiskWith, MakesDisk, OneText};
@@ -22,21 +22,25 @@ struct Disk<'a> {
 }
 
 // Files with one more behind them, which has these bytes.
+#[tactic(auto, using(crate::proofs::Fair::fair))]
 fn added(
     alloc: Global,
     files: DiskFiles,
     path: &str,
     bytes: Vec<u8>,
 ) -> Result<DiskFiles, DiskFailure>
-    ensures { IfOk result (λ new. Joins (entries files) path.now bytes.items (entries new)) }
+    ensures joined { IfOk result (λ new. Joins (entries files) path.now bytes.items (entries new)) }
+    ensures refused { IfErr result IsNoFault }
 {
     let name = files.name(alloc, path)?;
     files.add(name, bytes)
 }
 
 // The image of a disk with files, as the texts of all outputs.
+#[tactic(auto, using(crate::proofs::Fair::fair))]
 fn imaged(alloc: Global, files: &DiskFiles, out: &str) -> Result<(Done, Vec<Vec<u8>>), DiskFailure>
-    ensures { IfOk result (λ made. OneText (IsDiskWith out.now (entries files.now)) (map (λ t. t.items) made.1.items)) }
+    ensures made { IfOk result (λ made. OneText (IsDiskWith out.now (entries files.now)) (map (λ t. t.items) made.1.items)) }
+    ensures refused { IfErr result IsNoFault }
 {
     let image = files.image(alloc, out)?;
     Ok((Done, only(alloc, image)?))
@@ -52,6 +56,7 @@ impl Work for Disk<'_> {
     ghost makes = { λ w _ texts. OneText (IsDiskWith w.out.now (entries w.taken)) texts };
 
     // A file's name is looked at before the file is opened.
+    #[tactic(auto, using(crate::proofs::Fair::fair))]
     fn look_at(&self, path: &str) -> Result<(), DiskFailure> {
         self.taken.name(self.alloc, path)?;
         Ok(())

@@ -10,8 +10,8 @@ use std::alloc::{AllocError, Global};
 use std::fmt;
 use tb_files::{FileSystem, Maker, STANDARD, convert, replace};
 use tb_format::tidy_text;
-use tb_parser::Notation;
 use tb_streams::{ExitStatus, Failure, NoRefusal, Outcome, status};
+use tb_text::Notation;
 
 /// How the formatting of a source ended whose texts were all written.
 #[derive(Clone, Copy, PartialEq, Eq, Debug, Drop)]

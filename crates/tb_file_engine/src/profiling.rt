@@ -7,7 +7,8 @@ ghost use Rattle.tb_file_engine.specs.Profiles.{IsReport, MakesPages, MakesTable
 
 use crate::saving::{only, only_text};
 use std::alloc::{AllocError, Global};
-use tb_codegen::CompileSettings;
+use tb_codegen::TinyBasic;
+use tb_compiled::CompileSettings;
 use tb_engines::{End, Failure, Refusal, Report};
 use tb_files::{FileSystem, Maker, STANDARD, convert};
 use tb_kernal::Outside;
@@ -54,6 +55,7 @@ fn profiled<O: Outside, W: Watch>(
 {
     let alloc = profile.alloc;
     let made = profile_source(
+        &TinyBasic,
         alloc,
         source,
         &profile.named,

@@ -8,10 +8,11 @@ ghost use Rattle.tb_file_engine.specs.Texts.{MakesRenumbered, settings_of};
 use crate::saving::only;
 use std::alloc::Global;
 use std::fmt;
-use tb_codegen::{CompileSettings, Notation, SizeLimit};
-use tb_driver::compile_source;
+use tb_codegen::TinyBasic;
+use tb_compiled::{CompileSettings, Notation, SizeLimit};
 use tb_files::{FileSystem, Maker, STANDARD, convert, replace};
 use tb_renumber::{JumpFault, Numbering, Refusal, renumber};
+use tb_sources::compile_source;
 use tb_streams::{Done, ExitStatus, Failure, Outcome, status};
 
 /// Why a source is not renumbered. It is never want of memory.
@@ -104,7 +105,7 @@ fn renumbered(
 ) -> Result<(Done, Vec<Vec<u8>>), Failure<RenumberRefusal>>
     ensures { Makes (MakesRenumbered notation numbering.first numbering.step source.items) result }
 {
-    let source = match compile_source(alloc, source, settings_of(notation)) {
+    let source = match compile_source(&TinyBasic, alloc, source, settings_of(notation)) {
         Ok(source) => source,
         Err(failure) => return Err(of_source(failure)),
     };

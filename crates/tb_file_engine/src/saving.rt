@@ -1,7 +1,6 @@
 //! Files as engines see them: one that can't be opened for reading is a read fault, one that can't be written a write fault.
-ghost use Rattle.std.specs.Prelude.{◌≡◌, ◌∷◌, [], map, IfErr, IfOk};
-ghost use Rattle.tb_files.specs.Deeds.{Opens, Saves};
-ghost use Rattle.tb_file_engine.specs.Outcomes.{IsFault, IsSaved};
+ghost use Rattle.std.specs.Prelude.{◌≡◌, ◌∷◌, [], map, IfOk};
+ghost use Rattle.tb_file_engine.specs.Outcomes.{OpensFile, SavesFile};
 
 use std::alloc::{AllocError, Global};
 use tb_engines::{End, Outcome, Text};
@@ -26,8 +25,7 @@ pub fn only_text(alloc: Global, made: Text) -> Result<(End, Vec<Vec<u8>>), Alloc
 
 /// A file that is opened for reading. Nothing else is done.
 pub fn opened<F: FileSystem>(files: &mut F, path: &str) -> Result<Tracked<F::Input>, Outcome>
-    ensures deed { F.does files.old (Opens path.now) files.new }
-    ensures fault { IfErr result IsFault }
+    ensures { OpensFile F.does F.holds F.Input.remaining files.old path.now result files.new }
 {
     match files.open(path) {
         Ok(input) => Ok(input),
@@ -38,8 +36,7 @@ pub fn opened<F: FileSystem>(files: &mut F, path: &str) -> Result<Tracked<F::Inp
 
 /// Writes bytes to a file. Nothing else is done.
 pub fn save<F: FileSystem>(files: &mut F, path: &str, bytes: &[u8]) -> Outcome
-    ensures deed { F.does files.old (Saves path.now bytes.now) files.new }
-    ensures ends { IsSaved result }
+    ensures { SavesFile F.does files.old path.now bytes.now result files.new }
 {
     match files.save(path, bytes) {
         Ok(()) => Outcome::Ended(End::Done),

@@ -1,6 +1,5 @@
 //! Sources that are the files of a system.
-ghost use Rattle.std.specs.Prelude.{IfOk};
-ghost use Rattle.tb_files.specs.Deeds.{Holds, Opens};
+ghost use Rattle.tb_files.specs.Deeds.{ReadsFile};
 
 use std::alloc::Global;
 use tb_check_engine::Sources;
@@ -12,7 +11,7 @@ use tb_streams::InputError;
 pub struct FileSources<F>(pub F);
 
 impl<F: FileSystem + Drop> Sources for FileSources<F> {
-    ghost reads = { λ s path given t. F.does s.0 (Opens path) t.0 × IfOk given (Holds F.holds s.0 path) };
+    ghost reads = { λ s path given t. ReadsFile F.does F.holds s.0 path given t.0 };
 
     fn read(&mut self, alloc: Global, name: &str) -> Result<Vec<u8>, InputError> {
         read_file(alloc, &mut self.0, name)

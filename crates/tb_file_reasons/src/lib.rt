@@ -1,4 +1,9 @@
-//! Why a file can't be read, written or taken, by its path: what a person at a terminal is told beside the text of a fault.
+//! Why a file can't be read, written or taken, by its path: what a person at a terminal is told beside the text of a
+//! fault.
+//!
+//! `file_reason` says what an error of the system means, or else what a folder or a length does (`specs/Files`).
+//! `prg_reason` and `disk_note` say of which file a refusal is, and why (`specs/Prgs`). `first_clash` is the first two
+//! paths of one file (`specs/Clashes`).
 #![tactic(auto)]
 
 mod clashes;

@@ -1,6 +1,7 @@
 //! A system of files, of which only this is asked.
-ghost use Rattle.std.specs.Prelude.{ℕ, List, Option, IfOk};
-ghost use Rattle.tb_files.specs.Deeds.{Deed, Opens, Saves};
+ghost use Rattle.std.specs.Prelude.{◌≡◌, ℕ, List, Option, IfOk};
+ghost use Rattle.tb_streams.specs.Failures.{failures_of};
+ghost use Rattle.tb_files.specs.Deeds.{Deed, Opens, Closes, Saves, ending};
 ghost use Rattle.tb_files.specs.declared.looks.Look.{Look};
 ghost use Rattle.tb_files.specs.declared.places.Place.{Place};
 
@@ -30,7 +31,7 @@ pub trait FileSystem {
     // what a look at a path may show
     ghost shows: { Self → List ℕ → Option Look → Type 0 };
 
-    // what opening or writing a file makes of the system
+    // what a deed makes of the system, done or not
     ghost does: { Self → Deed → Self → Type 0 };
 
     // what the file at a path may hold, as far as its reader tells
@@ -44,12 +45,17 @@ pub trait FileSystem {
     fn look(&self, alloc: Global, path: &str) -> Result<Option<Look>, AllocError>
         ensures { IfOk result (shows self.now path.now) };
 
-    /// Opens a file for reading: its reader has what the file holds.
+    /// Opens a file for reading: its reader has what the file holds, and no read of it has failed.
     fn open(&mut self, path: &str) -> Result<Tracked<Self::Input>, Trouble>
-        ensures deed { does self.old (Opens path.now) self.new }
-        ensures held { IfOk result (λ input. holds self.old path.now (Self.Input.remaining input.stream)) };
+        ensures deed { does self.old (Opens path.now (ending result)) self.new }
+        ensures held { IfOk result (λ input. holds self.old path.now (Self.Input.remaining input.stream)) }
+        ensures fresh { IfOk result (λ input. failures_of input ≡ 0) };
+
+    /// Takes back a file that was opened for reading. Its reader has counted the reads that failed.
+    fn close(&mut self, path: &str, input: Tracked<Self::Input>)
+        ensures { does self.old (Closes path.now (failures_of input)) self.new };
 
     /// Opens a file for writing, and writes all bytes, or up to where that fails.
     fn save(&mut self, path: &str, bytes: &[u8]) -> Result<(), Trouble>
-        ensures { does self.old (Saves path.now bytes.now) self.new };
+        ensures { does self.old (Saves path.now bytes.now result) self.new };
 }

@@ -1,6 +1,6 @@
 //! Commands that read files and write others: nothing is opened for writing before all that is to be written was made.
-ghost use Rattle.std.specs.Prelude.{◌≡◌, ◌⊎◌, ℕ, List, [], ◌∷◌, map, IfOk, OnOk, OnErr};
-ghost use Rattle.tb_files.specs.Deeds.{Opens, Did, Holds, Makes, OfOne, Product, Refuses, saved, Opened, ReadsAll, Saved, TakesAll, Transfers, Works, Writes};
+ghost use Rattle.std.specs.Prelude.{◌≡◌, ℕ, List, [], ◌∷◌, map, IfErr, IfOk, OnOk};
+ghost use Rattle.tb_files.specs.Deeds.{BreaksOff, Did, Holds, IsNoFault, Makes, MakesNothing, OfOne, Product, ReadsAll, ReadsFile, Refuses, TakesAll, Transfers, Works, Writes, bytes_in, read_with, saved};
 
 use crate::system::{FileSystem, Trouble};
 use std::alloc::Global;
@@ -37,34 +37,40 @@ pub trait Work {
     ghost makes: { Self → Self.End → List (List ℕ) → Type 0 };
 
     /// What is said of an input by its path alone, before it is opened.
-    fn look_at(&self, path: &str) -> Result<(), Failure<Self::Refusal>>;
+    fn look_at(&self, path: &str) -> Result<(), Failure<Self::Refusal>>
+        ensures { IfErr result IsNoFault };
 
     /// Takes the input at a path in.
     fn take(&mut self, path: &str, text: Vec<u8>) -> Result<(), Failure<Self::Refusal>>
-        ensures { OnOk result (takes self.old path.now text.items self.new) };
+        ensures taken { OnOk result (takes self.old path.now text.items self.new) }
+        ensures refused { IfErr result IsNoFault };
 
     /// Makes the texts of all outputs, in order.
     fn make(&mut self) -> Result<(Self::End, Vec<Vec<u8>>), Failure<Self::Refusal>>
-        ensures { IfOk result (λ made. makes self.old made.0 (map (λ t. t.items) made.1.items)) };
+        ensures made { IfOk result (λ made. makes self.old made.0 (map (λ t. t.items) made.1.items)) }
+        ensures refused { IfErr result IsNoFault };
 }
 
-/// All that the file at a path holds.
+/// All that the file at a path holds. It is a fault if the file can't be opened or a read of it fails, or if it holds more
+/// than `MOST_INPUT` bytes.
 pub fn read_file<F: FileSystem>(
     alloc: Global,
     files: &mut F,
     path: &str,
 ) -> Result<Vec<u8>, InputError>
-    ensures deed { F.does files.old (Opens path.now) files.new }
-    ensures held { IfOk result (λ text. Holds F.holds files.old path.now text.items) }
+    ensures { ReadsFile F.does F.holds files.old path.now (bytes_in result) files.new }
 {
-    match files.open(path) {
-        Ok(mut input) => read_input(alloc, &mut input),
-        Err(Trouble::Fault) => Err(InputError::Fault),
-        Err(Trouble::NoMemory) => Err(InputError::NoMemory),
-    }
+    let mut input = match files.open(path) {
+        Ok(input) => input,
+        Err(Trouble::Fault) => return Err(InputError::Fault),
+        Err(Trouble::NoMemory) => return Err(InputError::NoMemory),
+    };
+    let text = read_input(alloc, &mut input);
+    files.close(path, input);
+    text
 }
 
-// Opens an input, reads it whole, and takes it in.
+// Reads an input whole, and takes it in.
 fn take_one<F: FileSystem, W: Work>(
     alloc: Global,
     files: &mut F,
@@ -72,15 +78,15 @@ fn take_one<F: FileSystem, W: Work>(
     path: &str,
 ) -> Result<(), Failure<W::Refusal>>
     ensures taken { OnOk result ((bytes : List ℕ) × Holds F.holds files.old path.now bytes
-        × F.does files.old (Opens path.now) files.new × W.takes work.old path.now bytes work.new) }
-    ensures broken { OnErr result ((files.new ≡ files.old) ⊎ F.does files.old (Opens path.now) files.new) }
+        × Did F.does files.old (read_with 0 path.now) files.new × W.takes work.old path.now bytes work.new) }
+    ensures broken { IfErr result (λ why. MakesNothing F.does F.holds files.old (path.now ∷ []) why files.new) }
 {
     work.look_at(path)?;
     let text = read_file(alloc, files, path)?;
     work.take(path, text)
 }
 
-// Opens the inputs one after the other, and takes each in before the next one is opened.
+// Reads the inputs one after the other, and takes each in before the next one is opened.
 #[tactic(auto, using(crate::proofs::Orders::orders))]
 fn take_all<F: FileSystem, W: Work>(
     alloc: Global,
@@ -90,7 +96,7 @@ fn take_all<F: FileSystem, W: Work>(
 ) -> Result<(), Failure<W::Refusal>>
     ensures taken { OnOk result ((all : List (List ℕ)) × ReadsAll F.does F.holds files.old (map (λ p. p.now) inputs.now) all files.new
         × TakesAll W.takes work.old (map (λ p. p.now) inputs.now) all work.new) }
-    ensures broken { OnErr result (Opened F.does files.old (map (λ p. p.now) inputs.now) files.new) }
+    ensures broken { IfErr result (λ why. MakesNothing F.does F.holds files.old (map (λ p. p.now) inputs.now) why files.new) }
 {
     match inputs {
         [] => Ok(()),
@@ -109,7 +115,8 @@ fn save_all<F: FileSystem>(
     texts: &[Vec<u8>],
 ) -> Result<(), Trouble>
     ensures done { OnOk result (Did F.does files.old (saved (map (λ p. p.now) outputs.now) (map (λ t. t.items) texts.now)) files.new) }
-    ensures broken { OnErr result (Saved F.does files.old (map (λ p. p.now) outputs.now) (map (λ t. t.items) texts.now) files.new) }
+    ensures broken { IfErr result (λ why. BreaksOff F.does why files.old
+        (saved (map (λ p. p.now) outputs.now) (map (λ t. t.items) texts.now)) files.new) }
 {
     let [path, paths @ ..] = outputs else {
         return Ok(());
@@ -137,9 +144,9 @@ fn save_made<F: FileSystem, E: Drop, R>(
     }
 }
 
-/// Does the work of a command: it opens the inputs in order, makes the texts of all outputs, and then writes them in
-/// order. If something is wrong before all is made, nothing is opened for writing; if it stops later, it ends as where an
-/// output can't be written.
+/// Does the work of a command: it reads the inputs in order, makes the texts of all outputs, and then writes them in order.
+/// If something is wrong before all is made, nothing is opened for writing. A read fault is one of an input, and a write
+/// fault one of an output.
 pub fn transfer<F: FileSystem, W: Work>(
     alloc: Global,
     files: &mut F,

@@ -2,8 +2,8 @@
 use Rattle.std.specs.Prelude.{ℕ, ◌≡◌, ◌-◌, nat_le, Bool, true, false, ◌&&◌, ◌||◌, ◌==◌, List, [], ◌∷◌, ◌++◌, codes, flat_map, length, slice_get, Option, Some, None, if◌then◌else◌}
 use Rattle.serde_json.specs.Data.{Data, array, boolean, item, member, no_items, no_members, object, string}
 use Rattle.serde_json.specs.View.{items_of}
-use Rattle.tb_parser.specs.Lines.{lines_of_file}
-use Rattle.tb_parser.specs.declared.notation.Notation.{Notation}
+use Rattle.tb_text.specs.Lines.{lines_of_file}
+use Rattle.tb_text.specs.declared.notation.Notation.{Notation}
 use Rattle.tb_check.specs.Settings.{by_cost}
 use Rattle.tb_check.specs.Findings.{AreFindings}
 use Rattle.tb_check.specs.declared.examination.BadLine.{BadLine}
@@ -17,6 +17,7 @@ use Rattle.tb_edit_values.specs.Edits.{changes}
 use Rattle.tb_fixes.specs.Fixes.{fix_of_bad_line, fix_of_warning}
 use Rattle.tb_fixes.specs.Mends.{Mends}
 use Rattle.tb_fixes.specs.declared.offers.LineRange.{LineRange}
+use Rattle.tb_compiled.specs.Promise.{Own}
 
 -- whether a line, which is counted from 1, is one of these
 abbrev pub has : LineRange → ℕ → Bool
@@ -66,7 +67,7 @@ abbrev pub ends_its_line : List ℕ → Bool
 ends_its_line source = is_end (slice_get source (length source - 1))
 
 -- the fixes of the findings of a source, which are what `check` says of it in a notation
-abbrev pub AreActions : Notation → List ℕ → List ℕ → LineRange → Data → Type 0
-AreActions notation uri source range v =
-    (f : Findings) × (all : List SourceLine) × AreFindings (by_cost notation) source f × AreLinesOf notation source all
+abbrev pub AreActions : Own → Notation → List ℕ → List ℕ → LineRange → Data → Type 0
+AreActions own notation uri source range v =
+    (f : Findings) × (all : List SourceLine) × AreFindings own (by_cost notation) source f × AreLinesOf notation source all
     × (v ≡ array (items_of (of_findings uri (lines_of_file source) all (ends_its_line source) range f)))

@@ -16,6 +16,7 @@ use tb_edit_values::{edit_value, lines_edit};
 use tb_places::{Span, piece, word_span};
 use tb_source_names::Source;
 use tb_source_text::{Numbered, numbered_lines};
+use tb_syntax::HIGHEST_LINE;
 
 /// What mends a finding.
 #[derive(Drop)]
@@ -176,10 +177,10 @@ fn ends(
 ) -> Result<Option<Fix>, AllocError>
     ensures { IfOk result (λ fix. option_map writing.seen fix ≡ spec.ends count last.now is_ended highest) }
 {
-    if highest >= 32_767 {
+    if highest >= u32::from(HIGHEST_LINE) {
         return Ok(None);
     }
-    let number = (highest + 10).min(32_767);
+    let number = (highest + 10).min(u32::from(HIGHEST_LINE));
     let edit = end_edit(alloc, count, last, is_ended, number)?;
     fix_by(alloc, "Add a line with END", edit)
 }

@@ -9,7 +9,7 @@ use crate::fixes::{Fix, fix_of_bad_line, fix_of_warning};
 use serde_json::{Value, json};
 use std::alloc::{AllocError, Global};
 use tb_check::{BadLine, CheckSettings, Findings, LineWarning, examine};
-use tb_codegen::{Notation, SizeLimit};
+use tb_compiled::{Compile, Notation, SizeLimit};
 use tb_diagnostics::{Lines, on_bad_line, on_warning};
 use tb_edit_values::changes_value;
 use tb_source_names::{Source, read_source};
@@ -174,20 +174,21 @@ fn ends_its_line(source: &[u8]) -> bool
 }
 
 /// The fixes of what `check` finds on these lines of a source, in its order; the source is read in a notation.
-pub fn actions(
+pub fn actions<K: Compile>(
+    compiler: &K,
     alloc: Global,
     notation: Notation,
     uri: &str,
     source: &[u8],
     range: LineRange,
 ) -> Result<Value, AllocError>
-    ensures { IfOk result (λ v. spec.AreActions notation uri.now source.now range (view v)) }
+    ensures { IfOk result (λ v. spec.AreActions K.own notation uri.now source.now range (view v)) }
 {
     let settings = CheckSettings {
         size: SizeLimit::Cost,
         notation,
     };
-    let examined = examine(alloc, source, settings)?;
+    let examined = examine(compiler, alloc, source, settings)?;
     let text = Lines {
         uri,
         lines: examined.lines.as_slice(),

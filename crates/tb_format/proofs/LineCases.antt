@@ -6,7 +6,7 @@ use Rattle.tb_parser.specs.declared.edits.LineEdit.{LineEdit}
 use Rattle.tb_parser.specs.declared.errors.LineFault.{LineFault}
 use Rattle.tb_parser.specs.declared.errors.SourceErrorKind.{SourceErrorKind}
 use Rattle.tb_parser.specs.declared.errors.SourceErrorKind.TheVariants.{NoMemory, Syntax}
-use Rattle.tb_parser.specs.declared.notation.Notation.{Notation}
+use Rattle.tb_text.specs.declared.notation.Notation.{Notation}
 use Rattle.tb_parser.specs.Readings.{LineIn, Refusal, at_column}
 use Rattle.tb_format.specs.Kept.{kept}
 use Rattle.std.specs.declared.alloc.AllocError.{AllocError}

@@ -1,8 +1,8 @@
 -- The tidy text has as many lines, and each says the same.
 use Rattle.std.proofs.Common.{◌≡◌, ℕ, Bool, true, false, ◌&&◌, ◌==◌, List, [], ◌∷◌, ◌++◌, map, refl, sym, ap, subst, ◌∙◌, inl, inr}
 use Rattle.std.proofs.lemmas.Bool.{ne_eqb, eqb-true}
-use Rattle.tb_parser.specs.declared.notation.Notation.{Notation}
-use Rattle.tb_parser.specs.Lines.{lines_from}
+use Rattle.tb_text.specs.declared.notation.Notation.{Notation}
+use Rattle.tb_text.specs.Lines.{lines_from}
 use Rattle.tb_format.specs.declared.modes.Mode.TheVariants.{Code}
 use Rattle.tb_format.specs.Kept.{kept, kept_from}
 use Rattle.tb_format.specs.Lines.{IsMadeTidy, IsTidied, tidy, too_long, other, good, bad}

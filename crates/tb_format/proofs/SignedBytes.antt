@@ -6,8 +6,8 @@ use Rattle.tb_grammar.specs.Reading.{when}
 use Rattle.tb_signs.specs.declared.characters.Character.{Character}
 use Rattle.tb_signs.specs.Characters.{character, character_at, is_plain, repeated, sign_behind}
 use Rattle.tb_signs.specs.Characters as signs
-use Rattle.tb_parser.specs.declared.notation.Notation.{Notation}
-use Rattle.tb_parser.specs.declared.notation.Notation.TheVariants.{Plain, Signs}
+use Rattle.tb_text.specs.declared.notation.Notation.{Notation}
+use Rattle.tb_text.specs.declared.notation.Notation.TheVariants.{Plain, Signs}
 use Rattle.tb_parser.specs.Notations.{squeezed_in}
 use Rattle.tb_parser.specs.Squeezed.{bytes}
 use Rattle.tb_parser.specs.Squeezed as parser

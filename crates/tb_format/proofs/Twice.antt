@@ -1,6 +1,6 @@
 -- A tidy text is its own tidy text.
 use Rattle.std.proofs.Common.{◌≡◌, ℕ, ◌≤◌, Bool, true, false, ◌&&◌, ◌==◌, List, [], ◌∷◌, ◌++◌, length, Ok, Err, refl, sym, ap, subst, ◌∙◌, ◌⊎◌, inl, inr, arith}
-use Rattle.tb_parser.specs.declared.notation.Notation.{Notation}
+use Rattle.tb_text.specs.declared.notation.Notation.{Notation}
 use Rattle.tb_parser.proofs.Unique.{line_one, ok_err}
 use Rattle.tb_format.specs.Kept.{kept}
 use Rattle.tb_format.specs.Lines.{IsBad, IsGood, IsMadeTidy, IsTidied, tidied, tidy_line, tidy, too_long, other, good, bad}

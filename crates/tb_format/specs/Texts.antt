@@ -1,9 +1,9 @@
 -- The tidy text of a source: each line is made tidy where it stands, and line ends stay.
 use Rattle.std.specs.Prelude.{◌≡◌, ◌≢◌, ◌⊎◌, ℕ, Bool, true, false, ◌&&◌, ◌==◌, if◌then◌else◌, List, [], ◌∷◌, ◌++◌, map}
-use Rattle.tb_parser.specs.declared.notation.Notation.{Notation}
+use Rattle.tb_text.specs.declared.notation.Notation.{Notation}
 use Rattle.tb_parser.specs.Notations.{squeezed_in}
 use Rattle.tb_parser.specs.Squeezed.{bytes}
-use Rattle.tb_parser.specs.Lines.{lines_from}
+use Rattle.tb_text.specs.Lines.{lines_from}
 use Rattle.tb_format.specs.Lines.{IsTidied}
 
 -- a byte that ends a line

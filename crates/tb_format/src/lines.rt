@@ -6,10 +6,8 @@ ghost use Rattle.tb_format.specs.Kept.{kept};
 use crate::kept::kept;
 use crate::statements::push_statement;
 use std::alloc::{AllocError, Global};
-use tb_parser::{Notation, SourceErrorKind, read_line_in};
-
-/// The most bytes that a line has.
-const LONGEST_LINE: usize = 255;
+use tb_parser::{SourceErrorKind, read_line_in};
+use tb_text::{LONGEST_LINE, Notation};
 
 // How many digits are at the front.
 fn digits(text: &[u8]) -> usize

@@ -4,7 +4,7 @@ ghost use Rattle.tb_format.specs.Texts.{AreWithin, IsEnd, IsTidyText, IsWithin, 
 
 use crate::lines::tidy_line;
 use std::alloc::{AllocError, Global};
-use tb_parser::Notation;
+use tb_text::Notation;
 
 // Whether a byte ends a line.
 fn ends_line(byte: u8) -> bool

@@ -7,8 +7,8 @@ use serde_json::Value;
 use std::alloc::{AllocError, Global};
 use tb_edit_values::edit_value;
 use tb_format::tidy_text;
-use tb_parser::{Notation, next_line};
 use tb_places::between;
+use tb_text::{Notation, next_line};
 
 // A text in place of a line, which is counted from 1.
 fn value_of(alloc: Global, number: usize, line: &[u8], text: &str) -> Result<Value, AllocError>

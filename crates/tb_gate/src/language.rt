@@ -14,7 +14,8 @@ ghost use Rattle.tb_lower.specs.PlainData.{code_of};
 
 use std::alloc::Global;
 use tb_grammar::{ReadError, ReadStatement, read_statement};
-use tb_lower::{LowerError, SlotLine, lower};
+use tb_lower::{SlotLine, lower};
+use tb_meaning::LowerError;
 use tb_parser::{LineEdit, Program, SourceError, apply};
 use tb_words::{Rel, div_rem, holds};
 

@@ -2,19 +2,22 @@
 ghost use Rattle.std.specs.Prelude.{◌≡◌, IfOk};
 ghost use Rattle.tb_parser.specs.Files.{Outcome};
 ghost use Rattle.tb_kernal.specs.Machine.{state_of};
-ghost use Rattle.tb_codegen.specs.Answers.{HasOutcome, LinesMake, OutcomeAnswer};
-ghost use Rattle.tb_codegen.specs.Settings.{by_cost};
-ghost use Rattle.tb_codegen.specs.Theorem.{KeepsItsSource, MarksItsLines};
+ghost use Rattle.tb_compiled.specs.Answers.{HasOutcome, LinesMake, OutcomeAnswer};
+ghost use Rattle.tb_compiled.specs.Settings.{by_cost};
+ghost use Rattle.tb_compiled.specs.Theorem.{KeepsItsSource, MarksItsLines};
+ghost use Rattle.tb_codegen.specs.Templates.{templates};
 ghost use Rattle.tb_streams.specs.Uses.{use_of, TakesInput};
 ghost use Rattle.tb_engines.specs.Outcomes.{AnswersInput, Faults};
 ghost use Rattle.tb_engines.specs.Programs.{settings_of};
-ghost use Rattle.tb_driver.specs.Output.{RunsSource};
-ghost use Rattle.tb_driver.specs.Sources.{RunsText, WarnsOfRead};
+ghost use Rattle.tb_sources.specs.Output.{RunsSource};
+ghost use Rattle.tb_sources.specs.Sources.{RunsText, WarnsOfRead};
 
 use std::alloc::Global;
 use std::io::{Read, Write};
-use tb_codegen::{CompileError, Compiled, Options, compile};
-use tb_driver::{Report, run_text};
+use tb_codegen::{Options, compile};
+use tb_compiled::{CompileError, Compiled};
+use tb_driver::run_text;
+use tb_engines::Report;
 use tb_kernal::{Event, EventError, Keyboard, Machine, Outside, Status};
 use tb_streams::Tracked;
 
@@ -25,9 +28,9 @@ pub fn source_compiled(
     options: Options,
 ) -> Result<Compiled, CompileError>
     // What the file's lines make is answered,
-    ensures found { HasOutcome (by_cost options.seed) source.now result }
+    ensures found { HasOutcome templates (by_cost options.seed) source.now result }
     // and whatever they make is what is answered.
-    ensures only { (outcome : Outcome) → LinesMake source.now outcome → OutcomeAnswer (by_cost options.seed) outcome result }
+    ensures only { (outcome : Outcome) → LinesMake source.now outcome → OutcomeAnswer templates (by_cost options.seed) outcome result }
     // A compiled file's code, loaded at $0801, keeps the program that its source makes, whatever the ROM does.
     ensures keeps { IfOk result (KeepsItsSource options.seed source.now) }
     // When it comes to the address that start_of answers for a line, the program begins that line, in the same state.
@@ -54,9 +57,9 @@ pub fn ran<R: Read, W: Write, O: Outside>(
     limit: u64,
     outside: &mut O,
 ) -> Report
-    ensures answers { AnswersInput (RunsText (settings_of O.gives outside.old keyboard limit) (by_cost seed) result.warnings.items)
+    ensures answers { AnswersInput (RunsText templates (settings_of O.gives outside.old keyboard limit) (by_cost seed) result.warnings.items)
         result.outcome (use_of R.remaining reader.old reader.new) (use_of W.contents writer.old writer.new) }
-    ensures output { AnswersInput (RunsSource (by_cost seed) keyboard.text.items keyboard.answers.items)
+    ensures output { AnswersInput (RunsSource templates (by_cost seed) keyboard.text.items keyboard.answers.items)
         result.outcome (use_of R.remaining reader.old reader.new) (use_of W.contents writer.old writer.new) }
     ensures warned { WarnsOfRead result.outcome result.warnings.items }
     ensures faults { Faults result.outcome (use_of R.remaining reader.old reader.new) (use_of W.contents writer.old writer.new) }

@@ -9,9 +9,9 @@ use std::alloc::{AllocError, Global};
 use std::io;
 use std::path::Path;
 use std::rt::Files;
-use tb_driver::Tracked;
 use tb_file_reasons::Purpose;
 use tb_files::{FileSystem, Look, Place, Trouble, Unput};
+use tb_streams::Tracked;
 
 /// The files of the system, and which of them was asked for last.
 #[derive(Drop)]
@@ -113,6 +113,10 @@ impl<R: Files + Input + Print + AllocGlobal> FileSystem for Host<'_, R> {
             }
         }
     }
+
+    fn close(&mut self, _path: &str, _input: Tracked<Source<R>>)
+        ensures { ⊤ }
+    {}
 
     fn save(&mut self, path: &str, bytes: &[u8]) -> Result<(), Trouble> {
         match save_at(self.rt, path, bytes) {

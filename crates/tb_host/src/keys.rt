@@ -1,10 +1,11 @@
 //! What is typed: digits, a text or a key file.
 use crate::host::Host;
 use std::rt::Files;
-use tb_driver::{KeyError, KeyFileError, Outcome, key_list, read_key_file};
+use tb_engines::Outcome;
 use tb_file_engine::opened;
 use tb_jobs::{Failure, Settings, Typed, typed_keys};
 use tb_kernal::Keyboard;
+use tb_streams::{KeyError, KeyFileError, key_list, read_key_file};
 
 /// The keyboard of a run. What the words say is looked at before the key file is opened.
 pub fn keyboard<R: Files + Print + Input + AllocGlobal>(

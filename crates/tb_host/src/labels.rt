@@ -2,10 +2,10 @@
 use crate::host::Host;
 use crate::keys::of_file;
 use std::rt::Files;
-use tb_driver::{InputError, read_input};
 use tb_file_engine::opened;
 use tb_jobs::Failure;
 use tb_labels::{Label, LabelsError, place_of, read_labels};
+use tb_streams::{InputError, read_input};
 
 /// Reads the labels of a file, none if there is no file.
 pub fn labels_in<R: Files + Print + Input + AllocGlobal>(

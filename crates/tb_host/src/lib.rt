@@ -1,5 +1,9 @@
-//! What the program runs on: the files of the system, and what a person is told of a long run. And what is read from there:
-//! sources, keys and labels.
+//! What the program runs on: the files of the system, and what a person is told of a long run. And what is read from
+//! there: sources, keys and labels.
+//!
+//! All is safe and total. No clause says which file a call opens or what it does to it; only tests show that.
+//! `system.rt` is trusted, with what `host.rt` and `putting.rt` make of it: std's clauses say nothing of these calls,
+//! so what they promise of files is `⊤`. `Progress` shows nothing of a run that it is not to tell (`Hears`).
 #![tactic(auto)]
 
 mod host;

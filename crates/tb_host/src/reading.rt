@@ -1,10 +1,11 @@
 //! Sources that are read and compiled, of which a person is warned before they run.
 use crate::host::Host;
 use std::rt::Files;
-use tb_driver::{
-    CompileSettings, CompiledSource, Notation, Outcome, SizeLimit, Warnings, read_source,
-};
+use tb_codegen::TinyBasic;
+use tb_compiled::{CompileSettings, Notation, SizeLimit};
+use tb_engines::{Outcome, Warnings};
 use tb_file_engine::opened;
+use tb_sources::{CompiledSource, read_source};
 
 /// When a program is too large: by what it costs, or only if it doesn't fit the memory.
 pub fn size_limit(fit: bool) -> SizeLimit {
@@ -31,7 +32,7 @@ pub fn read_warned<R: Files + Print + Eprint + Input + AllocGlobal>(
     settings: CompileSettings,
 ) -> Result<CompiledSource, Outcome> {
     let rt = host.rt;
-    let source = match read_source(rt.alloc(), &mut opened(host, path)?, settings) {
+    let source = match read_source(&TinyBasic, rt.alloc(), &mut opened(host, path)?, settings) {
         Ok(source) => source,
         Err(stop) => return Err(Outcome::of(Err(stop))),
     };

@@ -4,14 +4,15 @@ use Rattle.tb_syntax.specs.Source.{Program}
 use Rattle.tb_meaning.specs.Cost.{statement_cost}
 use Rattle.tb_compile_errors.specs.declared.refusals.CompileError.{CompileError}
 use Rattle.tb_compile_errors.specs.declared.refusals.CompileError.TheVariants.{NoMemory}
-use Rattle.tb_parser.specs.declared.notation.Notation.{Notation}
-use Rattle.tb_codegen.specs.Answers.{HasOutcome, SourceMakes}
-use Rattle.tb_codegen.specs.Compiled.{starts_of, table_of}
-use Rattle.tb_codegen.specs.declared.compiled.Compiled.{Compiled}
-use Rattle.tb_codegen.specs.declared.settings.CompileSettings.{CompileSettings}
-use Rattle.tb_codegen.specs.declared.settings.SizeLimit.TheVariants.{Cost}
-use Rattle.tb_listing.specs.Map.{Part, first_part}
+use Rattle.tb_text.specs.declared.notation.Notation.{Notation}
+use Rattle.tb_compiled.specs.Answers.{HasOutcome, SourceMakes}
+use Rattle.tb_compiled.specs.Compiled.{starts_of, table_of}
+use Rattle.tb_compiled.specs.declared.compiled.Compiled.{Compiled}
+use Rattle.tb_compiled.specs.declared.settings.CompileSettings.{CompileSettings}
+use Rattle.tb_compiled.specs.declared.settings.SizeLimit.TheVariants.{Cost}
+use Rattle.tb_compiled.specs.Parts.{Part, first_part}
 use Rattle.tb_hover.specs.declared.numbers.LineNumbers.{LineNumbers}
+use Rattle.tb_compiled.specs.Promise.{Own}
 
 -- the numbers of the first of a map's parts
 abbrev pub numbers_of : List Part → Option LineNumbers
@@ -33,14 +34,14 @@ abbrev pub settings_in : Notation → CompileSettings
 settings_in notation = record { seed = 0; size = Cost; notation = notation }
 
 -- the source is compiled in a notation, and these are the numbers of its line n
-abbrev pub NumbersOf : Notation → List ℕ → ℕ → Option LineNumbers → Type 0
-NumbersOf notation source n found =
-    (c : Compiled) × (p : Program) × HasOutcome (settings_in notation) source (Ok c) × SourceMakes notation source (Ok p) × (found ≡ part_of n (starts_of c) (table_of c) p)
+abbrev pub NumbersOf : Own → Notation → List ℕ → ℕ → Option LineNumbers → Type 0
+NumbersOf own notation source n found =
+    (c : Compiled) × (p : Program) × HasOutcome own (settings_in notation) source (Ok c) × SourceMakes notation source (Ok p) × (found ≡ part_of n (starts_of c) (table_of c) p)
 
 -- the source is not compiled
-abbrev pub IsNotCompiled : Notation → List ℕ → Type 0
-IsNotCompiled notation source = (e : CompileError) × HasOutcome (settings_in notation) source (Err e) × (e ≢ NoMemory)
+abbrev pub IsNotCompiled : Own → Notation → List ℕ → Type 0
+IsNotCompiled own notation source = (e : CompileError) × HasOutcome own (settings_in notation) source (Err e) × (e ≢ NoMemory)
 
 -- the numbers of line n of a source, if it is compiled
-abbrev pub NumbersAre : Notation → List ℕ → ℕ → Option LineNumbers → Type 0
-NumbersAre notation source n found = NumbersOf notation source n found ⊎ (IsNotCompiled notation source × (found ≡ None))
+abbrev pub NumbersAre : Own → Notation → List ℕ → ℕ → Option LineNumbers → Type 0
+NumbersAre own notation source n found = NumbersOf own notation source n found ⊎ (IsNotCompiled own notation source × (found ≡ None))

@@ -4,7 +4,7 @@ use Rattle.serde_json.specs.Data.{Data, member, no_members, null, object, string
 use Rattle.tb_places.specs.Spans.{piece}
 use Rattle.tb_places.specs.declared.spans.Span.{Span}
 use Rattle.tb_place_values.specs.Ranges.{range_of}
-use Rattle.tb_parser.specs.declared.notation.Notation.{Notation}
+use Rattle.tb_text.specs.declared.notation.Notation.{Notation}
 use Rattle.tb_source_names.specs.Lines.{does}
 use Rattle.tb_source_names.specs.Sources.{edits_of, standing, stands}
 use Rattle.tb_source_names.specs.Touched.{touched_at}
@@ -18,19 +18,20 @@ use Rattle.tb_hover.specs.Numbers.{NumbersAre}
 use Rattle.tb_hover.specs.Texts.{missing_text, number_text, own_text, variable_text}
 use Rattle.tb_hover.specs.Words.{help_of}
 use Rattle.tb_hover.specs.declared.tokens.About.{About}
-use Rattle.tb_hover.specs.declared.tokens.About.TheVariants.{Own, Target, Number, Variable, Word}
+use Rattle.tb_hover.specs.declared.tokens.About.TheVariants.{Own as OwnLine, Target, Number, Variable, Word}
 use Rattle.tb_hover.specs.declared.numbers.LineNumbers.{LineNumbers}
+use Rattle.tb_compiled.specs.Promise.{Own}
 
 -- ── a line ──
 -- the numbers of a line, if it stands
-abbrev pub OwnNumbers : Bool → Notation → List ℕ → ℕ → Option LineNumbers → Type 0
-OwnNumbers true notation text n found = NumbersAre notation text n found
-OwnNumbers false notation text n found = found ≡ None
+abbrev pub OwnNumbers : Own → Bool → Notation → List ℕ → ℕ → Option LineNumbers → Type 0
+OwnNumbers own true notation text n found = NumbersAre own notation text n found
+OwnNumbers own false notation text n found = found ≡ None
 
 -- at the number that begins the line at a place
-abbrev pub ShowsOwn : Notation → List ℕ → List SourceLine → ℕ → ℕ → List ℕ → Type 0
-ShowsOwn notation text lines place n value =
-    (found : Option LineNumbers) × OwnNumbers (stands place n (edits_of lines)) notation text n found × (value ≡ own_text n found)
+abbrev pub ShowsOwn : Own → Notation → List ℕ → List SourceLine → ℕ → ℕ → List ℕ → Type 0
+ShowsOwn own notation text lines place n value =
+    (found : Option LineNumbers) × OwnNumbers own (stands place n (edits_of lines)) notation text n found × (value ≡ own_text n found)
 
 -- a line as it was written
 abbrev pub line_text : ℕ → Option SourceLine → List ℕ
@@ -80,12 +81,12 @@ variable lines name = variable_text name (using name true lines) (using name fal
 
 -- ── a place ──
 -- what is shown of something in the line at a place
-abbrev pub Shows : Notation → List ℕ → List SourceLine → ℕ → About → List ℕ → Type 0
-Shows notation text lines place (Own n) value = ShowsOwn notation text lines place n value
-Shows notation text lines place (Target n) value = value ≡ target_text lines n
-Shows notation text lines place (Number n) value = value ≡ number_text n
-Shows notation text lines place (Variable name) value = value ≡ variable lines name
-Shows notation text lines place (Word kind) value = value ≡ help_of kind
+abbrev pub Shows : Own → Notation → List ℕ → List SourceLine → ℕ → About → List ℕ → Type 0
+Shows own notation text lines place (OwnLine n) value = ShowsOwn own notation text lines place n value
+Shows own notation text lines place (Target n) value = value ≡ target_text lines n
+Shows own notation text lines place (Number n) value = value ≡ number_text n
+Shows own notation text lines place (Variable name) value = value ≡ variable lines name
+Shows own notation text lines place (Word kind) value = value ≡ help_of kind
 
 -- a text
 abbrev pub contents : List ℕ → Data
@@ -101,21 +102,21 @@ shown_value None text = null
 shown_value (Some span) text = object (member (codes "contents") (contents text) (member (codes "range") (range_of span) no_members))
 
 -- what is shown at a token of the line at a place
-abbrev pub ShowsToken : Notation → List ℕ → List SourceLine → ℕ → SourceLine → ℕ → Option About → Data → Type 0
-ShowsToken notation text lines place l index None v = v ≡ null
-ShowsToken notation text lines place l index (Some a) v =
-    (value : List ℕ) × Shows notation text lines place a value × (v ≡ shown_value (token_span (place + 1) l index) value)
+abbrev pub ShowsToken : Own → Notation → List ℕ → List SourceLine → ℕ → SourceLine → ℕ → Option About → Data → Type 0
+ShowsToken own notation text lines place l index None v = v ≡ null
+ShowsToken own notation text lines place l index (Some a) v =
+    (value : List ℕ) × Shows own notation text lines place a value × (v ≡ shown_value (token_span (place + 1) l index) value)
 
 -- the same, if there is that line
-abbrev pub ShowsLine : Notation → List ℕ → List SourceLine → ℕ → ℕ → Option SourceLine → Data → Type 0
-ShowsLine notation text lines place index None v = v ≡ null
-ShowsLine notation text lines place index (Some l) v = ShowsToken notation text lines place l index (about (does l.edit) l.tokens.items index) v
+abbrev pub ShowsLine : Own → Notation → List ℕ → List SourceLine → ℕ → ℕ → Option SourceLine → Data → Type 0
+ShowsLine own notation text lines place index None v = v ≡ null
+ShowsLine own notation text lines place index (Some l) v = ShowsToken own notation text lines place l index (about (does l.edit) l.tokens.items index) v
 
 -- the same, if a token is touched
-abbrev pub ShowsTouched : Notation → List ℕ → List SourceLine → ℕ → Option ℕ → Data → Type 0
-ShowsTouched notation text lines place None v = v ≡ null
-ShowsTouched notation text lines place (Some index) v = ShowsLine notation text lines place index (slice_get lines place) v
+abbrev pub ShowsTouched : Own → Notation → List ℕ → List SourceLine → ℕ → Option ℕ → Data → Type 0
+ShowsTouched own notation text lines place None v = v ≡ null
+ShowsTouched own notation text lines place (Some index) v = ShowsLine own notation text lines place index (slice_get lines place) v
 
 -- what is shown at a place of a text with these lines, which are read in a notation
-abbrev pub Hovers : Notation → List ℕ → List SourceLine → ℕ → ℕ → Data → Type 0
-Hovers notation text lines line character v = ShowsTouched notation text lines line (touched_at line character lines) v
+abbrev pub Hovers : Own → Notation → List ℕ → List SourceLine → ℕ → ℕ → Data → Type 0
+Hovers own notation text lines line character v = ShowsTouched own notation text lines line (touched_at line character lines) v

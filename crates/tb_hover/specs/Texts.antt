@@ -4,7 +4,7 @@ use Rattle.std.specs.Char.{encode_utf8}
 use Rattle.std.specs.Fmt.{decimal, signed_decimal}
 use Rattle.tb_engines.specs.Texts.{address_text}
 use Rattle.tb_words.specs.Words.{signed}
-use Rattle.tb_runtime16.specs.Addresses.{VARS}
+use Rattle.tb_kept.specs.Addresses.{VARS}
 use Rattle.tb_hover.specs.declared.numbers.LineNumbers.{LineNumbers}
 
 -- at the number that begins a line, with its numbers

@@ -2,13 +2,12 @@
 ghost use Rattle.std.specs.Prelude.{◌≡◌, ◌+◌, ◌<◌, IfOk, drop, map};
 ghost use Rattle.tb_syntax.specs.PlainData.{lines_of, statement_of};
 ghost use Rattle.tb_meaning.specs.Cost as cost;
-ghost use Rattle.tb_codegen.specs.Compiled.{pair_of};
-ghost use Rattle.tb_codegen.specs.Texts.{end_before};
+ghost use Rattle.tb_compiled.specs.Compiled.{pair_of};
 ghost use Rattle.tb_hover.specs.Numbers.{NumbersAre, first_numbers, part_of};
 
 use std::alloc::{AllocError, Global};
-use tb_codegen::{
-    CompileError, CompileSettings, LineStart, Notation, SizeLimit, compile_within, line_cost,
+use tb_compiled::{
+    Compile, CompileError, CompileSettings, LineStart, Notation, SizeLimit, end_before, line_cost,
 };
 use tb_parser::parse_in;
 use tb_syntax::{Program, Statement};
@@ -20,16 +19,6 @@ pub struct LineNumbers {
     pub at: u16,
     pub bytes: u16,
     pub cost: u32,
-}
-
-// Where the code before these lines ends.
-fn end_before(table: u16, starts: &[LineStart]) -> u16
-    ensures { result ≡ end_before table (map pair_of starts.now) }
-{
-    match starts {
-        [] => table,
-        [first, ..] => first.at,
-    }
 }
 
 // The numbers of the first of these lines, with its cost.
@@ -76,20 +65,21 @@ fn numbers_in(
 }
 
 /// The numbers of a line of a source's program, if that is compiled in a notation. Fails only if memory runs out.
-pub fn line_numbers(
+pub fn line_numbers<K: Compile>(
+    compiler: &K,
     alloc: Global,
     notation: Notation,
     source: &[u8],
     number: u16,
 ) -> Result<Option<LineNumbers>, AllocError>
-    ensures { IfOk result (NumbersAre notation source.now number) }
+    ensures { IfOk result (NumbersAre K.own notation source.now number) }
 {
     let settings = CompileSettings {
         seed: 0,
         size: SizeLimit::Cost,
         notation,
     };
-    let compiled = match compile_within(alloc, source, settings) {
+    let compiled = match compiler.compile(alloc, source, settings) {
         Ok(compiled) => compiled,
         Err(CompileError::NoMemory) => return Err(AllocError),
         Err(_) => return Ok(None),

@@ -11,6 +11,7 @@ use crate::tokens::{About, about_token};
 use crate::words::help_of;
 use serde_json::{Value, json};
 use std::alloc::{AllocError, Global};
+use tb_compiled::Compile;
 use tb_navigation::{shown, standing_number};
 use tb_place_values::range_value;
 use tb_places::{Span, piece};
@@ -69,20 +70,21 @@ fn using(alloc: Global, source: &Source<'_>, name: u8, gets: bool) -> Result<Vec
 }
 
 // What is shown at the number that begins the line at a place.
-fn own(
+fn own<K: Compile>(
+    compiler: &K,
     alloc: Global,
     text: &[u8],
     source: &Source<'_>,
     place: usize,
     number: u16,
 ) -> Result<String, AllocError>
-    ensures { IfOk result (λ shown. spec.ShowsOwn source.now.notation text.now source.now.lines.items place number (string_bytes shown)) }
+    ensures { IfOk result (λ shown. spec.ShowsOwn K.own source.now.notation text.now source.now.lines.items place number (string_bytes shown)) }
 {
     if source.stands(place, number) {
         own_text(
             alloc,
             number,
-            line_numbers(alloc, source.notation, text, number)?,
+            line_numbers(compiler, alloc, source.notation, text, number)?,
         )
     } else {
         own_text(alloc, number, None)
@@ -112,17 +114,18 @@ fn variable(alloc: Global, source: &Source<'_>, name: u8) -> Result<String, Allo
 }
 
 // What is shown of something in the line at a place.
-fn text_of(
+fn text_of<K: Compile>(
+    compiler: &K,
     alloc: Global,
     text: &[u8],
     source: &Source<'_>,
     place: usize,
     about: About,
 ) -> Result<String, AllocError>
-    ensures { IfOk result (λ shown. spec.Shows source.now.notation text.now source.now.lines.items place about (string_bytes shown)) }
+    ensures { IfOk result (λ shown. spec.Shows K.own source.now.notation text.now source.now.lines.items place about (string_bytes shown)) }
 {
     match about {
-        About::Own(number) => own(alloc, text, source, place, number),
+        About::Own(number) => own(compiler, alloc, text, source, place, number),
         About::Target(target) => target_text(alloc, source, target),
         About::Number(number) => number_text(alloc, number),
         About::Variable(name) => variable(alloc, source, name),
@@ -154,7 +157,8 @@ fn shown_value(alloc: Global, span: Option<Span>, text: &str) -> Result<Value, A
 }
 
 // What is shown at a token of the line at a place.
-fn at_token(
+fn at_token<K: Compile>(
+    compiler: &K,
     alloc: Global,
     text: &[u8],
     source: &Source<'_>,
@@ -163,11 +167,11 @@ fn at_token(
     index: usize,
 ) -> Result<Value, AllocError>
     requires { place + 1 < 18446744073709551616 }
-    ensures { IfOk result (λ v. spec.ShowsToken source.now.notation text.now source.now.lines.items place line.now index (about (does line.now.edit) line.now.tokens.items index) (view v)) }
+    ensures { IfOk result (λ v. spec.ShowsToken K.own source.now.notation text.now source.now.lines.items place line.now index (about (does line.now.edit) line.now.tokens.items index) (view v)) }
 {
     match about_token(line, index) {
         Some(about) => {
-            let shown = text_of(alloc, text, source, place, about)?;
+            let shown = text_of(compiler, alloc, text, source, place, about)?;
             let span = token_span(place + 1, line, index);
             shown_value(alloc, span, shown.as_str())
         }
@@ -176,20 +180,21 @@ fn at_token(
 }
 
 /// What is shown at a place of a text, whose lines these are: line and column are counted from 0, the column in UTF-16.
-pub fn hover(
+pub fn hover<K: Compile>(
+    compiler: &K,
     alloc: Global,
     text: &[u8],
     source: &Source<'_>,
     line: usize,
     character: usize,
 ) -> Result<Value, AllocError>
-    ensures { IfOk result (λ v. spec.Hovers source.now.notation text.now source.now.lines.items line character (view v)) }
+    ensures { IfOk result (λ v. spec.Hovers K.own source.now.notation text.now source.now.lines.items line character (view v)) }
 {
     let Some(index) = touched_at(source, line, character) else {
         return Ok(Value::Null);
     };
     match source.lines.get(line) {
-        Some(found) => at_token(alloc, text, source, line, found, index),
+        Some(found) => at_token(compiler, alloc, text, source, line, found, index),
         None => Ok(Value::Null),
     }
 }

@@ -4,7 +4,7 @@ ghost use Rattle.tb_hover.specs.Texts as spec;
 
 use crate::numbers::LineNumbers;
 use std::alloc::{AllocError, Global};
-use tb_runtime16::VARS;
+use tb_kept::VARS;
 use tb_words::hex_digits;
 
 /// The most lines that are named.

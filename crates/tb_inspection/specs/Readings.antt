@@ -4,7 +4,7 @@ use Rattle.std.specs.Int.{cast_signed, w16}
 use Rattle.std.specs.List.{range_with_len}
 use Rattle.tb_cpu.specs.Operands.{word_from, word_in}
 use Rattle.tb_words.specs.Numbers.{LETTERS}
-use Rattle.tb_runtime16.specs.Addresses.{RETURN_HIGH, RETURN_LOW, VARS}
+use Rattle.tb_kept.specs.Addresses.{RETURN_HIGH, RETURN_LOW, VARS}
 
 -- the word of the variable at an index in the alphabet
 abbrev pub variable_in : (ℕ → ℕ) → ℕ → ℕ

@@ -1,5 +1,9 @@
-//! What both debuggers tell of a running program: its variables, the values of expressions over them, and the texts that
-//! say so.
+//! What both debuggers tell of a running program: its variables, the values of expressions over them, and the texts
+//! that say so.
+//!
+//! `variable`, `variables`, `depth` and `return_address` are what memory holds at the addresses of a program's data.
+//! `value_of_text` is the value of the expression that a text is, as the meaning has it, or why it has none; nothing
+//! if the text is no expression. The texts of answers are to the letter.
 #![tactic(auto)]
 
 mod readings;

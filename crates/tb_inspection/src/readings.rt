@@ -6,11 +6,11 @@ ghost use Rattle.tb_words.specs.Numbers.{LETTERS};
 ghost use Rattle.tb_words.specs.Letters.{letter_index};
 ghost use Rattle.tb_words.specs.Words.{word_of};
 ghost use Rattle.tb_meaning.specs.Control.{deepest};
-ghost use Rattle.tb_runtime16.specs.Addresses as addresses;
+ghost use Rattle.tb_kept.specs.Addresses as addresses;
 ghost use Rattle.tb_inspection.specs.Readings.{return_in, value_in, values_in, variable_in, variables_in};
 
+use tb_kept::{NOTES, RETURN_HIGH, RETURN_LOW, VARS};
 use tb_memmap::Memory;
-use tb_runtime16::{NOTES, RETURN_HIGH, RETURN_LOW, VARS};
 use tb_words::{LETTERS, Letter};
 
 /// The values of A to Z.

@@ -1,6 +1,6 @@
 -- What every job that the command line gives keeps.
 use Rattle.std.specs.Prelude.{◌≤◌, ⊤}
-use Rattle.tb_jobs.specs.Numbers.{MOST_EVENTS}
+use Rattle.tb_engines.specs.Numbers.{MOST_EVENTS}
 use Rattle.tb_jobs.specs.declared.jobs.Limit.{Limit}
 use Rattle.tb_jobs.specs.declared.jobs.Job.{Job}
 use Rattle.tb_jobs.specs.declared.jobs.Job.TheVariants.{Build, Run, Play, Asm, Assemble, Dis, Step, Debug, Profile, Disk, Check, Format, Renumber, Lsp, Dap, Show}

@@ -1,25 +1,14 @@
 //! What the words of the command line ask for.
 ghost use Rattle.std.specs.Prelude.{◌≡◌, ◌≤◌, ◌↔◌, IsSome, IfSome};
-ghost use Rattle.tb_jobs.specs.Numbers.{MOST_EVENTS, USUAL_EVENTS};
+ghost use Rattle.tb_engines.specs.Numbers.{MOST_EVENTS, USUAL_EVENTS};
 
 use std::alloc::AllocError;
 use tb_dialects::Dialect;
-use tb_parser::Notation;
-
-/// The most events that a run may be given.
-pub const MOST_EVENTS: u32 = 1_000_000_000;
-
-/// How many events a run may take if the words don't say.
-pub const USUAL_EVENTS: u32 = 10_000_000;
-
-/// The first state of RND if the words don't say.
-pub const USUAL_SEED: u16 = 1;
+use tb_engines::{MOST_EVENTS, USUAL_EVENTS};
+use tb_text::Notation;
 
 /// The first new line number, and the step to the next one, if the words don't say.
 pub const USUAL_STEP: u16 = 10;
-
-/// The highest number that a line may have.
-pub const HIGHEST_LINE: u16 = 32_767;
 
 /// How many events a run may take: 1 to `MOST_EVENTS`.
 #[derive(Clone, Copy, Debug, PartialEq, Eq)]

@@ -1,4 +1,8 @@
 //! What the program `tbc` is asked to do, and why words lead to nothing that it can do.
+//!
+//! `Job::kept` and `Job::written` are the files of a job (`specs/Files`). `Limit::new` has a limit of 1 to
+//! 1,000,000,000 events. `Failure::status` is 4 for want of memory, 3 if a key file or a label file cannot be read, 1
+//! if that has a bad line, and otherwise 2. `room_for_screen` says where the screen can be shown.
 #![tactic(auto)]
 
 mod failure;
@@ -10,11 +14,12 @@ mod typing;
 
 pub use failure::Failure;
 pub use jobs::{
-    BuildExtras, FormatTarget, HIGHEST_LINE, Job, JobError, Limit, MOST_EVENTS, Runnable, Settings,
-    Typed, USUAL_EVENTS, USUAL_SEED, USUAL_STEP,
+    BuildExtras, FormatTarget, Job, JobError, Limit, Runnable, Settings, Typed, USUAL_STEP,
 };
 pub use numbers::constants_are_numbers;
+pub use tb_compiled::USUAL_SEED;
 pub use tb_dialects::Dialect;
-pub use tb_parser::Notation;
+pub use tb_engines::{MOST_EVENTS, USUAL_EVENTS};
+pub use tb_text::Notation;
 pub use terminals::room_for_screen;
 pub use typing::typed_keys;

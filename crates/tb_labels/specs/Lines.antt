@@ -4,7 +4,7 @@ use Rattle.std.specs.List.{list_all}
 use Rattle.std.specs.Option.{option_and_then}
 use Rattle.std.specs.declared.alloc.Global.{Global}
 use Rattle.std.specs.declared.vec.Vec.{Vec}
-use Rattle.tb_parser.specs.Lines.{lines_of_file}
+use Rattle.tb_text.specs.Lines.{lines_of_file}
 use Rattle.tb_labels.specs.declared.labels.Label.{Label}
 use Rattle.tb_labels.specs.declared.labels.LabelsError.{LabelsError}
 use Rattle.tb_labels.specs.declared.labels.LabelsError.TheVariants.{Line, NoMemory}

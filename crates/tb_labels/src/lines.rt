@@ -5,7 +5,7 @@ ghost use Rattle.tb_labels.specs.Lines.{Reads, TakesLine, pair_of};
 
 use crate::labels::{Label, LabelsError};
 use std::alloc::Global;
-use tb_parser::next_line;
+use tb_text::next_line;
 
 // The value of a hexadecimal digit, in either case.
 fn digit(byte: u8) -> Option<u16>

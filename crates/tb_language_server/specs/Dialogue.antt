@@ -12,7 +12,7 @@ use Rattle.tb_frames.specs.declared.reading.Frame.{Frame}
 use Rattle.tb_frames.specs.declared.reading.FrameError.TheVariants as frame_error
 use Rattle.tb_frames.specs.declared.reading.Frame.TheVariants as frame
 use Rattle.tb_messages.specs.declared.refusals.Refusal.TheVariants.{NoJson, TooLarge}
-use Rattle.tb_parser.specs.declared.notation.Notation.{Notation}
+use Rattle.tb_text.specs.declared.notation.Notation.{Notation}
 use Rattle.tb_language_server.specs.Outcomes.{ServerOutcome, end_of}
 use Rattle.tb_language_server.specs.Replies.{IsNew, Refuses, Takes}
 use Rattle.tb_language_server.specs.declared.outcome.Served.TheVariants as served
@@ -21,16 +21,17 @@ use Rattle.tb_language_server.specs.declared.life.Stage.TheVariants.{Shut}
 use Rattle.tb_language_server.specs.declared.server.Reply.{Reply}
 use Rattle.tb_language_server.specs.declared.server.Reply.TheVariants.{Nothing, Content, Exit}
 use Rattle.tb_language_server.specs.declared.server.Server.{Server}
+use Rattle.tb_compiled.specs.Promise.{Own}
 
 -- a content that is JSON is taken as its value; one that is not is refused
-abbrev pub TakesContent : List ℕ → Server → Reply → Server → Type 0
-TakesContent content old reply new =
-    ((d : Data) × (read content ≡ Some d) × Takes d old reply new) ⊎ ((IsUtf8 content → read content ≡ None) × Refuses null NoJson old reply new)
+abbrev pub TakesContent : Own → List ℕ → Server → Reply → Server → Type 0
+TakesContent own content old reply new =
+    ((d : Data) × (read content ≡ Some d) × Takes own d old reply new) ⊎ ((IsUtf8 content → read content ≡ None) × Refuses null NoJson old reply new)
 
 -- a frame's content is taken; one that is too long is refused
-abbrev pub TakesOne : Frame → Server → Reply → Server → Type 0
-TakesOne (frame.Content content) old reply new = TakesContent content.items old reply new
-TakesOne (frame.TooLong n) old reply new = Refuses null TooLarge old reply new
+abbrev pub TakesOne : Own → Frame → Server → Reply → Server → Type 0
+TakesOne own (frame.Content content) old reply new = TakesContent own content.items old reply new
+TakesOne own (frame.TooLong n) old reply new = Refuses null TooLarge old reply new
 
 -- what is said, where memory did not run out
 abbrev pub Replies : (Reply → Type 0) → Result Reply ServerOutcome → Type 0
@@ -73,23 +74,23 @@ pub record IsUnwritten (s : Streams) : Type 0 where
   pub sound : s.wrote_after ≡ s.wrote
 
 -- one frame was read, and what is said to it
-abbrev pub TakesOneOf : Streams → Server → Reply → Server → Type 0
-TakesOneOf s old reply new = (f : Frame) × ReadsFrame (Ok (Some f)) s.had s.left s.read s.read_after × TakesOne f old reply new
+abbrev pub TakesOneOf : Own → Streams → Server → Reply → Server → Type 0
+TakesOneOf own s old reply new = (f : Frame) × ReadsFrame (Ok (Some f)) s.had s.left s.read s.read_after × TakesOne own f old reply new
 
 -- the server was asked to end, or its input has ended
-abbrev pub Ends : Streams → Server → Server → Type 0
-Ends s old new = IsUnwritten s × (ReadsFrame (Ok None) s.had s.left s.read s.read_after ⊎ TakesOneOf s old Exit new)
+abbrev pub Ends : Own → Streams → Server → Server → Type 0
+Ends own s old new = IsUnwritten s × (ReadsFrame (Ok None) s.had s.left s.read s.read_after ⊎ TakesOneOf own s old Exit new)
 
 -- what a frame leads to: what is said to it is written whole before the next one, or the dialogue ends as it must
-abbrev pub TakesFrame : Streams → Server → Result (Unit {0}) ServerOutcome → Server → Type 0
-TakesFrame s old (Ok done) new = (reply : Reply) × TakesOneOf s old reply new × Written reply s.old s.new × (s.wrote_after ≡ s.wrote)
-TakesFrame s old (Err (Ended served.Ended)) new = (new.stage ≡ Shut) × Ends s old new
-TakesFrame s old (Err (Ended served.NotShutDown)) new = (new.stage ≢ Shut) × Ends s old new
-TakesFrame s old (Err (Refused bad)) new = IsUnwritten s × ReadsFrame (Err frame_error.Bad) s.had s.left s.read s.read_after
-TakesFrame s old (Err ReadFault) new = IsUnwritten s × ReadsFrame (Err frame_error.Fault) s.had s.left s.read s.read_after
-TakesFrame s old (Err WriteFault) new =
-    (content : Vec ℕ Global) × TakesOneOf s old (Content content) new × AppendsPrefix s.old s.new (frame_of content.items) × (s.wrote_after ≢ s.wrote)
-TakesFrame s old (Err NoMemory) new = IsUnwritten s
+abbrev pub TakesFrame : Own → Streams → Server → Result (Unit {0}) ServerOutcome → Server → Type 0
+TakesFrame own s old (Ok done) new = (reply : Reply) × TakesOneOf own s old reply new × Written reply s.old s.new × (s.wrote_after ≡ s.wrote)
+TakesFrame own s old (Err (Ended served.Ended)) new = (new.stage ≡ Shut) × Ends own s old new
+TakesFrame own s old (Err (Ended served.NotShutDown)) new = (new.stage ≢ Shut) × Ends own s old new
+TakesFrame own s old (Err (Refused bad)) new = IsUnwritten s × ReadsFrame (Err frame_error.Bad) s.had s.left s.read s.read_after
+TakesFrame own s old (Err ReadFault) new = IsUnwritten s × ReadsFrame (Err frame_error.Fault) s.had s.left s.read s.read_after
+TakesFrame own s old (Err WriteFault) new =
+    (content : Vec ℕ Global) × TakesOneOf own s old (Content content) new × AppendsPrefix s.old s.new (frame_of content.items) × (s.wrote_after ≢ s.wrote)
+TakesFrame own s old (Err NoMemory) new = IsUnwritten s
 
 -- a moment of a dialogue: the server, what its reader still has, what its writer holds, and how often each has failed
 pub record Moment : Type 0 where
@@ -104,18 +105,18 @@ abbrev pub moment : Server → (left : Option (List ℕ)) (read : ℕ) (written 
 moment server left read written wrote = record { server = server; left = left; read = read; written = written; wrote = wrote }
 
 -- a frame leads from one moment to another
-abbrev pub Leads : Moment → Result (Unit {0}) ServerOutcome → Moment → Type 0
-Leads a result b = TakesFrame (streams a.left b.left a.read b.read a.written b.written a.wrote b.wrote) a.server result b.server
+abbrev pub Leads : Own → Moment → Result (Unit {0}) ServerOutcome → Moment → Type 0
+Leads own a result b = TakesFrame own (streams a.left b.left a.read b.read a.written b.written a.wrote b.wrote) a.server result b.server
 
 -- frames lead from one moment to another, each answered before the next one is read
-pub data Talks : Moment → Moment → Type 0 where
-  none : (a : Moment) → Talks a a
-  more : (a b c : Moment) (done : Unit {0}) → Talks a b → Leads b (Ok done) c → Talks a c
+pub data Talks (own : Own) : Moment → Moment → Type 0 where
+  none : (a : Moment) → Talks own a a
+  more : (a b c : Moment) (done : Unit {0}) → Talks own a b → Leads own b (Ok done) c → Talks own a c
 
 -- a whole dialogue: frames, and one that ends it; or as many as can be counted
-abbrev pub Serves : Moment → ServerOutcome → Moment → Type 0
-Serves a outcome z = ((b : Moment) × Talks a b × Leads b (Err outcome) z) ⊎ (Talks a z × (outcome ≡ end_of z.server.stage))
+abbrev pub Serves : Own → Moment → ServerOutcome → Moment → Type 0
+Serves own a outcome z = ((b : Moment) × Talks own a b × Leads own b (Err outcome) z) ⊎ (Talks own a z × (outcome ≡ end_of z.server.stage))
 
 -- a dialogue of a new server, which has a notation
-abbrev pub ServesNew : (version : List ℕ) → Notation → (Server → Moment) → ServerOutcome → (Server → Moment) → Type 0
-ServesNew version notation first outcome last = (s : Server) × IsNew version notation s × ((z : Server) × Serves (first s) outcome (last z))
+abbrev pub ServesNew : (own : Own) (version : List ℕ) → Notation → (Server → Moment) → ServerOutcome → (Server → Moment) → Type 0
+ServesNew own version notation first outcome last = (s : Server) × IsNew version notation s × ((z : Server) × Serves own (first s) outcome (last z))

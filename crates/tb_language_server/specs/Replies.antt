@@ -7,7 +7,7 @@ use Rattle.serde_json.specs.Data.{Data, Members, array, boolean, item, member, n
 use Rattle.serde_json.specs.View.{view}
 use Rattle.serde_json.specs.declared.value.Value.{Value}
 use Rattle.tb_outline.specs.Tokens.{legend}
-use Rattle.tb_parser.specs.declared.notation.Notation.{Notation}
+use Rattle.tb_text.specs.declared.notation.Notation.{Notation}
 use Rattle.tb_answers.specs.Answers.{Answers}
 use Rattle.tb_answers.specs.declared.methods.Method.{Method}
 use Rattle.tb_messages.specs.Messages.{Says, Tells, failure_of, seen, success_of}
@@ -27,6 +27,7 @@ use Rattle.tb_language_server.specs.declared.life.Stage.TheVariants.{New, Ready,
 use Rattle.tb_language_server.specs.declared.server.Reply.{Reply}
 use Rattle.tb_language_server.specs.declared.server.Reply.TheVariants.{Nothing, Content, Exit}
 use Rattle.tb_language_server.specs.declared.server.Server.{Server}
+use Rattle.tb_compiled.specs.Promise.{Own}
 
 -- ── what it can do ──
 -- texts are told of as a whole
@@ -121,33 +122,33 @@ said id (Ok v) = success_of id (view v)
 said id (Err refusal) = failure_of id refusal
 
 -- what a request on a text is answered, where that is open
-abbrev pub AnswersOnText : Notation → Method → (id : Data) → (uri : List ℕ) → (params : Data) → Option (List ℕ) → (content : List ℕ) → Type 0
-AnswersOnText notation m id uri params (Some text) content = (r : Result Value Refusal) × Answers notation m uri text params r × Says content (said id r)
-AnswersOnText notation m id uri params None content = Says content (failure_of id NotOpen)
+abbrev pub AnswersOnText : Own → Notation → Method → (id : Data) → (uri : List ℕ) → (params : Data) → Option (List ℕ) → (content : List ℕ) → Type 0
+AnswersOnText own notation m id uri params (Some text) content = (r : Result Value Refusal) × Answers own notation m uri text params r × Says content (said id r)
+AnswersOnText own notation m id uri params None content = Says content (failure_of id NotOpen)
 
 -- the same by the text that params name
-abbrev pub AnswersParams : Notation → Method → (id params : Data) → Option (List ℕ) → List OpenText → (content : List ℕ) → Type 0
-AnswersParams notation m id params (Some uri) texts content = AnswersOnText notation m id uri params (text_of uri texts) content
-AnswersParams notation m id params None texts content = Says content (failure_of id BadParams)
+abbrev pub AnswersParams : Own → Notation → Method → (id params : Data) → Option (List ℕ) → List OpenText → (content : List ℕ) → Type 0
+AnswersParams own notation m id params (Some uri) texts content = AnswersOnText own notation m id uri params (text_of uri texts) content
+AnswersParams own notation m id params None texts content = Says content (failure_of id BadParams)
 
 -- what a request on a text is answered
-abbrev pub AnswersText : Notation → Method → Data → Option Data → List OpenText → (content : List ℕ) → Type 0
-AnswersText notation m id (Some params) texts content = AnswersParams notation m id params (uri_in params) texts content
-AnswersText notation m id None texts content = Says content (failure_of id BadParams)
+abbrev pub AnswersText : Own → Notation → Method → Data → Option Data → List OpenText → (content : List ℕ) → Type 0
+AnswersText own notation m id (Some params) texts content = AnswersParams own notation m id params (uri_in params) texts content
+AnswersText own notation m id None texts content = Says content (failure_of id BadParams)
 
 -- what a request with this id and these params is answered, by what is done with it
-abbrev pub AnswersBy : Decision → Data → Option Data → Server → Vec ℕ Global → Server → Type 0
-AnswersBy Begin id params old content new = Becomes Ready old new × Says content.items (success_of id (initialized old.version.now))
-AnswersBy End id params old content new = Becomes Shut old new × Says content.items (success_of id null)
-AnswersBy (Answer m) id params old content new = IsSame old new × AnswersText old.notation m id params old.texts.all.items content.items
-AnswersBy (Refuse refusal) id params old content new = IsSame old new × Says content.items (failure_of id refusal)
+abbrev pub AnswersBy : Own → Decision → Data → Option Data → Server → Vec ℕ Global → Server → Type 0
+AnswersBy own Begin id params old content new = Becomes Ready old new × Says content.items (success_of id (initialized old.version.now))
+AnswersBy own End id params old content new = Becomes Shut old new × Says content.items (success_of id null)
+AnswersBy own (Answer m) id params old content new = IsSame old new × AnswersText own old.notation m id params old.texts.all.items content.items
+AnswersBy own (Refuse refusal) id params old content new = IsSame old new × Says content.items (failure_of id refusal)
 
 -- ── notifications ──
 -- a text is taken, and what is said of it is published
-abbrev pub TakesText : (uri text : List ℕ) → Option ℤ → Server → Reply → Server → Type 0
-TakesText uri text version old (Content content) new = OpensText uri text old new × Publishes old.notation uri version text content.items
-TakesText uri text version old Nothing new = ⊥
-TakesText uri text version old Exit new = ⊥
+abbrev pub TakesText : (own : Own) (uri text : List ℕ) → Option ℤ → Server → Reply → Server → Type 0
+TakesText own uri text version old (Content content) new = OpensText uri text old new × Publishes own old.notation uri version text content.items
+TakesText own uri text version old Nothing new = ⊥
+TakesText own uri text version old Exit new = ⊥
 
 -- nothing is said, and nothing changes
 abbrev pub Ignores : Server → Reply → Server → Type 0
@@ -162,9 +163,9 @@ DropsText uri old Nothing new = ⊥
 DropsText uri old Exit new = ⊥
 
 -- a text was changed, by whether it is open: one that isn't is not taken
-abbrev pub TakesChange : Bool → (uri text : List ℕ) → Option ℤ → Server → Reply → Server → Type 0
-TakesChange true uri text version old reply new = TakesText uri text version old reply new
-TakesChange false uri text version old reply new = Ignores old reply new
+abbrev pub TakesChange : Own → Bool → (uri text : List ℕ) → Option ℤ → Server → Reply → Server → Type 0
+TakesChange own true uri text version old reply new = TakesText own uri text version old reply new
+TakesChange own false uri text version old reply new = Ignores old reply new
 
 -- a text is open no more, by whether it was
 abbrev pub TakesClose : Bool → List ℕ → Server → Reply → Server → Type 0
@@ -172,21 +173,21 @@ TakesClose true uri old reply new = DropsText uri old reply new
 TakesClose false uri old reply new = Ignores old reply new
 
 -- what is told of a text is done
-abbrev pub TakesNotice : Told → Server → Reply → Server → Type 0
-TakesNotice (open_text uri text version) old reply new = TakesText uri text version old reply new
-TakesNotice (change_text uri text version) old reply new = TakesChange (has uri old.texts.all.items) uri text version old reply new
-TakesNotice (close_text uri) old reply new = TakesClose (has uri old.texts.all.items) uri old reply new
+abbrev pub TakesNotice : Own → Told → Server → Reply → Server → Type 0
+TakesNotice own (open_text uri text version) old reply new = TakesText own uri text version old reply new
+TakesNotice own (change_text uri text version) old reply new = TakesChange own (has uri old.texts.all.items) uri text version old reply new
+TakesNotice own (close_text uri) old reply new = TakesClose (has uri old.texts.all.items) uri old reply new
 
 -- the same, if something is told
-abbrev pub TakesTold : Option Told → Server → Reply → Server → Type 0
-TakesTold None old reply new = Ignores old reply new
-TakesTold (Some t) old reply new = TakesNotice t old reply new
+abbrev pub TakesTold : Own → Option Told → Server → Reply → Server → Type 0
+TakesTold own None old reply new = Ignores old reply new
+TakesTold own (Some t) old reply new = TakesNotice own t old reply new
 
 -- what is told at a stage
-abbrev pub TakesAt : Stage → Option Told → Server → Reply → Server → Type 0
-TakesAt New t old reply new = Ignores old reply new
-TakesAt Ready t old reply new = TakesTold t old reply new
-TakesAt Shut t old reply new = Ignores old reply new
+abbrev pub TakesAt : Own → Stage → Option Told → Server → Reply → Server → Type 0
+TakesAt own New t old reply new = Ignores old reply new
+TakesAt own Ready t old reply new = TakesTold own t old reply new
+TakesAt own Shut t old reply new = Ignores old reply new
 
 -- it ends
 abbrev pub Exits : Server → Reply → Server → Type 0
@@ -195,20 +196,20 @@ Exits old Nothing new = ⊥
 Exits old (Content content) new = ⊥
 
 -- a notification, by whether it asks for the end
-abbrev pub TakesOther : Bool → List ℕ → Option Data → Server → Reply → Server → Type 0
-TakesOther true method params old reply new = Exits old reply new
-TakesOther false method params old reply new = TakesAt old.stage (notice_of method params) old reply new
+abbrev pub TakesOther : Own → Bool → List ℕ → Option Data → Server → Reply → Server → Type 0
+TakesOther own true method params old reply new = Exits old reply new
+TakesOther own false method params old reply new = TakesAt own old.stage (notice_of method params) old reply new
 
 -- a notification
-abbrev pub TakesNotification : List ℕ → Option Data → Server → Reply → Server → Type 0
-TakesNotification method params old reply new = TakesOther (bytes_eq method (codes "exit")) method params old reply new
+abbrev pub TakesNotification : Own → List ℕ → Option Data → Server → Reply → Server → Type 0
+TakesNotification own method params old reply new = TakesOther own (bytes_eq method (codes "exit")) method params old reply new
 
 -- ── messages ──
 -- a request is answered
-abbrev pub TakesRequest : Data → List ℕ → Option Data → Server → Reply → Server → Type 0
-TakesRequest id method params old (Content content) new = AnswersBy (decision_of old.stage method) id params old content new
-TakesRequest id method params old Nothing new = ⊥
-TakesRequest id method params old Exit new = ⊥
+abbrev pub TakesRequest : Own → Data → List ℕ → Option Data → Server → Reply → Server → Type 0
+TakesRequest own id method params old (Content content) new = AnswersBy own (decision_of old.stage method) id params old content new
+TakesRequest own id method params old Nothing new = ⊥
+TakesRequest own id method params old Exit new = ⊥
 
 -- a message is refused, and nothing changes
 abbrev pub Refuses : Data → Refusal → Server → Reply → Server → Type 0
@@ -217,12 +218,12 @@ Refuses id refusal old Nothing new = ⊥
 Refuses id refusal old Exit new = ⊥
 
 -- what is said to a message
-abbrev pub TakesMessage : Message → Server → Reply → Server → Type 0
-TakesMessage (message.Request id method params) old reply new = TakesRequest (view id.now) method.now (seen params) old reply new
-TakesMessage (message.Notification method params) old reply new = TakesNotification method.now (seen params) old reply new
-TakesMessage message.Answer old reply new = Ignores old reply new
-TakesMessage (message.NoMessage id) old reply new = Refuses (unwrap_or (seen id) null) NoMessage old reply new
+abbrev pub TakesMessage : Own → Message → Server → Reply → Server → Type 0
+TakesMessage own (message.Request id method params) old reply new = TakesRequest own (view id.now) method.now (seen params) old reply new
+TakesMessage own (message.Notification method params) old reply new = TakesNotification own method.now (seen params) old reply new
+TakesMessage own message.Answer old reply new = Ignores old reply new
+TakesMessage own (message.NoMessage id) old reply new = Refuses (unwrap_or (seen id) null) NoMessage old reply new
 
 -- what is said to a value: what is told of it is done
-abbrev pub Takes : Data → Server → Reply → Server → Type 0
-Takes d old reply new = (m : Message) × Tells d m × TakesMessage m old reply new
+abbrev pub Takes : Own → Data → Server → Reply → Server → Type 0
+Takes own d old reply new = (m : Message) × Tells d m × TakesMessage own m old reply new

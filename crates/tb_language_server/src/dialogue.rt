@@ -11,10 +11,11 @@ use crate::outcome::{Served, ServerOutcome};
 use crate::server::{Reply, Server};
 use std::alloc::Global;
 use std::io::{Read, Write};
+use tb_compiled::Compile;
 use tb_frames::{Frame, read_frame, write_frame};
 use tb_messages::{Refusal, Unreadable, failure, read_value};
-use tb_parser::Notation;
 use tb_streams::Tracked;
+use tb_text::Notation;
 
 // How a server ends that is asked to, or whose input ends.
 fn end_of(stage: Stage) -> ServerOutcome
@@ -34,45 +35,52 @@ fn refuse(alloc: Global, server: &mut Server, refusal: Refusal) -> Result<Reply,
 }
 
 // What is said to a content.
-fn reply_to_content(
+fn reply_to_content<K: Compile>(
+    compiler: &K,
     alloc: Global,
     server: &mut Server,
     content: &[u8],
 ) -> Result<Reply, ServerOutcome>
-    ensures { Replies (λ reply. TakesContent content.now server.old reply server.new) result }
+    ensures { Replies (λ reply. TakesContent K.own content.now server.old reply server.new) result }
 {
     match read_value(alloc, content) {
-        Ok(value) => Ok(server.take(alloc, &value)?),
+        Ok(value) => Ok(server.take(compiler, alloc, &value)?),
         Err(Unreadable::NotJson) => refuse(alloc, server, Refusal::NoJson),
         Err(Unreadable::NoMemory) => Err(ServerOutcome::NoMemory),
     }
 }
 
 // What is said to a frame.
-fn reply_to_frame(alloc: Global, server: &mut Server, frame: &Frame) -> Result<Reply, ServerOutcome>
-    ensures { Replies (λ reply. TakesOne frame.now server.old reply server.new) result }
+fn reply_to_frame<K: Compile>(
+    compiler: &K,
+    alloc: Global,
+    server: &mut Server,
+    frame: &Frame,
+) -> Result<Reply, ServerOutcome>
+    ensures { Replies (λ reply. TakesOne K.own frame.now server.old reply server.new) result }
 {
     match frame {
-        Frame::Content(content) => reply_to_content(alloc, server, content),
+        Frame::Content(content) => reply_to_content(compiler, alloc, server, content),
         Frame::TooLong(_) => refuse(alloc, server, Refusal::TooLarge),
     }
 }
 
 // Takes a frame, and says what there is to say to it: the end, if the dialogue ends with it.
-fn take_frame<R: Read, W: Write>(
+fn take_frame<K: Compile, R: Read, W: Write>(
+    compiler: &K,
     alloc: Global,
     server: &mut Server,
     reader: &mut Tracked<R>,
     writer: &mut Tracked<W>,
 ) -> Result<(), ServerOutcome>
-    ensures { TakesFrame (streams (R.remaining reader.old.stream) (R.remaining reader.new.stream)
+    ensures { TakesFrame K.own (streams (R.remaining reader.old.stream) (R.remaining reader.new.stream)
         (failures_of reader.old) (failures_of reader.new) (W.contents writer.old.stream) (W.contents writer.new.stream)
         (failures_of writer.old) (failures_of writer.new)) server.old result server.new }
 {
     let Some(frame) = read_frame(alloc, reader)? else {
         return Err(end_of(server.stage));
     };
-    match reply_to_frame(alloc, server, &frame)? {
+    match reply_to_frame(compiler, alloc, server, &frame)? {
         Reply::Nothing => Ok(()),
         Reply::Content(content) => Ok(write_frame(alloc, writer, content.as_slice())?),
         Reply::Exit => Err(end_of(server.stage)),
@@ -80,21 +88,22 @@ fn take_frame<R: Read, W: Write>(
 }
 
 /// Reads messages and answers each before the next one is read, up to the end. Sources are read in the notation.
-pub fn serve<R: Read, W: Write>(
+pub fn serve<K: Compile, R: Read, W: Write>(
+    compiler: &K,
     alloc: Global,
     version: &'static str,
     notation: Notation,
     reader: &mut Tracked<R>,
     writer: &mut Tracked<W>,
 ) -> ServerOutcome
-    ensures { ServesNew version.now notation
+    ensures { ServesNew K.own version.now notation
         (λ s. moment s (R.remaining reader.old.stream) (failures_of reader.old) (W.contents writer.old.stream) (failures_of writer.old))
         result
         (λ s. moment s (R.remaining reader.new.stream) (failures_of reader.new) (W.contents writer.new.stream) (failures_of writer.new)) }
 {
     let mut server = Server::new(alloc, version, notation);
     for _ in 0..u64::MAX {
-        if let Err(outcome) = take_frame(alloc, &mut server, reader, writer) {
+        if let Err(outcome) = take_frame(compiler, alloc, &mut server, reader, writer) {
             return outcome;
         }
     }

@@ -14,10 +14,11 @@ use crate::texts::Texts;
 use serde_json::{Map, Value, json, put};
 use std::alloc::{AllocError, Global};
 use tb_answers::{Method, answer};
+use tb_compiled::Compile;
 use tb_diagnostics::{publish, publish_none};
 use tb_messages::{Message, Refusal, failure, message_of, success};
 use tb_outline::legend;
-use tb_parser::Notation;
+use tb_text::Notation;
 
 /// What a server says to a message.
 #[derive(Drop)]
@@ -47,7 +48,7 @@ fn synchronization_value(alloc: Global) -> Result<Value, AllocError>
     json!(in alloc; {"change": 1, "openClose": true})
 }
 
-// That of actions it offers fixes.
+// That of code actions the server offers quick fixes.
 fn fixes_value(alloc: Global) -> Result<Value, AllocError>
     ensures { IfOk result (λ v. view v ≡ fixes) }
 {
@@ -165,7 +166,8 @@ fn said(alloc: Global, id: &Value, answer: Result<Value, Refusal>) -> Result<Vec
 }
 
 // What is said to a request on a text, where that is open.
-fn answer_found(
+fn answer_found<K: Compile>(
+    compiler: &K,
     alloc: Global,
     notation: Notation,
     id: &Value,
@@ -174,12 +176,20 @@ fn answer_found(
     uri: &str,
     text: Option<&str>,
 ) -> Result<Vec<u8>, AllocError>
-    ensures { IfOk result (λ content. AnswersOnText notation method (view id.now) uri.now (view params.now) (option_map (λ t. t.now) text.entry)
+    ensures { IfOk result (λ content. AnswersOnText K.own notation method (view id.now) uri.now (view params.now) (option_map (λ t. t.now) text.entry)
         content.items) }
 {
     match text {
         Some(text) => {
-            let answer = answer(alloc, notation, method, uri, text.as_bytes(), params)?;
+            let answer = answer(
+                compiler,
+                alloc,
+                notation,
+                method,
+                uri,
+                text.as_bytes(),
+                params,
+            )?;
             said(alloc, id, answer)
         }
         None => failure(alloc, Some(id), Refusal::NotOpen),
@@ -200,78 +210,92 @@ impl Server {
     }
 
     // What it says to a request on a text, by its name.
-    fn answer_on_text(
+    fn answer_on_text<K: Compile>(
         &self,
+        compiler: &K,
         alloc: Global,
         id: &Value,
         method: Method,
         params: &Value,
         uri: &str,
     ) -> Result<Vec<u8>, AllocError>
-        ensures { IfOk result (λ content. AnswersOnText self.now.notation method (view id.now) uri.now (view params.now)
+        ensures { IfOk result (λ content. AnswersOnText K.own self.now.notation method (view id.now) uri.now (view params.now)
             (text_of uri.now self.now.texts.all.items) content.items) }
     {
         let text = self.texts.text(uri);
-        answer_found(alloc, self.notation, id, method, params, uri, text)
+        answer_found(
+            compiler,
+            alloc,
+            self.notation,
+            id,
+            method,
+            params,
+            uri,
+            text,
+        )
     }
 
     // What it says to a request on a text, by the name that params give.
-    fn answer_named(
+    fn answer_named<K: Compile>(
         &self,
+        compiler: &K,
         alloc: Global,
         id: &Value,
         method: Method,
         params: &Value,
         uri: Option<&str>,
     ) -> Result<Vec<u8>, AllocError>
-        ensures { IfOk result (λ content. AnswersParams self.now.notation method (view id.now) (view params.now) (option_map (λ t. t.now) uri.entry)
+        ensures { IfOk result (λ content. AnswersParams K.own self.now.notation method (view id.now) (view params.now) (option_map (λ t. t.now) uri.entry)
             self.now.texts.all.items content.items) }
     {
         match uri {
-            Some(uri) => self.answer_on_text(alloc, id, method, params, uri),
+            Some(uri) => self.answer_on_text(compiler, alloc, id, method, params, uri),
             None => failure(alloc, Some(id), Refusal::BadParams),
         }
     }
 
     // What it says to a request on a text, by its params.
-    fn answer_params(
+    fn answer_params<K: Compile>(
         &self,
+        compiler: &K,
         alloc: Global,
         id: &Value,
         method: Method,
         params: &Value,
     ) -> Result<Vec<u8>, AllocError>
-        ensures { IfOk result (λ content. AnswersParams self.now.notation method (view id.now) (view params.now) (uri_in (view params.now))
+        ensures { IfOk result (λ content. AnswersParams K.own self.now.notation method (view id.now) (view params.now) (uri_in (view params.now))
             self.now.texts.all.items content.items) }
     {
-        self.answer_named(alloc, id, method, params, uri_in(params))
+        self.answer_named(compiler, alloc, id, method, params, uri_in(params))
     }
 
     // What it says to a request on a text.
-    fn answer_text(
+    fn answer_text<K: Compile>(
         &self,
+        compiler: &K,
         alloc: Global,
         id: &Value,
         method: Method,
         params: Option<&Value>,
     ) -> Result<Vec<u8>, AllocError>
-        ensures { IfOk result (λ content. AnswersText self.now.notation method (view id.now) (seen params.entry) self.now.texts.all.items content.items) }
+        ensures { IfOk result (λ content. AnswersText K.own self.now.notation method (view id.now) (seen params.entry) self.now.texts.all.items content.items) }
     {
         match params {
-            Some(params) => self.answer_params(alloc, id, method, params),
+            Some(params) => self.answer_params(compiler, alloc, id, method, params),
             None => failure(alloc, Some(id), Refusal::BadParams),
         }
     }
 
     // What it says to a request.
-    fn answer_request(
+    fn answer_request<K: Compile>(
         &mut self,
+        compiler: &K,
         alloc: Global,
         id: &Value,
         method: &str,
         params: Option<&Value>,
     ) -> Result<Vec<u8>, AllocError>
-        ensures { IfOk result (λ content. AnswersBy (decision_of self.old.stage method.now) (view id.now) (seen params.entry)
+        ensures { IfOk result (λ content. AnswersBy K.own (decision_of self.old.stage method.now) (view id.now) (seen params.entry)
             self.old content self.new) }
     {
         match decide(self.stage, method) {
@@ -283,35 +307,50 @@ impl Server {
                 self.stage = Stage::Shut;
                 success(alloc, id, Value::Null)
             }
-            Decision::Answer(method) => self.answer_text(alloc, id, method, params),
+            Decision::Answer(method) => self.answer_text(compiler, alloc, id, method, params),
             Decision::Refuse(refusal) => failure(alloc, Some(id), refusal),
         }
     }
 
     // Takes a text, and publishes what is said of it.
-    fn take_text(
+    fn take_text<K: Compile>(
         &mut self,
+        compiler: &K,
         alloc: Global,
         uri: &str,
         text: &str,
         version: Option<i64>,
     ) -> Result<Reply, AllocError>
-        ensures { IfOk result (λ reply. TakesText uri.now text.now version self.old reply self.new) }
+        ensures { IfOk result (λ reply. TakesText K.own uri.now text.now version self.old reply self.new) }
     {
-        let content = publish(alloc, self.notation, uri, version, text.as_bytes())?;
+        let content = publish(
+            compiler,
+            alloc,
+            self.notation,
+            uri,
+            version,
+            text.as_bytes(),
+        )?;
         self.texts.put(alloc, uri, text)?;
         Ok(Reply::Content(content))
     }
 
     // Does what a notice of a text tells.
-    fn take_notice(&mut self, alloc: Global, notice: Notice<'_>) -> Result<Reply, AllocError>
-        ensures { IfOk result (λ reply. TakesNotice (told notice.entry) self.old reply self.new) }
+    fn take_notice<K: Compile>(
+        &mut self,
+        compiler: &K,
+        alloc: Global,
+        notice: Notice<'_>,
+    ) -> Result<Reply, AllocError>
+        ensures { IfOk result (λ reply. TakesNotice K.own (told notice.entry) self.old reply self.new) }
     {
         match notice {
-            Notice::Open { uri, text, version } => self.take_text(alloc, uri, text, version),
+            Notice::Open { uri, text, version } => self.take_text(
+                compiler, alloc, uri, text, version,
+            ),
             Notice::Change { uri, text, version } => {
                 if self.texts.has(uri) {
-                    Ok(self.take_text(alloc, uri, text, version)?)
+                    Ok(self.take_text(compiler, alloc, uri, text, version)?)
                 } else {
                     Ok(Reply::Nothing)
                 }
@@ -329,20 +368,21 @@ impl Server {
     }
 
     // What it says to a notification.
-    fn take_notification(
+    fn take_notification<K: Compile>(
         &mut self,
+        compiler: &K,
         alloc: Global,
         method: &str,
         params: Option<&Value>,
     ) -> Result<Reply, AllocError>
-        ensures { IfOk result (λ reply. TakesNotification method.now (seen params.entry) self.old reply self.new) }
+        ensures { IfOk result (λ reply. TakesNotification K.own method.now (seen params.entry) self.old reply self.new) }
     {
         if method == "exit" {
             return Ok(Reply::Exit);
         }
         match self.stage {
             Stage::Ready => match notice_of(method, params) {
-                Some(notice) => self.take_notice(alloc, notice),
+                Some(notice) => self.take_notice(compiler, alloc, notice),
                 None => Ok(Reply::Nothing),
             },
             Stage::New | Stage::Shut => Ok(Reply::Nothing),
@@ -350,15 +390,20 @@ impl Server {
     }
 
     // What it says to a message.
-    fn take_message(&mut self, alloc: Global, message: Message<'_>) -> Result<Reply, AllocError>
-        ensures { IfOk result (λ reply. TakesMessage message.entry self.old reply self.new) }
+    fn take_message<K: Compile>(
+        &mut self,
+        compiler: &K,
+        alloc: Global,
+        message: Message<'_>,
+    ) -> Result<Reply, AllocError>
+        ensures { IfOk result (λ reply. TakesMessage K.own message.entry self.old reply self.new) }
     {
         match message {
             Message::Request { id, method, params } => {
-                Ok(Reply::Content(self.answer_request(alloc, id, method, params)?))
+                Ok(Reply::Content(self.answer_request(compiler, alloc, id, method, params)?))
             }
             Message::Notification { method, params } => {
-                self.take_notification(alloc, method, params)
+                self.take_notification(compiler, alloc, method, params)
             }
             Message::Answer => Ok(Reply::Nothing),
             Message::NoMessage { id } => {
@@ -368,9 +413,14 @@ impl Server {
     }
 
     /// What it says to a message. Fails only if memory runs out.
-    pub fn take(&mut self, alloc: Global, value: &Value) -> Result<Reply, AllocError>
-        ensures { IfOk result (λ reply. Takes (view value.now) self.old reply self.new) }
+    pub fn take<K: Compile>(
+        &mut self,
+        compiler: &K,
+        alloc: Global,
+        value: &Value,
+    ) -> Result<Reply, AllocError>
+        ensures { IfOk result (λ reply. Takes K.own (view value.now) self.old reply self.new) }
     {
-        self.take_message(alloc, message_of(value))
+        self.take_message(compiler, alloc, message_of(value))
     }
 }

@@ -15,23 +15,23 @@ use Rattle.tb_selection.proofs.Closed.{all_closed}
 use Rattle.tb_settling.specs.Settled.{IsSettled}
 use Rattle.tb_settling.proofs.Forms.{settled_by}
 use Rattle.tb_program_code.specs.Program.{program_code}
-use Rattle.tb_simulation.specs.Theorem.{Keeps}
+use Rattle.tb_kept.specs.Keeps.{Keeps}
 use Rattle.tb_correctness.proofs.Whole.Compiled.{image_keeps}
-use Rattle.tb_codegen.specs.declared.compiled.Compiled.{Compiled}
-use Rattle.tb_codegen.specs.Answers.{OutcomeAnswer, SourceMakes}
-use Rattle.tb_codegen.specs.declared.settings.CompileSettings.{CompileSettings}
-use Rattle.tb_parser.specs.declared.notation.Notation.{Notation}
-use Rattle.tb_listing.specs.Builds.{IsAnsweredWith}
-use Rattle.tb_codegen.specs.Compiled.{IsCompiled}
-use Rattle.tb_codegen.specs.Theorem.{KeepsSourceIn}
+use Rattle.tb_compiled.specs.declared.compiled.Compiled.{Compiled}
+use Rattle.tb_compiled.specs.Answers.{AnswersFor, OutcomeAnswer, SourceMakes}
+use Rattle.tb_compiled.specs.declared.settings.CompileSettings.{CompileSettings}
+use Rattle.tb_text.specs.declared.notation.Notation.{Notation}
+use Rattle.tb_codegen.specs.Compiled.{IsLinked}
+use Rattle.tb_codegen.specs.Templates.{templates}
+use Rattle.tb_compiled.specs.Theorem.{KeepsSourceIn}
 use Rattle.tb_codegen.proofs.Kept.{all_polled, made_some}
 use Rattle.tb_codegen.specs.Coded.{IsListed}
 use Rattle.tb_codegen.proofs.Sized.{listed, same_numbers}
-use Rattle.tb_codegen.proofs.SmallPrograms.{count_numbers}
+use Rattle.tb_compiled.proofs.SmallPrograms.{count_numbers}
 
 -- the headline, of a program that meets the compiler's promise: `make` has its file by it
 pub program_keeps : {notation : Notation} (seed : ℕ) (source : List ℕ) (ls : List (ℕ × Statement)) (c : Compiled) → seed < 65536 → SourceMakes notation source (Ok (lines_of ls))
-    → AreStated (lines_of ls) → Rises 1 32768 (numbers (lines_of ls)) → IsCompiled seed (lines_of ls) c → KeepsSourceIn notation seed source c
+    → AreStated (lines_of ls) → Rises 1 32768 (numbers (lines_of ls)) → IsLinked seed (lines_of ls) c → KeepsSourceIn notation seed source c
 program_keeps seed source ls c small made stated rises is =
     let p = lines_of ls in
     let code = slots.program_code p in
@@ -48,6 +48,6 @@ program_keeps seed source ls c small made stated rises is =
     )
 
 -- what is made of a source in a notation is answered by the settings with that notation
-pub answered_in : {notation : Notation} (settings : CompileSettings) (source : List ℕ) (c : Compiled) → settings.notation ≡ notation → IsAnsweredWith settings source c
-    → (outcome : Outcome) → SourceMakes notation source outcome → OutcomeAnswer settings outcome (Ok c)
+pub answered_in : {notation : Notation} (settings : CompileSettings) (source : List ℕ) (c : Compiled) → settings.notation ≡ notation → AnswersFor templates settings source (Ok c)
+    → (outcome : Outcome) → SourceMakes notation source outcome → OutcomeAnswer templates settings outcome (Ok c)
 answered_in settings source c same answered outcome made = answered outcome (subst (λ (n : Notation). SourceMakes n source outcome) (sym same) made)

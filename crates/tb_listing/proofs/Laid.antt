@@ -14,7 +14,8 @@ use Rattle.tb_lower.specs.Slots.{Instr}
 use Rattle.tb_lower.proofs.Ranged.{in_range}
 use Rattle.tb_parser.specs.Files.{AreStated}
 use Rattle.tb_prg.specs.Prg.{header}
-use Rattle.tb_runtime16.specs.Addresses.{PROLOGUE_AT, LINES_AT}
+use Rattle.tb_runtime16.specs.Addresses.{PROLOGUE_AT}
+use Rattle.tb_kept.specs.Addresses.{LINES_AT}
 use Rattle.tb_settling.specs.Settled.{AreFormsOf}
 use Rattle.tb_settling.proofs.Forms.{forms_size, items_size, size_append, split, settled_by}
 use Rattle.tb_templates.specs.declared.labels.Target.TheVariants.{Line}
@@ -24,9 +25,10 @@ use Rattle.tb_program_code.specs.Search.{compares, find_code}
 use Rattle.tb_program_code.specs.Program.{line_code, lines_code, past_code, table_code, block_code, program_code}
 use Rattle.tb_program_code.proofs.Settled.{Sections, sections, labels_behind, line_at, some_bytes, total_size}
 use Rattle.tb_program_code.proofs.Taken.{block_size}
-use Rattle.tb_codegen.specs.declared.compiled.Compiled.{Compiled}
+use Rattle.tb_compiled.specs.declared.compiled.Compiled.{Compiled}
 use Rattle.tb_codegen.specs.Coded.{IsListed}
-use Rattle.tb_codegen.specs.Compiled.{IsCompiled, AddressesRise, prg_of, starts_of, table_of, starts_in, stands_at}
+use Rattle.tb_codegen.specs.Compiled.{IsLinked, starts_in, stands_at}
+use Rattle.tb_compiled.specs.Compiled.{AddressesRise, prg_of, starts_of, table_of}
 use Rattle.tb_codegen.proofs.Sized.{listed}
 use Rattle.tb_codegen.proofs.Placed.{starts_low}
 
@@ -73,7 +75,7 @@ lines_rise labels ns seed a (line ∷ lines) fs end h l le =
 
 -- the parts of a compiled program are laid in this way
 pub are_laid : (seed : ℕ) (ls : List (ℕ × Statement)) (c : Compiled) → AreStated (lines_of ls) → Rises 1 32768 (numbers (lines_of ls))
-    → IsCompiled seed (lines_of ls) c → AreLaid (starts_of c) (table_of c) (length (prg_of c) - 14)
+    → IsLinked seed (lines_of ls) c → AreLaid (starts_of c) (table_of c) (length (prg_of c) - 14)
 are_laid seed ls c stated rises h =
     let p = lines_of ls in
     let code = lowered.program_code p in

@@ -3,8 +3,8 @@ use Rattle.std.proofs.Common.{◌≡◌, ℕ, ◌+◌, ◌≤◌, Bool, true, �
 use Rattle.std.proofs.lemmas.Bool.Decides.{nat_tests}
 use Rattle.std.specs.Prelude.{codes}
 use Rattle.std.proofs.lemmas.Bool.{and_parts}
-use Rattle.tb_runtime16.specs.Addresses.{LINES_AT}
-use Rattle.tb_codegen.specs.Compiled.{AddressesRise}
+use Rattle.tb_kept.specs.Addresses.{LINES_AT}
+use Rattle.tb_compiled.specs.Compiled.{AddressesRise}
 use Rattle.tb_listing.specs.Labels.{line_label, block_labels, data_labels, all_labels}
 use Rattle.tb_listing.proofs.Laid.{AreLaid}
 

@@ -3,10 +3,12 @@ use Rattle.std.proofs.Common.{◌≡◌, ℕ, ◌+◌, ◌-◌, ◌≤◌, List,
 use Rattle.std.proofs.lemmas.List.Sums.{sum_by-append, sum_by-cons}
 use Rattle.tb_syntax.specs.Source.{Program, numbers}
 use Rattle.tb_meaning.specs.Cost.{statement_cost, cost}
-use Rattle.tb_runtime16.specs.Addresses.{PROLOGUE_AT, LINES_AT}
-use Rattle.tb_codegen.specs.Compiled.{AddressesRise}
-use Rattle.tb_codegen.specs.Texts.{end_before}
-use Rattle.tb_listing.specs.Map.{first_part, line_parts, block_part, table_part, parts}
+use Rattle.tb_runtime16.specs.Addresses.{PROLOGUE_AT}
+use Rattle.tb_kept.specs.Addresses.{LINES_AT}
+use Rattle.tb_compiled.specs.Compiled.{AddressesRise}
+use Rattle.tb_compiled.specs.Texts.{end_before}
+use Rattle.tb_compiled.specs.Parts.{first_part}
+use Rattle.tb_listing.specs.Map.{line_parts, block_part, table_part, parts}
 use Rattle.tb_listing.proofs.Laid.{AreLaid}
 
 -- the next line, or the line table, comes after

@@ -3,14 +3,14 @@ use Rattle.std.specs.Prelude.{◌≡◌, ℕ, ◌-◌, ◌<◌, ◌≤◌, List,
 use Rattle.tb_streams.specs.Streams.{most_input}
 use Rattle.tb_syntax.specs.Source.{Program}
 use Rattle.tb_meaning.specs.Cost.{cost}
-use Rattle.tb_parser.specs.Files.{Outcome}
 use Rattle.tb_runtime16.specs.Addresses.{PROLOGUE_AT}
-use Rattle.tb_codegen.specs.declared.compiled.Compiled.{Compiled}
-use Rattle.tb_codegen.specs.declared.settings.CompileSettings.{CompileSettings}
-use Rattle.tb_codegen.specs.Answers.{OutcomeAnswer, SourceMakes}
-use Rattle.tb_parser.specs.declared.notation.Notation.{Notation}
-use Rattle.tb_codegen.specs.Compiled.{AddressesRise, prg_of, starts_of, table_of}
-use Rattle.tb_codegen.specs.Theorem.{KeepsSourceIn}
+use Rattle.tb_compiled.specs.declared.compiled.Compiled.{Compiled}
+use Rattle.tb_compiled.specs.declared.settings.CompileSettings.{CompileSettings}
+use Rattle.tb_codegen.specs.Templates.{templates}
+use Rattle.tb_compiled.specs.Answers.{AnswersFor, SourceMakes}
+use Rattle.tb_text.specs.declared.notation.Notation.{Notation}
+use Rattle.tb_compiled.specs.Compiled.{AddressesRise, prg_of, starts_of, table_of}
+use Rattle.tb_compiled.specs.Theorem.{KeepsSourceIn}
 use Rattle.tb_disasm.specs.Back.{GivesBack}
 use Rattle.tb_listing.specs.declared.build.Made.{Made}
 use Rattle.tb_listing.specs.Labels.{all_labels, labels_text}
@@ -21,13 +21,9 @@ use Rattle.tb_listing.specs.Places.{ShowsProgram}
 abbrev pub image_size : Compiled → ℕ
 image_size c = length (prg_of c) - 14
 
--- the compiler answered this program for the source with these settings: for whatever the source's lines make
-abbrev pub IsAnsweredWith : CompileSettings → List ℕ → Compiled → Type 0
-IsAnsweredWith settings source compiled = (outcome : Outcome) → SourceMakes settings.notation source outcome → OutcomeAnswer settings outcome (Ok compiled)
-
 -- the compiler answered this program for the source in a notation
 abbrev pub IsProgramOf : Notation → List ℕ → Compiled → Type 0
-IsProgramOf notation source compiled = (settings : CompileSettings) × (settings.notation ≡ notation) × IsAnsweredWith settings source compiled
+IsProgramOf notation source compiled = (settings : CompileSettings) × (settings.notation ≡ notation) × AnswersFor templates settings source (Ok compiled)
 
 -- the labels of a compiled program's places, a listing that gives its image back and shows the lines of the source and
 -- the names of its places, and the map of its parts
@@ -44,7 +40,7 @@ pub record IsMade (notation : Notation) (source : List ℕ) (compiled : Compiled
   pub sorted : AddressesRise 0 (all_labels (starts_of compiled) (table_of compiled))
   pub program : Program
   pub makes : SourceMakes notation source (Ok program)
-  pub keeps : (settings : CompileSettings) → settings.seed < 65536 → settings.notation ≡ notation → IsAnsweredWith settings source compiled
+  pub keeps : (settings : CompileSettings) → settings.seed < 65536 → settings.notation ≡ notation → AnswersFor templates settings source (Ok compiled)
       → KeepsSourceIn notation settings.seed source compiled
   pub tells : Tells source compiled program made
   pub bytes : sum_by (λ p. p.bytes) (parts (starts_of compiled) (table_of compiled) (image_size compiled) program) ≡ image_size compiled

@@ -5,7 +5,8 @@ use Rattle.std.specs.Fmt.{decimal}
 use Rattle.hex.specs.Hex.{encode_lower}
 use Rattle.tb_words.specs.Numbers.{LETTERS}
 use Rattle.tb_kernal.specs.Numbers.{CHRIN, CHROUT, GETIN}
-use Rattle.tb_runtime16.specs.Addresses.{VARS, NOTES, PROLOGUE_AT, SEND_AT, entry_of}
+use Rattle.tb_kept.specs.Addresses.{VARS, NOTES}
+use Rattle.tb_runtime16.specs.Addresses.{PROLOGUE_AT, SEND_AT, entry_of}
 use Rattle.tb_runtime16.specs.declared.addresses.Routine.{Routine}
 use Rattle.tb_runtime16.specs.declared.addresses.Routine.TheVariants.{Multiply, Divide, Random, Number, Text, Zone, Input, Search, Push, Pop, FaultLine, Fault, Poll}
 

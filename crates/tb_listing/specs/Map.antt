@@ -5,22 +5,11 @@ use Rattle.hex.specs.Hex.{encode_upper}
 use Rattle.tb_syntax.specs.Source.{Program}
 use Rattle.tb_meaning.specs.Cost.{statement_cost, cost}
 use Rattle.tb_runtime16.specs.Addresses.{PROLOGUE_AT}
-use Rattle.tb_codegen.specs.Compiled.{most_cost}
-use Rattle.tb_codegen.specs.Texts.{end_before}
+use Rattle.tb_compiled.specs.Compiled.{most_cost}
+use Rattle.tb_compiled.specs.Parts.{Part, first_part}
+use Rattle.tb_compiled.specs.Texts.{end_before}
 
 -- ── parts ──
--- a part of a program: its name, where it begins, how many bytes it takes, and what it costs
-pub record Part : Type 0 where
-  pub name : List ℕ
-  pub at : ℕ
-  pub bytes : ℕ
-  pub price : ℕ
-
--- the code of the first of these lines, up to where that of the next one begins, and of the last one up to the line table
-abbrev pub first_part : List (ℕ × ℕ) → ℕ → ℕ → ℕ → List Part
-first_part [] table n price = []
-first_part (s ∷ starts) table n price = record { name = codes "line " ++ decimal n; at = s.1; bytes = end_before table starts - s.1; price = price } ∷ []
-
 -- the lines, by where they begin and where the line table does
 abbrev pub line_parts : List (ℕ × ℕ) → ℕ → Program → List Part
 line_parts starts table [] = []

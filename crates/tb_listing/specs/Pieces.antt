@@ -5,9 +5,10 @@ use Rattle.tb_opcodes.specs.declared.Mode.{Mode}
 use Rattle.tb_opcodes.specs.declared.Mode.TheVariants.{Implied, Accumulator, Immediate}
 use Rattle.tb_asm.specs.Layout.{Entry, instr, size_of, number_in}
 use Rattle.tb_disasm.specs.Listing.{line_at}
-use Rattle.tb_runtime16.specs.Addresses.{PROLOGUE_AT, LINES_AT, RETURN_LOW, WANTED}
+use Rattle.tb_runtime16.specs.Addresses.{PROLOGUE_AT}
+use Rattle.tb_kept.specs.Addresses.{LINES_AT, RETURN_LOW, WANTED}
 use Rattle.tb_runtime16.specs.declared.addresses.Routine.TheVariants.{Push, Text}
-use Rattle.tb_codegen.specs.Compiled.{pair_of}
+use Rattle.tb_compiled.specs.Compiled.{pair_of}
 use Rattle.tb_listing.specs.declared.pieces.Kind.{Kind}
 use Rattle.tb_listing.specs.declared.pieces.Kind.TheVariants.{Code, Data, Number, Address}
 use Rattle.tb_listing.specs.declared.pieces.Named.{Named}

@@ -4,8 +4,8 @@ use Rattle.std.specs.Prelude.{length, replicate, nat_lt, nat_le, eqb, get_or, se
 use Rattle.std.specs.Fmt.{decimal}
 use Rattle.tb_words.specs.Hexadecimal.{four_digits}
 use Rattle.tb_kernal.specs.Numbers.{CHRIN, CHROUT, GETIN}
-use Rattle.tb_runtime16.specs.Addresses.{BYTE, COLUMN, COUNT, HELD, HOME_S, LEFT, LENGTH, LINE, LINES_AT, NOTES, OPEN, PROLOGUE_AT, RESULT, RETURN_HIGH, RETURN_LOW, RIGHT}
-use Rattle.tb_runtime16.specs.Addresses.{SCRATCH, SEED, SEEDED, SEND_AT, SLOTS, VARS, WANTED, entry_of}
+use Rattle.tb_kept.specs.Addresses.{BYTE, COLUMN, COUNT, HELD, HOME_S, LEFT, LENGTH, LINE, LINES_AT, NOTES, OPEN, RESULT, RETURN_HIGH, RETURN_LOW, RIGHT, SCRATCH, SEED, SEEDED, SLOTS, VARS, WANTED}
+use Rattle.tb_runtime16.specs.Addresses.{PROLOGUE_AT, SEND_AT, entry_of}
 use Rattle.tb_runtime16.specs.declared.addresses.Routine.{Routine}
 use Rattle.tb_listing.specs.declared.marks.Mark.{Mark}
 use Rattle.tb_listing.specs.declared.pieces.Kind.{Kind}

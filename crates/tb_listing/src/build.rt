@@ -3,14 +3,14 @@ ghost use Rattle.std.specs.Prelude.{◌≡◌, ◌+◌, ◌-◌, ◌≤◌, ◌<
 ghost use Rattle.tb_syntax.specs.PlainData.{lines_of};
 ghost use Rattle.tb_meaning.specs.Cost.{cost};
 ghost use Rattle.tb_runtime16.specs.Addresses.{PROLOGUE_AT};
-ghost use Rattle.tb_codegen.specs.Compiled.{prg_of};
+ghost use Rattle.tb_compiled.specs.Compiled.{prg_of};
 ghost use Rattle.tb_listing.specs.Builds.{IsMade, IsProgramOf, Tells};
 
 use crate::label_file::labels;
 use crate::listing::list;
 use crate::map::chart;
 use std::alloc::{AllocError, Global};
-use tb_codegen::{Compiled, Notation};
+use tb_compiled::{Compiled, Notation};
 use tb_parser::parse_in;
 use tb_syntax::Program;
 

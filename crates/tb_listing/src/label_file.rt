@@ -3,15 +3,16 @@ ghost use Rattle.std.specs.Prelude.{◌≡◌, ◌<◌, IfOk, map};
 ghost use Rattle.std.specs.List.{range_with_len};
 ghost use Rattle.tb_words.specs.Texts.{AppendsBytes};
 ghost use Rattle.tb_words.specs.Numbers.{LETTERS};
-ghost use Rattle.tb_codegen.specs.Compiled.{pair_of};
+ghost use Rattle.tb_compiled.specs.Compiled.{pair_of};
 ghost use Rattle.tb_listing.specs.Labels.{name_of, all_routines, routine_label, line_label, variable_label};
 ghost use Rattle.tb_listing.specs.Labels.{block_labels, data_labels, all_labels, label_text, labels_text};
 
 use hex::encode;
 use std::alloc::{AllocError, Global};
-use tb_codegen::LineStart;
+use tb_compiled::LineStart;
+use tb_kept::{NOTES, VARS};
 use tb_kernal::{CHRIN, CHROUT, GETIN};
-use tb_runtime16::{BLOCK_AT, NOTES, Routine, SEND_AT, VARS, entry};
+use tb_runtime16::{BLOCK_AT, Routine, SEND_AT, entry};
 use tb_words::LETTERS;
 
 /// The routines by rising address.

@@ -1,7 +1,7 @@
 //! The listing with names, row by row.
 ghost use Rattle.std.specs.Prelude.{◌≡◌, ◌≤◌, ◌∷◌, ◌++◌, [], IfOk, OnOk, drop, length, map, option_map, take};
 ghost use Rattle.tb_words.specs.Texts.{AppendsBytes};
-ghost use Rattle.tb_codegen.specs.Compiled.{pair_of as start_pair};
+ghost use Rattle.tb_compiled.specs.Compiled.{pair_of as start_pair};
 ghost use Rattle.tb_asm.specs.Mnemonics as mnemonics;
 ghost use Rattle.tb_listing.specs.Comments.{KeepsHeadings, comment_row, heading_on, headings, label_row};
 ghost use Rattle.tb_listing.specs.Pieces.{plan_of, row_of};

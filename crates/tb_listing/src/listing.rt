@@ -3,7 +3,7 @@ ghost use Rattle.std.specs.Prelude.{◌≡◌, ◌≢◌, ◌+◌, ◌-◌, ◌�
 ghost use Rattle.tb_asm.specs.Layout.{entry_of};
 ghost use Rattle.tb_asm.specs.declared.errors.AsmErrorKind.TheVariants.{NoMemory};
 ghost use Rattle.tb_runtime16.specs.Addresses.{PROLOGUE_AT};
-ghost use Rattle.tb_codegen.specs.Compiled.{pair_of, prg_of, starts_of, table_of};
+ghost use Rattle.tb_compiled.specs.Compiled.{pair_of, prg_of, starts_of, table_of};
 ghost use Rattle.tb_disasm.specs.Back.{GivesBack};
 ghost use Rattle.tb_listing.specs.Comments.{heading_on, headings, plain};
 ghost use Rattle.tb_listing.specs.Pieces.{plan_of};
@@ -19,7 +19,7 @@ use crate::pieces::{Program, pieces};
 use crate::places::has_places;
 use std::alloc::{AllocError, Global};
 use tb_asm::{AsmErrorKind, Item, TextError, assemble, read_text};
-use tb_codegen::Compiled;
+use tb_compiled::Compiled;
 use tb_disasm::disassemble;
 use tb_runtime16::BLOCK_AT;
 use tb_source_text::numbered_lines;

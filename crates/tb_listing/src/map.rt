@@ -4,21 +4,20 @@ ghost use Rattle.tb_words.specs.Texts.{AppendsBytes};
 ghost use Rattle.tb_syntax.specs.PlainData.{lines_of};
 ghost use Rattle.tb_meaning.specs.Cost as cost;
 ghost use Rattle.tb_runtime16.specs.Addresses.{PROLOGUE_AT};
-ghost use Rattle.tb_codegen.specs.Compiled.{pair_of, prg_of, starts_of, table_of};
-ghost use Rattle.tb_codegen.specs.Texts.{end_before};
-ghost use Rattle.tb_listing.specs.Map.{left, right, row_text, rows_text, first_part, line_parts, block_part, table_part, map_text};
+ghost use Rattle.tb_compiled.specs.Compiled.{pair_of, prg_of, starts_of, table_of};
+ghost use Rattle.tb_compiled.specs.Texts.{end_before};
+ghost use Rattle.tb_compiled.specs.Parts.{first_part};
+ghost use Rattle.tb_listing.specs.Map.{left, right, row_text, rows_text, line_parts, block_part, table_part, map_text};
 
 use hex::encode_upper;
 use std::alloc::{AllocError, Global};
-use tb_codegen::{Compiled, LineStart, MOST_COST, line_cost};
+use tb_compiled::{Compiled, LineStart, MOST_COST, end_before, line_cost};
+use tb_memmap::PROGRAM_END;
 use tb_runtime16::BLOCK_AT;
 use tb_syntax::Program;
 
 /// What every program costs in addition to its lines.
 const BASE: u32 = 64;
-
-/// The address before which a program's code and line table must end.
-const END: usize = 0xa000;
 
 /// How many bytes a PRG file has before the block.
 const HEADER: usize = 14;
@@ -40,7 +39,7 @@ pub fn chart(alloc: Global, compiled: &Compiled, program: &Program) -> Result<Ve
     let mut text = Vec::from_slice(alloc, b"part        addr   bytes    cost\n")?;
     let cost = push_parts(alloc, &mut text, compiled, size, program)?;
     push_row(alloc, &mut text, b"sum", BLOCK_AT, size, cost)?;
-    let left = END - end;
+    let left = PROGRAM_END as usize - end;
     let budget = MOST_COST.saturating_sub(cost);
     push_row(alloc, &mut text, b"left", end as u16, left, budget)?;
     Ok(text)
@@ -141,16 +140,6 @@ fn behind_first(starts: &[LineStart]) -> &[LineStart]
     match starts {
         [] => starts,
         [_, behind @ ..] => behind,
-    }
-}
-
-// Where the code before these lines ends.
-fn end_before(table: u16, starts: &[LineStart]) -> u16
-    ensures { result ≡ end_before table (map pair_of starts.now) }
-{
-    match starts {
-        [] => table,
-        [first, ..] => first.at,
     }
 }
 

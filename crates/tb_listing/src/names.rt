@@ -2,7 +2,7 @@
 ghost use Rattle.std.specs.Prelude.{◌≡◌, ◌<◌, ◌++◌, false, true, codes, map, IfOk};
 ghost use Rattle.std.specs.Fmt.{decimal};
 ghost use Rattle.tb_words.specs.Texts.{AppendsBytes};
-ghost use Rattle.tb_codegen.specs.Compiled.{pair_of};
+ghost use Rattle.tb_compiled.specs.Compiled.{pair_of};
 ghost use Rattle.tb_listing.specs.Comments.{begins_plainly, is_comment};
 ghost use Rattle.tb_listing.specs.Labels.{all_routines};
 ghost use Rattle.tb_listing.specs.Pieces.{plan_of};
@@ -12,13 +12,14 @@ use crate::label_file::{ROUTINES, name};
 use crate::marks::Marks;
 use crate::pieces::{Kind, Program};
 use std::alloc::{AllocError, Global};
-use tb_codegen::LineStart;
+use tb_compiled::LineStart;
 use tb_disasm::write_word;
-use tb_kernal::{CHRIN, CHROUT, GETIN};
-use tb_runtime16::{
-    BLOCK_AT, BYTE, COLUMN, COUNT, HELD, HOME_S, LEFT, LENGTH, LINE, LINES_AT, NOTES, OPEN, RESULT,
-    RETURN_HIGH, RETURN_LOW, RIGHT, SCRATCH, SEED, SEEDED, SEND_AT, SLOTS, VARS, WANTED, entry,
+use tb_kept::{
+    BYTE, COLUMN, COUNT, HELD, HOME_S, LEFT, LENGTH, LINE, LINES_AT, NOTES, OPEN, RESULT,
+    RETURN_HIGH, RETURN_LOW, RIGHT, SCRATCH, SEED, SEEDED, SLOTS, VARS, WANTED,
 };
+use tb_kernal::{CHRIN, CHROUT, GETIN};
+use tb_runtime16::{BLOCK_AT, SEND_AT, entry};
 
 /// Where the variables, the slots and the scratch bytes of the routines end.
 const VARS_END: u16 = VARS + 52;

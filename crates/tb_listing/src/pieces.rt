@@ -11,10 +11,11 @@ use crate::sizes::{
 };
 use std::alloc::{AllocError, Global};
 use tb_asm::Operand;
-use tb_codegen::LineStart;
+use tb_compiled::LineStart;
 use tb_disasm::{Content, first_line};
+use tb_kept::{LINES_AT, RETURN_LOW, WANTED};
 use tb_opcodes::Mode;
-use tb_runtime16::{BLOCK_AT, LINES_AT, RETURN_LOW, Routine, WANTED, entry};
+use tb_runtime16::{BLOCK_AT, Routine, entry};
 
 // The opcodes by which the code that loads addresses and texts is found.
 const JMP: u8 = 0x4c;

@@ -1,13 +1,13 @@
 //! The places of a program, as labels of assembled items.
 ghost use Rattle.std.specs.Prelude.{◌≡◌, map, IfOk, MatchBool};
-ghost use Rattle.tb_codegen.specs.Compiled.{pair_of};
+ghost use Rattle.tb_compiled.specs.Compiled.{pair_of};
 ghost use Rattle.tb_listing.specs.Labels.{all_routines, block_labels, line_label, routine_label};
 ghost use Rattle.tb_listing.specs.Places.{AreNamed, IsNamed, image_labels};
 
 use crate::label_file::{ROUTINES, name};
 use std::alloc::{AllocError, Global};
 use tb_asm::{Image, Name};
-use tb_codegen::LineStart;
+use tb_compiled::LineStart;
 use tb_runtime16::{BLOCK_AT, SEND_AT, entry};
 
 /// Whether each place of a program has its label at its address. Fails if memory runs out.

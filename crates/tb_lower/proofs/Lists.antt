@@ -10,7 +10,7 @@ use Rattle.tb_meaning.specs.Control.{Place, At, Past, State, content_at, poll, f
 use Rattle.tb_meaning.specs.Input.{input}
 use Rattle.tb_meaning.specs.Values.{Valued, Gives, Fails}
 use Rattle.tb_meaning.specs.Meaning.{does, does_at, does_found, line, start}
-use Rattle.tb_lower.specs.Need.{statement_need, too_deep}
+use Rattle.tb_meaning.specs.Need.{statement_need, too_deep}
 use Rattle.tb_lower.specs.Slots.{Instr, Put, Load, Store, Negate, Compute, Random, SendText, SendNumber, SendZone, SendNewline, Input, Poll, Hold, LeaveUnless}
 use Rattle.tb_lower.specs.Slots.{Jump, Call, JumpTo, CallTo, Return, SlotCode, Rest, Whole, Left, Slots, SlotState, After, Stays, Leaves, staying, leaving}
 use Rattle.tb_lower.specs.Slots.{with_word, into, act, settled, instr, instr_found, instr_at, slot_step, slot_start, slot_run, begins, begins_in, beginnings}

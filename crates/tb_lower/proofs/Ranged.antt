@@ -4,7 +4,7 @@ use Rattle.tb_syntax.specs.declared.statements.Statement.{Statement as RustState
 use Rattle.tb_syntax.specs.Source.{Expression, Number, Variable, Binary, Item, Text, Value, Zone, Statement, Let, Print, If, Goto, Gosub, Remark}
 use Rattle.tb_syntax.specs.Source as source
 use Rattle.tb_syntax.specs.PlainData.{statement_of, lines_of}
-use Rattle.tb_lower.specs.Need.{need, items_need, statement_need, too_deep}
+use Rattle.tb_meaning.specs.Need.{need, items_need, statement_need, too_deep}
 use Rattle.tb_lower.specs.Slots.{Instr, Store, Negate, Compute, Random, SendNumber, SendNewline, Jump, Call, JumpTo, CallTo, SlotCode}
 use Rattle.tb_meaning.specs.Values.{constant}
 use Rattle.tb_lower.specs.Lowered.{or_constant, target_code, value_code, items_code, inputs_code, statement_code, program_code}

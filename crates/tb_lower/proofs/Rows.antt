@@ -6,7 +6,7 @@ use Rattle.tb_syntax.specs.Source.{Expression, Number, Variable, Binary, Random,
 use Rattle.tb_meaning.specs.Steps as steps
 use Rattle.tb_meaning.specs.Steps.{Over, Ended, Faulted, Waits, sent_by}
 use Rattle.tb_meaning.specs.Meaning.{source_run}
-use Rattle.tb_lower.specs.Need.{need, too_deep}
+use Rattle.tb_meaning.specs.Need.{need, too_deep}
 use Rattle.tb_meaning.specs.Cost.{cost}
 use Rattle.tb_lower.specs.Slots as slots
 use Rattle.tb_lower.specs.Slots.{slot_run, Slots}

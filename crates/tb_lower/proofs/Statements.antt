@@ -9,7 +9,7 @@ use Rattle.tb_meaning.specs.Control.{State, poll, fall, send, zone, go_to, go_su
 use Rattle.tb_meaning.specs.Input.{input}
 use Rattle.tb_meaning.specs.Values.{Valued, Gives, Fails, constant}
 use Rattle.tb_meaning.specs.Meaning.{with_value, valued, print_item, print_items, inputs, stored, does}
-use Rattle.tb_lower.specs.Need.{need, item_need, items_need, statement_need}
+use Rattle.tb_meaning.specs.Need.{need, item_need, items_need, statement_need}
 use Rattle.tb_lower.specs.Slots.{Instr, Store, SendNumber, SendNewline, Hold, LeaveUnless, Jump, Call, JumpTo, CallTo, Slots, Stays, staying, leaving}
 use Rattle.tb_lower.specs.Lowered.{target_code, list_code, value_code, item_code, items_code, inputs_code, statement_code}
 use Rattle.tb_meaning.proofs.Constants.{constant_value}

@@ -9,7 +9,7 @@ use Rattle.tb_meaning.specs.Steps.{Step, Goes, Stops, after_sending}
 use Rattle.tb_meaning.specs.Control.{State, fall}
 use Rattle.tb_meaning.specs.Values.{Valued, Gives, Fails, valued_then, apply, given, random, value, constant}
 use Rattle.tb_meaning.specs.Meaning.{with_value, valued}
-use Rattle.tb_lower.specs.Need.{need}
+use Rattle.tb_meaning.specs.Need.{need}
 use Rattle.tb_lower.specs.Slots.{Instr, Compute, Slots, After, Stays, Leaves, with_word, into, act}
 use Rattle.tb_lower.specs.Slots as slots
 use Rattle.tb_lower.specs.Lowered.{or_constant, value_code}

@@ -1,4 +1,3 @@
-pub mod Need
 pub mod Slots
 pub mod PlainData
 pub mod Lowered

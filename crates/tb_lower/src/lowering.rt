@@ -2,7 +2,7 @@
 ghost use Rattle.std.specs.Prelude.{◌≡◌, ◌+◌, ◌≤◌, Some, None, IfOk, IfErr, OnOk, [], ◌∷◌, ◌++◌, ℕ, map};
 ghost use Rattle.tb_syntax.specs.PlainData.{expression_of, item_of, letters_of, statement_of, lines_of};
 ghost use Rattle.tb_syntax.specs.Source as source;
-ghost use Rattle.tb_lower.specs.Need.{need, item_need, items_need, statement_need, too_deep};
+ghost use Rattle.tb_meaning.specs.Need.{need, item_need, items_need, statement_need, too_deep};
 ghost use Rattle.tb_lower.specs.Lowered.{value_code, item_code, items_code, inputs_code, statement_code, list_code, program_code};
 ghost use Rattle.tb_lower.specs.Follows.{Follows};
 ghost use Rattle.tb_syntax.specs.Texts.{HasShortTexts};
@@ -10,35 +10,14 @@ ghost use Rattle.tb_lower.specs.Ranges.{IsCodeInRange};
 ghost use Rattle.tb_lower.specs.Refusals.{IsRefusal};
 ghost use Rattle.tb_lower.specs.PlainData.{instr_of, slot_line_of, code_of};
 
-use crate::needs::{SLOT_COUNT, statement_need};
 use crate::slot_code::{SlotCode, SlotInstr, SlotLine};
 use std::alloc::{AllocError, Global};
-use tb_meaning::constant;
+use tb_meaning::{LowerError, SLOT_COUNT, constant, statement_need};
 use tb_syntax::{Expr, PrintItem, Program, Statement};
 use tb_words::Letter;
 
 // No shorter than the lists of most lines.
 const USUAL_LENGTH: usize = 8;
-
-/// Why a program has no slot code.
-#[derive(Clone, Copy, PartialEq, Eq, Debug, Drop)]
-pub enum LowerError {
-    /// An expression of this line, the lowest such line, needs more slots than there are.
-    TooDeep(u16),
-    /// Memory ran out.
-    NoMemory,
-}
-
-impl From<AllocError> for LowerError {
-    ghost use Rattle.std.specs.Prelude.{◌≡◌};
-    ghost use Rattle.tb_lower.specs.declared.lowering.LowerError.TheVariants.{NoMemory};
-
-    ghost from_gives = { λ _ e. e ≡ NoMemory };
-
-    fn from(_: AllocError) -> Self {
-        LowerError::NoMemory
-    }
-}
 
 /// The slot code that does what the program does, or the lowest line whose expression needs more than 16 slots. Constant
 /// parts of expressions, which have no variable, no RND and no division by zero, are computed, and a constant target is a

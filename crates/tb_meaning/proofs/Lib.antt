@@ -5,3 +5,4 @@ pub mod Evaluated
 pub mod Interpreting
 pub mod Turning
 pub mod Found
+pub mod Costs

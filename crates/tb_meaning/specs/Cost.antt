@@ -1,5 +1,5 @@
 -- What a program costs: a bound on the bytes of its code and line table.
-use Rattle.std.specs.Prelude.{ℕ, ◌+◌, ◌*◌, sum_by, length}
+use Rattle.std.specs.Prelude.{ℕ, ◌+◌, ◌*◌, List, [], ◌∷◌, sum_by, length}
 use Rattle.tb_syntax.specs.Source.{Expression, Number, Variable, Negate, Binary, Random, Item, Text, Value, Zone, Statement, Let, Print, Input, If, Goto, Gosub, Return, End, Remark, Program}
 
 -- how many operators, numbers and variables an expression has
@@ -15,6 +15,11 @@ abbrev pub item_cost : Item → ℕ
 item_cost (Text t) = 24 + length t
 item_cost (Value e) = 24 + 48 * nodes e
 item_cost Zone = 0
+
+-- the cost of the items of a PRINT
+abbrev pub items_cost : List Item → ℕ
+items_cost [] = 0
+items_cost (i ∷ is) = item_cost i + items_cost is
 
 -- the cost of a statement; PRINT by its items, INPUT by its variables
 abbrev pub statement_cost : Statement → ℕ

@@ -14,6 +14,10 @@ pub mod Input
 pub mod Meaning
 -- a bound on the bytes of a program's code
 pub mod Cost
+-- the commas of a PRINT
+pub mod Spaced
+-- how many slots expressions need
+pub mod Need
 -- constant targets that are missing
 pub mod Missing
 -- ── the interpreter ──

@@ -8,11 +8,12 @@ ghost use Rattle.tb_monitor.specs.Checkpoints.{action_of, command_text, conditio
 
 use crate::digits::{Address, Byte, Span};
 use std::fmt;
+use tb_kept::{HOME_S, LINES_AT};
 use tb_kernal::{CHRIN, CHROUT, GETIN};
-use tb_runtime16::{BLOCK_AT, HOME_S, LINES_AT};
+use tb_memmap::CODE_START;
 
 // The texts name these.
-const _: () = prove!(BLOCK_AT == 0x080d && LINES_AT == 0x0c00 && HOME_S == 0xc037);
+const _: () = prove!(CODE_START == 0x080d && LINES_AT == 0x0c00 && HOME_S == 0xc037);
 
 const _: () = prove!(CHROUT == 0xffd2 && CHRIN == 0xffcf && GETIN == 0xffe4);
 
@@ -50,7 +51,8 @@ const OWN: &str = "(@ram:$CFFF == $01) && (@ram:$CFFE == $00)";
 /// A program runs, and the ROM's code does something for it.
 const INSIDE: &str = "(@ram:$CFFF == $01) && (@ram:$CFFE != $00)";
 
-/// The same, and the instruction that wrote was the ROM's: what is written on the way to a service or an interrupt is not.
+/// The ROM's code does something for a program, and the instruction that wrote was the ROM's: what is written on the way to a
+/// service or an interrupt is not.
 const BY_ROM: &str =
     "(@ram:$CFFF == $01) && (@ram:$CFFE != $00) && (PC != $FFD2) && (PC != $FFCF) && (PC != $FFE4) && (PC != $FF48) && (PC != $FE43)";
 

@@ -5,6 +5,7 @@ ghost use Rattle.tb_monitor.specs.Files.{all_entries, behind, checkpoints, entri
 use crate::checkpoints::Checkpoint;
 use std::alloc::{AllocError, Global};
 use tb_kernal::{CHRIN, CHROUT, GETIN};
+use tb_memmap::PROGRAM_END;
 
 /// Where the Commodore's ROM takes interrupts.
 const IRQ: u16 = 0xff48;
@@ -17,9 +18,6 @@ const DEPTHS: u8 = 14;
 
 /// How many bytes an interrupt pushes.
 const PUSHED: u8 = 3;
-
-/// The end of a program's region.
-const REGION_END: usize = 0xa000;
 
 // Appends the checkpoints of an entry of the ROM.
 fn push_entries(
@@ -86,10 +84,10 @@ fn push_stack_writes(list: &mut Vec<Checkpoint>) -> Result<(), AllocError>
 fn push_behind(list: &mut Vec<Checkpoint>, end: usize) -> Result<(), AllocError>
     ensures { OnOk result (list.new.items ≡ list.old.items ++ behind end) }
 {
-    if end < REGION_END {
+    if end < usize::from(PROGRAM_END) {
         list.push(Checkpoint::Runs {
             first: end,
-            last: REGION_END - 1,
+            last: usize::from(PROGRAM_END) - 1,
         })?;
     }
     Ok(())

@@ -1,5 +1,8 @@
-//! Where lines and variables of a source are named, as a language server answers it: definition, references, highlights
-//! and symbols.
+//! Where lines and variables of a source are named, as a language server answers it: definition, references,
+//! highlights and symbols.
+//!
+//! `definition`, `references`, `highlights`, `symbols`, `calls`, `standing_number`, `is_remark` and `shown` are their
+//! definitions over the lines of a source.
 #![tactic(auto)]
 
 mod outline;

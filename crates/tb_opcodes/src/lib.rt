@@ -1,8 +1,9 @@
 //! The documented instructions of the NMOS 6502: opcodes, mnemonics and addressing modes.
 //!
-//! The table of 151 rows is `rows` in `specs/Opcodes.antt`, grouped by mnemonic.
-//! The code has a table of its own, in the order of the opcodes: the proof compares the two, and a
-//! test compares both with the table rebuilt from the opcodes' bit structure. No call takes memory.
+//! The table of 151 rows is `rows` in `specs/Opcodes.antt`, grouped by mnemonic. The code has a table of its own, in
+//! the order of the opcodes: the proof compares the two, and a test compares both with the table rebuilt from the
+//! opcodes' bit structure. `decode`, `encode` and `length` are the list of rows. `table_laws`: no opcode and no pair
+//! of mnemonic and mode occurs twice, and `decode` and `encode` are inverse to each other. No call takes memory.
 #![tactic(auto)]
 
 ghost use Rattle.std.specs.Prelude.{◌≡◌, ◌<◌, ◌≢◌, ℕ, Some, None, MatchOption, IsTrue, ◌↔◌};

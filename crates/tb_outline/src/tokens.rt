@@ -10,9 +10,7 @@ use std::alloc::{AllocError, Global};
 use tb_parser::{Token, TokenKind};
 use tb_places::{Span, piece, whole_span};
 use tb_source_names::{Line, Source};
-
-/// The most bytes that a line has.
-const LONGEST_LINE: usize = 255;
+use tb_text::LONGEST_LINE;
 
 /// As what a token is shown, in the legend's order.
 #[derive(Clone, Copy, Drop)]

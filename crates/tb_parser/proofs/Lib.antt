@@ -1,6 +1,4 @@
 -- ── a line ──
--- where the first line of a source ends
-pub mod FirstLine
 -- the walks over a line, byte by byte
 pub mod Steps
 -- the same of a line with signs

@@ -9,9 +9,9 @@ use Rattle.tb_grammar.specs.Statements.{States, let_assign, assign, print, short
 use Rattle.tb_parser.specs.declared.squeeze.Mode.{Mode}
 use Rattle.tb_parser.specs.declared.squeeze.Mode.TheVariants.{Code}
 use Rattle.tb_parser.specs.declared.squeeze.Placed.{Placed}
-use Rattle.tb_parser.specs.declared.notation.Notation.TheVariants.{Plain}
+use Rattle.tb_text.specs.declared.notation.Notation.TheVariants.{Plain}
 use Rattle.tb_parser.specs.Files.{LinesIn, end, bad, good, Outcome, at_end, edited}
-use Rattle.tb_parser.specs.Lines.{lines_of_file}
+use Rattle.tb_text.specs.Lines.{lines_of_file}
 use Rattle.tb_parser.specs.Programs.{is_clean, kept_bytes, IsNumbered, LineMakes, AllMake, none, IsProgramOf}
 use Rattle.tb_parser.specs.Programs as programs
 use Rattle.tb_parser.specs.Readings.{Refusal, LineIn, blank, unfit, unnumbered, bad_line_number, deletes, sets, unread, IsNumberedIn, TextIs, reads, not_compiled, syntax, number_too_large, Edit, Nothing, Sets, Deletes}

@@ -75,10 +75,6 @@ remark_good m column line is = rw is (good column line)
     good column [] = refl
     good column (b ∷ line) = good (column + 1) line
 
--- nothing of the rest is left out if a slice goes to the end
-pub rest_of : {A : Type 0} (line : List A) (i : ℕ) → take (length line - i) (drop i line) ≡ drop i line
-rest_of line i = take_all (length line - i) (drop i line) (omega (arith, length-drop i line))
-
 module _ (placed : List Placed) (i : ℕ) (d : Placed) where
   abbrev at_place : Placed
   at_place = get_or placed i d

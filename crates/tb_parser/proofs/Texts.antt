@@ -4,7 +4,7 @@ use Rattle.std.specs.Prelude.{nat_lt}
 use Rattle.tb_syntax.specs.Source.{Statement, Program}
 use Rattle.tb_grammar.specs.Statements.{States}
 use Rattle.tb_grammar.specs.Grammar.{is_digit}
-use Rattle.tb_parser.specs.declared.notation.Notation.{Notation}
+use Rattle.tb_text.specs.declared.notation.Notation.{Notation}
 use Rattle.tb_parser.specs.declared.squeeze.Placed.{Placed}
 use Rattle.tb_parser.specs.Notations.{squeezed_in}
 use Rattle.tb_parser.specs.Squeezed.{bytes}

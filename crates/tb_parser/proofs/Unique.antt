@@ -10,8 +10,8 @@ use Rattle.tb_grammar.specs.Reading.{when}
 use Rattle.tb_parser.proofs.Numbers.{number_has_digit, blank_squeezed}
 use Rattle.tb_parser.proofs.SignSteps.{blank_signed}
 use Rattle.tb_parser.specs.declared.errors.SourceErrorKind.TheVariants.{LineTooLong, BadByte, Unnumbered, BadLineNumber, NotCompiled, NumberTooLarge}
-use Rattle.tb_parser.specs.declared.notation.Notation.{Notation}
-use Rattle.tb_parser.specs.declared.notation.Notation.TheVariants.{Plain, Signs}
+use Rattle.tb_text.specs.declared.notation.Notation.{Notation}
+use Rattle.tb_text.specs.declared.notation.Notation.TheVariants.{Plain, Signs}
 use Rattle.tb_parser.specs.declared.squeeze.Placed.{Placed}
 use Rattle.tb_parser.specs.Readings.{Refusal, at_column, Grammar, TextIs, reads, not_compiled, syntax, number_too_large, IsFitIn, IsUnfitIn, line_too_long}
 use Rattle.tb_parser.specs.Readings.{bad_byte, stands_for_too_much, IsLineNumber, IsNumberedIn, Edit, Nothing, Sets, Deletes, LineIn, blank, unfit, unnumbered, bad_line_number}

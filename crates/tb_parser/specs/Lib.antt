@@ -1,7 +1,6 @@
 pub mod Answers
 pub mod Files
 pub mod Kinds
-pub mod Lines
 pub mod Notations
 pub mod Programs
 pub mod Readings

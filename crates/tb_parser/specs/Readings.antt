@@ -5,8 +5,8 @@ use Rattle.tb_grammar.specs.Grammar.{Reads, Whole}
 use Rattle.tb_grammar.specs.Statements.{States}
 use Rattle.tb_parser.specs.declared.errors.SourceErrorKind.{SourceErrorKind}
 use Rattle.tb_parser.specs.declared.errors.SourceErrorKind.TheVariants.{LineTooLong, BadByte, Unnumbered, BadLineNumber, NotCompiled, Syntax, NumberTooLarge}
-use Rattle.tb_parser.specs.declared.notation.Notation.{Notation}
-use Rattle.tb_parser.specs.declared.notation.Notation.TheVariants.{Plain}
+use Rattle.tb_text.specs.declared.notation.Notation.{Notation}
+use Rattle.tb_text.specs.declared.notation.Notation.TheVariants.{Plain}
 use Rattle.tb_parser.specs.declared.squeeze.Placed.{Placed}
 use Rattle.tb_parser.specs.Notations.{column_of, first_bad_in, squeezed_in}
 use Rattle.tb_parser.specs.Squeezed.{squeezed, bytes}

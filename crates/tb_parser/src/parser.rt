@@ -4,10 +4,10 @@ ghost use Rattle.tb_syntax.specs.Source.{Statement as SourceStatement, Expressio
 ghost use Rattle.tb_syntax.specs.PlainData.{statement_of, expression_of, lines_of};
 ghost use Rattle.tb_grammar.specs.Statements.{States};
 ghost use Rattle.tb_parser.specs.declared.errors.SourceErrorKind.TheVariants.{LineTooLong, NoMemory, NotCompiled, NumberTooLarge, Syntax};
-ghost use Rattle.tb_parser.specs.declared.notation.Notation.TheVariants.{Plain};
+ghost use Rattle.tb_text.specs.declared.notation.Notation.TheVariants.{Plain};
 ghost use Rattle.tb_parser.specs.Answers.{edit_of, refusal_of, Answers, InLineOne, Says};
 ghost use Rattle.tb_parser.specs.Files.{AreStated, FileRefusal, LinesAre, LinesIn, Outcome};
-ghost use Rattle.tb_parser.specs.Lines.{lines_of_file};
+ghost use Rattle.tb_text.specs.Lines.{lines_of_file};
 ghost use Rattle.tb_parser.specs.Notations.{column_of, first_bad_in, squeezed_in};
 ghost use Rattle.tb_parser.specs.Readings.{Expresses, ExpressionIs, IsFitIn, IsUnfitIn, LineIn, LineIs, TextIs};
 ghost use Rattle.tb_parser.specs.Refusals.{out_of_memory};
@@ -16,17 +16,13 @@ ghost use Rattle.tb_parser.specs.Signed.{LackSigns};
 
 use crate::edits::{LineEdit, apply};
 use crate::errors::{LineFault, OUT_OF_MEMORY, SourceError, SourceErrorKind};
-use crate::lines::next_line;
-use crate::notation::Notation;
 use crate::scans::{bad_byte, column_of_left, is_numbered, left_out, line_number, written};
 use crate::signs::{bad_byte_or_sign, squeeze_signs};
 use crate::squeeze::{Placed, copy_bytes, squeeze};
 use std::alloc::{AllocError, Global};
 use tb_grammar::{ReadError, read_expression, read_statement};
 use tb_syntax::{Expr, Program, Statement};
-
-/// The most bytes that a line has, and that it stands for.
-pub(crate) const LONGEST_LINE: usize = 255;
+use tb_text::{LONGEST_LINE, Notation, next_line};
 
 /// The program that a file's lines make, or the first bad line.
 ///
@@ -49,7 +45,7 @@ pub fn parse(alloc: Global, source: &[u8]) -> Result<Program, SourceError>
     parse_in(alloc, Notation::Plain, source)
 }
 
-/// The same, where the texts of a file are read in a notation.
+/// The program of a source whose texts are read in a notation.
 pub fn parse_in(alloc: Global, notation: Notation, source: &[u8]) -> Result<Program, SourceError>
     // What is answered is what the file's lines make in the notation, from line 1 on.
     ensures found { Answers lines_of result (LinesIn notation 1 [] (lines_of_file source.now)) }
@@ -107,7 +103,7 @@ pub fn read_line(alloc: Global, line: &[u8]) -> Result<LineEdit, LineFault>
     read_line_in(alloc, Notation::Plain, line)
 }
 
-/// The same, where the line's texts are read in a notation.
+/// What a line whose texts are read in a notation does, or its first fault.
 pub fn read_line_in(alloc: Global, notation: Notation, line: &[u8]) -> Result<LineEdit, LineFault>
     ensures { Says edit_of result (LineIn notation line.now) }
 {
@@ -116,7 +112,7 @@ pub fn read_line_in(alloc: Global, notation: Notation, line: &[u8]) -> Result<Li
     read_line_with(alloc, notation, line, &mut placed, &mut bytes)
 }
 
-// The same. The lists only lend their room, so that not each line asks for its own.
+// What a line does, or its first fault. The lists only lend their room, so that not each line asks for its own.
 fn read_line_with(
     alloc: Global,
     notation: Notation,

@@ -6,9 +6,7 @@ ghost use Rattle.tb_parser.specs.Scans.{left_out_word, number_at, starts_with_di
 ghost use Rattle.tb_parser.specs.declared.squeeze.Mode.TheVariants.{Code};
 
 use crate::squeeze::{Mode, Placed};
-
-/// The highest line number.
-pub(crate) const HIGHEST_LINE: u32 = 32_767;
+use tb_syntax::HIGHEST_LINE;
 
 /// The column, from 1, of the first byte that is no space; `None` for a blank line.
 pub(crate) fn written(line: &[u8]) -> Option<usize>
@@ -78,7 +76,7 @@ pub(crate) fn line_number(placed: &[Placed]) -> Option<(u16, &[Placed])>
     let mut rest = placed;
     while let Some((digit, tail)) = split_digit(rest) {
         value = 10 * value + u32::from(digit);
-        if value > HIGHEST_LINE {
+        if value > u32::from(HIGHEST_LINE) {
             return None;
         }
         rest = tail;

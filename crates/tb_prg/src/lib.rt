@@ -1,4 +1,6 @@
 //! PRG files: a load address, low byte first, and the bytes that are loaded there.
+//!
+//! `write` gives the header and the image. `read` gives the load address and the rest, or exactly its refusal.
 #![tactic(auto)]
 
 ghost use Rattle.std.specs.Prelude.{◌≡◌, ◌++◌, IfOk, MatchResult, Ok, Err};

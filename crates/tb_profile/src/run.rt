@@ -90,7 +90,7 @@ fn take_event<O: Outside>(
     }
 }
 
-// The same of an outside that gives quiet events.
+// Lets the next event of an outside that gives quiet ones happen, and counts it.
 fn take_quietly<O: Outside>(
     machine: &mut Machine,
     outside: &O,
@@ -156,7 +156,7 @@ fn tell_watch<W: Watch>(watch: &mut W, told: u32, taken: u32) -> u32 {
     taken
 }
 
-// The same, but that the watch doesn't hear of the end.
+// Does what `run_counted` does, but the watch doesn't hear of the beginning and the end.
 fn count_events<O: Outside, W: Watch>(
     alloc: Global,
     machine: &mut Machine,

@@ -4,17 +4,17 @@ use Rattle.std.specs.Prelude.{◌==◌}
 use Rattle.std.proofs.lemmas.Bool.Decides.{nat_tests}
 use Rattle.tb_kernal.specs.Machine.{Content}
 use Rattle.tb_memmap.specs.Regions.{BASIC_START}
-use Rattle.tb_syntax.specs.Source.{Program}
+use Rattle.tb_syntax.specs.Source.{Program, numbers}
 use Rattle.tb_parser.specs.Files.{Outcome as FileOutcome}
-use Rattle.tb_runtime16.specs.Addresses.{LINES_AT}
-use Rattle.tb_codegen.specs.Answers.{HasOutcome, OutcomeAnswer, SourceMakes}
-use Rattle.tb_codegen.specs.Compiled.{loaded_of, starts_of, IsCompiled, AddressesRise}
-use Rattle.tb_codegen.specs.declared.compiled.Compiled.{Compiled}
-use Rattle.tb_codegen.specs.declared.settings.CompileSettings.{CompileSettings}
+use Rattle.tb_kept.specs.Addresses.{LINES_AT}
+use Rattle.tb_compiled.specs.Answers.{HasOutcome, OutcomeAnswer, SourceMakes}
+use Rattle.tb_compiled.specs.Compiled.{loaded_of, starts_of, AddressesRise, IsCompiled}
+use Rattle.tb_compiled.specs.declared.compiled.Compiled.{Compiled}
+use Rattle.tb_compiled.specs.declared.settings.CompileSettings.{CompileSettings}
 use Rattle.tb_engines.specs.Programs.{start, Settings}
 use Rattle.tb_engines.specs.declared.delivery.NoText.{NoText}
 use Rattle.tb_engines.specs.declared.delivery.NoText.TheVariants.{Refused, NoMemory}
-use Rattle.tb_driver.specs.Starting.{StartsLoadable}
+use Rattle.tb_sources.specs.Starting.{StartsLoadable}
 use Rattle.tb_profile.specs.Steps.{Step, begins_line}
 use Rattle.tb_profile_table.specs.declared.rows.Row.{Row}
 use Rattle.tb_profile_table.specs.declared.texts.Texts.{Texts}
@@ -26,6 +26,7 @@ use Rattle.tb_profile_engine.specs.declared.running.Ran.{Ran}
 use Rattle.tb_profile_engine.specs.declared.engine.Made.{Made}
 use Rattle.tb_profile_engine.specs.Running.{RunsFrom, IsProfile, ComesTo}
 use Rattle.tb_profile_engine.specs.Profiles.{IsProfileOf, Profiles}
+use Rattle.tb_compiled.specs.Promise.{Own}
 
 -- ---- the machine
 
@@ -63,8 +64,13 @@ row_lines : (ts : List Step) (starts : List (ℕ × ℕ)) → map (λ r. r.line)
 row_lines ts [] = refl
 row_lines ts (s ∷ starts) = ap (λ ns. s.0 ∷ ns) (row_lines ts starts)
 
-module _ {O : Type 0} (facts : End → Facts) (settings : CompileSettings) (s : Settings O) (source : List ℕ) (c : Compiled) where
-  of_program : (program : Program) (ran : Ran) (texts : Texts) → SourceMakes settings.notation source (Ok program) → IsCompiled settings.seed program c
+-- lines with addresses have their numbers
+numbered : (at : ℕ → ℕ) (ns : List ℕ) → map (λ (s : ℕ × ℕ). s.0) (map (λ n. (n, at n)) ns) ≡ ns
+numbered at [] = refl
+numbered at (n ∷ ns) = ap (λ ms. n ∷ ms) (numbered at ns)
+
+module _ {O : Type 0} (own : Own) (facts : End → Facts) (settings : CompileSettings) (s : Settings O) (source : List ℕ) (c : Compiled) where
+  of_program : (program : Program) (ran : Ran) (texts : Texts) → SourceMakes settings.notation source (Ok program) → IsCompiled own settings.seed program c
       → IsProfile s c ran → Shows (facts ran.end) source ran.table texts
       → IsProfileOf facts settings.notation s source c texts.page.items texts.table.items ran
   of_program program ran texts made compiled is shows =
@@ -72,20 +78,21 @@ module _ {O : Type 0} (facts : End → Facts) (settings : CompileSettings) (s : 
         program = program;
         made = made;
         is = is;
-        lines = ap (map (λ (r : Row). r.line)) is.tabled.is.rows ∙ row_lines is.tabled.taken (starts_of c) ∙ compiled.lines;
-        adds_up = is.tabled.adds_up (apart LINES_AT (starts_of c) (omega arith) compiled.rising);
+        lines = ap (map (λ (r : Row). r.line)) is.tabled.is.rows ∙ row_lines is.tabled.taken (starts_of c)
+            ∙ ap (map (λ (s : ℕ × ℕ). s.0)) compiled.of.starts ∙ numbered compiled.of.at (numbers program);
+        adds_up = is.tabled.adds_up (apart LINES_AT (starts_of c) (omega arith) compiled.of.rising);
         table = shows.table;
         page = shows.page;
       }
 
-  of_outcome : (outcome : FileOutcome) (ran : Ran) (texts : Texts) → SourceMakes settings.notation source outcome → OutcomeAnswer settings outcome (Ok c)
+  of_outcome : (outcome : FileOutcome) (ran : Ran) (texts : Texts) → SourceMakes settings.notation source outcome → OutcomeAnswer own settings outcome (Ok c)
       → IsProfile s c ran → Shows (facts ran.end) source ran.table texts
       → IsProfileOf facts settings.notation s source c texts.page.items texts.table.items ran
   of_outcome (Ok program) ran texts made answer is shows = of_program program ran texts made answer.1 is shows
   of_outcome (Err r) ran texts made answer is shows = absurd answer
 
   -- the texts of a profiled run are the profile of the source that makes the program
-  pub profiles : (ran : Ran) (made : Made) → HasOutcome settings source (Ok c) → IsProfile s c ran
+  pub profiles : (ran : Ran) (made : Made) → HasOutcome own settings source (Ok c) → IsProfile s c ran
       → Shows (facts ran.end) source ran.table made.texts → made.end ≡ ran.end
       → Profiles facts settings.notation s source c made.texts made.end
   profiles ran made found is shows ends = (ran, of_outcome found.outcome ran made.texts found.made found.answer is shows, ends)

@@ -1,8 +1,8 @@
 -- What a page says of a run besides its figures.
 use Rattle.std.specs.Prelude.{ℕ, ◌≡◌, Bool, true, false, List, [], ◌∷◌, codes}
-use Rattle.tb_codegen.specs.declared.settings.CompileSettings.{CompileSettings}
-use Rattle.tb_codegen.specs.declared.settings.SizeLimit.{SizeLimit}
-use Rattle.tb_codegen.specs.declared.settings.SizeLimit.TheVariants.{Cost, Memory}
+use Rattle.tb_compiled.specs.declared.settings.CompileSettings.{CompileSettings}
+use Rattle.tb_compiled.specs.declared.settings.SizeLimit.{SizeLimit}
+use Rattle.tb_compiled.specs.declared.settings.SizeLimit.TheVariants.{Cost, Memory}
 use Rattle.tb_kernal.specs.declared.machine.Keyboard.{Keyboard}
 use Rattle.tb_engines.specs.Programs.{Settings}
 use Rattle.tb_engines.specs.Texts.{end_text}

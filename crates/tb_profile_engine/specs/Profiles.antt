@@ -1,13 +1,12 @@
 -- What comes of profiling a source.
 use Rattle.std.specs.Prelude.{ℕ, ◌≡◌, List, map, Result, Ok, Err}
 use Rattle.tb_syntax.specs.Source.{Program, numbers}
-use Rattle.tb_codegen.specs.Compiled.{warnings_of}
-use Rattle.tb_codegen.specs.declared.compiled.Compiled.{Compiled}
-use Rattle.tb_codegen.specs.declared.settings.CompileSettings.{CompileSettings}
-use Rattle.tb_codegen.specs.Answers.{SourceMakes}
-use Rattle.tb_parser.specs.declared.notation.Notation.{Notation}
-use Rattle.tb_driver.specs.Reading.{CompilesText}
-use Rattle.tb_driver.specs.Sources.{Compiles}
+use Rattle.tb_compiled.specs.Compiled.{warnings_of}
+use Rattle.tb_compiled.specs.declared.compiled.Compiled.{Compiled}
+use Rattle.tb_compiled.specs.declared.settings.CompileSettings.{CompileSettings}
+use Rattle.tb_compiled.specs.Answers.{SourceMakes, Compiles}
+use Rattle.tb_text.specs.declared.notation.Notation.{Notation}
+use Rattle.tb_sources.specs.Reading.{CompilesText}
 use Rattle.tb_engines.specs.Outcomes.{Failure}
 use Rattle.tb_engines.specs.Programs.{Settings}
 use Rattle.tb_engines.specs.declared.delivery.NoText.{NoText}
@@ -25,6 +24,7 @@ use Rattle.tb_profile_engine.specs.declared.engine.Made.{Made}
 use Rattle.tb_profile_engine.specs.declared.engine.Profiled.{Profiled}
 use Rattle.tb_profile_engine.specs.declared.running.Ran.{Ran}
 use Rattle.tb_profile_engine.specs.Running.{IsProfile}
+use Rattle.tb_compiled.specs.Promise.{Own}
 
 -- A profile of the program that a source makes: a row for each of its lines in order, rows that add up to the whole
 -- run, and the table and the page of these rows with the statements of the source; the page says what the run was too.
@@ -50,8 +50,8 @@ MakesTexts makes (Err NoMemory) = Unit {0}
 
 -- what profiling a source makes: the table and the page of its program's run, with the compiler's warnings; or there is no
 -- program, or memory ran out
-abbrev pub MakesProfile : {O : Type 0} → Named → Settings O → CompileSettings → List ℕ → Result Profiled Failure → Type 0
-MakesProfile named s settings source (Ok made) =
-    (c : Compiled) × Compiles settings source (Ok c) × (made.warnings.items ≡ warnings_of c)
+abbrev pub MakesProfile : {O : Type 0} → Own → Named → Settings O → CompileSettings → List ℕ → Result Profiled Failure → Type 0
+MakesProfile own named s settings source (Ok made) =
+    (c : Compiled) × Compiles own settings source (Ok c) × (made.warnings.items ≡ warnings_of c)
     × Profiles (facts_on named settings s) settings.notation s source c made.texts made.end
-MakesProfile named s settings source (Err stop) = CompilesText settings source (Err stop)
+MakesProfile own named s settings source (Err stop) = CompilesText own settings source (Err stop)

@@ -1,6 +1,6 @@
 //! Profiling a source.
 ghost use Rattle.std.specs.Prelude.{◌≡◌, IfOk, Ok, string_bytes};
-ghost use Rattle.tb_codegen.specs.Answers.{HasOutcome};
+ghost use Rattle.tb_compiled.specs.Answers.{HasOutcome};
 ghost use Rattle.tb_profile_table.specs.Texts.{Shows};
 ghost use Rattle.tb_profile_engine.specs.Facts.{ended_text, fits, facts_of, facts_on};
 ghost use Rattle.tb_profile_engine.specs.Profiles.{MakesProfile, MakesTexts, Profiles};
@@ -8,11 +8,12 @@ ghost use Rattle.tb_profile_engine.specs.Running.{given};
 
 use crate::running::{Ran, Run, copy_of, profile_program};
 use std::alloc::{AllocError, Global};
-use tb_driver::{CompileSettings, CompiledSource, SizeLimit, compile_source};
+use tb_compiled::{Compile, CompileSettings, SizeLimit};
 use tb_engines::{End, Failure, NoText};
 use tb_kernal::Outside;
 use tb_meaning::Warning;
 use tb_profile_table::{About, Texts, texts_of};
+use tb_sources::{CompiledSource, compile_source};
 use tb_watch::Watch;
 
 /// The table and the page of a run, how it ended, and what the compiler warns of.
@@ -86,14 +87,14 @@ fn texts_of_run<O, W>(
 }
 
 // Runs the program of a source, and makes its texts.
-fn profile_compiled<O: Outside, W: Watch>(
+fn profile_compiled<K: Compile, O: Outside, W: Watch>(
     alloc: Global,
     source: &CompiledSource,
     named: &Named<'_>,
     settings: CompileSettings,
     run: &mut Run<O, W>,
 ) -> Result<Made, NoText>
-    requires { HasOutcome settings source.now.text.items (Ok source.now.program) }
+    requires { HasOutcome K.own settings source.now.text.items (Ok source.now.program) }
     ensures { MakesTexts (Profiles (facts_on named.now settings (given O.gives run.old))
         settings.notation (given O.gives run.old) source.now.text.items source.now.program) result }
 {
@@ -113,19 +114,20 @@ fn profile_compiled<O: Outside, W: Watch>(
     })
 }
 
-/// Compiles a source, runs it as `run_text` does, and makes a table of what its lines took. The page is made with it, and
-/// says what the run was given. A watch hears now and then how many events were taken.
-pub fn profile_source<O: Outside, W: Watch>(
+/// Compiles a source, runs it as `run_within` of tb_sources does, and makes a table of what its lines took. The page is
+/// made with it, and says what the run was given. A watch hears now and then how many events were taken.
+pub fn profile_source<K: Compile, O: Outside, W: Watch>(
+    compiler: &K,
     alloc: Global,
     source: Vec<u8>,
     named: &Named<'_>,
     settings: CompileSettings,
     run: &mut Run<O, W>,
 ) -> Result<Profiled, Failure>
-    ensures { MakesProfile named.now (given O.gives run.old) settings source.items result }
+    ensures { MakesProfile K.own named.now (given O.gives run.old) settings source.items result }
 {
-    let source = compile_source(alloc, source, settings)?;
-    let made = profile_compiled(alloc, &source, named, settings, run)?;
+    let source = compile_source(compiler, alloc, source, settings)?;
+    let made = profile_compiled::<K, O, W>(alloc, &source, named, settings, run)?;
     Ok(Profiled {
         texts: made.texts,
         end: made.end,

@@ -1,18 +1,18 @@
 //! Runs of programs that are counted.
 ghost use Rattle.std.specs.Prelude.{◌≡◌, IfOk, map};
-ghost use Rattle.tb_codegen.specs.Compiled.{starts_of};
+ghost use Rattle.tb_compiled.specs.Compiled.{starts_of};
 ghost use Rattle.tb_engines.specs.Programs.{settings_of};
-ghost use Rattle.tb_driver.specs.Starting.{IsLoadable};
+ghost use Rattle.tb_sources.specs.Starting.{IsLoadable};
 ghost use Rattle.tb_profile_table.specs.Rows.{start_pair};
 ghost use Rattle.tb_profile_engine.specs.Facts.{IsCopy};
 ghost use Rattle.tb_profile_engine.specs.Running.{ComesTo, IsProfile, RunsFrom};
 
 use std::alloc::{AllocError, Global};
-use tb_codegen::Compiled;
-use tb_driver::start_program;
+use tb_compiled::Compiled;
 use tb_engines::{End, NoText, end_of};
 use tb_kernal::{Keyboard, Machine, Outside};
 use tb_profile_table::{Start, Table, profile};
+use tb_sources::start_program;
 use tb_watch::Watch;
 
 /// What a run is given: what is typed and answered, the most events that it may take, what happens outside, and who hears

@@ -27,7 +27,7 @@ pub fn lines_of<'a>(
     stated_in(alloc, &written, rows)
 }
 
-// The same, with the source's lines already split into numbers and texts.
+// The rows with the statements of their lines, where the source is already split into numbers and texts.
 fn stated_in<'a>(
     alloc: Global,
     written: &[Numbered<'a>],

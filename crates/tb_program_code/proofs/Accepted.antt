@@ -19,11 +19,12 @@ use Rattle.tb_selection.specs.Groups.{Conversion, Negated, Drawn, Usage, AsNumbe
 use Rattle.tb_selection.specs.Groups.{Indivisible, Group, Calculate, Stepped, Convert, Move, Use, Test, TestGo, Divides, Remains, Single, contrary, denied}
 use Rattle.tb_selection.specs.Groups.{slot_of}
 use Rattle.tb_selection.specs.Select.{select}
-use Rattle.tb_runtime16.specs.Addresses.{LEFT, RIGHT, RESULT, LINE, MULTIPLY_AT, DIVIDE_AT, RANDOM_AT}
+use Rattle.tb_kept.specs.Addresses.{LEFT, RIGHT, RESULT, LINE, var_at}
+use Rattle.tb_runtime16.specs.Addresses.{MULTIPLY_AT, DIVIDE_AT, RANDOM_AT}
 use Rattle.tb_templates.specs.declared.labels.Inner.TheVariants.{Behind, Skip, Text}
 use Rattle.tb_templates.specs.declared.labels.Target.{Target}
 use Rattle.tb_templates.specs.declared.labels.Target.TheVariants.{Inside, Line}
-use Rattle.tb_templates.specs.Templates.{branch, byte_sent, here, only_byte, sent, slot_at, var_at, on, template, faulted, jump_to, call_to, next_line, call, copied, constant}
+use Rattle.tb_templates.specs.Templates.{branch, byte_sent, here, only_byte, sent, slot_at, on, template, faulted, jump_to, call_to, next_line, call, copied, constant}
 use Rattle.tb_templates.specs.Sources.{source_of, tested_source, home_at, destination_at}
 use Rattle.tb_templates.specs.declared.sources.Source.{Source}
 use Rattle.tb_templates.specs.declared.sources.Source.TheVariants.{FixedWord, AtAddress}

@@ -6,7 +6,8 @@ use Rattle.tb_opcodes.specs.declared.Mnemonic.TheVariants.{And, Jsr, Lda, Ora, S
 use Rattle.tb_opcodes.specs.declared.Mode.TheVariants.{Absolute, ZeroPage}
 use Rattle.tb_asm.specs.declared.items.Operand.TheVariants.{Byte, Word}
 use Rattle.tb_asm.specs.Layout.{Entry, instr}
-use Rattle.tb_runtime16.specs.Addresses.{LEFT, LINE, RESULT, RIGHT, DIVIDE_AT}
+use Rattle.tb_kept.specs.Addresses.{LEFT, LINE, RESULT, RIGHT}
+use Rattle.tb_runtime16.specs.Addresses.{DIVIDE_AT}
 use Rattle.tb_templates.specs.Templates.{call, constant, copied, on}
 use Rattle.tb_templates.specs.declared.sources.Source.{Source}
 use Rattle.tb_templates.specs.declared.sources.Source.TheVariants.{FixedWord, AtAddress}

@@ -16,7 +16,8 @@ use Rattle.tb_syntax.specs.declared.expressions.Operator.TheVariants.{Add, Subtr
 use Rattle.tb_syntax.specs.Source.{Expression, Number, Variable, Binary, Item, Text, Value, Zone, Statement, Let, Print, If, Goto, Gosub, Remark, Program}
 use Rattle.tb_syntax.specs.Source as source
 use Rattle.tb_meaning.specs.Control.{has_line}
-use Rattle.tb_meaning.specs.Cost.{nodes, item_cost, statement_cost, cost}
+use Rattle.tb_meaning.proofs.Costs.{one_node, items_pay}
+use Rattle.tb_meaning.specs.Cost.{nodes, item_cost, statement_cost, cost, items_cost}
 use Rattle.tb_lower.specs.Lowered.{value_code, or_constant, target_code, item_code, items_code, inputs_code, newline_code, statement_code, program_code}
 use Rattle.tb_meaning.specs.Values.{constant}
 use Rattle.tb_lower.specs.Slots.{Instr, Put, Load, Store, Negate, Compute, Random, SendNumber, SendText, Hold, LeaveUnless, Jump, Call, JumpTo, CallTo}
@@ -26,12 +27,13 @@ use Rattle.tb_selection.specs.Groups.{compared, contrary, multiple, onward, Home
 use Rattle.tb_selection.specs.Groups.{denied, expand, expand_all}
 use Rattle.tb_selection.specs.Select.{select}
 use Rattle.tb_selection.proofs.Bracketed.{brackets}
-use Rattle.tb_runtime16.specs.Addresses.{LEFT, RIGHT, RESULT, MULTIPLY_AT, DIVIDE_AT, RANDOM_AT}
+use Rattle.tb_kept.specs.Addresses.{LEFT, RIGHT, RESULT, var_at}
+use Rattle.tb_runtime16.specs.Addresses.{MULTIPLY_AT, DIVIDE_AT, RANDOM_AT}
 use Rattle.tb_templates.specs.declared.labels.Inner.TheVariants as inner
 use Rattle.tb_templates.specs.declared.labels.Inner.TheVariants.{Behind, Skip}
 use Rattle.tb_templates.specs.declared.labels.Target.{Target}
 use Rattle.tb_templates.specs.declared.labels.Target.TheVariants.{Inside, Line}
-use Rattle.tb_templates.specs.Templates.{branch, const, here, next_line, call, copied, faulted, only_byte, sent, slot_at, var_at, on}
+use Rattle.tb_templates.specs.Templates.{branch, const, here, next_line, call, copied, faulted, only_byte, sent, slot_at, on}
 use Rattle.tb_templates.specs.Sources.{source_of, tested_source, home_at, destination_at}
 use Rattle.tb_templates.specs.declared.sources.Source.{Source}
 use Rattle.tb_templates.specs.declared.sources.Source.TheVariants.{FixedWord, AtAddress}
@@ -57,7 +59,8 @@ use Rattle.tb_templates.specs.Breaks.{polled, behind}
 use Rattle.tb_program_code.specs.Program.{rest_code, list_code}
 use Rattle.tb_settling.specs.Settled.{most_of, most}
 use Rattle.tb_settling.proofs.Forms.{most_append}
-use Rattle.tb_program_code.specs.Sizes.{room, list_room, lines_room, rest_room, items_cost, AreApart, IsSpaced, AreSpaced}
+use Rattle.tb_program_code.specs.Sizes.{room, list_room, lines_room, rest_room}
+use Rattle.tb_meaning.specs.Spaced.{AreApart, IsSpaced, AreSpaced}
 use Rattle.tb_templates.specs.Subtracted.{tried}
 use Rattle.tb_program_code.proofs.Subtractions.{tried_size}
 use Rattle.tb_program_code.proofs.Listed.{by_poll, tested_by}
@@ -403,13 +406,6 @@ list_fits ns seed n is =
     (let s = selected_fits ns seed n 1 is in omega (arith, s))
 
 -- ── the code of a statement ──
-pub one_node : (e : Expression) → 1 ≤ nodes e
-one_node (Number n) = omega arith
-one_node (Variable x) = omega arith
-one_node (source.Negate e) = omega arith
-one_node (Binary op l r) = omega arith
-one_node (source.Random e) = omega arith
-
 constant_room : (v : Option ℕ) (k b : ℕ) (code : List Instr) → 46 ≤ b → list_room code + 36 ≤ b → list_room (or_constant v k code) + 36 ≤ b
 constant_room (Some v) k b code p q = omega (arith, p)
 constant_room None k b code p q = q
@@ -462,11 +458,6 @@ inputs_room (x ∷ xs) = let a = inputs_room xs in omega (arith, a)
 newline_room : (ends : Bool) → list_room (newline_code ends) ≤ 10
 newline_room true = omega arith
 newline_room false = omega arith
-
--- what the items of a PRINT cost is the sum of their costs
-pub items_pay : (is : List Item) → items_cost is ≡ sum_by item_cost is
-items_pay [] = refl
-items_pay (i ∷ is) = ap (λ n. item_cost i + n) (items_pay is) ∙ sym (sum_by-cons item_cost i is)
 
 -- a statement's code takes at most 10 bytes more than its cost
 pub statement_room : (c : Statement) → IsSpaced c → list_room (statement_code c) ≤ 10 + statement_cost c

@@ -15,13 +15,14 @@ use Rattle.tb_lower.specs.Slots.{Instr, SendText, JumpTo, CallTo, Return, SlotCo
 use Rattle.tb_selection.specs.Groups.{Conversion, Negated, Drawn, Usage, AsNumber, AsLine, AsSubroutine, Constant, Variable, Divisibility, Group, Calculate}
 use Rattle.tb_selection.specs.Groups.{Stepped, Convert, Move, Use, Test, TestGo, Divides, Remains, Single, contrary, denied, slot_of}
 use Rattle.tb_selection.specs.Select.{select}
-use Rattle.tb_runtime16.specs.Addresses.{LEFT, RIGHT, RESULT, LINE, MULTIPLY_AT, DIVIDE_AT, RANDOM_AT}
+use Rattle.tb_kept.specs.Addresses.{LEFT, RIGHT, RESULT, LINE, var_at}
+use Rattle.tb_runtime16.specs.Addresses.{MULTIPLY_AT, DIVIDE_AT, RANDOM_AT}
 use Rattle.tb_templates.specs.declared.labels.Inner.{Inner}
 use Rattle.tb_templates.specs.declared.labels.Inner.TheVariants as inner
 use Rattle.tb_templates.specs.Labels.{label_of, letter_of}
 use Rattle.tb_templates.specs.declared.labels.Target.{Target}
 use Rattle.tb_templates.specs.declared.labels.Target.TheVariants.{Line, Inside, Polled, Find, Table}
-use Rattle.tb_templates.specs.Templates.{branch, byte_sent, here, only_byte, sent, var_at, template, faulted, called, jump_to, next_line, target_of, call, copied, constant}
+use Rattle.tb_templates.specs.Templates.{branch, byte_sent, here, only_byte, sent, template, faulted, called, jump_to, next_line, target_of, call, copied, constant}
 use Rattle.tb_templates.specs.Sources.{source_of, tested_source, home_at, destination_at}
 use Rattle.tb_templates.specs.declared.sources.Source.{Source}
 use Rattle.tb_templates.specs.declared.sources.Source.TheVariants.{FixedWord, AtAddress}

@@ -3,12 +3,12 @@ use Rattle.std.proofs.Common.{◌≡◌, ℕ, ◌+◌, ◌*◌, ◌≤◌, Bool,
 use Rattle.std.proofs.lemmas.List.Sums.{sum_by-cons}
 use Rattle.tb_syntax.specs.Source.{Expression, Number, Variable, Binary, Item, Text, Value, Zone, Statement, Let, Print, If, Goto, Gosub, Remark, Program}
 use Rattle.tb_syntax.specs.Source as source
-use Rattle.tb_meaning.specs.Cost.{nodes, statement_cost, cost}
+use Rattle.tb_meaning.specs.Cost.{nodes, statement_cost, cost, items_cost}
 use Rattle.tb_meaning.specs.Values.{constant}
 use Rattle.tb_lower.specs.Lowered.{value_code, or_constant, target_code, items_code, inputs_code, newline_code, statement_code, program_code}
 use Rattle.tb_lower.specs.Slots.{Instr, Store, Negate, Compute, Random, SendNumber, Hold, LeaveUnless, Jump, Call, JumpTo, CallTo}
-use Rattle.tb_program_code.specs.Sizes.{price, list_price, lines_price, rest_price, items_cost}
-use Rattle.tb_program_code.proofs.Fitting.{items_pay}
+use Rattle.tb_program_code.specs.Sizes.{price, list_price, lines_price, rest_price}
+use Rattle.tb_meaning.proofs.Costs.{items_pay}
 
 list_append : (xs ys : List Instr) → list_price (xs ++ ys) ≡ list_price xs + list_price ys
 list_append [] ys = omega arith

@@ -8,7 +8,8 @@ use Rattle.tb_lower.specs.Lowered as lowered
 use Rattle.tb_opcodes.specs.Opcodes as opcodes
 use Rattle.tb_asm.specs.declared.items.Operand.TheVariants.{Word}
 use Rattle.tb_asm.specs.Layout.{Entry, word}
-use Rattle.tb_runtime16.specs.Addresses.{LEFT, DIVIDE_AT, RANDOM_AT, NUMBER_AT, PUSH_AT, SEND_AT, FAULT_LINE_AT}
+use Rattle.tb_kept.specs.Addresses.{LEFT}
+use Rattle.tb_runtime16.specs.Addresses.{DIVIDE_AT, RANDOM_AT, NUMBER_AT, PUSH_AT, SEND_AT, FAULT_LINE_AT}
 use Rattle.tb_templates.specs.declared.labels.Inner.TheVariants.{Behind, Skip}
 use Rattle.tb_templates.specs.declared.labels.Target.TheVariants.{Line, Inside, Polled}
 use Rattle.tb_templates.specs.Templates.{at, const, alone, branch, here, call, address, find, jump_through}

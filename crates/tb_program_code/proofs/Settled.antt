@@ -8,7 +8,8 @@ use Rattle.tb_asm.specs.Settle.{Form, kept, long, items_from}
 use Rattle.tb_asm.proofs.Settled.{items_kept}
 use Rattle.tb_syntax.specs.Source.{Numbered, numbers, Rises}
 use Rattle.tb_lower.specs.Slots.{Instr, Poll, SlotCode}
-use Rattle.tb_runtime16.specs.Addresses.{PROLOGUE_AT, LINES_AT}
+use Rattle.tb_runtime16.specs.Addresses.{PROLOGUE_AT}
+use Rattle.tb_kept.specs.Addresses.{LINES_AT}
 use Rattle.tb_settling.specs.Settled.{AreFormsOf, IsSettled}
 use Rattle.tb_settling.proofs.Forms.{forms_size, items_append, items_size, size_append, split, is_straight, straight_forms}
 use Rattle.tb_templates.specs.declared.labels.Target.TheVariants.{Line, Past, Table}

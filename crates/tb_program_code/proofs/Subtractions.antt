@@ -2,7 +2,7 @@
 use Rattle.std.proofs.Common.{ℕ, ◌+◌, ◌≤◌, List, ◌++◌, refl, arith}
 use Rattle.tb_opcodes.specs.declared.Mnemonic.TheVariants.{Bcc, Bcs, Beq, Bne, Cmp, Lda, Ldx, Ora, Sbc, Sta}
 use Rattle.tb_asm.specs.Layout.{Entry}
-use Rattle.tb_runtime16.specs.Addresses.{RESULT}
+use Rattle.tb_kept.specs.Addresses.{RESULT}
 use Rattle.tb_settling.specs.Settled.{most}
 use Rattle.tb_settling.proofs.Forms.{most_append}
 use Rattle.tb_templates.specs.declared.sources.Source.{Source}

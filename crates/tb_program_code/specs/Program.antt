@@ -9,7 +9,8 @@ use Rattle.tb_lower.specs.Ranges.{AreInRange}
 use Rattle.tb_selection.specs.Groups.{Group}
 use Rattle.tb_selection.specs.Select.{select}
 use Rattle.tb_runtime16.specs.Block.{block_bytes}
-use Rattle.tb_runtime16.specs.Addresses.{PROLOGUE_AT, LINES_AT}
+use Rattle.tb_runtime16.specs.Addresses.{PROLOGUE_AT}
+use Rattle.tb_kept.specs.Addresses.{LINES_AT}
 use Rattle.tb_templates.specs.declared.labels.Target.{Target}
 use Rattle.tb_templates.specs.declared.labels.Target.TheVariants.{Line, Past, Table}
 use Rattle.tb_templates.specs.Labels.{label_of}

@@ -4,7 +4,8 @@ use Rattle.std.specs.Prelude.{ℕ, ◌+◌, ◌-◌, ◌*◌, ◌/◌, ◌%◌, 
 use Rattle.tb_opcodes.specs.declared.Mnemonic.TheVariants.{Cmp, Cpx, Jmp, Lda, Ldx, Rts, Sta}
 use Rattle.tb_asm.specs.Layout.{Entry, bytes}
 use Rattle.tb_lower.specs.Slots.{Instr, Jump, Call, SlotCode}
-use Rattle.tb_runtime16.specs.Addresses.{LINES_AT, TABLE, COUNT, WANTED, RESULT, SEARCH_AT}
+use Rattle.tb_kept.specs.Addresses.{LINES_AT, TABLE, COUNT, WANTED, RESULT}
+use Rattle.tb_runtime16.specs.Addresses.{SEARCH_AT}
 use Rattle.tb_templates.specs.declared.labels.Target.TheVariants.{Line, Find, Table}
 use Rattle.tb_templates.specs.Templates.{at, const, alone, here, constant, address, low_part, high_part}
 use Rattle.tb_program_code.specs.Sizes.{lines_price, lines_room, rest_price, rest_room}

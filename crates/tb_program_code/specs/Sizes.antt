@@ -1,7 +1,5 @@
 -- How many bytes the code of a group takes at most, by its instructions, and that of a program; and what it costs at least.
-use Rattle.std.specs.Prelude.{ℕ, ◌+◌, Bool, true, false, List, [], ◌∷◌, length}
-use Rattle.tb_syntax.specs.Source.{Item, Text, Value, Zone, Statement, Print, If, Program}
-use Rattle.tb_meaning.specs.Cost.{item_cost}
+use Rattle.std.specs.Prelude.{ℕ, ◌+◌, List, [], ◌∷◌, length}
 use Rattle.tb_lower.specs.Slots.{Instr, Put, Load, Store, Negate, Compute, Random, SendText, SendNumber, SendZone, SendNewline, Input, Poll, Hold, LeaveUnless}
 use Rattle.tb_lower.specs.Slots.{Jump, Call, JumpTo, CallTo, Return, End, SlotCode}
 
@@ -74,28 +72,3 @@ lines_price (line ∷ lines) = 36 + list_price line.content + lines_price lines
 -- what a program's cost has besides its lines
 abbrev pub rest_price : ℕ
 rest_price = 64
-
--- ── zones ──
--- a comma follows a text or a value of its own, so that these pay for it; the Bool says whether one comes before
-abbrev pub AreApart : Bool → List Item → Type 0
-AreApart behind [] = Unit {0}
-AreApart true (Zone ∷ items) = AreApart false items
-AreApart false (Zone ∷ items) = ⊥
-AreApart behind (Text bs ∷ items) = AreApart true items
-AreApart behind (Value e ∷ items) = AreApart true items
-
--- in a PRINT, alone or after IFs, each comma follows a text or a value of its own
-abbrev pub IsSpaced : Statement → Type 0
-IsSpaced (Print items ends) = AreApart false items
-IsSpaced (If l rel r c) = IsSpaced c
-IsSpaced _ = Unit {0}
-
--- this holds for the statement of each line
-abbrev pub AreSpaced : Program → Type 0
-AreSpaced [] = Unit {0}
-AreSpaced (line ∷ lines) = IsSpaced line.content × AreSpaced lines
-
--- what the items of a PRINT cost
-abbrev pub items_cost : List Item → ℕ
-items_cost [] = 0
-items_cost (i ∷ is) = item_cost i + items_cost is

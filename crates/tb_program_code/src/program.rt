@@ -18,8 +18,9 @@ ghost use Rattle.tb_templates.specs.Templates as templates;
 use crate::search::{compares, put_find};
 use std::alloc::{AllocError, Global};
 use tb_asm::{Item, Operand};
+use tb_kept::LINES_AT;
 use tb_lower::{SlotCode, SlotInstr, SlotLine};
-use tb_runtime16::{BLOCK_AT, LINES_AT, block};
+use tb_runtime16::{BLOCK_AT, block};
 use tb_selection::{Group, Placed, select_in};
 use tb_templates::{
     Spot, Target, label, put, put_behind, put_faulted, put_group, put_here, put_polled, some_leaves,

@@ -11,9 +11,10 @@ ghost use Rattle.tb_templates.specs.Templates as templates;
 
 use std::alloc::AllocError;
 use tb_asm::Item;
+use tb_kept::{COUNT, LINES_AT, RESULT, TABLE, WANTED};
 use tb_lower::{SlotInstr, SlotLine};
 use tb_opcodes::Mnemonic;
-use tb_runtime16::{COUNT, LINES_AT, RESULT, Routine, TABLE, WANTED, entry};
+use tb_runtime16::{Routine, entry};
 use tb_templates::{
     Target, put, put_address, put_alone, put_at, put_const, put_constant, put_here, put_high_part,
     put_low_part,

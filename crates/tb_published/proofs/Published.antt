@@ -6,7 +6,7 @@ use Rattle.std.specs.Str.{bytes_eq}
 use Rattle.serde_json.specs.Data.{Data, null}
 use Rattle.serde_json.specs.View.{view}
 use Rattle.serde_json.specs.declared.value.Value.{Value}
-use Rattle.tb_parser.specs.declared.notation.Notation.{Notation}
+use Rattle.tb_text.specs.declared.notation.Notation.{Notation}
 use Rattle.tb_messages.specs.Messages.{Says, seen}
 use Rattle.tb_messages.specs.declared.messages.Message.{Message}
 use Rattle.tb_messages.specs.declared.messages.Message.TheVariants as message
@@ -30,164 +30,165 @@ use Rattle.tb_language_server.specs.declared.server.Reply.{Reply}
 use Rattle.tb_language_server.specs.declared.server.Reply.TheVariants.{Nothing, Content, Exit}
 use Rattle.tb_language_server.specs.declared.server.Server.{Server}
 use Rattle.tb_published.proofs.Opened.{Once, once_closed, once_opened, text_closed, text_opened}
+use Rattle.tb_compiled.specs.Promise.{Own}
 
 -- what a reply publishes, and that the notation stays; where it ends the dialogue nothing is asked
-abbrev PublishesIf : Server → Reply → Server → Type 0
-PublishesIf old Nothing new = (p : Option Publication) × Publishing old.notation old new Nothing p × (new.notation ≡ old.notation)
-PublishesIf old (Content content) new = (p : Option Publication) × Publishing old.notation old new (Content content) p × (new.notation ≡ old.notation)
-PublishesIf old Exit new = Unit {0}
+abbrev PublishesIf : Own → Server → Reply → Server → Type 0
+PublishesIf own old Nothing new = (p : Option Publication) × Publishing own old.notation old new Nothing p × (new.notation ≡ old.notation)
+PublishesIf own old (Content content) new = (p : Option Publication) × Publishing own old.notation old new (Content content) p × (new.notation ≡ old.notation)
+PublishesIf own old Exit new = Unit {0}
 
 -- ── what is said to messages ──
-refuses : (id : Data) (why : Refusal) (old : Server) (reply : Reply) (new : Server) → Refuses id why old reply new → PublishesIf old reply new
-refuses id why old Nothing new never = absurd never
-refuses id why old (Content content) new (same, says) = (None, answers content same.texts (id, inr (why, says)), same.notation)
-refuses id why old Exit new never = absurd never
+refuses : (own : Own) (id : Data) (why : Refusal) (old : Server) (reply : Reply) (new : Server) → Refuses id why old reply new → PublishesIf own old reply new
+refuses own id why old Nothing new never = absurd never
+refuses own id why old (Content content) new (same, says) = (None, answers content same.texts (id, inr (why, says)), same.notation)
+refuses own id why old Exit new never = absurd never
 
-ignores : (old : Server) (reply : Reply) (new : Server) → Ignores old reply new → PublishesIf old reply new
-ignores old Nothing new same = (None, is_silent same.texts, same.notation)
-ignores old (Content content) new never = absurd never
-ignores old Exit new never = absurd never
+ignores : (own : Own) (old : Server) (reply : Reply) (new : Server) → Ignores old reply new → PublishesIf own old reply new
+ignores own old Nothing new same = (None, is_silent same.texts, same.notation)
+ignores own old (Content content) new never = absurd never
+ignores own old Exit new never = absurd never
 
-takes_text : (uri text : List ℕ) (version : Option ℤ) (old : Server) (reply : Reply) (new : Server) → TakesText uri text version old reply new → PublishesIf old reply new
-takes_text uri text version old Nothing new never = absurd never
-takes_text uri text version old (Content content) new (taken, published) = (Some (finds uri text), opens uri text version content taken.texts published, taken.notation)
-takes_text uri text version old Exit new never = absurd never
+takes_text : (own : Own) (uri text : List ℕ) (version : Option ℤ) (old : Server) (reply : Reply) (new : Server) → TakesText own uri text version old reply new → PublishesIf own old reply new
+takes_text own uri text version old Nothing new never = absurd never
+takes_text own uri text version old (Content content) new (taken, published) = (Some (finds uri text), opens uri text version content taken.texts published, taken.notation)
+takes_text own uri text version old Exit new never = absurd never
 
-drops_text : (uri : List ℕ) (old : Server) (reply : Reply) (new : Server) → DropsText uri old reply new → PublishesIf old reply new
-drops_text uri old Nothing new never = absurd never
-drops_text uri old (Content content) new (closed, says) = (Some (ends uri), closes uri content closed.texts says, closed.notation)
-drops_text uri old Exit new never = absurd never
+drops_text : (own : Own) (uri : List ℕ) (old : Server) (reply : Reply) (new : Server) → DropsText uri old reply new → PublishesIf own old reply new
+drops_text own uri old Nothing new never = absurd never
+drops_text own uri old (Content content) new (closed, says) = (Some (ends uri), closes uri content closed.texts says, closed.notation)
+drops_text own uri old Exit new never = absurd never
 
-changes : (is : Bool) (uri text : List ℕ) (version : Option ℤ) (old : Server) (reply : Reply) (new : Server) → TakesChange is uri text version old reply new
-    → PublishesIf old reply new
-changes true uri text version old reply new h = takes_text uri text version old reply new h
-changes false uri text version old reply new h = ignores old reply new h
+changes : (own : Own) (is : Bool) (uri text : List ℕ) (version : Option ℤ) (old : Server) (reply : Reply) (new : Server) → TakesChange own is uri text version old reply new
+    → PublishesIf own old reply new
+changes own true uri text version old reply new h = takes_text own uri text version old reply new h
+changes own false uri text version old reply new h = ignores own old reply new h
 
-closed : (is : Bool) (uri : List ℕ) (old : Server) (reply : Reply) (new : Server) → TakesClose is uri old reply new → PublishesIf old reply new
-closed true uri old reply new h = drops_text uri old reply new h
-closed false uri old reply new h = ignores old reply new h
+closed : (own : Own) (is : Bool) (uri : List ℕ) (old : Server) (reply : Reply) (new : Server) → TakesClose is uri old reply new → PublishesIf own old reply new
+closed own true uri old reply new h = drops_text own uri old reply new h
+closed own false uri old reply new h = ignores own old reply new h
 
-notices : (t : Told) (old : Server) (reply : Reply) (new : Server) → TakesNotice t old reply new → PublishesIf old reply new
-notices (open_text uri text version) old reply new h = takes_text uri text version old reply new h
-notices (change_text uri text version) old reply new h = changes (has uri old.texts.all.items) uri text version old reply new h
-notices (close_text uri) old reply new h = closed (has uri old.texts.all.items) uri old reply new h
+notices : (own : Own) (t : Told) (old : Server) (reply : Reply) (new : Server) → TakesNotice own t old reply new → PublishesIf own old reply new
+notices own (open_text uri text version) old reply new h = takes_text own uri text version old reply new h
+notices own (change_text uri text version) old reply new h = changes own (has uri old.texts.all.items) uri text version old reply new h
+notices own (close_text uri) old reply new h = closed own (has uri old.texts.all.items) uri old reply new h
 
-told_to : (t : Option Told) (old : Server) (reply : Reply) (new : Server) → TakesTold t old reply new → PublishesIf old reply new
-told_to None old reply new h = ignores old reply new h
-told_to (Some t) old reply new h = notices t old reply new h
+told_to : (own : Own) (t : Option Told) (old : Server) (reply : Reply) (new : Server) → TakesTold own t old reply new → PublishesIf own old reply new
+told_to own None old reply new h = ignores own old reply new h
+told_to own (Some t) old reply new h = notices own t old reply new h
 
-at_stage : (stage : Stage) (t : Option Told) (old : Server) (reply : Reply) (new : Server) → TakesAt stage t old reply new → PublishesIf old reply new
-at_stage New t old reply new h = ignores old reply new h
-at_stage Ready t old reply new h = told_to t old reply new h
-at_stage Shut t old reply new h = ignores old reply new h
+at_stage : (own : Own) (stage : Stage) (t : Option Told) (old : Server) (reply : Reply) (new : Server) → TakesAt own stage t old reply new → PublishesIf own old reply new
+at_stage own New t old reply new h = ignores own old reply new h
+at_stage own Ready t old reply new h = told_to own t old reply new h
+at_stage own Shut t old reply new h = ignores own old reply new h
 
-exits : (old : Server) (reply : Reply) (new : Server) → Exits old reply new → PublishesIf old reply new
-exits old Nothing new never = absurd never
-exits old (Content content) new never = absurd never
-exits old Exit new h = tt
+exits : (own : Own) (old : Server) (reply : Reply) (new : Server) → Exits old reply new → PublishesIf own old reply new
+exits own old Nothing new never = absurd never
+exits own old (Content content) new never = absurd never
+exits own old Exit new h = tt
 
-others : (is : Bool) (method : List ℕ) (params : Option Data) (old : Server) (reply : Reply) (new : Server) → TakesOther is method params old reply new
-    → PublishesIf old reply new
-others true method params old reply new h = exits old reply new h
-others false method params old reply new h = at_stage old.stage (notice_of method params) old reply new h
+others : (own : Own) (is : Bool) (method : List ℕ) (params : Option Data) (old : Server) (reply : Reply) (new : Server) → TakesOther own is method params old reply new
+    → PublishesIf own old reply new
+others own true method params old reply new h = exits own old reply new h
+others own false method params old reply new h = at_stage own old.stage (notice_of method params) old reply new h
 
 -- ── answers ──
 said_so : (id : Data) (r : Result Value Refusal) (content : List ℕ) → Says content (said id r) → IsAnswer content
 said_so id (Ok v) content says = (id, inl (view v, says))
 said_so id (Err why) content says = (id, inr (why, says))
 
-on_text : (notation : Notation) (m : Method) (id : Data) (uri : List ℕ) (params : Data) (text : Option (List ℕ)) (content : List ℕ) → AnswersOnText notation m id uri params text content
+on_text : (own : Own) (notation : Notation) (m : Method) (id : Data) (uri : List ℕ) (params : Data) (text : Option (List ℕ)) (content : List ℕ) → AnswersOnText own notation m id uri params text content
     → IsAnswer content
-on_text notation m id uri params (Some text) content (r, found, says) = said_so id r content says
-on_text notation m id uri params None content says = (id, inr (NotOpen, says))
+on_text own notation m id uri params (Some text) content (r, found, says) = said_so id r content says
+on_text own notation m id uri params None content says = (id, inr (NotOpen, says))
 
-by_params : (notation : Notation) (m : Method) (id params : Data) (uri : Option (List ℕ)) (texts : List OpenText) (content : List ℕ) → AnswersParams notation m id params uri texts content
+by_params : (own : Own) (notation : Notation) (m : Method) (id params : Data) (uri : Option (List ℕ)) (texts : List OpenText) (content : List ℕ) → AnswersParams own notation m id params uri texts content
     → IsAnswer content
-by_params notation m id params (Some uri) texts content h = on_text notation m id uri params (text_of uri texts) content h
-by_params notation m id params None texts content says = (id, inr (BadParams, says))
+by_params own notation m id params (Some uri) texts content h = on_text own notation m id uri params (text_of uri texts) content h
+by_params own notation m id params None texts content says = (id, inr (BadParams, says))
 
-by_text : (notation : Notation) (m : Method) (id : Data) (params : Option Data) (texts : List OpenText) (content : List ℕ)
-    → AnswersText notation m id params texts content → IsAnswer content
-by_text notation m id (Some params) texts content h = by_params notation m id params (uri_in params) texts content h
-by_text notation m id None texts content says = (id, inr (BadParams, says))
+by_text : (own : Own) (notation : Notation) (m : Method) (id : Data) (params : Option Data) (texts : List OpenText) (content : List ℕ)
+    → AnswersText own notation m id params texts content → IsAnswer content
+by_text own notation m id (Some params) texts content h = by_params own notation m id params (uri_in params) texts content h
+by_text own notation m id None texts content says = (id, inr (BadParams, says))
 
-decided : (d : Decision) (id : Data) (params : Option Data) (old : Server) (content : Vec ℕ Global) (new : Server) → AnswersBy d id params old content new
-    → Publishing old.notation old new (Content content) None × (new.notation ≡ old.notation)
-decided Begin id params old content new (became, says) = (answers content became.texts (id, inl (initialized old.version.now, says)), became.notation)
-decided End id params old content new (became, says) = (answers content became.texts (id, inl (null, says)), became.notation)
-decided (Answer m) id params old content new (same, h) = (answers content same.texts (by_text old.notation m id params old.texts.all.items content.items h), same.notation)
-decided (Refuse why) id params old content new (same, says) = (answers content same.texts (id, inr (why, says)), same.notation)
+decided : (own : Own) (d : Decision) (id : Data) (params : Option Data) (old : Server) (content : Vec ℕ Global) (new : Server) → AnswersBy own d id params old content new
+    → Publishing own old.notation old new (Content content) None × (new.notation ≡ old.notation)
+decided own Begin id params old content new (became, says) = (answers content became.texts (id, inl (initialized old.version.now, says)), became.notation)
+decided own End id params old content new (became, says) = (answers content became.texts (id, inl (null, says)), became.notation)
+decided own (Answer m) id params old content new (same, h) = (answers content same.texts (by_text own old.notation m id params old.texts.all.items content.items h), same.notation)
+decided own (Refuse why) id params old content new (same, says) = (answers content same.texts (id, inr (why, says)), same.notation)
 
-requests : (id : Data) (method : List ℕ) (params : Option Data) (old : Server) (reply : Reply) (new : Server) → TakesRequest id method params old reply new
-    → PublishesIf old reply new
-requests id method params old Nothing new never = absurd never
-requests id method params old (Content content) new h =
-    let (published, kept) = decided (decision_of old.stage method) id params old content new h in (None, published, kept)
-requests id method params old Exit new never = absurd never
+requests : (own : Own) (id : Data) (method : List ℕ) (params : Option Data) (old : Server) (reply : Reply) (new : Server) → TakesRequest own id method params old reply new
+    → PublishesIf own old reply new
+requests own id method params old Nothing new never = absurd never
+requests own id method params old (Content content) new h =
+    let (published, kept) = decided own (decision_of old.stage method) id params old content new h in (None, published, kept)
+requests own id method params old Exit new never = absurd never
 
-messages : (m : Message) (old : Server) (reply : Reply) (new : Server) → TakesMessage m old reply new → PublishesIf old reply new
-messages (message.Request id method params) old reply new h = requests (view id.now) method.now (seen params) old reply new h
-messages (message.Notification method params) old reply new h = others (bytes_eq method.now (codes "exit")) method.now (seen params) old reply new h
-messages message.Answer old reply new h = ignores old reply new h
-messages (message.NoMessage id) old reply new h = refuses (unwrap_or (seen id) null) NoMessage old reply new h
+messages : (own : Own) (m : Message) (old : Server) (reply : Reply) (new : Server) → TakesMessage own m old reply new → PublishesIf own old reply new
+messages own (message.Request id method params) old reply new h = requests own (view id.now) method.now (seen params) old reply new h
+messages own (message.Notification method params) old reply new h = others own (bytes_eq method.now (codes "exit")) method.now (seen params) old reply new h
+messages own message.Answer old reply new h = ignores own old reply new h
+messages own (message.NoMessage id) old reply new h = refuses own (unwrap_or (seen id) null) NoMessage old reply new h
 
-contents : (content : List ℕ) (old : Server) (reply : Reply) (new : Server) → TakesContent content old reply new → PublishesIf old reply new
-contents content old reply new (inl (d, is, (m, tells, h))) = messages m old reply new h
-contents content old reply new (inr (not, h)) = refuses null NoJson old reply new h
+contents : (own : Own) (content : List ℕ) (old : Server) (reply : Reply) (new : Server) → TakesContent own content old reply new → PublishesIf own old reply new
+contents own content old reply new (inl (d, is, (m, tells, h))) = messages own m old reply new h
+contents own content old reply new (inr (not, h)) = refuses own null NoJson old reply new h
 
-frames : (f : Frame) (old : Server) (reply : Reply) (new : Server) → TakesOne f old reply new → PublishesIf old reply new
-frames (frame.Content content) old reply new h = contents content.items old reply new h
-frames (frame.TooLong n) old reply new h = refuses null TooLarge old reply new h
+frames : (own : Own) (f : Frame) (old : Server) (reply : Reply) (new : Server) → TakesOne own f old reply new → PublishesIf own old reply new
+frames own (frame.Content content) old reply new h = contents own content.items old reply new h
+frames own (frame.TooLong n) old reply new h = refuses own null TooLarge old reply new h
 
 -- ── over the dialogue ──
-once_after : {notation : Notation} (old new : Server) (reply : Reply) (p : Option Publication) → Publishing notation old new reply p → Once old.texts.all.items → Once new.texts.all.items
-once_after old new _ _ (opens uri source version content opened published) once = once_opened uri source old.texts.all.items new.texts.all.items once opened
-once_after old new _ _ (closes uri content is says) once = subst Once (sym is) (once_closed uri old.texts.all.items once)
-once_after old new _ _ (answers content same is) once = subst Once (sym same) once
-once_after old new _ _ (is_silent same) once = subst Once (sym same) once
+once_after : {notation : Notation} (own : Own) (old new : Server) (reply : Reply) (p : Option Publication) → Publishing own notation old new reply p → Once old.texts.all.items → Once new.texts.all.items
+once_after own old new _ _ (opens uri source version content opened published) once = once_opened uri source old.texts.all.items new.texts.all.items once opened
+once_after own old new _ _ (closes uri content is says) once = subst Once (sym is) (once_closed uri old.texts.all.items once)
+once_after own old new _ _ (answers content same is) once = subst Once (sym same) once
+once_after own old new _ _ (is_silent same) once = subst Once (sym same) once
 
-last_after : {notation : Notation} (old new : Server) (reply : Reply) (p : Option Publication) (ps : List Publication) (v : List ℕ)
-    → Publishing notation old new reply p → Once old.texts.all.items → text_of v old.texts.all.items ≡ last_of v ps → text_of v new.texts.all.items ≡ last_of v (with_one p ps)
-last_after old new _ _ ps v (opens uri source version content opened published) once is =
+last_after : {notation : Notation} (own : Own) (old new : Server) (reply : Reply) (p : Option Publication) (ps : List Publication) (v : List ℕ)
+    → Publishing own notation old new reply p → Once old.texts.all.items → text_of v old.texts.all.items ≡ last_of v ps → text_of v new.texts.all.items ≡ last_of v (with_one p ps)
+last_after own old new _ _ ps v (opens uri source version content opened published) once is =
     text_opened uri source v old.texts.all.items new.texts.all.items once opened ∙ ap (λ r. if bytes_eq uri v then Some source else r) is
-last_after old new _ _ ps v (closes uri content gone says) once is =
+last_after own old new _ _ ps v (closes uri content gone says) once is =
     ap (λ ts. text_of v ts) gone ∙ (text_closed uri v old.texts.all.items once ∙ ap (λ r. if bytes_eq uri v then None else r) is)
-last_after old new _ _ ps v (answers content same answer) once is = ap (λ ts. text_of v ts) same ∙ is
-last_after old new _ _ ps v (is_silent same) once is = ap (λ ts. text_of v ts) same ∙ is
+last_after own old new _ _ ps v (answers content same answer) once is = ap (λ ts. text_of v ts) same ∙ is
+last_after own old new _ _ ps v (is_silent same) once is = ap (λ ts. text_of v ts) same ∙ is
 
 -- what was told up to a moment: all texts are open once, what is open was published last, and the notation is the first
 -- one
-abbrev TellsTo : Notation → Moment → Moment → Type 0
-TellsTo notation a b = (ps : List Publication) × Tells notation a b ps
+abbrev TellsTo : Own → Notation → Moment → Moment → Type 0
+TellsTo own notation a b = (ps : List Publication) × Tells own notation a b ps
     × (Once b.server.texts.all.items × ((uri : List ℕ) → text_of uri b.server.texts.all.items ≡ last_of uri ps)) × (b.server.notation ≡ notation)
 
-further : (notation : Notation) (a b c : Moment) (reply : Reply) → TellsTo notation a b
-    → TakesOneOf (streams b.left c.left b.read c.read b.written c.written b.wrote c.wrote) b.server reply c.server
-    → Written reply b.written c.written → PublishesIf b.server reply c.server → TellsTo notation a c
-further notation a b c Nothing (ps, tells, (once, is), same) taken written (p, publishing, kept) =
-    let now = subst (λ n. Publishing n b.server c.server Nothing p) same publishing in (
+further : (own : Own) (notation : Notation) (a b c : Moment) (reply : Reply) → TellsTo own notation a b
+    → TakesOneOf own (streams b.left c.left b.read c.read b.written c.written b.wrote c.wrote) b.server reply c.server
+    → Written reply b.written c.written → PublishesIf own b.server reply c.server → TellsTo own notation a c
+further own notation a b c Nothing (ps, tells, (once, is), same) taken written (p, publishing, kept) =
+    let now = subst (λ n. Publishing own n b.server c.server Nothing p) same publishing in (
       with_one p ps,
       more a b c ps Nothing p tells taken written now,
-      (once_after b.server c.server Nothing p now once, λ uri. last_after b.server c.server Nothing p ps uri now once (is uri)),
+      (once_after own b.server c.server Nothing p now once, λ uri. last_after own b.server c.server Nothing p ps uri now once (is uri)),
       kept ∙ same,
     )
-further notation a b c (Content content) (ps, tells, (once, is), same) taken written (p, publishing, kept) =
-    let now = subst (λ n. Publishing n b.server c.server (Content content) p) same publishing in (
+further own notation a b c (Content content) (ps, tells, (once, is), same) taken written (p, publishing, kept) =
+    let now = subst (λ n. Publishing own n b.server c.server (Content content) p) same publishing in (
       with_one p ps,
       more a b c ps (Content content) p tells taken written now,
-      (once_after b.server c.server (Content content) p now once, λ uri. last_after b.server c.server (Content content) p ps uri now once (is uri)),
+      (once_after own b.server c.server (Content content) p now once, λ uri. last_after own b.server c.server (Content content) p ps uri now once (is uri)),
       kept ∙ same,
     )
-further notation a b c Exit told taken written publishing = absurd written
+further own notation a b c Exit told taken written publishing = absurd written
 
-one_more : (notation : Notation) (a b c : Moment) (done : Unit {0}) → TellsTo notation a b → Leads b (Ok done) c → TellsTo notation a c
-one_more notation a b c done told (reply, (f, reads, takes), written, sound) =
-    further notation a b c reply told (f, reads, takes) written (frames f b.server reply c.server takes)
+one_more : (own : Own) (notation : Notation) (a b c : Moment) (done : Unit {0}) → TellsTo own notation a b → Leads own b (Ok done) c → TellsTo own notation a c
+one_more own notation a b c done told (reply, (f, reads, takes), written, sound) =
+    further own notation a b c reply told (f, reads, takes) written (frames own f b.server reply c.server takes)
 
-talked : (version : List ℕ) (notation : Notation) (a b : Moment) → IsNew version notation a.server → Talks a b → TellsTo notation a b
-talked version notation a _ new (begins _) = ([], none a, (subst Once (sym new.texts) tt, λ uri. ap (λ ts. text_of uri ts) new.texts), new.reads)
-talked version notation a _ new (goes_on _ b c done talks leads) = one_more notation a b c done (talked version notation a b new talks) leads
+talked : (own : Own) (version : List ℕ) (notation : Notation) (a b : Moment) → IsNew version notation a.server → Talks own a b → TellsTo own notation a b
+talked own version notation a _ new (begins _) = ([], none a, (subst Once (sym new.texts) tt, λ uri. ap (λ ts. text_of uri ts) new.texts), new.reads)
+talked own version notation a _ new (goes_on _ b c done talks leads) = one_more own notation a b c done (talked own version notation a b new talks) leads
 
 -- the law
-pub open_texts_are_published : OpenTextsArePublished
-open_texts_are_published version notation a b new talks = let (ps, tells, (once, is), same) = talked version notation a b new talks in (ps, tells, is)
+pub open_texts_are_published : (own : Own) → OpenTextsArePublished own
+open_texts_are_published own version notation a b new talks = let (ps, tells, (once, is), same) = talked own version notation a b new talks in (ps, tells, is)

@@ -4,7 +4,7 @@ use Rattle.std.specs.Str.{bytes_eq}
 use Rattle.std.specs.declared.alloc.Global.{Global}
 use Rattle.std.specs.declared.vec.Vec.{Vec}
 use Rattle.serde_json.specs.Data.{Data}
-use Rattle.tb_parser.specs.declared.notation.Notation.{Notation}
+use Rattle.tb_text.specs.declared.notation.Notation.{Notation}
 use Rattle.tb_messages.specs.Messages.{Says, failure_of, success_of}
 use Rattle.tb_messages.specs.declared.refusals.Refusal.{Refusal}
 use Rattle.tb_diagnostics.specs.Published.{Publishes, published_of}
@@ -14,6 +14,7 @@ use Rattle.tb_language_server.specs.Texts.{Opens, text_of, without}
 use Rattle.tb_language_server.specs.declared.server.Reply.{Reply}
 use Rattle.tb_language_server.specs.declared.server.Reply.TheVariants.{Nothing, Content, Exit}
 use Rattle.tb_language_server.specs.declared.server.Server.{Server}
+use Rattle.tb_compiled.specs.Promise.{Own}
 
 -- what is published of a text: what `check` says of this source, or that nothing is said of the text any more
 pub data Publication : Type 0 where
@@ -26,14 +27,14 @@ IsAnswer content = (id : Data) × (((answer : Data) × Says content (success_of 
 
 -- What a reply publishes of sources in a notation, and what becomes of the texts that are open: they change only where
 -- something is published.
-pub data Publishing (notation : Notation) (old : Server) (new : Server) : Reply → Option Publication → Type 0 where
+pub data Publishing (own : Own) (notation : Notation) (old : Server) (new : Server) : Reply → Option Publication → Type 0 where
   opens : (uri source : List ℕ) (version : Option ℤ) (content : Vec ℕ Global) → Opens uri source old.texts.all.items new.texts.all.items
-      → Publishes notation uri version source content.items → Publishing notation old new (Content content) (Some (finds uri source))
+      → Publishes own notation uri version source content.items → Publishing own notation old new (Content content) (Some (finds uri source))
   closes : (uri : List ℕ) (content : Vec ℕ Global) → new.texts.all.items ≡ without uri old.texts.all.items
-      → Says content.items (published_of uri None []) → Publishing notation old new (Content content) (Some (ends uri))
+      → Says content.items (published_of uri None []) → Publishing own notation old new (Content content) (Some (ends uri))
   answers : (content : Vec ℕ Global) → new.texts.all.items ≡ old.texts.all.items → IsAnswer content.items
-      → Publishing notation old new (Content content) None
-  is_silent : new.texts.all.items ≡ old.texts.all.items → Publishing notation old new Nothing None
+      → Publishing own notation old new (Content content) None
+  is_silent : new.texts.all.items ≡ old.texts.all.items → Publishing own notation old new Nothing None
 
 -- a list with one more at the front, if there is one
 abbrev pub with_one : Option Publication → List Publication → List Publication
@@ -41,12 +42,12 @@ with_one None ps = ps
 with_one (Some p) ps = p ∷ ps
 
 -- Frames lead from one moment to another, each answered before the next one is read, and this was published, the last first.
-pub data Tells (notation : Notation) : Moment → Moment → List Publication → Type 0 where
-  none : (a : Moment) → Tells notation a a []
-  more : (a b c : Moment) (ps : List Publication) (reply : Reply) (p : Option Publication) → Tells notation a b ps
-      → TakesOneOf (streams b.left c.left b.read c.read b.written c.written b.wrote c.wrote) b.server reply c.server
-      → Written reply b.written c.written → Publishing notation b.server c.server reply p
-      → Tells notation a c (with_one p ps)
+pub data Tells (own : Own) (notation : Notation) : Moment → Moment → List Publication → Type 0 where
+  none : (a : Moment) → Tells own notation a a []
+  more : (a b c : Moment) (ps : List Publication) (reply : Reply) (p : Option Publication) → Tells own notation a b ps
+      → TakesOneOf own (streams b.left c.left b.read c.read b.written c.written b.wrote c.wrote) b.server reply c.server
+      → Written reply b.written c.written → Publishing own notation b.server c.server reply p
+      → Tells own notation a c (with_one p ps)
 
 -- the source of a text whose findings were published last, if nothing else of it was after that
 abbrev pub last_of : List ℕ → List Publication → Option (List ℕ)
@@ -56,6 +57,6 @@ last_of uri (ends u ∷ ps) = if bytes_eq u uri then None else last_of uri ps
 
 -- In a dialogue of a new server the findings of each text that is open were published last, in its notation, and of no
 -- other text any.
-abbrev pub OpenTextsArePublished : Type 0
-OpenTextsArePublished = (version : List ℕ) (notation : Notation) (a b : Moment) → IsNew version notation a.server → Talks a b
-    → (ps : List Publication) × Tells notation a b ps × ((uri : List ℕ) → text_of uri b.server.texts.all.items ≡ last_of uri ps)
+abbrev pub OpenTextsArePublished : Own → Type 0
+OpenTextsArePublished own = (version : List ℕ) (notation : Notation) (a b : Moment) → IsNew version notation a.server → Talks own a b
+    → (ps : List Publication) × Tells own notation a b ps × ((uri : List ℕ) → text_of uri b.server.texts.all.items ≡ last_of uri ps)

@@ -7,7 +7,8 @@ use Rattle.tb_kernal.specs.Machine.{State, happens}
 use Rattle.tb_kernal.specs.Runs.{run, all_lawful, goes}
 use Rattle.tb_reaching.specs.Reaching.{Arrived, OnTheWay}
 use Rattle.tb_reaching.specs.View.{View, Setup, At, Holds, UnderWay, Among, Comes}
-use Rattle.tb_reaching.proofs.Laws.{interrupt_sends_nothing, goes_append, lawful_after, then_arrived, then_on_the_way}
+use Rattle.tb_kernal.proofs.EventLists.{interrupt_sends_nothing, goes_append, lawful_after}
+use Rattle.tb_reaching.proofs.Laws.{then_arrived, then_on_the_way}
 use Rattle.tb_reaching.proofs.Act.{kept_by_interrupt}
 
 -- ---- a law that begins there

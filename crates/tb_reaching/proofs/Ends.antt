@@ -8,7 +8,8 @@ use Rattle.tb_kernal.specs.Runs.{run, all_lawful}
 use Rattle.tb_reaching.specs.Reaching.{States, Reaches, OnTheWay, NotWrong}
 use Rattle.tb_reaching.specs.View.{View, Setup, At, UnderWay, Among, Comes}
 use Rattle.tb_reaching.specs.Start.{IsHome, IsWaiting}
-use Rattle.tb_reaching.proofs.Laws.{run_append, lawful_after, weakened}
+use Rattle.tb_kernal.proofs.EventLists.{run_append, lawful_after}
+use Rattle.tb_reaching.proofs.Laws.{weakened}
 use Rattle.tb_reaching.proofs.Services.{waits, comes_home, stays_home}
 
 -- ---- a machine that is under way is not wrong

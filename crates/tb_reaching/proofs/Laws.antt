@@ -4,40 +4,11 @@ use Rattle.std.proofs.lemmas.Bool.{and_parts}
 use Rattle.arrayvec.specs.ArrayVec.{ArrayVec}
 use Rattle.tb_kernal.specs.declared.events.Event.{Event}
 use Rattle.tb_kernal.specs.declared.events.Event.TheVariants.{Go, Interrupt}
-use Rattle.tb_kernal.specs.declared.status.Status.{Status}
-use Rattle.tb_kernal.specs.declared.status.Status.TheVariants.{Running, Waits, Returned, Wrong as WentWrong}
-use Rattle.tb_memmap.specs.Bytes.{Writes}
-use Rattle.tb_kernal.specs.Machine.{State, status, interrupted, happens}
+use Rattle.tb_kernal.specs.Machine.{State, happens}
 use Rattle.tb_kernal.specs.Runs.{run, all_lawful, goes}
+use Rattle.tb_kernal.proofs.EventLists.{run_append, goes_append, lawful_after, interrupt_sends_nothing}
 use Rattle.tb_reaching.specs.Reaching.{States, Arrived, OnTheWay, Reaches}
 use Rattle.tb_reaching.specs.Laws.{OneStep}
-
--- running two lists of events in turn is running their concatenation
-pub run_append : (es fs : List Event) (s : State) → run (es ++ fs) s ≡ run fs (run es s)
-run_append [] fs s = refl
-run_append (e ∷ es) fs s = run_append es fs (happens s e)
-
--- the Go events of two lists add up
-pub goes_append : (es fs : List Event) → goes (es ++ fs) ≡ goes es + goes fs
-goes_append [] fs = omega arith
-goes_append (Go k ∷ es) fs = omega (arith, goes_append es fs)
-goes_append (Interrupt ws ∷ es) fs = goes_append es fs
-
--- the rest of a lawful list is lawful in the state that its front leads to
-pub lawful_after : (es fs : List Event) (s : State) → all_lawful (es ++ fs) s ≡ true → all_lawful fs (run es s) ≡ true
-lawful_after [] fs s h = h
-lawful_after (e ∷ es) fs s h = lawful_after es fs (happens s e) (and_parts _ _ h).1
-
--- an interrupt sends nothing
-interrupted_sent : (q : Status) (ws : Writes) (s : State) → (interrupted q ws s).sent ≡ s.sent
-interrupted_sent Running ws s = refl
-interrupted_sent Returned ws s = refl
-interrupted_sent Waits ws s = refl
-interrupted_sent (WentWrong w) ws s = refl
-
--- an interrupt sends nothing
-pub interrupt_sends_nothing : (s : State) (ws : ArrayVec (ℕ × ℕ)) → (happens s (Interrupt ws)).sent ≡ s.sent
-interrupt_sends_nothing s ws = interrupted_sent (status s) ws.items s
 
 later_arrived : (q : States) (t : List ℕ) (n : ℕ) (s : State) (ws : ArrayVec (ℕ × ℕ)) (es : List Event) → (happens s (Interrupt ws)).sent ≡ s.sent
     → Arrived q t n (happens s (Interrupt ws)) es → Arrived q t n s (Interrupt ws ∷ es)

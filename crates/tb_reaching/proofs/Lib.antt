@@ -27,8 +27,6 @@ pub mod Parts
 -- ── from the start to the end ──
 -- the view of an arbitrary start
 pub mod Start
--- what was sent is kept
-pub mod Grows
 -- the ends of a run, and that nothing goes wrong on the way
 pub mod Ends
 -- the program that sends a line

@@ -15,7 +15,7 @@ use Rattle.tb_kernal.specs.Rom.{all_writable, service_at}
 use Rattle.tb_kernal.specs.Machine.{State, status, status_by, waits_for, happens, gone, gone_at, served, after_service, clobbered, returned, first_or_zero}
 use Rattle.tb_kernal.specs.Machine.{interrupted, is_lawful, is_lawful_go, is_lawful_event, is_stopped}
 use Rattle.tb_reaching.specs.View.{View, Setup, At, Fits, Comes, with_s, back_at}
-use Rattle.tb_reaching.proofs.Laws.{interrupt_sends_nothing}
+use Rattle.tb_kernal.proofs.EventLists.{interrupt_sends_nothing}
 use Rattle.tb_reaching.proofs.Act.{kept_by_interrupt, rom_wrote, pc_here, pulled, not_home, up}
 use Rattle.tb_reaching.proofs.Comes.{comes_by, chained, looser}
 

@@ -6,7 +6,8 @@ use Rattle.tb_opcodes.specs.Opcodes.{encoded}
 use Rattle.tb_asm.specs.Layout.{Entry, size, size_of, image_of, labels_from}
 use Rattle.tb_asm.specs.Settle.{Form, kept, items_from, AllReach}
 use Rattle.tb_settling.specs.Settled.{AreFormsOf, IsSettled}
-use Rattle.tb_runtime16.specs.Addresses.{PROLOGUE_AT, LINES_AT}
+use Rattle.tb_runtime16.specs.Addresses.{PROLOGUE_AT}
+use Rattle.tb_kept.specs.Addresses.{LINES_AT}
 use Rattle.tb_program_code.specs.Program.{program_code, AreCodable}
 use Rattle.tb_syntax.specs.Source.{Program, numbers, Rises}
 use Rattle.tb_correctness.specs.Laid.{ArePolled}
@@ -16,7 +17,7 @@ use Rattle.tb_selection.proofs.Closed.{all_closed}
 use Rattle.tb_correctness.proofs.Whole.Compiled.{image_keeps, image_marks}
 use Rattle.tb_meaning.specs.Control.{has_line}
 use Rattle.tb_simulation.specs.Layout.{layout_of}
-use Rattle.tb_simulation.specs.LineStarts.{MarksLines}
+use Rattle.tb_kept.specs.LineStarts.{MarksLines}
 use Rattle.tb_simulation.proofs.SameStarts.{Agree}
 use Rattle.tb_refutations.specs.Bare.{image}
 use Rattle.tb_refutations.specs.Statements.{IsKept}

@@ -11,8 +11,7 @@ use Rattle.tb_kernal.specs.Rom.{service_at}
 use Rattle.tb_kernal.specs.Runs.{run, goes}
 use Rattle.tb_syntax.specs.Source.{numbers}
 use Rattle.tb_meaning.specs.Meaning as meaning
-use Rattle.tb_simulation.specs.Layout.{is_start}
-use Rattle.tb_simulation.specs.LineStarts.{MarksLines}
+use Rattle.tb_kept.specs.LineStarts.{is_start, MarksLines}
 use Rattle.tb_refutations.specs.Changed.{line_table}
 use Rattle.tb_refutations.specs.Compiled.{ends_image}
 use Rattle.tb_refutations.specs.Programs.{ends}

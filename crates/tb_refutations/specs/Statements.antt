@@ -2,7 +2,7 @@
 use Rattle.std.specs.Prelude.{ℕ, List}
 use Rattle.tb_memmap.specs.Regions.{BASIC_START}
 use Rattle.tb_syntax.specs.Source.{Program}
-use Rattle.tb_simulation.specs.Theorem.{Keeps}
+use Rattle.tb_kept.specs.Keeps.{Keeps}
 
 -- it keeps the program, with the seed 1
 abbrev pub IsKept : List ℕ → Program → Type 0

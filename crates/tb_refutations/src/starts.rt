@@ -1,7 +1,7 @@
 //! Where lines begin: an address that no run comes to marks no line.
 ghost use Rattle.tb_memmap.specs.Regions.{BASIC_START};
-ghost use Rattle.tb_runtime16.specs.Addresses.{LINES_AT};
-ghost use Rattle.tb_simulation.specs.LineStarts.{MarksLines};
+ghost use Rattle.tb_kept.specs.Addresses.{LINES_AT};
+ghost use Rattle.tb_kept.specs.LineStarts.{MarksLines};
 ghost use Rattle.tb_refutations.specs.Changed.{line_table};
 ghost use Rattle.tb_refutations.specs.Compiled.{ends_image};
 ghost use Rattle.tb_refutations.specs.Programs.{ends};

@@ -1,7 +1,7 @@
 -- Renamed lines make the renamed program.
 use Rattle.std.proofs.Common.{◌≡◌, ℕ, ◌+◌, Bool, true, false, List, [], ◌∷◌, map, refl, ap, ◌∙◌, subst, nat_lt, ◌==◌}
 use Rattle.tb_syntax.specs.Source.{Statement, Program}
-use Rattle.tb_parser.specs.declared.notation.Notation.{Notation}
+use Rattle.tb_text.specs.declared.notation.Notation.{Notation}
 use Rattle.tb_parser.specs.Files.{LinesIn, at_end, edited, end, good, with_line, without_line}
 use Rattle.tb_parser.specs.Readings.{Edit, Nothing, Sets, Deletes}
 use Rattle.tb_source_names.specs.Lines.{does}

@@ -7,7 +7,7 @@ use Rattle.serde_json.specs.View.{view}
 use Rattle.serde_json.specs.declared.value.Value.{Value}
 use Rattle.tb_parser.specs.Files.{LinesIn, at_end}
 use Rattle.tb_parser.specs.Readings.{LineIn}
-use Rattle.tb_parser.specs.declared.notation.Notation.{Notation}
+use Rattle.tb_text.specs.declared.notation.Notation.{Notation}
 use Rattle.tb_parser.specs.declared.lexer.Token.{Token}
 use Rattle.tb_places.specs.Spans.{piece}
 use Rattle.tb_place_values.specs.Ranges.{range_of}

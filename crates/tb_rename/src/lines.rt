@@ -8,8 +8,9 @@ ghost use Rattle.tb_rename.specs.Renamed as spec;
 use crate::comparing::is_renamed_edit;
 use crate::letters::Letters;
 use std::alloc::{AllocError, Global};
-use tb_parser::{Notation, SourceErrorKind, read_line_in};
+use tb_parser::{SourceErrorKind, read_line_in};
 use tb_source_names::{Line, Source, Variable, variables_of};
+use tb_text::Notation;
 
 // Writes the new letter in place of a variable, if it is the one that is renamed.
 fn put_letter(letters: Letters, text: &mut [u8], variable: Variable)

@@ -1,8 +1,8 @@
 -- Where the first line of a text ends.
 use Rattle.std.proofs.Common.{◌≡◌, ◌≢◌, ℕ, zero, suc, ◌<◌, false, List, [], ◌∷◌, length, take, drop, refl, arith}
 use Rattle.std.proofs.lemmas.Bool.{ne_eqb}
-use Rattle.tb_parser.specs.Lines.{lines_from}
-use Rattle.tb_parser.proofs.FirstLine.{IsInside, first_line, last_line}
+use Rattle.tb_text.specs.Lines.{lines_from}
+use Rattle.tb_text.proofs.FirstLine.{IsInside, first_line, last_line}
 use Rattle.tb_renumber.specs.Ends.{IsBehind, ends_from}
 
 -- the first line's end is where the text after it begins with one

@@ -1,6 +1,6 @@
 -- Where lines are left, text is left.
 use Rattle.std.proofs.Common.{◌≡◌, ◌≢◌, ℕ, ◌<◌, false, List, [], ◌∷◌, length, drop, map, ap, arith, ◌∙◌, length-drop}
-use Rattle.tb_parser.specs.Lines.{lines_from}
+use Rattle.tb_text.specs.Lines.{lines_from}
 use Rattle.tb_source_names.specs.declared.lines.Line.{Line as SourceLine}
 
 no_lines : (line : List ℕ) (lines : List (List ℕ)) → line ∷ lines ≡ [] → ⊥

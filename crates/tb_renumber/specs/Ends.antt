@@ -1,6 +1,6 @@
 -- The ends of the lines of a text.
 use Rattle.std.specs.Prelude.{ℕ, ◌≡◌, Bool, true, false, ◌==◌, List, [], ◌∷◌, if◌then◌else◌}
-use Rattle.tb_parser.specs.Lines.{lines_from}
+use Rattle.tb_text.specs.Lines.{lines_from}
 
 -- a byte 10 at the front of a text
 abbrev pub feed : List ℕ → List ℕ

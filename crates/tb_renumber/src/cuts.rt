@@ -1,6 +1,6 @@
 //! The ends of the lines of a text.
 ghost use Rattle.std.specs.Prelude.{◌≡◌, ◌≢◌, ◌∷◌, ◌<◌, [], false, length, IsTrue};
-ghost use Rattle.tb_parser.specs.Lines.{lines_from, starts_with_end};
+ghost use Rattle.tb_text.specs.Lines.{lines_from, starts_with_end};
 ghost use Rattle.tb_renumber.specs.Ends.{IsBehind, ends_from};
 
 /// The end of a line, and what is behind it.
@@ -11,7 +11,7 @@ pub struct Cut<'a> {
 }
 
 // The end of a line at the front of a text, and what is behind it.
-#[tactic(auto, unfolding(tb_parser::specs::Lines::lines_from, crate::specs::Ends::ends_from))]
+#[tactic(auto, unfolding(tb_text::specs::Lines::lines_from, crate::specs::Ends::ends_from))]
 fn cut_end(text: &[u8]) -> Cut<'_>
     requires { IsTrue (starts_with_end text.now) }
     ensures lines { lines_from false text.now ≡ [] ∷ lines_from false result.behind.now }

@@ -9,9 +9,10 @@ ghost use Rattle.tb_renumber.specs.Answers.{IsMovable, IsOther, IsProgramIn, Ref
 use crate::refusals::Refusal;
 use crate::texts::renumbered_text;
 use std::alloc::Global;
-use tb_parser::{Notation, Program, SourceError, SourceErrorKind, parse_in};
+use tb_parser::{Program, SourceError, SourceErrorKind, parse_in};
 use tb_renumbering::{Numbering, is_renumbered, jump_fault};
 use tb_source_names::{Source, read_source};
+use tb_text::Notation;
 
 // Whether a program can be renumbered.
 fn check(program: &Program, numbering: Numbering) -> Result<(), Refusal>

@@ -3,7 +3,7 @@ ghost use Rattle.std.specs.Prelude.{◌≡◌, true, IfOk, map, MatchResult, Non
 ghost use Rattle.tb_syntax.specs.PlainData.{lines_of};
 ghost use Rattle.tb_syntax.specs.Source.{numbers};
 ghost use Rattle.tb_renumbering.specs.Renumbered.{are_low, new_number};
-ghost use Rattle.tb_parser.specs.Lines.{lines_of_file};
+ghost use Rattle.tb_text.specs.Lines.{lines_of_file};
 ghost use Rattle.tb_source_names.specs.Lines.{does};
 ghost use Rattle.tb_source_names.specs.Sources.{edits_of};
 ghost use Rattle.tb_renumber.specs.Answers.{IsLong};
@@ -16,9 +16,7 @@ use std::alloc::{AllocError, Global};
 use tb_parser::{LineEdit, Program};
 use tb_renumbering::Numbering;
 use tb_source_names::{Line, Source};
-
-/// The most bytes that a line has.
-const LONGEST_LINE: usize = 255;
+use tb_text::LONGEST_LINE;
 
 // Whether an empty line that ends so would be none behind a text: a byte 10 behind a byte 13 ends the same line.
 fn loses_line(text: &[u8], end: &[u8]) -> bool

@@ -4,10 +4,7 @@ ghost use Rattle.tb_syntax.specs.PlainData.{lines_of};
 ghost use Rattle.tb_syntax.specs.Source.{numbers};
 ghost use Rattle.tb_renumbering.specs.Renumbered.{are_low, new_number};
 
-use tb_syntax::Program;
-
-/// The highest number that a line may have.
-pub const HIGHEST_LINE: u16 = 32_767;
+use tb_syntax::{HIGHEST_LINE, Program};
 
 /// How lines are numbered: the first number, and how much higher each next one is.
 #[derive(Clone, Copy, PartialEq, Eq, Debug, Drop)]

@@ -3,12 +3,13 @@ use std::io;
 use std::rt::Files;
 use std::time::Clock;
 use tb_debug_engine::{Rom, Setting, debug_prg};
-use tb_driver::{Outcome, Tracked, read_input};
+use tb_engines::Outcome;
 use tb_file_engine::opened;
 use tb_host::{Host, Progress, keyboard, labels_in, read_warned, settings_of};
 use tb_jobs::{Failure, Runnable, Settings};
 use tb_kernal::Keyboard;
 use tb_labels::Label;
+use tb_streams::{Tracked, read_input};
 
 /// How a program is debugged.
 pub fn setting_of(settings: &Settings, rude: Option<u16>, prompts: bool) -> Setting {

@@ -2,11 +2,15 @@
 use std::env::VarError;
 use std::rt::{Env, Files};
 use std::{env, io};
-use tb_driver::{CompileSettings, Outcome, Played, Tracked, play_compiled, play_file, read_input};
+use tb_compiled::CompileSettings;
+use tb_engines::Outcome;
 use tb_file_engine::{opened, save};
 use tb_host::{Host, read_warned};
 use tb_jobs::{Failure, Runnable, room_for_screen};
+use tb_play::{Played, play_file};
 use tb_screen_play::play_file_on_screen;
+use tb_sources::play_compiled;
+use tb_streams::{Tracked, read_input};
 
 /// How a program is played.
 #[derive(Clone, Copy)]

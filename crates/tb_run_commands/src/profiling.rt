@@ -1,7 +1,7 @@
 //! Profiles of sources and of PRG files.
 use std::rt::Files;
 use std::time::Clock;
-use tb_driver::Report;
+use tb_engines::Report;
 use tb_file_engine::{profile_file, profile_prg_file};
 use tb_host::{Host, Progress, keyboard, settings_of};
 use tb_jobs::{Failure, Runnable, Settings};

@@ -2,13 +2,15 @@
 use std::io;
 use std::rt::Files;
 use std::time::Clock;
-use tb_driver::{NotedRun, Outcome, Report, Tracked, run_noted, step_prg, step_within};
-use tb_engines::{PrgRun, run_prg_watched};
+use tb_codegen::TinyBasic;
+use tb_engines::{Outcome, PrgRun, Report, run_prg_watched};
 use tb_file_engine::opened;
 use tb_host::{Host, Progress, keyboard, labels_in, named_place, settings_of};
 use tb_jobs::{Failure, Runnable, Settings};
 use tb_kernal::{Keyboard, Outside, Quiet, Rude};
 use tb_labels::Label;
+use tb_sources::{NotedRun, run_noted, step_prg, step_within};
+use tb_streams::Tracked;
 
 /// How a run ended.
 #[derive(Debug, Drop)]
@@ -73,6 +75,7 @@ fn run_source<R: Files + Clock + Print + Eprint + Input + AllocGlobal, O: Outsid
     };
     let limit = u64::from(settings.limit.events);
     Ran::Source(run_noted(
+        &TinyBasic,
         rt.alloc(),
         &mut file,
         &mut Tracked::new(io::writer(rt)),
@@ -133,6 +136,7 @@ pub fn step<R: Files + Print + Input + AllocGlobal>(
     Ok(match what {
         Runnable::Source(_) => {
             step_within(
+                &TinyBasic,
                 alloc,
                 &mut file,
                 &mut commands,

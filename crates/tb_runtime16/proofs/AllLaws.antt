@@ -10,7 +10,8 @@ use Rattle.tb_words.specs.Words.{digits_of}
 use Rattle.tb_meaning.specs.Control.{fault_text, zone, column_after, deepest}
 use Rattle.tb_meaning.specs.Input.{Turn, Got, Bad, Dry, Nothing, turn}
 use Rattle.tb_syntax.specs.Source.{Rises}
-use Rattle.tb_runtime16.specs.Addresses.{COLUMN, OPEN, HOME_S, SEED, LINE, NOTES, TABLE, WANTED, COUNT, RANDOM_AT, INPUT_AT, SEARCH_AT, FAULT_LINE_AT}
+use Rattle.tb_kept.specs.Addresses.{COLUMN, OPEN, HOME_S, SEED, LINE, NOTES, TABLE, WANTED, COUNT}
+use Rattle.tb_runtime16.specs.Addresses.{RANDOM_AT, INPUT_AT, SEARCH_AT, FAULT_LINE_AT}
 use Rattle.tb_reaching.specs.View.{View, Setup, Holds, Fits, Comes, view, back_at}
 use Rattle.tb_reaching.specs.Start.{IsHome, IsWaiting}
 use Rattle.tb_reaching.proofs.Comes.{looser}

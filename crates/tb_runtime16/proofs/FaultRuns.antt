@@ -11,7 +11,8 @@ use Rattle.tb_reaching.proofs.Calls.{calling, under, stacked_on}
 use Rattle.tb_reaching.proofs.StackPointer.{putting_s}
 use Rattle.tb_words.specs.Words.{digits_of}
 use Rattle.tb_meaning.specs.Control.{fault_text}
-use Rattle.tb_runtime16.specs.Addresses.{SEND_AT, FAULT_LINE_AT, FAULT_AT, NUMBER_AT, COLUMN, LINE, BYTE, LEFT}
+use Rattle.tb_runtime16.specs.Addresses.{SEND_AT, FAULT_LINE_AT, FAULT_AT, NUMBER_AT}
+use Rattle.tb_kept.specs.Addresses.{COLUMN, LINE, BYTE, LEFT}
 use Rattle.tb_runtime16.specs.Block.{block_part}
 use Rattle.tb_runtime16.specs.Ends.{FaultLaw, FaultLineLaw}
 use Rattle.tb_runtime16.specs.Laws.{Sent, nowhere}

@@ -4,7 +4,8 @@ use Rattle.std.proofs.Common.{length, refl, sym, ap, ◌∙◌, subst, ⊎_elim,
 use Rattle.std.specs.Prelude.{if◌then◌else◌}
 use Rattle.std.proofs.lemmas.Bool.{ne_eqb, eq-eqb, cases_eq}
 use Rattle.tb_meaning.specs.Control.{fault_text, has_line}
-use Rattle.tb_runtime16.specs.Addresses.{HOME_S, LINE, FAULT_AT}
+use Rattle.tb_kept.specs.Addresses.{HOME_S, LINE}
+use Rattle.tb_runtime16.specs.Addresses.{FAULT_AT}
 use Rattle.tb_reaching.specs.View.{View, Setup, Holds, Fits, Comes, view}
 use Rattle.tb_reaching.specs.Start.{IsHome}
 use Rattle.tb_reaching.proofs.Comes.{known, looser}

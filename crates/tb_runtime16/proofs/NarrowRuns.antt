@@ -15,7 +15,8 @@ use Rattle.tb_reaching.specs.View.{Setup, Holds, Fits, Comes, view, View, back_a
 use Rattle.tb_reaching.proofs.Comes.{after, ending, looser}
 use Rattle.tb_reaching.proofs.Comes.{known}
 use Rattle.tb_reaching.proofs.Calls.{calling, stacked_on, under}
-use Rattle.tb_runtime16.specs.Addresses.{DIVIDE_AT, LEFT, RIGHT, RESULT}
+use Rattle.tb_runtime16.specs.Addresses.{DIVIDE_AT}
+use Rattle.tb_kept.specs.Addresses.{LEFT, RIGHT, RESULT}
 use Rattle.tb_runtime16.specs.Block.{block_part}
 use Rattle.tb_runtime16.specs.Laws.{Back, Leaves, Parted, Changes, is_argument}
 use Rattle.tb_runtime16.proofs.InMemory.{IsWord, holds_word}

@@ -11,7 +11,7 @@ use Rattle.tb_reaching.specs.Start.{setup_of, view_of}
 use Rattle.tb_reaching.proofs.Comes.{after, ending}
 use Rattle.tb_reaching.proofs.StackPointer.{taking_s}
 use Rattle.tb_reaching.proofs.Start.{length_from, fits_start, homed_start, zero_at}
-use Rattle.tb_runtime16.specs.Addresses.{HOME_S, VARS, SEEDED, SEED, NOTES}
+use Rattle.tb_kept.specs.Addresses.{HOME_S, VARS, SEEDED, SEED, NOTES}
 use Rattle.tb_runtime16.specs.Ends.{Begun, PrologueLaw}
 use Rattle.tb_runtime16.proofs.Within.{prologue_part, prologue_in}
 

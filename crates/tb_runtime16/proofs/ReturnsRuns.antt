@@ -14,7 +14,8 @@ use Rattle.tb_reaching.proofs.Memory.{put_other, put_same}
 use Rattle.tb_reaching.proofs.Comes.{after, ending, looser}
 use Rattle.tb_reaching.proofs.Placed.{placing, takes_at, stores_at, reads_data}
 use Rattle.tb_meaning.specs.Control.{deepest}
-use Rattle.tb_runtime16.specs.Addresses.{PUSH_AT, POP_AT, LEFT, RESULT, NOTES, RETURN_LOW, RETURN_HIGH}
+use Rattle.tb_runtime16.specs.Addresses.{PUSH_AT, POP_AT}
+use Rattle.tb_kept.specs.Addresses.{LEFT, RESULT, NOTES, RETURN_LOW, RETURN_HIGH}
 use Rattle.tb_runtime16.specs.Block.{block_part}
 use Rattle.tb_runtime16.specs.Laws.{Changes, Back, Faults}
 use Rattle.tb_runtime16.specs.Returns.{ReturnAt, AreReturns, ReturnList, push_changes, pop_changes, Pushed, Popped, PushLaw, PushFullLaw, PopLaw, PopNoneLaw}

@@ -11,7 +11,8 @@ use Rattle.tb_reaching.specs.View.{Setup, Holds, Fits, Comes, view, is_data, Byt
 use Rattle.tb_reaching.proofs.Memory.{program_not_data}
 use Rattle.tb_reaching.proofs.Start.{in_program}
 use Rattle.tb_reaching.proofs.Comes.{after, ending, looser}
-use Rattle.tb_runtime16.specs.Addresses.{SEARCH_AT, POINTER, WANTED, RESULT, TABLE, COUNT, SCRATCH}
+use Rattle.tb_runtime16.specs.Addresses.{SEARCH_AT}
+use Rattle.tb_kept.specs.Addresses.{POINTER, WANTED, RESULT, TABLE, COUNT, SCRATCH}
 use Rattle.tb_runtime16.specs.Block.{block_part}
 use Rattle.tb_runtime16.specs.Laws.{Changes}
 use Rattle.tb_runtime16.specs.Search.{Line, table_bytes, numbers_in, AllWords, address_of, search_changes, Searched, SearchLaw}

@@ -8,7 +8,8 @@ use Rattle.tb_reaching.proofs.Memory.{put_other}
 use Rattle.tb_reaching.proofs.Comes.{after, looser}
 use Rattle.tb_reaching.proofs.Services.{served_last}
 use Rattle.tb_meaning.specs.Control.{column_after}
-use Rattle.tb_runtime16.specs.Addresses.{SEND_AT, COLUMN}
+use Rattle.tb_runtime16.specs.Addresses.{SEND_AT}
+use Rattle.tb_kept.specs.Addresses.{COLUMN}
 use Rattle.tb_runtime16.specs.Block.{block_part}
 use Rattle.tb_runtime16.specs.Laws.{Back, Sent, nowhere, SendLaw}
 use Rattle.tb_runtime16.proofs.Within.{send_part, send_in}

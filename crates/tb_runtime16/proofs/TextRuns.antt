@@ -14,7 +14,8 @@ use Rattle.tb_reaching.proofs.Comes.{after, ending, looser}
 use Rattle.tb_reaching.proofs.Calls.{under}
 use Rattle.tb_reaching.proofs.Placed.{placing, takes_at, reads_code}
 use Rattle.tb_meaning.specs.Control.{column_after}
-use Rattle.tb_runtime16.specs.Addresses.{TEXT_AT, COLUMN, POINTER, LENGTH}
+use Rattle.tb_runtime16.specs.Addresses.{TEXT_AT}
+use Rattle.tb_kept.specs.Addresses.{COLUMN, POINTER, LENGTH}
 use Rattle.tb_runtime16.specs.Block.{block_part}
 use Rattle.tb_runtime16.specs.Laws.{Back, Sent, Told, nowhere, TextLaw}
 use Rattle.tb_opcodes.specs.Bytes.{AreBytes}

@@ -5,7 +5,8 @@ use Rattle.tb_reaching.specs.View.{View, Setup, Holds, Fits, Comes, view, back_a
 use Rattle.tb_reaching.specs.Start.{IsHome, IsWaiting}
 use Rattle.tb_meaning.specs.Control.{column_after, fault_text}
 use Rattle.tb_meaning.specs.Input.{Nothing, Turn, Got, Bad, Dry, turn}
-use Rattle.tb_runtime16.specs.Addresses.{INPUT_AT, COLUMN, LINE, OPEN}
+use Rattle.tb_runtime16.specs.Addresses.{INPUT_AT}
+use Rattle.tb_kept.specs.Addresses.{COLUMN, LINE, OPEN}
 use Rattle.tb_runtime16.specs.Block.{block_part}
 use Rattle.tb_runtime16.specs.Ends.{Entered}
 use Rattle.tb_runtime16.specs.Laws.{WordAt, Leaves, Gives, is_argument}

@@ -380,8 +380,8 @@ pub fn select<'a>(alloc: Global, code: &'a [SlotInstr]) -> Result<Vec<Group<'a>>
     Ok(groups)
 }
 
-/// The same, in the place of what `groups` held. Both lists only lend their room, so that not each line asks for its
-/// own.
+/// Selects as `select`, in the place of what `groups` held. Both lists only lend their room, so that not each line asks
+/// for its own.
 pub fn select_in<'a>(
     placed: &mut Vec<Placed<'a>>,
     groups: &mut Vec<Group<'a>>,

@@ -1,8 +1,14 @@
 //! Signs: the bytes that no key of a host types, as they are written in the texts of a source.
 //!
 //! `{clr}` is a control character by its name, `{3 down}` one so many times, and `{C1}` the byte of two hexadecimal
-//! digits. `[` and `]` stand for themselves. A text is read character by character, and bytes are written as a text that
-//! is read as the same bytes.
+//! digits. `[` and `]` stand for themselves.
+//!
+//! - `read_character` reads the sign or plain byte that a text begins with: the byte that it stands for, how often,
+//!   and how many bytes it is written with (`specs/Characters`).
+//! - `read_text` reads a whole text, or answers the place where no character begins. `write_text` answers a text that
+//!   is read as the same bytes (`back`); there is none exactly if a quote or a new line is among them.
+//! - `byte_named` and `name_of` go between a byte and its name. `near_name` is the name of the fewest edits;
+//!   `after_count` and `written_name` are the parts of a sign.
 #![tactic(auto)]
 
 mod characters;

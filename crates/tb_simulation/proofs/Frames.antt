@@ -11,8 +11,7 @@ use Rattle.tb_runtime16.specs.Routines.{AreReturns, SeedAt, WordAt, first, is_st
 use Rattle.tb_meaning.specs.Control.{Place, State, column_after}
 use Rattle.tb_memmap.specs.Bytes.{with_byte}
 use Rattle.tb_reaching.proofs.Memory.{put_other, put_same}
-use Rattle.tb_runtime16.specs.Addresses.{COLUMN, LINE, NOTES, OPEN, SEED, SEEDED}
-use Rattle.tb_templates.specs.Templates.{var_at}
+use Rattle.tb_kept.specs.Addresses.{COLUMN, LINE, NOTES, OPEN, SEED, SEEDED, var_at}
 use Rattle.std.proofs.lemmas.Bool.Decides.{nat_tests}
 
 -- ---- words

@@ -20,8 +20,9 @@ use Rattle.tb_meaning.specs.Control.{State}
 use Rattle.tb_meaning.specs.Meaning.{start, source_run}
 use Rattle.tb_lower.specs.Follows.{Follows, longest}
 use Rattle.tb_lower.specs.Slots.{SlotCode, SlotState, Slots, Whole}
-use Rattle.tb_simulation.specs.Theorem.{Starts, HasEnded, IsSound, HasDone, Keeps}
-use Rattle.tb_simulation.specs.Layout.{Layout, is_start, inner}
+use Rattle.tb_kept.specs.Keeps.{Starts, HasEnded, IsSound, HasDone, Keeps}
+use Rattle.tb_simulation.specs.Layout.{Layout, inner}
+use Rattle.tb_kept.specs.LineStarts.{is_start}
 use Rattle.tb_simulation.proofs.Inductions as keeps
 use Rattle.tb_simulation.proofs.Inductions.{goes_back, lawful_back, run_back}
 use Rattle.tb_simulation.proofs.Strides.{IsStride}

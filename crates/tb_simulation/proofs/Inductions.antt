@@ -7,8 +7,7 @@ use Rattle.tb_kernal.specs.Machine as machine
 use Rattle.tb_kernal.specs.Machine.{happens, is_lawful}
 use Rattle.tb_kernal.specs.Runs.{run, all_lawful, goes}
 use Rattle.tb_reaching.specs.Reaching.{Arrived, OnTheWay}
-use Rattle.tb_reaching.proofs.Grows.{sends_on}
-use Rattle.tb_reaching.proofs.Laws.{run_append, goes_append, lawful_after}
+use Rattle.tb_kernal.proofs.EventLists.{sends_on, run_append, goes_append, lawful_after}
 use Rattle.tb_meaning.specs.Steps.{End, Step, Goes, Stops, Run, GoesOn, Over, joined, advance_by, sent_by}
 use Rattle.tb_words.specs.Prefixes.{IsPrefix}
 use Rattle.tb_syntax.specs.Source.{Program, numbers}

@@ -10,14 +10,14 @@ use Rattle.tb_reaching.specs.View.{View, Setup, At, Among, UnderWay, Comes}
 use Rattle.tb_reaching.specs.Start.{IsHome, IsWaiting}
 use Rattle.tb_reaching.proofs.Barred.{Enters, opened}
 use Rattle.tb_reaching.proofs.Comes.{looser}
-use Rattle.tb_reaching.proofs.Laws.{goes_append}
+use Rattle.tb_kernal.proofs.EventLists.{goes_append}
 use Rattle.tb_reaching.proofs.Services.{waits_on}
 use Rattle.tb_reaching.proofs.Ends.{home_rests, home_returned, waiting_waits}
 use Rattle.tb_reaching.proofs.Barred.{quiet, begins, enters, open_up}
 use Rattle.tb_meaning.specs.Steps.{End, Ended, Faulted, Step, Goes, Stops}
 use Rattle.tb_meaning.specs.Steps as steps
 use Rattle.tb_lower.specs.Slots.{SlotState, Rest, Whole, Left}
-use Rattle.tb_simulation.specs.Theorem.{HasEnded}
+use Rattle.tb_kept.specs.Keeps.{HasEnded}
 use Rattle.tb_runtime16.specs.Routines.{Waiting}
 use Rattle.tb_simulation.proofs.Inductions as keeps
 pub use Rattle.tb_simulation.proofs.Inductions.{sent_in}

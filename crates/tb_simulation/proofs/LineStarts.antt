@@ -12,7 +12,7 @@ use Rattle.tb_kernal.specs.Rom.{service_at}
 use Rattle.tb_kernal.specs.Machine as machine
 use Rattle.tb_kernal.specs.Machine.{happens, is_lawful}
 use Rattle.tb_kernal.specs.Runs.{all_lawful, goes, is_own, run}
-use Rattle.tb_reaching.proofs.Laws.{goes_append, interrupt_sends_nothing, run_append}
+use Rattle.tb_kernal.proofs.EventLists.{goes_append, interrupt_sends_nothing, run_append}
 use Rattle.tb_reaching.specs.View.{View, Setup, Part, At, Among, UnderWay, is_data, is_program, part_at}
 use Rattle.tb_reaching.specs.Start.{view_of}
 use Rattle.tb_reaching.proofs.Act.{kept_by_interrupt, pc_here}
@@ -25,10 +25,10 @@ use Rattle.tb_meaning.specs.Control as control
 use Rattle.tb_meaning.specs.Meaning.{source_run}
 use Rattle.tb_lower.specs.Follows.{Follows, longest}
 use Rattle.tb_lower.specs.Slots.{Instr, SlotCode, SlotState, Rest, Whole, Left}
-use Rattle.tb_runtime16.specs.Addresses.{NOTES}
-use Rattle.tb_templates.specs.Templates.{var_at}
-use Rattle.tb_simulation.specs.Theorem.{Starts}
-use Rattle.tb_simulation.specs.Layout.{Layout, is_start, inner, place_address}
+use Rattle.tb_kept.specs.Addresses.{NOTES, var_at}
+use Rattle.tb_kept.specs.Keeps.{Starts}
+use Rattle.tb_simulation.specs.Layout.{Layout, inner, place_address}
+use Rattle.tb_kept.specs.LineStarts.{is_start}
 use Rattle.tb_runtime16.specs.Routines.{AreReturns, WordAt}
 use Rattle.tb_simulation.proofs.Inductions as keeps
 use Rattle.tb_simulation.proofs.Inductions.{lawful_back, on_way, run_back, there}

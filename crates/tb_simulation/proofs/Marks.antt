@@ -14,11 +14,11 @@ use Rattle.tb_meaning.specs.Control.{At, Past, Place, State, content_at, has_lin
 use Rattle.tb_meaning.specs.Meaning.{source_run}
 use Rattle.tb_lower.specs.Follows.{Follows, longest}
 use Rattle.tb_lower.specs.Slots.{Instr, SlotCode, SlotState, Whole}
-use Rattle.tb_simulation.specs.Theorem.{Starts}
-use Rattle.tb_simulation.specs.Layout.{Layout, is_start, place_address}
-use Rattle.tb_simulation.specs.LineStarts.{begun, BeginsLine, HoldsReturns, LineComes, MarksLines, StandsFor, return_at}
+use Rattle.tb_kept.specs.Keeps.{Starts}
+use Rattle.tb_simulation.specs.Layout.{Layout, place_address}
+use Rattle.tb_kept.specs.LineStarts.{is_start, begun, BeginsLine, HoldsReturns, LineComes, MarksLines, StandsFor, return_at}
 use Rattle.tb_runtime16.specs.Returns.{ReturnAt, AreReturns}
-use Rattle.tb_runtime16.specs.Addresses.{RETURN_HIGH, RETURN_LOW}
+use Rattle.tb_kept.specs.Addresses.{RETURN_HIGH, RETURN_LOW}
 use Rattle.tb_simulation.proofs.Mirrors.{return_addresses}
 use Rattle.tb_runtime16.proofs.InMemory.{value}
 use Rattle.tb_simulation.proofs.Starts as lines

@@ -6,8 +6,7 @@ use Rattle.tb_reaching.specs.Start.{IsHome}
 use Rattle.tb_meaning.specs.Steps.{Step, Goes, Stops, Ended, Faulted, Waits}
 use Rattle.tb_meaning.specs.Control.{Place, State}
 use Rattle.tb_lower.specs.Slots.{SlotState}
-use Rattle.tb_runtime16.specs.Addresses.{COLUMN, OPEN, NOTES}
-use Rattle.tb_templates.specs.Templates.{var_at}
+use Rattle.tb_kept.specs.Addresses.{COLUMN, OPEN, NOTES, var_at}
 use Rattle.tb_opcodes.specs.Bytes.{AreBytes}
 use Rattle.tb_simulation.specs.Layout.{Layout, place_address}
 use Rattle.tb_runtime16.specs.Routines.{WordAt, SeedAt, AreReturns, Entered, Here, Waiting}

@@ -10,8 +10,7 @@ use Rattle.tb_syntax.specs.Source.{numbers}
 use Rattle.tb_meaning.specs.Control.{first_place}
 use Rattle.tb_meaning.specs.Meaning.{start}
 use Rattle.tb_lower.specs.Slots.{SlotCode, Slots}
-use Rattle.tb_runtime16.specs.Addresses.{VARS, COLUMN, OPEN, SEEDED, SEED, NOTES, LINES_AT}
-use Rattle.tb_templates.specs.Templates.{var_at}
+use Rattle.tb_kept.specs.Addresses.{VARS, COLUMN, OPEN, SEEDED, SEED, NOTES, LINES_AT, var_at}
 use Rattle.tb_opcodes.specs.Bytes.{AreBytes}
 use Rattle.tb_simulation.specs.Layout.{Layout, place_address}
 use Rattle.tb_runtime16.specs.Routines.{WordAt, first}

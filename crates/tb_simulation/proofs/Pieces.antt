@@ -12,7 +12,7 @@ use Rattle.tb_reaching.proofs.Placed.{changes_at, placing, reads_data, stores_at
 use Rattle.tb_reaching.specs.View.{Bytes}
 use Rattle.tb_reaching.proofs.Instr.{Stands, ins, instr_bytes}
 use Rattle.tb_reaching.specs.View.{Comes, Fits, Setup, View, is_data, view, with_s}
-use Rattle.tb_runtime16.specs.Addresses.{LEFT, RESULT}
+use Rattle.tb_kept.specs.Addresses.{LEFT, RESULT}
 use Rattle.std.specs.Prelude.{◌==◌, if◌then◌else◌}
 use Rattle.std.proofs.lemmas.Bool.Decides.{nat_tests}
 use Rattle.tb_opcodes.specs.Opcodes.{find_row, rows}

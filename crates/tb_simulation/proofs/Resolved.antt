@@ -7,8 +7,9 @@ use Rattle.tb_words.specs.Words.{word}
 use Rattle.tb_meaning.specs.Control.{has_line, highest, next_after}
 use Rattle.tb_lower.specs.Slots as slots
 use Rattle.tb_kernal.specs.Numbers.{CHROUT}
-use Rattle.tb_runtime16.specs.Addresses.{POINTER, RESULT, TABLE, COUNT, WANTED, LENGTH, COLUMN, SEND_AT, TEXT_AT, ZONE_AT, INPUT_AT, SEARCH_AT, FAULT_LINE_AT, POLL_AT}
-use Rattle.tb_templates.specs.Templates.{only_byte, var_at, slot_at}
+use Rattle.tb_kept.specs.Addresses.{POINTER, RESULT, TABLE, COUNT, WANTED, LENGTH, COLUMN, var_at}
+use Rattle.tb_runtime16.specs.Addresses.{SEND_AT, TEXT_AT, ZONE_AT, INPUT_AT, SEARCH_AT, FAULT_LINE_AT, POLL_AT}
+use Rattle.tb_templates.specs.Templates.{only_byte, slot_at}
 use Rattle.tb_opcodes.specs.Bytes.{AreBytes}
 use Rattle.tb_simulation.specs.Layout.{Layout, place_address}
 

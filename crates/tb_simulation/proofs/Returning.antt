@@ -1,7 +1,7 @@
 -- What holds when a routine of the block has returned.
 use Rattle.std.proofs.Common.{◌≡◌, ◌≢◌, ℕ, ◌+◌, ◌/◌, ◌%◌, ◌≤◌, true, false, List, [], ◌∷◌, refl, sym, ap, ◌∙◌, arith}
 use Rattle.tb_reaching.specs.View.{Setup, View, back_at}
-use Rattle.tb_runtime16.specs.Addresses.{HOME_S}
+use Rattle.tb_kept.specs.Addresses.{HOME_S}
 use Rattle.tb_runtime16.specs.Laws.{Leaves}
 use Rattle.tb_runtime16.specs.Routines.{Entered, Here, is_state}
 use Rattle.tb_simulation.proofs.Resolved.{highest_code}

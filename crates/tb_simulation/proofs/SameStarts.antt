@@ -10,8 +10,7 @@ use Rattle.tb_kernal.specs.Machine.{happens}
 use Rattle.tb_kernal.specs.Runs.{run}
 use Rattle.tb_meaning.specs.Control.{At, Past, Place, has_line}
 use Rattle.tb_syntax.specs.Source.{Program, numbers}
-use Rattle.tb_simulation.specs.Layout.{is_start}
-use Rattle.tb_simulation.specs.LineStarts.{begun, BeginsLine, HoldsReturns, MarksLines, StandsFor, return_at}
+use Rattle.tb_kept.specs.LineStarts.{is_start, begun, BeginsLine, HoldsReturns, MarksLines, StandsFor, return_at}
 
 module _ (start other : ℕ → ℕ) where
   abbrev pub Agree : List ℕ → Type 0

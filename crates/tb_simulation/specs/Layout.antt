@@ -1,5 +1,5 @@
 -- The addresses of a program's code in its image.
-use Rattle.std.specs.Prelude.{ℕ, ◌+◌, ◌≤◌, Bool, false, ◌||◌, nat_eq, if◌then◌else◌, List, [], ◌∷◌}
+use Rattle.std.specs.Prelude.{ℕ, ◌+◌, ◌≤◌, if◌then◌else◌, List}
 use Rattle.tb_asm.specs.declared.names.Name.{Name}
 use Rattle.tb_asm.specs.declared.items.Operand.TheVariants.{Label}
 use Rattle.tb_asm.specs.Layout.{Entry, number_in, bytes_from, size}
@@ -8,6 +8,7 @@ use Rattle.tb_templates.specs.declared.labels.Target.{Target}
 use Rattle.tb_templates.specs.declared.labels.Target.TheVariants as target
 use Rattle.tb_templates.specs.Labels.{label_of}
 use Rattle.tb_program_code.specs.Layout.{LabelsAt}
+use Rattle.tb_kept.specs.LineStarts.{is_start}
 use Rattle.tb_reaching.specs.View.{Part}
 use Rattle.tb_reaching.specs.View.{without}
 use Rattle.tb_reaching.specs.View.{Bytes}
@@ -54,11 +55,6 @@ layout_of labels ns seed = record {
 abbrev pub place_address : Layout → Place → ℕ
 place_address ly (At n) = ly.start n
 place_address ly Past = ly.past
-
--- whether a line begins at an address
-abbrev pub is_start : (ℕ → ℕ) → List ℕ → ℕ → Bool
-is_start start [] a = false
-is_start start (n ∷ ns) a = nat_eq a (start n) || is_start start ns a
 
 -- the program's bytes without the first one of each line
 abbrev pub inner : Layout → Part → Part

@@ -1,3 +1,1 @@
 pub mod Layout
-pub mod Theorem
-pub mod LineStarts

@@ -4,7 +4,7 @@ use Rattle.tb_syntax.specs.Source.{Statement}
 use Rattle.tb_parser.specs.Answers.{edit_of}
 use Rattle.tb_parser.specs.Readings.{Edit, Nothing, Sets, Deletes, LineIn, Refusal}
 use Rattle.tb_parser.specs.declared.edits.LineEdit.{LineEdit}
-use Rattle.tb_parser.specs.declared.notation.Notation.{Notation}
+use Rattle.tb_text.specs.declared.notation.Notation.{Notation}
 
 -- what a line is found to do in a notation: something to the program, or it is refused
 abbrev pub Does : Notation → List ℕ → Option LineEdit → Type 0

@@ -3,9 +3,9 @@ use Rattle.std.specs.Prelude.{ℕ, ◌≡◌, ◌+◌, Bool, false, List, [], �
 use Rattle.tb_syntax.specs.Source.{Statement, Program}
 use Rattle.tb_meaning.specs.Control.{content_at}
 use Rattle.tb_parser.specs.Files.{edited}
-use Rattle.tb_parser.specs.Lines.{lines_of_file}
+use Rattle.tb_text.specs.Lines.{lines_of_file}
 use Rattle.tb_parser.specs.Readings.{Edit, Nothing, Sets, Deletes}
-use Rattle.tb_parser.specs.declared.notation.Notation.{Notation}
+use Rattle.tb_text.specs.declared.notation.Notation.{Notation}
 use Rattle.tb_source_names.specs.Lines.{does}
 use Rattle.tb_source_names.specs.declared.lines.Line.{Line}
 

@@ -5,8 +5,9 @@ ghost use Rattle.tb_syntax.specs.PlainData.{statement_of};
 ghost use Rattle.tb_source_names.specs.Lines.{Does, does, number_in, statement_in};
 
 use std::alloc::{AllocError, Global};
-use tb_parser::{LineEdit, Notation, SourceErrorKind, Token, read_line_in, tokens};
+use tb_parser::{LineEdit, SourceErrorKind, Token, read_line_in, tokens};
 use tb_syntax::Statement;
+use tb_text::Notation;
 
 /// A line of a source.
 #[derive(Drop)]

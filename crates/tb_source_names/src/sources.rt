@@ -7,7 +7,8 @@ ghost use Rattle.tb_source_names.specs.Sources.{AreLinesOf, Gives, edits_of, joi
 use crate::lines::{Line, read_line};
 use std::alloc::{AllocError, Global};
 use std::collections::BTreeMap;
-use tb_parser::{LineEdit, Notation, next_line};
+use tb_parser::LineEdit;
+use tb_text::{Notation, next_line};
 
 /// A source.
 #[derive(Drop)]

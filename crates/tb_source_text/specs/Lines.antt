@@ -1,6 +1,6 @@
 -- The lines of a source by the numbers that they begin with.
 use Rattle.std.specs.Prelude.{ℕ, ◌+◌, ◌-◌, ◌*◌, min, ◌||◌, List, [], ◌∷◌, map, ◌==◌, if◌then◌else◌}
-use Rattle.tb_parser.specs.Lines.{lines_of_file}
+use Rattle.tb_text.specs.Lines.{lines_of_file}
 use Rattle.tb_source_text.specs.declared.lines.Numbered.{Numbered}
 use Rattle.tb_grammar.specs.Grammar.{is_digit}
 

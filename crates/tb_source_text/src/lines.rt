@@ -3,7 +3,7 @@ ghost use Rattle.std.specs.Prelude.{◌≡◌, ◌≤◌, [], IfOk, map};
 ghost use Rattle.tb_source_text.specs.Lines.{behind_number, last_of, longer, number_of, numbered, pair_of};
 
 use std::alloc::{AllocError, Global};
-use tb_parser::next_line;
+use tb_text::next_line;
 
 /// No line has this number or a higher one.
 const PAST: u32 = 65_536;

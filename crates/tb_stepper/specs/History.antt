@@ -6,8 +6,8 @@ use Rattle.tb_kernal.specs.declared.events.Event.{Event}
 use Rattle.tb_kernal.specs.declared.status.Status.{Status}
 use Rattle.tb_kernal.specs.Machine.{State, Content, state_of, status, is_stopped, happens}
 use Rattle.tb_kernal.specs.declared.status.Status.TheVariants.{Running}
-use Rattle.tb_codegen.specs.Compiled.{starts_of, table_of, line_in, start_in}
-use Rattle.tb_codegen.specs.declared.compiled.Compiled.{Compiled}
+use Rattle.tb_compiled.specs.Compiled.{starts_of, table_of, line_in, start_in}
+use Rattle.tb_compiled.specs.declared.compiled.Compiled.{Compiled}
 use Rattle.tb_stepper.specs.declared.reached.StepError.{StepError}
 use Rattle.tb_stepper.specs.declared.reached.StepError.TheVariants.{NoSuchLine, NoMemory as NoRoom}
 use Rattle.tb_stepper.specs.declared.reached.Reached.{Reached}

@@ -2,7 +2,7 @@
 use Rattle.std.specs.Prelude.{ℕ, ◌≡◌, ◌++◌, Bool, true, ◌&&◌, nat_le, List, [], ◌∷◌, length, take, drop, Option}
 use Rattle.tb_kernal.specs.declared.events.Event.{Event}
 use Rattle.tb_kernal.specs.Former.{Former}
-use Rattle.tb_codegen.specs.declared.compiled.Compiled.{Compiled}
+use Rattle.tb_compiled.specs.declared.compiled.Compiled.{Compiled}
 use Rattle.tb_kernal.specs.Rom.{written_open}
 use Rattle.tb_kernal.specs.Machine.{State, Content, state_of, is_lawful, happens}
 

@@ -5,7 +5,7 @@ ghost use Rattle.tb_cpu.specs.Operands.{word_in};
 ghost use Rattle.tb_words.specs.Words.{word_of};
 ghost use Rattle.tb_words.specs.Letters.{letter_index};
 ghost use Rattle.tb_syntax.specs.PlainData.{expression_of};
-ghost use Rattle.tb_runtime16.specs.Addresses.{NOTES};
+ghost use Rattle.tb_kept.specs.Addresses.{NOTES};
 ghost use Rattle.tb_meaning.specs.Evaluation.{IsEvaluation};
 ghost use Rattle.tb_inspection.specs.Readings.{variable_in, variables_in};
 

@@ -8,7 +8,7 @@ use crate::reached::{Reached, StepError};
 use circular_buffer::HeapCircularBuffer;
 use std::alloc::{AllocError, Global};
 use std::marker::Model;
-use tb_codegen::Compiled;
+use tb_compiled::Compiled;
 use tb_kernal::{Machine, Outside, Status, Undo};
 
 /// How many steps can be taken back.

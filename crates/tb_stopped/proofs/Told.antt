@@ -9,7 +9,7 @@ use Rattle.tb_adapter_messages.specs.Requests.{Asked, asked_in, no_message, pass
 use Rattle.tb_adapter_messages.specs.declared.refusals.Refusal.{Refusal}
 use Rattle.tb_adapter_messages.specs.declared.refusals.Refusal.TheVariants.{NoMessage}
 use Rattle.tb_adapter_values.specs.Requests.{command_of}
-use Rattle.tb_codegen.specs.Compiled.{prg_of}
+use Rattle.tb_compiled.specs.Compiled.{prg_of}
 use Rattle.tb_debug.specs.Debuggees.{program_of}
 use Rattle.tb_debug.specs.Debuggers.{OnRun}
 use Rattle.tb_debug.specs.Runs.{Point, RunsUpTo, first_point, point_at, typed as typed_to}
@@ -17,7 +17,7 @@ use Rattle.tb_debug.specs.declared.rom.Rom.{Rom}
 use Rattle.tb_debug.proofs.Running.{at_start, sent_before}
 use Rattle.tb_debug.proofs.Sources.{shows_some}
 use Rattle.tb_debug.proofs.Typing.{typed_at}
-use Rattle.tb_driver.specs.declared.reading.CompiledSource.{CompiledSource}
+use Rattle.tb_sources.specs.declared.reading.CompiledSource.{CompiledSource}
 use Rattle.tb_engines.specs.Programs.{StartsContent, StartsPrg}
 use Rattle.tb_kernal.specs.Machine.{State, state_of, status}
 use Rattle.tb_kernal.specs.declared.machine.Machine.{Machine}
@@ -25,7 +25,7 @@ use Rattle.tb_kernal.specs.declared.status.Status.TheVariants.{Running, Waits}
 use Rattle.tb_kernal.proofs.Typing.{status_kept}
 use Rattle.tb_prg.specs.Prg.{content_of}
 use Rattle.tb_prg.specs.declared.PrgError.{PrgError}
-use Rattle.tb_parser.specs.declared.notation.Notation.{Notation}
+use Rattle.tb_text.specs.declared.notation.Notation.{Notation}
 use Rattle.tb_streams.specs.HostForm.{host_form_of}
 use Rattle.tb_debug_adapter.specs.Dialogue.{IsSession, Moment, Says, TakesHeard, TakesMessage, Talks, Written, after, given, is_end, more as goes_on, none as begins}
 use Rattle.tb_debug_adapter.specs.Dialogue as dialogue

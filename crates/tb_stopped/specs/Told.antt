@@ -10,22 +10,22 @@ use Rattle.tb_adapter_values.specs.Arguments.{text_in}
 use Rattle.tb_adapter_values.specs.Requests.{command_of}
 use Rattle.tb_adapter_values.specs.declared.requests.Command.{Command}
 use Rattle.tb_adapter_values.specs.declared.requests.Command.TheVariants as command
-use Rattle.tb_codegen.specs.Compiled.{loaded_of, prg_of}
+use Rattle.tb_compiled.specs.Compiled.{loaded_of, prg_of}
 use Rattle.tb_debug.specs.Debuggees.{line_from, program_of}
 use Rattle.tb_debug.specs.Debuggers.{OnRun}
 use Rattle.tb_debug.specs.Runs.{Point, first_point, point_at}
 use Rattle.tb_debug.specs.Sources.{IsMadeOf, ShowsLine}
 use Rattle.tb_debug.specs.declared.debugger.Debugger.{Debugger}
 use Rattle.tb_debug.specs.declared.rom.Rom.{Rom}
-use Rattle.tb_driver.specs.declared.reading.CompiledSource.{CompiledSource}
+use Rattle.tb_sources.specs.declared.reading.CompiledSource.{CompiledSource}
 use Rattle.tb_engines.specs.Programs.{StartsPrg}
 use Rattle.tb_kernal.specs.Machine.{State, state_of}
 use Rattle.tb_kernal.specs.Typing.{with_more}
 use Rattle.tb_kernal.specs.declared.machine.Machine.{Machine}
 use Rattle.tb_memmap.specs.Regions.{BASIC_START}
 use Rattle.tb_play.specs.Lines.{keys_of_text}
-use Rattle.tb_simulation.specs.Theorem.{Starts}
-use Rattle.tb_parser.specs.declared.notation.Notation.{Notation}
+use Rattle.tb_kept.specs.Keeps.{Starts}
+use Rattle.tb_text.specs.declared.notation.Notation.{Notation}
 use Rattle.tb_streams.specs.HostForm.{host_form_of}
 use Rattle.tb_syntax.specs.Source.{Program}
 use Rattle.tb_adapter_requests.specs.Asking.{Evaluation, expression, question_in, typed}
@@ -179,7 +179,7 @@ start_of machine keys = with_more keys (state_of machine)
 abbrev pub run_of : Machine → Rom → List ℕ → Point
 run_of machine rom keys = first_point (start_of machine keys) rom
 
--- A session is on the run of its program from its start on these keys. Where a line begins, and `compile` made the program,
+-- A session is on the run of its program from its start on these keys. Where a line begins, and a compiler made the program,
 -- the source goes on at that line, with the variables, the lines to return to and the output that the machine has.
 pub record IsOnRun (source : CompiledSource) (machine : Machine) (rom : Rom) (keys : List ℕ) (s : Session) : Type 0 where
   pub program : program_of s.debugger.debuggee ≡ Some source.program

@@ -1,5 +1,15 @@
-//! What meets the host: readers and writers whose failures are counted, whole inputs and outputs, lines, key lists, the
-//! text in which sent bytes are shown, and exit statuses.
+//! What meets the host: readers and writers whose failures are counted, whole inputs and outputs, lines, key lists,
+//! the text in which sent bytes are shown, and exit statuses.
+//!
+//! - `Tracked` counts a stream's failures. The count is private, so only its three calls on the stream change it.
+//! - `read_input` gives all that a reader had, up to 1,048,576 bytes, and takes just that from it (`consumed`).
+//!   `read_line` reads a line byte by byte and nothing after it. `write_output` writes a text or a prefix of it. Each
+//!   says when a stream failed.
+//! - `read_key_file` gives the keys that a key file spells. It refuses exactly the texts that spell none, and files
+//!   that are too large. What `key_file` makes of keys spells them again (`spelled`).
+//! - `host_form`, `key_list` and `address` are their definitions.
+//! - `Outcome::status` is the exit status of how a call ended (`status_of`), by those of its ends and refusals
+//!   (`ExitStatus`). `Outcome::of`: what made nothing ends as it failed (`ended_by`).
 #![tactic(auto)]
 
 mod key_files;

@@ -1,6 +1,8 @@
 //! Programs in Tiny BASIC as trees: expressions, statements and numbered lines.
 //!
-//! The crate has no text in it: the parser makes these trees, and every layer after it reads them.
+//! The crate has no text in it: the parser makes these trees, and every layer after it reads them. `Program` is a map
+//! from numbers to statements: `set`, `delete`, `lines`, `is_empty`. A `set` that finds no memory changes nothing, and
+//! hands back the number and the statement.
 #![tactic(auto)]
 
 mod expressions;
@@ -8,5 +10,5 @@ mod programs;
 mod statements;
 
 pub use expressions::{Expr, Operator};
-pub use programs::Program;
+pub use programs::{HIGHEST_LINE, Program};
 pub use statements::{PrintItem, Statement};

@@ -13,6 +13,11 @@ use std::collections::BTreeMap;
 use std::collections::btree_map::Iter;
 use std::marker::Model;
 
+/// The highest number of a line; the lowest is 1.
+pub const HIGHEST_LINE: u16 = 32_767;
+
+const _: () = prove!(HIGHEST_LINE == 32_767);
+
 /// A program: a statement for each of its line numbers, in rising order.
 #[derive(Drop)]
 pub struct Program {

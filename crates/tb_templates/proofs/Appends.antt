@@ -3,7 +3,7 @@ use Rattle.std.proofs.Common.{◌≡◌, List, ◌++◌, append_assoc, ap, ◌�
 use Rattle.std.proofs.Common.{ℕ, Bool, true, false, [], subst}
 use Rattle.std.proofs.lemmas.List.{append-nil}
 use Rattle.tb_asm.specs.Layout.{Entry}
-use Rattle.tb_runtime16.specs.Addresses.{LINE}
+use Rattle.tb_kept.specs.Addresses.{LINE}
 use Rattle.tb_templates.specs.Templates.{constant}
 use Rattle.tb_templates.specs.GroupTemplates.{lined}
 

@@ -13,7 +13,7 @@ use Rattle.tb_asm.specs.Layout.{Entry, instr, label, bytes, word, suits, is_addr
 use Rattle.tb_asm.specs.Settle.{unknown_fault}
 use Rattle.tb_settling.specs.Settled.{AllKnown, may_move}
 use Rattle.tb_settling.proofs.Forms.{is_straight}
-use Rattle.tb_runtime16.specs.Addresses.{LEFT}
+use Rattle.tb_kept.specs.Addresses.{LEFT}
 use Rattle.tb_templates.specs.Templates.{alone, at, const}
 use Rattle.tb_templates.specs.Sources.{Source, FixedWord, AtAddress, low_of, high_of}
 use Rattle.tb_templates.specs.Scaled.{on_a, at_zero, all_but_lowest, rounded, raised, halved, halvings, high_first, cut, widened, lowered, shifted, doubled, increased, by_bit, by_bits, low_first, times}

@@ -12,11 +12,12 @@ use Rattle.tb_lower.specs.Slots.{Instr, Input, Poll}
 use Rattle.tb_selection.specs.Groups.{Conversion, Negated, Drawn, Usage, AsNumber, AsLine, AsSubroutine, Constant, Variable, Divisibility, Divisible}
 use Rattle.tb_selection.specs.Groups.{Indivisible, Group, Calculate, Stepped, Convert, Move, Use, Test, TestGo, Divides, Remains, Single, contrary, denied}
 use Rattle.tb_selection.specs.Groups.{slot_of}
-use Rattle.tb_runtime16.specs.Addresses.{LEFT, RIGHT, RESULT, WANTED, LINE, MULTIPLY_AT, DIVIDE_AT, RANDOM_AT, NUMBER_AT}
+use Rattle.tb_kept.specs.Addresses.{LEFT, RIGHT, RESULT, WANTED, LINE, var_at}
+use Rattle.tb_runtime16.specs.Addresses.{MULTIPLY_AT, DIVIDE_AT, RANDOM_AT, NUMBER_AT}
 use Rattle.tb_templates.specs.declared.labels.Inner.TheVariants.{Behind, Skip}
 use Rattle.tb_templates.specs.declared.labels.Target.{Target}
 use Rattle.tb_templates.specs.declared.labels.Target.TheVariants.{Inside, Line}
-use Rattle.tb_templates.specs.Templates.{at, const, var_at, on, alone, branch, here, call, copied, constant, faulted, find, return_address, jump_through, next_line, template}
+use Rattle.tb_templates.specs.Templates.{at, const, on, alone, branch, here, call, copied, constant, faulted, find, return_address, jump_through, next_line, template}
 use Rattle.tb_templates.specs.Sources.{Source, FixedWord, AtAddress, source_of, tested_source, home_at, destination_at}
 pub use Rattle.tb_templates.specs.Sources.{low_of, high_of}
 use Rattle.tb_templates.specs.Scaled.{scaling, times, shifts, shifted}

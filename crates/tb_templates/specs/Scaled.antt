@@ -6,7 +6,7 @@ use Rattle.tb_opcodes.specs.declared.Mnemonic.TheVariants.{Adc, And, Asl, Clc, C
 use Rattle.tb_opcodes.specs.declared.Mode.TheVariants.{Accumulator, ZeroPage}
 use Rattle.tb_asm.specs.declared.items.Operand.TheVariants.{Nothing, Byte}
 use Rattle.tb_asm.specs.Layout.{Entry, instr}
-use Rattle.tb_runtime16.specs.Addresses.{LEFT}
+use Rattle.tb_kept.specs.Addresses.{LEFT}
 use Rattle.tb_templates.specs.Templates.{at, const, alone}
 use Rattle.tb_templates.specs.Sources.{Source, FixedWord, AtAddress, low_of, high_of}
 

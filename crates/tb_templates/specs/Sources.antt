@@ -4,8 +4,8 @@ use Rattle.tb_opcodes.specs.declared.Mnemonic.{Mnemonic}
 use Rattle.tb_asm.specs.Layout.{Entry}
 use Rattle.tb_words.specs.Words.{word}
 use Rattle.tb_selection.specs.Groups.{Operand, Constant, Variable, InSlot, Home, IntoVariable, IntoHeld, Destination, IntoSlot, IntoHome, Tested, HeldBefore, HeldNow}
-use Rattle.tb_runtime16.specs.Addresses.{HELD}
-use Rattle.tb_templates.specs.Templates.{at, const, var_at, slot_at}
+use Rattle.tb_kept.specs.Addresses.{HELD, var_at}
+use Rattle.tb_templates.specs.Templates.{at, const, slot_at}
 pub use Rattle.tb_templates.specs.declared.sources.Source.{Source}
 pub use Rattle.tb_templates.specs.declared.sources.Words.{Words}
 pub use Rattle.tb_templates.specs.declared.sources.Source.TheVariants.{FixedWord, AtAddress}

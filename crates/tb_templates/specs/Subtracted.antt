@@ -2,7 +2,7 @@
 use Rattle.std.specs.Prelude.{ℕ, ◌+◌, List, [], ◌∷◌, ◌++◌}
 use Rattle.tb_opcodes.specs.declared.Mnemonic.TheVariants.{Bcc, Bcs, Beq, Bne, Cmp, Lda, Ldx, Ora, Sbc, Sta}
 use Rattle.tb_asm.specs.Layout.{Entry}
-use Rattle.tb_runtime16.specs.Addresses.{RESULT}
+use Rattle.tb_kept.specs.Addresses.{RESULT}
 use Rattle.tb_templates.specs.Templates.{at, const}
 use Rattle.tb_templates.specs.Sources.{Source, AtAddress}
 use Rattle.tb_templates.specs.Reduced.{over}

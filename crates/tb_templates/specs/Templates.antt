@@ -11,15 +11,12 @@ use Rattle.tb_words.specs.Words.{word}
 use Rattle.tb_meaning.specs.Control.{Place, At, Past, next_after, has_line}
 use Rattle.tb_lower.specs.Slots.{Instr, Put, Load, Store, Negate, Compute, Random, SendText, SendNumber, SendZone, SendNewline, Input, Poll, Hold, LeaveUnless, Jump, Call, JumpTo, CallTo, Return, End}
 use Rattle.tb_kernal.specs.Numbers.{CHROUT}
-use Rattle.tb_runtime16.specs.Addresses.{POINTER, LENGTH, LEFT, RESULT, LINE, NOTES, RETURN_LOW, RETURN_HIGH, VARS, SLOTS, COLUMN, SEND_AT, TEXT_AT, ZONE_AT, INPUT_AT, PUSH_AT, POP_AT, FAULT_LINE_AT, POLL_AT}
+use Rattle.tb_kept.specs.Addresses.{POINTER, LENGTH, LEFT, RESULT, LINE, NOTES, RETURN_LOW, RETURN_HIGH, SLOTS, COLUMN, var_at}
+use Rattle.tb_runtime16.specs.Addresses.{SEND_AT, TEXT_AT, ZONE_AT, INPUT_AT, PUSH_AT, POP_AT, FAULT_LINE_AT, POLL_AT}
 use Rattle.tb_templates.specs.declared.labels.Inner.TheVariants as inner
 use Rattle.tb_templates.specs.declared.labels.Target.{Target}
 use Rattle.tb_templates.specs.declared.labels.Target.TheVariants as target
 use Rattle.tb_templates.specs.Labels.{label_of}
-
--- the address of variable x
-abbrev pub var_at : ℕ → ℕ
-var_at x = VARS + 2 * x
 
 -- the address of slot k
 abbrev pub slot_at : ℕ → ℕ

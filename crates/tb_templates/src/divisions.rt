@@ -10,6 +10,7 @@ ghost use Rattle.tb_templates.specs.declared.labels.Inner.TheVariants.{Skip};
 ghost use Rattle.tb_templates.specs.declared.labels.Target.TheVariants.{Inside};
 ghost use Rattle.tb_templates.specs.Sources as sources;
 ghost use Rattle.tb_templates.specs.Sources.{AreWhole, IsWhole};
+ghost use Rattle.tb_kept.specs.Addresses as kept;
 ghost use Rattle.tb_runtime16.specs.Addresses as places;
 ghost use Rattle.tb_templates.specs.GroupTemplates as groups;
 ghost use Rattle.tb_templates.specs.Masks as masks;
@@ -27,8 +28,9 @@ use crate::subtracted::put_tried;
 use crate::templates::{NO_LINE, Spot, has_number};
 use std::alloc::AllocError;
 use tb_asm::Item;
+use tb_kept::{LEFT, RESULT, RIGHT};
 use tb_opcodes::Mnemonic;
-use tb_runtime16::{LEFT, RESULT, RIGHT, Routine};
+use tb_runtime16::Routine;
 use tb_selection::Divisibility;
 
 // For a power of two from 2 to 256, that power minus one.
@@ -75,7 +77,7 @@ fn put_told(items: &mut Vec<Item>) -> Result<(), AllocError>
     put_at(items, Mnemonic::Ora, RESULT + 1)
 }
 
-// The same for a word divided by another one.
+// The size of the remainder of a word divided by another one.
 fn put_remainder(items: &mut Vec<Item>, words: Words) -> Result<(), AllocError>
     requires { AreWhole words }
     ensures { Puts result items.old items.new (groups.remainder words.left words.right) }
@@ -144,7 +146,7 @@ fn put_divided_by(
     Ok(())
 }
 
-// The same, and then a fault for lack of a line.
+// Leaves a line by whether a word is a multiple of a divisor, and then a fault for lack of a line.
 fn put_divided_lost(
     items: &mut Vec<Item>,
     spot: Spot,
@@ -205,8 +207,8 @@ pub fn put_divides(
 // The routine divides a word by another one.
 fn put_called(items: &mut Vec<Item>, words: Words) -> Result<(), AllocError>
     requires { AreWhole words }
-    ensures { Puts result items.old items.new (groups.brought words.left places.LEFT
-        ++ (groups.brought words.right places.RIGHT ++ (templates.call places.DIVIDE_AT ∷ []))) }
+    ensures { Puts result items.old items.new (groups.brought words.left kept.LEFT
+        ++ (groups.brought words.right kept.RIGHT ++ (templates.call places.DIVIDE_AT ∷ []))) }
 {
     put_brought(items, words.left, LEFT)?;
     put_brought(items, words.right, RIGHT)?;
@@ -214,7 +216,7 @@ fn put_called(items: &mut Vec<Item>, words: Words) -> Result<(), AllocError>
     Ok(())
 }
 
-// The same in a line: it leaves the remainder's size.
+// The routine divides a word by another one in a line: it leaves the remainder's size.
 fn put_asked_rest(items: &mut Vec<Item>, line: u16, words: Words) -> Result<(), AllocError>
     requires { AreWhole words }
     ensures { Puts result items.old items.new (groups.asked_rest line words.left words.right) }
@@ -227,7 +229,7 @@ fn put_asked_rest(items: &mut Vec<Item>, line: u16, words: Words) -> Result<(), 
 
 // The remainder is negated, for a word below 0 that was divided.
 fn put_rest_taken(items: &mut Vec<Item>) -> Result<(), AllocError>
-    ensures { Puts result items.old items.new (groups.taken (sources.FixedWord 0) (sources.AtAddress places.RESULT) places.RESULT) }
+    ensures { Puts result items.old items.new (groups.taken (sources.FixedWord 0) (sources.AtAddress kept.RESULT) kept.RESULT) }
 {
     put_taken(items, against_none(Source::AtAddress(RESULT)), RESULT)
 }
@@ -250,7 +252,7 @@ fn put_signed_rest(
     Ok(())
 }
 
-// The same by the routine.
+// A remainder that the routine leaves goes to an address, with the sign of the word that was divided.
 fn put_routine_rest(
     items: &mut Vec<Item>,
     spot: Spot,

@@ -8,6 +8,7 @@ ghost use Rattle.tb_lower.specs.PlainData.{instr_of};
 ghost use Rattle.tb_selection.specs.Groups as selection;
 ghost use Rattle.tb_selection.specs.Groups.{expand};
 ghost use Rattle.tb_selection.specs.PlainData.{conversion_of, usage_of, group_of};
+ghost use Rattle.tb_kept.specs.Addresses as kept;
 ghost use Rattle.tb_runtime16.specs.Addresses as places;
 ghost use Rattle.tb_templates.specs.Putting.{Puts};
 ghost use Rattle.tb_templates.specs.declared.labels.Inner.TheVariants.{Behind, Skip};
@@ -34,9 +35,10 @@ use crate::sources::{
 use crate::templates::{NO_LINE, Spot, has_number, put_instruction};
 use std::alloc::AllocError;
 use tb_asm::Item;
+use tb_kept::{LEFT, LINE, RESULT, RIGHT, WANTED};
 use tb_lower::SlotInstr;
 use tb_opcodes::Mnemonic;
-use tb_runtime16::{LEFT, LINE, RESULT, RIGHT, Routine, WANTED};
+use tb_runtime16::Routine;
 use tb_selection::{Conversion, Group, Operand, Usage};
 use tb_syntax::Operator;
 use tb_words::Rel;
@@ -141,7 +143,7 @@ fn may_have_none(word: Source) -> bool
 fn put_quotient(items: &mut Vec<Item>, line: u16, words: Words, to: u16) -> Result<(), AllocError>
     requires { AreWhole words × (to < 65535) }
     ensures { Puts result items.old items.new (groups.lined (groups.may_be_zero words.right) line
-        (groups.handed places.DIVIDE_AT places.LEFT words.left words.right to)) }
+        (groups.handed places.DIVIDE_AT kept.LEFT words.left words.right to)) }
 {
     put_lined(items, may_be_zero(words.right), line)?;
     put_handed(items, Routine::Divide, LEFT, words, to)?;
@@ -158,7 +160,7 @@ fn put_drawn(
 ) -> Result<(), AllocError>
     requires { IsWhole bound × (to < 65535) }
     ensures { Puts result items.old items.new (groups.lined (groups.may_have_none bound) line
-        (groups.handed places.RANDOM_AT places.RESULT (sources.FixedWord seed) bound to)) }
+        (groups.handed places.RANDOM_AT kept.RESULT (sources.FixedWord seed) bound to)) }
 {
     put_lined(items, may_have_none(bound), line)?;
     let words = Words {
@@ -297,7 +299,7 @@ fn put_searched(items: &mut Vec<Item>, line: u16, word: Source) -> Result<(), Al
 // A number that is sent.
 fn put_sent(items: &mut Vec<Item>, word: Source) -> Result<(), AllocError>
     requires { IsWhole word }
-    ensures { Puts result items.old items.new (groups.brought word places.LEFT ++ (templates.call places.NUMBER_AT ∷ [])) }
+    ensures { Puts result items.old items.new (groups.brought word kept.LEFT ++ (templates.call places.NUMBER_AT ∷ [])) }
 {
     put_brought(items, word, LEFT)?;
     put_call(items, Routine::Number)?;
@@ -358,7 +360,7 @@ fn put_unless_none(items: &mut Vec<Item>, byte: u8) -> Result<(), AllocError>
     put_const(items, Mnemonic::Cmp, byte)
 }
 
-// The same against the low byte of a word.
+// A against the low byte of a word, for Z alone.
 fn put_low_against(items: &mut Vec<Item>, word: Source) -> Result<(), AllocError>
     ensures { Puts result items.old items.new (groups.low_against word) }
 {
@@ -368,7 +370,7 @@ fn put_low_against(items: &mut Vec<Item>, word: Source) -> Result<(), AllocError
     }
 }
 
-// The same against the high byte of a word.
+// A against the high byte of a word, for Z alone.
 fn put_high_against(items: &mut Vec<Item>, word: Source) -> Result<(), AllocError>
     requires { IsWhole word }
     ensures { Puts result items.old items.new (groups.high_against word) }

@@ -1,6 +1,7 @@
 //! The code of groups of slot instructions, as items of the assembler.
 //!
-//! Each function `put_..` appends its items to the list that it is given; it fails only if memory runs out.
+//! Each function `put_..` appends the items of its definition to the list that it is given (`Puts`); it fails only if
+//! memory runs out.
 #![tactic(auto)]
 
 mod breaks;

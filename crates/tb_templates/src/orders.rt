@@ -109,7 +109,7 @@ fn unless_negative(side: Side) -> Mnemonic
     }
 }
 
-// The same if C tells that it is not below.
+// The branch that leaves unless a word is on a side of another one, if C tells that it is not below.
 fn unless_carry(side: Side) -> Mnemonic
     ensures { result ≡ orders.unless_carry side }
 {

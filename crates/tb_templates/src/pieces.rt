@@ -9,8 +9,9 @@ ghost use Rattle.tb_runtime16.specs.Addresses as places;
 use crate::labels::{Target, label};
 use std::alloc::AllocError;
 use tb_asm::{Item, Operand};
+use tb_kept::{LEFT, RESULT};
 use tb_opcodes::{Mnemonic, Mode};
-use tb_runtime16::{LEFT, RESULT, Routine, entry};
+use tb_runtime16::{Routine, entry};
 
 /// One more item.
 // A push that may fail hands the item back, and so copies it once more.

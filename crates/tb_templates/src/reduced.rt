@@ -66,7 +66,7 @@ fn put_byte_round(items: &mut Vec<Item>, multiple: u8) -> Result<(), AllocError>
     put_const(items, Mnemonic::Sbc, multiple)
 }
 
-// The same of a word in A and X.
+// A multiple is taken away from a word in A and X that is not below it.
 fn put_word_round(items: &mut Vec<Item>, multiple: u16) -> Result<(), AllocError>
     ensures { Puts result items.old items.new (reduced.word_round multiple) }
 {

@@ -1,6 +1,6 @@
 //! Products with a constant and quotients over a power of two, by shifts and sums.
 ghost use Rattle.std.specs.Prelude.{◌≡◌, ◌+◌, ◌<◌, IfSome, [], ◌∷◌};
-ghost use Rattle.tb_runtime16.specs.Addresses as places;
+ghost use Rattle.tb_kept.specs.Addresses as kept;
 ghost use Rattle.tb_templates.specs.Putting.{Puts};
 ghost use Rattle.tb_templates.specs.Sources.{IsWhole};
 ghost use Rattle.tb_templates.specs.Scaled as scaled;
@@ -9,8 +9,8 @@ use crate::pieces::{put, put_alone, put_at, put_const};
 use crate::sources::{Source, put_high, put_low};
 use std::alloc::AllocError;
 use tb_asm::{Item, Operand};
+use tb_kept::LEFT;
 use tb_opcodes::{Mnemonic, Mode};
-use tb_runtime16::LEFT;
 
 // The most bytes that the bits of a factor may take.
 const MOST_FOR_BITS: u16 = 60;
@@ -30,7 +30,7 @@ pub fn put_on_a(items: &mut Vec<Item>, mnemonic: Mnemonic) -> Result<(), AllocEr
 
 // An instruction on the byte in LEFT.
 fn put_at_left(items: &mut Vec<Item>, mnemonic: Mnemonic) -> Result<(), AllocError>
-    ensures { Puts result items.old items.new (scaled.at_zero mnemonic places.LEFT ∷ []) }
+    ensures { Puts result items.old items.new (scaled.at_zero mnemonic kept.LEFT ∷ []) }
 {
     put(
         items,

@@ -4,15 +4,16 @@ ghost use Rattle.tb_words.specs.Letters.{letter_index};
 ghost use Rattle.tb_selection.specs.Groups as groups;
 ghost use Rattle.tb_selection.specs.PlainData.{operand_of, home_of, tested_of, destination_of};
 ghost use Rattle.tb_templates.specs.Putting.{Puts};
-ghost use Rattle.tb_templates.specs.Templates.{var_at, slot_at};
+ghost use Rattle.tb_kept.specs.Addresses.{var_at};
+ghost use Rattle.tb_templates.specs.Templates.{slot_at};
 ghost use Rattle.tb_templates.specs.Sources as sources;
 ghost use Rattle.tb_templates.specs.Sources.{AreWhole, IsWhole};
 
 use crate::pieces::{put_at, put_const};
 use std::alloc::AllocError;
 use tb_asm::Item;
+use tb_kept::{HELD, SLOTS, VARS};
 use tb_opcodes::Mnemonic;
-use tb_runtime16::{HELD, SLOTS, VARS};
 use tb_selection::{Destination, Home, Operand, Tested};
 use tb_words::Letter;
 

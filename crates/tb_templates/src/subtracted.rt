@@ -9,8 +9,8 @@ use crate::reduced::put_over;
 use crate::sources::{Source, Words};
 use std::alloc::AllocError;
 use tb_asm::Item;
+use tb_kept::RESULT;
 use tb_opcodes::Mnemonic;
-use tb_runtime16::RESULT;
 
 // The byte at an address is taken away from A; if A is below it, that is left out with some bytes more.
 fn put_less_once(items: &mut Vec<Item>, place: u16, more: u8) -> Result<(), AllocError>

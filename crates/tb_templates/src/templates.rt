@@ -10,6 +10,7 @@ ghost use Rattle.tb_templates.specs.declared.labels.Inner.TheVariants as inner;
 ghost use Rattle.tb_templates.specs.declared.labels.Target.TheVariants as target;
 ghost use Rattle.tb_templates.specs.Templates as templates;
 ghost use Rattle.tb_templates.specs.Templates.{template};
+ghost use Rattle.tb_kept.specs.Addresses as kept;
 ghost use Rattle.tb_runtime16.specs.Addresses as places;
 
 use crate::labels::{Inner, Target};
@@ -21,12 +22,11 @@ use crate::pieces::{
 use crate::sources::{slot_address, variable_at};
 use std::alloc::AllocError;
 use tb_asm::Item;
+use tb_kept::{COLUMN, LEFT, LENGTH, LINE, NOTES, POINTER, RESULT, RETURN_HIGH, RETURN_LOW};
 use tb_kernal::CHROUT;
 use tb_lower::SlotInstr;
 use tb_opcodes::Mnemonic;
-use tb_runtime16::{
-    COLUMN, LEFT, LENGTH, LINE, NOTES, POINTER, RESULT, RETURN_HIGH, RETURN_LOW, Routine, SEND_AT,
-};
+use tb_runtime16::{Routine, SEND_AT};
 
 /// The fault of a line that does not exist.
 pub const NO_LINE: u8 = 1;
@@ -234,7 +234,7 @@ fn put_line_called_by_routine(
     to: u16,
     next: Target,
 ) -> Result<(), AllocError>
-    ensures { Puts result items.old items.new (templates.constant line places.LINE
+    ensures { Puts result items.old items.new (templates.constant line kept.LINE
         ++ (templates.return_address next ++ (templates.jump (target.Line to) ∷ []))) }
 {
     put_constant(items, line, LINE)?;
@@ -281,7 +281,7 @@ fn put_call_to(
 
 // Takes the newest return by the routine and goes on there.
 fn put_returned_by_routine(items: &mut Vec<Item>, line: u16) -> Result<(), AllocError>
-    ensures { Puts result items.old items.new (templates.constant line places.LINE
+    ensures { Puts result items.old items.new (templates.constant line kept.LINE
         ++ (templates.call places.POP_AT ∷ templates.jump_through)) }
 {
     put_constant(items, line, LINE)?;

@@ -17,7 +17,7 @@ pub static GRAPHICS: [char; 128] = [
     '┌', '┴', '┬', '┤', '▎', '▍', '▐', '▔', '▀', '▃', '⌟', '▖', '▝', '┘', '▘', '▚', //
 ];
 
-/// The same in the set of small letters and capitals.
+/// The characters of screen codes in the set of small letters and capitals.
 pub static LETTERS: [char; 128] = [
     '@', 'a', 'b', 'c', 'd', 'e', 'f', 'g', 'h', 'i', 'j', 'k', 'l', 'm', 'n', 'o', //
     'p', 'q', 'r', 's', 't', 'u', 'v', 'w', 'x', 'y', 'z', '[', '£', ']', '↑', '←', //

@@ -1,7 +1,10 @@
 //! From a screen of the Commodore 64 to the text that shows it at a terminal.
 //!
-//! `frame` gives a text of control sequences and characters. `specs/Terminals.antt` says what a terminal does with each
-//! of them, and the law of `frame` that after them the terminal shows the screen, whatever it showed before.
+//! `frame` gives a text of control sequences and characters (`text`). `specs/Terminals.antt` says what a terminal does
+//! with each of them. After them a terminal of at least 40 columns shows the screen, whatever it showed before
+//! (`shown`). Each cell is in its place with its colour, all else is blank, and the cursor is where the screen has it.
+//! It fails only if memory runs out. `closing` answers the text that ends a picture. Only tests show which character
+//! stands for which graphic sign.
 #![tactic(auto)]
 
 mod frames;

@@ -1,4 +1,7 @@
 //! Notes for a person at a terminal: which file, which line, and what helps.
+//!
+//! All is safe and total. That the right note is said only tests show (`tools/try/command_line.sh`); its texts are
+//! those of tb_file_reasons, tb_asm_reasons and tb_check_engine.
 #![tactic(auto)]
 
 mod files;

@@ -4,10 +4,11 @@ use crate::refusals::{note_source, note_text};
 use crate::saying::say;
 use std::rt::Files;
 use tb_disk_engine::DiskOutcome;
-use tb_driver::{End, EndNote, Outcome, Refusal};
+use tb_engines::{End, Outcome, Refusal};
 use tb_file_reasons::{FileNote, FileReason, disk_note, prg_reason};
 use tb_host::Host;
 use tb_jobs::Job;
+use tb_sources::EndNote;
 
 /// Says what helps with how a run, a build or a listing ended.
 pub fn note_outcome<R: Files + Print + Eprint + Input + AllocGlobal>(

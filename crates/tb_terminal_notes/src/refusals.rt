@@ -5,13 +5,15 @@ use std::fmt;
 use std::rt::Files;
 use tb_asm_reasons::{item_text, line_text};
 use tb_check_engine::refusal_text;
-use tb_driver::{
-    CompileError, CompileSettings, Refusal, SizeLimit, Tracked, bytes_to_fit, read_input,
-};
+use tb_codegen::TinyBasic;
+use tb_compiled::{CompileError, CompileSettings, SizeLimit};
+use tb_engines::Refusal;
 use tb_file_engine::opened;
 use tb_files::{FileSystem, Place};
 use tb_host::{Host, Source, settings_of};
 use tb_jobs::{Job, Runnable, Settings, USUAL_SEED};
+use tb_sources::bytes_to_fit;
+use tb_streams::{Tracked, read_input};
 
 // What a job compiles, and how.
 #[derive(Clone, Copy, Drop)]
@@ -36,6 +38,7 @@ pub fn note_source<R: Files + Print + Eprint + Input + AllocGlobal>(
         show(
             host,
             refusal_text(
+                &TinyBasic,
                 host.rt.alloc(),
                 compiles.source,
                 source.as_slice(),
@@ -77,7 +80,7 @@ fn note_fit<R: Files + Print + Eprint + Input + AllocGlobal>(
     let Some(mut file) = opened_again(host, compiles.source) else {
         return;
     };
-    if let Some(bytes) = bytes_to_fit(host.rt.alloc(), &mut file, compiles.settings) {
+    if let Some(bytes) = bytes_to_fit(&TinyBasic, host.rt.alloc(), &mut file, compiles.settings) {
         say(host.rt, Fits(bytes));
     }
 }

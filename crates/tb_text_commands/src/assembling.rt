@@ -4,10 +4,9 @@ use std::rt::Files;
 use tb_assembly_engine::{
     Manner, TextFailure, TextNames, TextOutcome, TextRefusal, assemble_source,
 };
-use tb_driver::{Tracked, address, write_output};
 use tb_host::Host;
 use tb_jobs::Failure;
-use tb_streams::Done;
+use tb_streams::{Done, Tracked, address, write_output};
 
 /// The address of the first byte, if neither the words nor the text say it.
 const USUAL_ADDRESS: u16 = 0xc000;

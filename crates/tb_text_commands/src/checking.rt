@@ -2,9 +2,10 @@
 use std::io;
 use std::rt::Files;
 use tb_check_engine::{CheckOutcome, CheckSettings, check_sources};
-use tb_driver::Tracked;
+use tb_codegen::TinyBasic;
 use tb_file_engine::FileSources;
 use tb_host::Host;
+use tb_streams::Tracked;
 
 /// The sources that are files of the system. What is read of them is noted in no other host.
 pub fn sources_of<'a, R>(host: &Host<'a, R>) -> FileSources<Host<'a, R>> {
@@ -20,5 +21,12 @@ pub fn check_files<R: Files + Print + Input + AllocGlobal>(
     let rt = host.rt;
     let mut screen = Tracked::new(io::writer(rt));
     let mut sources = sources_of(host);
-    check_sources(rt.alloc(), &mut sources, paths, &mut screen, settings)
+    check_sources(
+        &TinyBasic,
+        rt.alloc(),
+        &mut sources,
+        paths,
+        &mut screen,
+        settings,
+    )
 }

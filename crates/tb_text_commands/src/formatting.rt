@@ -1,6 +1,6 @@
 //! Formatting a source: its tidy text goes to standard output, or takes the source's place.
 use std::rt::Files;
-use tb_driver::Notation;
+use tb_compiled::Notation;
 use tb_file_engine::{FormatOutcome, check_format, format_in_place};
 use tb_host::Host;
 use tb_jobs::FormatTarget;

@@ -1,5 +1,8 @@
-//! The commands on texts, over the files of the system: a text is assembled, sources are checked, tidied and renumbered, and
-//! an editor is served.
+//! The commands on texts, over the files of the system: a text is assembled, sources are checked, tidied and
+//! renumbered, and an editor is served.
+//!
+//! All is safe and total. Which file is opened and which engine is called only tests show
+//! (`tools/try/command_line.sh`).
 #![tactic(auto)]
 
 mod assembling;

@@ -1,6 +1,6 @@
 //! Renumbering a source: its new text goes to standard output, or takes the source's place.
 use std::rt::Files;
-use tb_driver::Notation;
+use tb_compiled::Notation;
 use tb_file_engine::{Numbering, RenumberOutcome, renumber_in_place};
 use tb_host::Host;
 

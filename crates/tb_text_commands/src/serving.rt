@@ -3,10 +3,12 @@
 use crate::checking::sources_of;
 use std::io;
 use std::rt::Files;
+use tb_codegen::TinyBasic;
+use tb_compiled::Notation;
 use tb_debug_adapter::AdapterOutcome;
-use tb_driver::{Notation, Tracked};
 use tb_host::Host;
 use tb_language_server::ServerOutcome;
+use tb_streams::Tracked;
 
 /// Serves an editor as its language server of a version, which reads the texts of sources in a notation.
 pub fn serve_editor<R: Print + Input + AllocGlobal>(
@@ -16,7 +18,14 @@ pub fn serve_editor<R: Print + Input + AllocGlobal>(
 ) -> ServerOutcome {
     let mut messages = Tracked::new(rt.reader());
     let mut answers = Tracked::new(io::writer(rt));
-    tb_language_server::serve(rt.alloc(), version, notation, &mut messages, &mut answers)
+    tb_language_server::serve(
+        &TinyBasic,
+        rt.alloc(),
+        version,
+        notation,
+        &mut messages,
+        &mut answers,
+    )
 }
 
 /// Serves an editor as its debug adapter. The source that it launches is opened when that is asked for; its texts are read
@@ -30,6 +39,7 @@ pub fn serve_debugger<R: Files + Print + Input + AllocGlobal>(
     let mut answers = Tracked::new(io::writer(rt));
     let mut sources = sources_of(host);
     tb_debug_adapter::serve(
+        &TinyBasic,
         rt.alloc(),
         notation,
         &mut sources,

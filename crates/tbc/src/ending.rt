@@ -4,10 +4,11 @@ use tb_assembly_engine::TextOutcome;
 use tb_check_engine::CheckOutcome;
 use tb_debug_adapter::AdapterOutcome;
 use tb_disk_engine::DiskOutcome;
-use tb_driver::{NotedRun, Report};
+use tb_engines::Report;
 use tb_file_engine::{FormatOutcome, RenumberOutcome};
 use tb_language_server::ServerOutcome;
 use tb_run_commands::Ran;
+use tb_sources::NotedRun;
 
 /// How a job ended.
 #[derive(Debug, Drop)]

@@ -1,4 +1,8 @@
 //! The program `tbc`: its words become a job, and an engine does it over files and standard streams.
+//!
+//! All is safe and total. Which command is called for a job, and the texts on standard error, only tests show
+//! (`tools/try/command_line.sh`). The statuses of outcomes are promised; that the program ends with that of its job's
+//! outcome is one match (`Ending::status`).
 #![tactic(auto)]
 
 mod ending;

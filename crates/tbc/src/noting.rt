@@ -4,7 +4,7 @@ use std::rt::Files;
 use tb_assembly_engine::TextOutcome;
 use tb_check_engine::CheckOutcome;
 use tb_command_line::{Failure, Job};
-use tb_driver::Outcome;
+use tb_engines::Outcome;
 use tb_file_engine::{FormatOutcome, RenumberOutcome, RenumberRefusal};
 use tb_host::Host;
 use tb_run_commands::Ran;

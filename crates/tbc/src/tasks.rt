@@ -6,11 +6,13 @@ use std::time::Clock;
 use tb_assembly_engine::TextNames;
 use tb_check_engine::CheckSettings;
 use tb_command_line::{BuildExtras, Failure, Job, VERSION};
-use tb_driver::{CompileSettings, End, Outcome, Report, Tracked, address, write_output};
+use tb_compiled::CompileSettings;
+use tb_engines::{End, Outcome, Report};
 use tb_file_engine::{BuildNames, Numbering, assemble_file, build_file, disk_file, list_file};
 use tb_files::{Barred, Output, may_write};
 use tb_host::{Host, settings_of, size_limit};
 use tb_run_commands::{Playing, debug, play, profile, run, setting_of, step};
+use tb_streams::{Tracked, address, write_output};
 use tb_text_commands::{
     assemble, check_files, format_file, renumber_file, serve_debugger, serve_editor,
 };

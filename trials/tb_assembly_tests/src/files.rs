@@ -87,6 +87,8 @@ impl FileSystem for Shelf {
         }
     }
 
+    fn close(&mut self, _path: &str, _input: Tracked<FailingReader<'static>>) {}
+
     fn save(&mut self, _path: &str, bytes: &[u8]) -> Result<(), Trouble> {
         if self.room <= self.saved.len() {
             return Err(Trouble::Fault);
@@ -172,8 +174,14 @@ fn no_text_is_overwritten(rt: HostRuntime) -> Result<(), Fail> {
             is_forced: true,
         };
         let done = assemble_source(alloc, &mut shelf, "x/text.asm", MANNER, names);
-        assert_eq!(rt; matches!(done, Err(TextFailure::Refused(TextRefusal::IsSource(_)))), is_source);
-        assert_eq!(rt; matches!(done, Err(TextFailure::Refused(TextRefusal::SameFile))), !is_source);
+        assert_eq!(rt;
+            matches!(done, Err(TextFailure::Refused(TextRefusal::IsSource(_)))),
+            is_source
+        );
+        assert_eq!(rt;
+            matches!(done, Err(TextFailure::Refused(TextRefusal::SameFile))),
+            !is_source
+        );
         assert!(rt; shelf.saved.is_empty());
     }
     Ok(())

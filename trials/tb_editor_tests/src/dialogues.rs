@@ -2,10 +2,11 @@
 use std::alloc::Global;
 use std::io::Read;
 use std::test::Fail;
+use tb_codegen::TinyBasic;
 use tb_language_server::serve;
-use tb_parser::Notation;
 use tb_streams::Tracked;
 use tb_test_support::{FailingReader, FailingWriter};
+use tb_text::Notation;
 
 /// The messages of a whole dialogue.
 const MESSAGES: [&str; 6] = [
@@ -65,7 +66,14 @@ fn front(bytes: &[u8], count: usize) -> &[u8] {
 fn answers<R: Read + Drop>(alloc: Global, reader: R, wanted: &[u8]) -> (u8, bool) {
     let mut writer = Tracked::new(Vec::new(alloc));
     let mut reader = Tracked::new(reader);
-    let outcome = serve(alloc, "9.8.7", Notation::Plain, &mut reader, &mut writer);
+    let outcome = serve(
+        &TinyBasic,
+        alloc,
+        "9.8.7",
+        Notation::Plain,
+        &mut reader,
+        &mut writer,
+    );
     (outcome.status(), writer.stream.as_slice() == wanted)
 }
 
@@ -86,7 +94,14 @@ fn served(alloc: Global, messages: &[u8], until_fault: usize) -> (u8, Vec<u8>) {
     let reader = FailingReader::new(messages, until_fault, 4096);
     let mut writer = Tracked::new(Vec::new(alloc));
     let mut reader = Tracked::new(reader);
-    let outcome = serve(alloc, "9.8.7", Notation::Plain, &mut reader, &mut writer);
+    let outcome = serve(
+        &TinyBasic,
+        alloc,
+        "9.8.7",
+        Notation::Plain,
+        &mut reader,
+        &mut writer,
+    );
     (outcome.status(), writer.stream)
 }
 
@@ -120,7 +135,14 @@ fn a_writer_that_fails_has_a_prefix(rt: HostRuntime) -> Result<(), Fail> {
     for length in 0..whole.len() {
         let mut reader = Tracked::new(FailingReader::new(messages.as_slice(), usize::MAX, 4096));
         let mut writer = Tracked::new(FailingWriter::new(alloc, length, 7));
-        let outcome = serve(alloc, "9.8.7", Notation::Plain, &mut reader, &mut writer);
+        let outcome = serve(
+            &TinyBasic,
+            alloc,
+            "9.8.7",
+            Notation::Plain,
+            &mut reader,
+            &mut writer,
+        );
         assert_eq!(rt; outcome.status(), 3, "{length}");
         assert_eq!(rt; writer.stream.taken.as_slice(), &whole.as_slice()[..length]);
     }
@@ -334,7 +356,14 @@ fn all_answers_are_prefixes_where_the_writer_fails(rt: HostRuntime) -> Result<()
         let length = step.saturating_mul(23);
         let mut reader = Tracked::new(FailingReader::new(messages.as_slice(), usize::MAX, 4096));
         let mut writer = Tracked::new(FailingWriter::new(alloc, length, 7));
-        let outcome = serve(alloc, "9.8.7", Notation::Plain, &mut reader, &mut writer);
+        let outcome = serve(
+            &TinyBasic,
+            alloc,
+            "9.8.7",
+            Notation::Plain,
+            &mut reader,
+            &mut writer,
+        );
         assert_eq!(rt; outcome.status(), 3, "{length}");
         assert_eq!(rt;
             writer.stream.taken.as_slice(),

@@ -2,10 +2,11 @@
 use crate::dialogues::{behind, frames, frames_and};
 use std::alloc::Global;
 use std::test::Fail;
+use tb_codegen::TinyBasic;
 use tb_language_server::serve;
-use tb_parser::Notation;
 use tb_streams::Tracked;
 use tb_test_support::FailingReader;
+use tb_text::Notation;
 
 /// A dialogue up to the requests: the text is this.
 ///
@@ -46,7 +47,14 @@ pub fn answered(alloc: Global, messages: &[u8]) -> Vec<u8> {
 pub fn answered_in(alloc: Global, notation: Notation, messages: &[u8]) -> Vec<u8> {
     let mut reader = Tracked::new(FailingReader::new(messages, usize::MAX, 4096));
     let mut writer = Tracked::new(Vec::new(alloc));
-    let _ = serve(alloc, "9.8.7", notation, &mut reader, &mut writer);
+    let _ = serve(
+        &TinyBasic,
+        alloc,
+        "9.8.7",
+        notation,
+        &mut reader,
+        &mut writer,
+    );
     writer.stream
 }
 

@@ -4,7 +4,7 @@ mod failing;
 mod prefixes;
 
 use crate::page::Page;
-use tb_codegen::SizeLimit;
+use tb_compiled::SizeLimit;
 
 /// Appends the answer of a row.
 pub fn put_answer(page: &mut Page, name: &str, given: &str) {

@@ -56,6 +56,8 @@ impl<'a> FileSystem for Shelf<'a> {
         Ok(Tracked::new(FailingReader::new(self.held, self.until_fault, self.most)))
     }
 
+    fn close(&mut self, _path: &str, _input: Tracked<FailingReader<'a>>) {}
+
     fn save(&mut self, _path: &str, bytes: &[u8]) -> Result<(), Trouble> {
         if self.room <= self.saved.len() {
             return Err(Trouble::Fault);

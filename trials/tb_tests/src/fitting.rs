@@ -3,7 +3,8 @@ use crate::generated::programs::Case;
 use crate::generated::trials::{file_agrees_twice, run_of};
 use std::alloc::{AllocError, Global};
 use std::test::Fail;
-use tb_codegen::{CompileError, Options, compile_to_fit};
+use tb_codegen::{Options, compile_to_fit};
+use tb_compiled::CompileError;
 
 /// The bytes of a PRG file that takes all there is: the load address, and from $0801 to $9FFF.
 const LARGEST: usize = 2 + 0xa000 - 0x0801;

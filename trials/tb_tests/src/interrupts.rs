@@ -6,7 +6,7 @@ use arrayvec::ArrayVec;
 use std::alloc::Global;
 use std::process::Abort;
 use std::test::Fail;
-use tb_codegen::Compiled;
+use tb_compiled::Compiled;
 use tb_kernal::{Event, Machine, Quiet, Recorded, Status, run};
 
 /// How many events before the interrupt are listed, at most: a longer list takes long to make for each run.

@@ -3,7 +3,7 @@ use crate::machines::{LIMIT, Ran, clean};
 use crate::rows::{PLAIN, Row};
 use std::alloc::{AllocError, Global};
 use std::test::Fail;
-use tb_codegen::Compiled;
+use tb_compiled::Compiled;
 use tb_kernal::{Machine, Quiet, Rude, Status, run};
 use tb_runtime16::{Routine, entry};
 

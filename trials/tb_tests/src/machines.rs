@@ -2,7 +2,8 @@
 use crate::rows::Row;
 use std::alloc::Global;
 use std::test::Fail;
-use tb_codegen::{Compiled, Options, compile};
+use tb_codegen::{Options, compile};
+use tb_compiled::Compiled;
 use tb_cpu::Regs;
 use tb_driver::{Tracked, host_form, run_text};
 use tb_engines::start_regs;

@@ -4,7 +4,7 @@ use crate::outsides::{Contrary, Sweeping};
 use crate::rows::{LongSources, Row, rows};
 use std::alloc::Global;
 use std::test::Fail;
-use tb_codegen::Compiled;
+use tb_compiled::Compiled;
 use tb_cpu::{Flags, Regs};
 use tb_kernal::{Machine, Outside, Quiet, Rude, run};
 

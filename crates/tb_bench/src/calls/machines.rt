@@ -4,7 +4,7 @@ use super::sources::{ASSIGNMENT, GREETING, SOURCES, compiled, show_bytes};
 use crate::failure::Failure;
 use crate::memories::machine_with;
 use std::alloc::Global;
-use tb_codegen::Compiled;
+use tb_compiled::Compiled;
 use tb_cpu::Regs;
 use tb_engines::start_regs;
 use tb_kernal::{Machine, Outside, Quiet, Rude, Status, run};

@@ -3,12 +3,13 @@ use crate::failure::Failure;
 use std::alloc::Global;
 use std::fmt::Debug;
 use tb_check::bad_lines;
-use tb_codegen::{Compiled, Notation, Options, compile};
-use tb_driver::{host_form, key_list};
+use tb_codegen::{Options, compile};
+use tb_compiled::{Compiled, Notation};
 use tb_listing::{Made, make};
 use tb_lower::{SlotCode, lower};
 use tb_meaning::warnings;
 use tb_parser::{Program, Token, parse, parse_expr, tokens};
+use tb_streams::{host_form, key_list};
 
 /// A source that sends a text.
 pub const GREETING: &[u8] = b"10 PRINT \"HELLO\"\n20 END\n";

@@ -12,9 +12,9 @@ use Rattle.tb_reaching.specs.View.{Comes, Fits, View}
 use Rattle.tb_runtime16.specs.Input.{Taken, prompt}
 use Rattle.tb_opcodes.specs.Bytes.{AreBytes}
 use Rattle.tb_runtime16.specs.Routines.{Here, Moves, Waiting, WordAt, is_state, line_end}
-use Rattle.tb_runtime16.specs.Addresses.{COLUMN, HOME_S, INPUT_AT, LINE, OPEN, POLL_AT, RESULT}
+use Rattle.tb_kept.specs.Addresses.{COLUMN, HOME_S, LINE, OPEN, RESULT, var_at}
+use Rattle.tb_runtime16.specs.Addresses.{INPUT_AT, POLL_AT}
 use Rattle.tb_runtime16.proofs.StatePlaces.{not_asked}
-use Rattle.tb_templates.specs.Templates.{var_at}
 use Rattle.tb_simulation.proofs.Mirrors.{HoldsState}
 use Rattle.tb_simulation.proofs.Turns.{Leaves, turn_short}
 use Rattle.tb_simulation.proofs.Frames.{column_mod, low_is_state, put_away, state_asked, word_put}

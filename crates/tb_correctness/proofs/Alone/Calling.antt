@@ -11,7 +11,8 @@ use Rattle.tb_reaching.proofs.Comes.{chained, looser}
 use Rattle.tb_reaching.specs.Start.{IsHome}
 use Rattle.tb_reaching.specs.View.{Comes, Fits, View}
 use Rattle.tb_runtime16.specs.Routines.{Here, Moves, AreReturns, WordAt}
-use Rattle.tb_runtime16.specs.Addresses.{HOME_S, LEFT, LINE, NOTES, POP_AT, PUSH_AT}
+use Rattle.tb_kept.specs.Addresses.{HOME_S, LEFT, LINE, NOTES}
+use Rattle.tb_runtime16.specs.Addresses.{POP_AT, PUSH_AT}
 use Rattle.tb_runtime16.proofs.StatePlaces.{not_popped, not_pushed}
 use Rattle.tb_simulation.specs.Layout.{place_address}
 use Rattle.tb_simulation.proofs.Frames.{state_popped, state_pushed, word_away, word_put}

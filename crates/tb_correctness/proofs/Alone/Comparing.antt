@@ -10,7 +10,7 @@ use Rattle.tb_reaching.proofs.Instr.{Stands, ins}
 use Rattle.tb_reaching.proofs.Placed.{placed_last, placing}
 use Rattle.tb_reaching.specs.View.{Comes, Fits, Setup, View, back_at, view}
 use Rattle.tb_runtime16.specs.Routines.{Here, Moves, WordAt}
-use Rattle.tb_runtime16.specs.Addresses.{RESULT, WANTED}
+use Rattle.tb_kept.specs.Addresses.{RESULT, WANTED}
 use Rattle.tb_simulation.specs.Layout.{Layout}
 use Rattle.tb_simulation.proofs.Pieces.{loads, loads_last, moves_then, put_word, sets, whatever}
 use Rattle.tb_simulation.proofs.Resolved.{Lies, Piece, all_compared, asked, back, constant, differing, highest_code}

@@ -10,7 +10,8 @@ use Rattle.tb_reaching.specs.View.{Comes, Fits, View}
 use Rattle.tb_runtime16.specs.Laws.{Drawn}
 use Rattle.tb_runtime16.specs.Routines.{is_state}
 use Rattle.tb_templates.specs.GroupTemplates.{may_have_none}
-use Rattle.tb_runtime16.specs.Addresses.{HOME_S, RANDOM_AT, RESULT, RIGHT, SEED, SEEDED}
+use Rattle.tb_kept.specs.Addresses.{HOME_S, RESULT, RIGHT, SEED, SEEDED}
+use Rattle.tb_runtime16.specs.Addresses.{RANDOM_AT}
 use Rattle.tb_runtime16.proofs.StatePlaces.{not_argument, not_scratch, not_seed}
 use Rattle.tb_simulation.proofs.Frames.{low_is_state, state_drawn}
 use Rattle.tb_simulation.proofs.Joins.{sent_in}

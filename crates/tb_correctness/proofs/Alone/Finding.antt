@@ -9,7 +9,8 @@ use Rattle.tb_reaching.proofs.Comes.{chained, looser}
 use Rattle.tb_reaching.specs.Start.{IsHome}
 use Rattle.tb_reaching.specs.View.{Comes, Fits, View}
 use Rattle.tb_runtime16.specs.Routines.{Here, Moves, WordAt}
-use Rattle.tb_runtime16.specs.Addresses.{COUNT, HOME_S, LEFT, LINE, NOTES, PUSH_AT, RESULT, SEARCH_AT, TABLE, WANTED}
+use Rattle.tb_kept.specs.Addresses.{COUNT, HOME_S, LEFT, LINE, NOTES, RESULT, TABLE, WANTED}
+use Rattle.tb_runtime16.specs.Addresses.{PUSH_AT, SEARCH_AT}
 use Rattle.tb_runtime16.proofs.StatePlaces.{not_pushed, not_searched}
 use Rattle.tb_simulation.specs.Layout.{place_address}
 use Rattle.tb_simulation.proofs.Frames.{state_pushed, word_away, word_kept, word_put}

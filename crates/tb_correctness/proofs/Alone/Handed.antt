@@ -5,7 +5,7 @@ use Rattle.tb_lower.specs.Slots.{Instr, Slots, SlotCode, with_word}
 use Rattle.tb_reaching.proofs.Comes.{chained, looser}
 use Rattle.tb_reaching.specs.View.{Fits, View, back_at}
 use Rattle.tb_runtime16.specs.Routines.{Here, Moves, WordAt}
-use Rattle.tb_runtime16.specs.Addresses.{LEFT, LINE, RESULT, RIGHT}
+use Rattle.tb_kept.specs.Addresses.{LEFT, LINE, RESULT, RIGHT}
 use Rattle.tb_simulation.proofs.Frames.{word_away, word_put}
 use Rattle.tb_simulation.proofs.Mirrors.{Typable}
 use Rattle.tb_simulation.proofs.Pieces.{InData, calls, put_word}

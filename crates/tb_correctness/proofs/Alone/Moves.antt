@@ -10,7 +10,7 @@ use Rattle.tb_reaching.proofs.Comes.{looser}
 use Rattle.tb_reaching.specs.View.{Comes, Fits, View}
 use Rattle.tb_opcodes.specs.Bytes.{AreBytes}
 use Rattle.tb_runtime16.specs.Routines.{WordAt}
-use Rattle.tb_runtime16.specs.Addresses.{HELD}
+use Rattle.tb_kept.specs.Addresses.{HELD}
 use Rattle.tb_templates.specs.Templates.{slot_at}
 use Rattle.tb_simulation.proofs.Frames.{put_away, word_kept, word_put}
 use Rattle.tb_simulation.proofs.Joins.{sent_in}

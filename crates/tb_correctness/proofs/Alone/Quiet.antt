@@ -6,7 +6,8 @@ use Rattle.tb_meaning.specs.Control.{State}
 use Rattle.tb_lower.specs.Slots.{Instr, Put, Load, Slots, SlotCode, with_word}
 use Rattle.tb_reaching.proofs.Comes.{looser}
 use Rattle.tb_reaching.specs.View.{Comes, Fits, View}
-use Rattle.tb_templates.specs.Templates.{slot_at, var_at}
+use Rattle.tb_templates.specs.Templates.{slot_at}
+use Rattle.tb_kept.specs.Addresses.{var_at}
 use Rattle.tb_simulation.proofs.Pieces.{sets, word_in_data}
 use Rattle.tb_simulation.proofs.Resolved.{copied, size}
 use Rattle.tb_selection.specs.Groups.{IntoSlot, Single}

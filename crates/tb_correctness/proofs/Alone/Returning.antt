@@ -12,7 +12,7 @@ use Rattle.tb_reaching.proofs.Instr.{Stands, ins, instr_bytes}
 use Rattle.tb_reaching.proofs.Memory.{put_other, put_same}
 use Rattle.tb_reaching.proofs.Placed.{placed_last, placing, reads_data, stores_at, takes_at}
 use Rattle.tb_reaching.specs.View.{Bytes, Comes, Fits, Setup, View, is_data, view, with_s}
-use Rattle.tb_runtime16.specs.Addresses.{LEFT, NOTES, RETURN_HIGH, RETURN_LOW}
+use Rattle.tb_kept.specs.Addresses.{LEFT, NOTES, RETURN_HIGH, RETURN_LOW}
 use Rattle.tb_runtime16.specs.Routines.{Here, Moves, AreReturns, WordAt}
 use Rattle.tb_simulation.proofs.Mirrors.{Flagged}
 use Rattle.tb_simulation.proofs.Pieces.{loads_last, stores_short, stores_short_last, whatever}

@@ -14,7 +14,8 @@ use Rattle.tb_reaching.proofs.Services.{served_last}
 use Rattle.tb_reaching.specs.View.{Bytes, Comes, Fits, View, back_at, view}
 use Rattle.tb_runtime16.specs.Laws.{Leaves, Sent}
 use Rattle.tb_runtime16.specs.Routines.{Here, Moves, WithA, is_scratch}
-use Rattle.tb_runtime16.specs.Addresses.{COLUMN, LEFT, LENGTH, NUMBER_AT, SEND_AT, TEXT_AT, ZONE_AT}
+use Rattle.tb_kept.specs.Addresses.{COLUMN, LEFT, LENGTH}
+use Rattle.tb_runtime16.specs.Addresses.{NUMBER_AT, SEND_AT, TEXT_AT, ZONE_AT}
 use Rattle.tb_simulation.proofs.Frames.{word_put}
 use Rattle.tb_simulation.proofs.Pieces.{calls, jumps, moves_then, put_word, whatever}
 use Rattle.tb_simulation.proofs.Resolved as texts

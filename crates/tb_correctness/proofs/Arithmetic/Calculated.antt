@@ -19,7 +19,7 @@ use Rattle.tb_meaning.specs.Control.{State}
 use Rattle.tb_lower.specs.Slots.{Instr, SlotCode, Slots}
 use Rattle.tb_meaning.specs.Values.{apply}
 use Rattle.tb_reaching.specs.View.{Comes, Fits, View, back_at}
-use Rattle.tb_runtime16.specs.Addresses.{LEFT, RIGHT}
+use Rattle.tb_kept.specs.Addresses.{LEFT, RIGHT}
 use Rattle.tb_runtime16.specs.Routines.{Here, Moves}
 use Rattle.tb_selection.specs.GroupSteps.{steps}
 use Rattle.tb_selection.specs.Groups.{Calculate, Destination, Operand, expand, slot_of}

@@ -9,7 +9,7 @@ use Rattle.tb_meaning.specs.Control.{State}
 use Rattle.tb_lower.specs.Slots.{Instr, Slots, SlotCode}
 use Rattle.tb_reaching.proofs.Comes.{looser}
 use Rattle.tb_reaching.specs.View.{Fits, View}
-use Rattle.tb_runtime16.specs.Addresses.{LEFT}
+use Rattle.tb_kept.specs.Addresses.{LEFT}
 use Rattle.tb_simulation.proofs.Resolved.{Lies, pieces_size}
 use Rattle.tb_selection.specs.Groups.{Operand, Destination, Calculate}
 use Rattle.tb_selection.specs.Select.{select}

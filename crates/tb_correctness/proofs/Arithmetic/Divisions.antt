@@ -9,7 +9,8 @@ use Rattle.tb_meaning.specs.Values.{apply}
 use Rattle.tb_reaching.proofs.Comes.{looser}
 use Rattle.tb_reaching.specs.View.{Comes, Fits, View}
 use Rattle.tb_runtime16.specs.Routines.{WordAt}
-use Rattle.tb_runtime16.specs.Addresses.{DIVIDE_AT, LEFT, RIGHT}
+use Rattle.tb_runtime16.specs.Addresses.{DIVIDE_AT}
+use Rattle.tb_kept.specs.Addresses.{LEFT, RIGHT}
 use Rattle.tb_runtime16.proofs.StatePlaces.{not_argument}
 use Rattle.tb_simulation.proofs.Joins.{sent_in}
 use Rattle.tb_simulation.proofs.Resolved.{Lies, pieces_size, Piece}

@@ -14,7 +14,7 @@ use Rattle.tb_reaching.proofs.Comes.{chained, looser}
 use Rattle.tb_reaching.proofs.Instr.{Stands}
 use Rattle.tb_reaching.proofs.Memory.{put_other, put_same}
 use Rattle.tb_reaching.specs.View.{Comes, Fits, Setup, View}
-use Rattle.tb_runtime16.specs.Addresses.{LEFT}
+use Rattle.tb_kept.specs.Addresses.{LEFT}
 use Rattle.tb_runtime16.specs.Routines.{Here, Moves, WithA}
 use Rattle.tb_simulation.proofs.Resolved.{Code, Lies, highest_code, pieces_size, size}
 use Rattle.tb_selection.specs.Groups.{Operand, Destination, Calculate}

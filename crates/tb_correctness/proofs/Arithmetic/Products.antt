@@ -6,7 +6,8 @@ use Rattle.tb_meaning.specs.Control.{State}
 use Rattle.tb_lower.specs.Slots.{Instr, Slots, SlotCode}
 use Rattle.tb_reaching.proofs.Comes.{looser}
 use Rattle.tb_reaching.specs.View.{Fits, View}
-use Rattle.tb_runtime16.specs.Addresses.{MULTIPLY_AT, RESULT}
+use Rattle.tb_runtime16.specs.Addresses.{MULTIPLY_AT}
+use Rattle.tb_kept.specs.Addresses.{RESULT}
 use Rattle.tb_runtime16.proofs.StatePlaces.{not_argument}
 use Rattle.tb_simulation.proofs.Resolved.{Lies, pieces_size}
 use Rattle.tb_simulation.proofs.Returning.{back_here}

@@ -15,7 +15,8 @@ use Rattle.tb_meaning.specs.Values.{apply, given}
 use Rattle.tb_reaching.proofs.Comes.{chained, looser}
 use Rattle.tb_reaching.specs.Start.{IsHome}
 use Rattle.tb_reaching.specs.View.{Comes, Fits, Setup, View}
-use Rattle.tb_runtime16.specs.Addresses.{DIVIDE_AT, LEFT, RESULT, RIGHT}
+use Rattle.tb_runtime16.specs.Addresses.{DIVIDE_AT}
+use Rattle.tb_kept.specs.Addresses.{LEFT, RESULT, RIGHT, var_at}
 use Rattle.tb_runtime16.specs.Routines.{Here, Moves, WordAt}
 use Rattle.tb_runtime16.proofs.StatePlaces.{not_argument}
 use Rattle.tb_simulation.proofs.Frames.{word_put}
@@ -36,7 +37,6 @@ use Rattle.tb_templates.proofs.Multiples.{IsReducing, below_product, by_multiple
 use Rattle.tb_program_code.proofs.Divided.{IsMasking, by_bits, by_division, masking_is}
 use Rattle.tb_selection.specs.Select.{omits_only_dead, select}
 use Rattle.tb_templates.specs.Sources.{destination_at, source_of}
-use Rattle.tb_templates.specs.Templates.{var_at}
 use Rattle.tb_correctness.proofs.Arithmetic.Calculations.{subtracted_word}
 use Rattle.tb_correctness.proofs.Arithmetic.MaskedRests.{Both, Looked, above_rest, below_high, below_low, below_rest, looks_both, stores_both, turns_below}
 use Rattle.tb_correctness.proofs.CodeBytes.GroupCode.{GroupsLie, Negative, RestReachesBy, both_stored, brought, over_at, rest_and_sign, rest_asked, rest_at}

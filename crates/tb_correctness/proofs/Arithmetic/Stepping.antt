@@ -15,7 +15,7 @@ use Rattle.tb_lower.specs.Slots.{Instr, Put, Load, Store, Compute, Slots, SlotCo
 use Rattle.tb_meaning.specs.Steps.{Goes, Stops, Faulted}
 use Rattle.tb_meaning.specs.Values.{apply, given}
 use Rattle.tb_reaching.specs.View.{View}
-use Rattle.tb_runtime16.specs.Addresses.{HELD}
+use Rattle.tb_kept.specs.Addresses.{HELD}
 use Rattle.tb_runtime16.specs.Routines.{WordAt}
 use Rattle.tb_simulation.proofs.Resolved.{Lies, Piece, pieces_size}
 use Rattle.tb_selection.specs.Groups.{Operand, Constant, Variable, InSlot, Home, IntoVariable, Destination, IntoSlot, IntoHome, Group, Calculate, Stepped, Move, fetch, expand, expand_all}

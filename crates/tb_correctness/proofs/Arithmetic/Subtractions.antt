@@ -9,7 +9,7 @@ use Rattle.tb_opcodes.specs.declared.Mnemonic.TheVariants.{Cmp, Lda, Ldx, Ora, S
 use Rattle.tb_reaching.proofs.Instr.{Stands, ins}
 use Rattle.tb_reaching.proofs.Placed.{placed_last, placing}
 use Rattle.tb_reaching.specs.View.{Fits, Setup, View, is_data, view}
-use Rattle.tb_runtime16.specs.Addresses.{RESULT}
+use Rattle.tb_kept.specs.Addresses.{RESULT}
 use Rattle.tb_runtime16.specs.Routines.{Here, Moves, WithA}
 use Rattle.tb_simulation.proofs.Pieces.{InData, loads, loads_last, moves_looser, moves_then, put_word, stores, whatever, whatever_a}
 use Rattle.tb_simulation.proofs.Resolved.{highest_code}

@@ -14,13 +14,14 @@ use Rattle.tb_reaching.proofs.Instr.{ins}
 use Rattle.tb_meaning.specs.Control.{has_line}
 use Rattle.tb_lower.specs.Ranges.{AreInRange}
 use Rattle.tb_lower.specs.Slots as slots
-use Rattle.tb_runtime16.specs.Addresses.{LEFT, LINE, NOTES, RETURN_HIGH, RETURN_LOW, POP_AT, PUSH_AT, RESULT}
+use Rattle.tb_kept.specs.Addresses.{LEFT, LINE, NOTES, RETURN_HIGH, RETURN_LOW, RESULT, var_at}
+use Rattle.tb_runtime16.specs.Addresses.{POP_AT, PUSH_AT}
 use Rattle.tb_selection.specs.Groups.{Constant, Group, Calculate, Stepped, Single, slot_of, expand, Remains}
 use Rattle.tb_templates.specs.declared.labels.Inner.TheVariants as inside
 use Rattle.tb_templates.specs.declared.labels.Target.TheVariants as target
 use Rattle.tb_templates.specs.Labels.{label_of}
 use Rattle.tb_templates.specs.Templates as product
-use Rattle.tb_templates.specs.Templates.{next_line, var_at}
+use Rattle.tb_templates.specs.Templates.{next_line}
 use Rattle.tb_templates.specs.declared.sources.Source.TheVariants.{AtAddress}
 use Rattle.tb_templates.specs.GroupTemplates as items
 use Rattle.tb_templates.specs.InPlace.{change_of}

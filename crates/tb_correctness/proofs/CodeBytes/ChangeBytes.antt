@@ -28,7 +28,7 @@ use Rattle.tb_templates.specs.Reduced.{doublings}
 use Rattle.tb_templates.proofs.Multiples.{IsReducing, by_multiples, by_routine, reduced_plain, reducing_is, six_more}
 use Rattle.tb_program_code.proofs.Divided.{IsMasking, asked_rest_plain, by_bits, by_division, masking_is}
 use Rattle.tb_templates.proofs.Plain.{plain_straight}
-use Rattle.tb_runtime16.specs.Addresses.{RESULT}
+use Rattle.tb_kept.specs.Addresses.{RESULT}
 use Rattle.tb_templates.specs.declared.in_place.Change.{Change}
 use Rattle.tb_templates.specs.declared.in_place.Change.TheVariants.{Increment, Decrement, Raise, Lower, Halve, Double}
 use Rattle.tb_templates.specs.GroupTemplates as items

@@ -19,7 +19,8 @@ use Rattle.tb_words.specs.declared.Rel.TheVariants as rel
 use Rattle.tb_meaning.specs.Control.{has_line}
 use Rattle.tb_lower.specs.Ranges.{AreInRange, IsInRange}
 use Rattle.tb_lower.specs.Slots as slots
-use Rattle.tb_runtime16.specs.Addresses.{LINE, LEFT, RESULT, WANTED, RANDOM_AT, NUMBER_AT, PUSH_AT}
+use Rattle.tb_kept.specs.Addresses.{LINE, LEFT, RESULT, WANTED}
+use Rattle.tb_runtime16.specs.Addresses.{RANDOM_AT, NUMBER_AT, PUSH_AT}
 use Rattle.tb_selection.specs.Select.{alone}
 use Rattle.tb_selection.specs.Groups.{Operand, Variable, Tested, Conversion, Negated, Drawn, Usage, AsNumber, AsLine, AsSubroutine, Divisibility, Divisible}
 use Rattle.tb_selection.specs.Groups.{Indivisible, Group, Calculate, Stepped, Convert, Move, Use, Test, TestGo, Divides, Remains, Single, contrary, denied}

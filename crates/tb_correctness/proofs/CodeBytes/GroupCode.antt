@@ -13,7 +13,8 @@ use Rattle.tb_meaning.specs.Control.{Place, content_at, has_line, highest}
 use Rattle.tb_lower.specs.Ranges.{AreInRange}
 use Rattle.tb_lower.specs.Slots as slots
 use Rattle.tb_kernal.specs.Numbers.{GETIN}
-use Rattle.tb_runtime16.specs.Addresses.{LEFT, RIGHT, RESULT, WANTED, LINE, NOTES, RETURN_LOW, RETURN_HIGH, MULTIPLY_AT, DIVIDE_AT, RANDOM_AT, NUMBER_AT, PUSH_AT, POP_AT}
+use Rattle.tb_kept.specs.Addresses.{LEFT, RIGHT, RESULT, WANTED, LINE, NOTES, RETURN_LOW, RETURN_HIGH, var_at}
+use Rattle.tb_runtime16.specs.Addresses.{MULTIPLY_AT, DIVIDE_AT, RANDOM_AT, NUMBER_AT, PUSH_AT, POP_AT}
 use Rattle.tb_templates.specs.declared.sources.Source.{Source}
 use Rattle.tb_templates.specs.declared.sources.Source.TheVariants.{FixedWord, AtAddress}
 use Rattle.tb_templates.specs.GroupTemplates.{may_fault, may_be_zero, may_have_none}
@@ -30,7 +31,6 @@ use Rattle.tb_templates.specs.InPlace.{change_of}
 use Rattle.tb_templates.specs.Masks.{mask}
 use Rattle.tb_templates.specs.Reduced.{doublings}
 use Rattle.tb_program_code.specs.Search.{compares}
-use Rattle.tb_templates.specs.Templates.{var_at}
 use Rattle.tb_templates.specs.Sources.{source_of, tested_source, home_at, destination_at}
 use Rattle.tb_simulation.specs.Layout.{Layout, place_address}
 use Rattle.tb_simulation.proofs.Resolved.{Piece, Code, Lies, pieces_size, size, sta_at, copied, constant, pointed, call, faulting, jump, jump_by, jump_through, template, highest_code, find_code, past_code}

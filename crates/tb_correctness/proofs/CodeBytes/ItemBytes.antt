@@ -22,7 +22,8 @@ use Rattle.tb_syntax.specs.declared.expressions.Operator.{Operator}
 use Rattle.tb_syntax.specs.declared.expressions.Operator.TheVariants as op
 use Rattle.tb_meaning.specs.Control.{has_line}
 use Rattle.tb_lower.specs.Slots as slots
-use Rattle.tb_runtime16.specs.Addresses.{LINE, LEFT, RIGHT, RESULT, MULTIPLY_AT, DIVIDE_AT}
+use Rattle.tb_kept.specs.Addresses.{LINE, LEFT, RIGHT, RESULT, var_at}
+use Rattle.tb_runtime16.specs.Addresses.{MULTIPLY_AT, DIVIDE_AT}
 use Rattle.tb_selection.specs.Groups.{Operand, Constant, Variable, InSlot, Tested, HeldBefore, HeldNow}
 use Rattle.tb_program_code.specs.Layout.{LabelsAt}
 use Rattle.tb_templates.specs.declared.sources.Source.{Source}
@@ -165,7 +166,7 @@ text_straight n i t None = refl
 
 -- the template of an instruction alone has no branch, if the instruction has none
 pub template_straight : (ns : List ℕ) (n i : ℕ) (c : slots.Instr) → coded.has_branches c ≡ false → list_all is_straight (product.template ns n i c) ≡ true
-template_straight ns n i (slots.Load k x) b = copied_straight (product.var_at x) (product.slot_at k)
+template_straight ns n i (slots.Load k x) b = copied_straight (var_at x) (product.slot_at k)
 template_straight ns n i (slots.SendText t) b = text_straight n i t (product.only_byte t)
 template_straight ns n i (slots.JumpTo to) b = jump_straight ns n to (has_line ns to) refl
 template_straight ns n i (slots.CallTo to) b = absurd (true≢false b)

@@ -10,13 +10,14 @@ use Rattle.tb_words.specs.Words.{word}
 use Rattle.tb_meaning.specs.Control.{has_line}
 use Rattle.tb_lower.specs.Slots as slots
 use Rattle.tb_lower.specs.Ranges.{IsInRange}
-use Rattle.tb_runtime16.specs.Addresses.{POINTER, LENGTH, SEND_AT, TEXT_AT}
+use Rattle.tb_kept.specs.Addresses.{POINTER, LENGTH, var_at}
+use Rattle.tb_runtime16.specs.Addresses.{SEND_AT, TEXT_AT}
 use Rattle.tb_templates.specs.declared.labels.Inner.TheVariants as inside
 use Rattle.tb_templates.specs.declared.labels.Target.TheVariants as target
 use Rattle.tb_templates.specs.Labels.{label_of}
 use Rattle.tb_program_code.specs.Layout.{LabelsAt}
 use Rattle.tb_templates.specs.Templates as product
-use Rattle.tb_templates.specs.Templates.{var_at, slot_at}
+use Rattle.tb_templates.specs.Templates.{slot_at}
 use Rattle.tb_program_code.proofs.Sent.{IsOnly, only, only_is, other}
 use Rattle.tb_simulation.specs.Layout.{Layout, label_address, layout_of}
 use Rattle.tb_simulation.proofs.Numbers.{low_of, high_of, start_of_line, constant_bytes, copied_bytes, faulted_bytes, jump_bytes}

@@ -13,7 +13,8 @@ use Rattle.tb_syntax.specs.Source.{Numbered, numbers, Rises}
 use Rattle.tb_meaning.specs.Control.{has_line, content_at, first_place}
 use Rattle.tb_lower.specs.Slots.{Instr, Poll, SlotCode}
 use Rattle.tb_lower.specs.Ranges.{AreInRange}
-use Rattle.tb_runtime16.specs.Addresses.{PROLOGUE_AT, LINES_AT}
+use Rattle.tb_runtime16.specs.Addresses.{PROLOGUE_AT}
+use Rattle.tb_kept.specs.Addresses.{LINES_AT}
 use Rattle.tb_runtime16.specs.Block.{block_bytes}
 use Rattle.tb_settling.specs.Settled.{AreFormsOf, IsSettled}
 use Rattle.tb_settling.proofs.Forms.{forms_size, items_size, near_split, split}

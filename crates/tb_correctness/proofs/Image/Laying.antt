@@ -15,7 +15,8 @@ use Rattle.tb_reaching.proofs.Parts.{bytes_front}
 use Rattle.tb_syntax.specs.Source.{numbers, Rises}
 use Rattle.tb_meaning.specs.Control.{Place, At, Past, has_line, highest, content_at}
 use Rattle.tb_lower.specs.Slots as slots
-use Rattle.tb_runtime16.specs.Addresses.{COUNT, LINES_AT, PROLOGUE_AT, RESULT, SEARCH_AT, TABLE, WANTED}
+use Rattle.tb_kept.specs.Addresses.{COUNT, LINES_AT, RESULT, TABLE, WANTED}
+use Rattle.tb_runtime16.specs.Addresses.{PROLOGUE_AT, SEARCH_AT}
 use Rattle.tb_runtime16.specs.Block.{block_bytes}
 use Rattle.tb_settling.proofs.Forms.{size_append}
 use Rattle.tb_templates.specs.declared.labels.Target.TheVariants as target
@@ -25,7 +26,8 @@ use Rattle.tb_program_code.specs.Search as search
 use Rattle.tb_program_code.specs.Search.{compares}
 use Rattle.tb_templates.specs.Labels.{label_of}
 use Rattle.tb_program_code.proofs.Reached.{labels_split}
-use Rattle.tb_simulation.specs.Layout.{Layout, Lies, label_address, layout_of, place_address, is_start, inner}
+use Rattle.tb_simulation.specs.Layout.{Layout, Lies, label_address, layout_of, place_address, inner}
+use Rattle.tb_kept.specs.LineStarts.{is_start}
 use Rattle.tb_simulation.proofs.Resolved as resolved
 use Rattle.tb_simulation.proofs.Resolved.{Piece, pieces_size}
 use Rattle.tb_simulation.proofs.Emitted.{pieces_bytes, pieces_length, behind, lies}

@@ -21,7 +21,7 @@ use Rattle.tb_runtime16.specs.Ends.{Begun}
 use Rattle.tb_runtime16.specs.Routines.{Routines, Tabled, entries, limit_by}
 use Rattle.tb_runtime16.proofs.AllLaws.{all_laws}
 use Rattle.tb_runtime16.proofs.PrologueRuns.{prologue_law}
-use Rattle.tb_simulation.specs.Theorem.{Starts}
+use Rattle.tb_kept.specs.Keeps.{Starts}
 use Rattle.tb_simulation.specs.Layout.{Layout, layout_of, start_at, inner}
 use Rattle.tb_correctness.specs.Laid.{Laid}
 use Rattle.tb_simulation.proofs.Numbers.{start_of_line}

@@ -11,7 +11,7 @@ use Rattle.tb_reaching.proofs.Memory.{put_other}
 use Rattle.tb_reaching.proofs.Placed.{placed_last, placing}
 use Rattle.tb_reaching.proofs.Instr.{Instr, Stands, ins, instr_bytes}
 use Rattle.tb_reaching.specs.View.{Bytes, Comes, Part, Fits, Setup, View, view}
-use Rattle.tb_runtime16.specs.Addresses.{LEFT}
+use Rattle.tb_kept.specs.Addresses.{LEFT}
 use Rattle.tb_runtime16.specs.Routines.{Here, WithA, Moves}
 use Rattle.tb_simulation.proofs.Mirrors.{Carrying}
 use Rattle.tb_simulation.proofs.Pieces.{InData, loads, moves_then, moves_looser, put_word, whatever_a}

@@ -2,7 +2,7 @@
 use Rattle.std.proofs.Common.{◌≡◌, ℕ, ◌≤◌, arith}
 use Rattle.tb_meaning.specs.Control.{Place, State}
 use Rattle.tb_lower.specs.Slots.{Slots}
-use Rattle.tb_runtime16.specs.Addresses.{HELD}
+use Rattle.tb_kept.specs.Addresses.{HELD}
 use Rattle.tb_templates.specs.Templates.{slot_at}
 use Rattle.tb_simulation.specs.Layout.{Layout}
 use Rattle.tb_simulation.proofs.Frames.{word_kept}

@@ -10,7 +10,7 @@ use Rattle.tb_reaching.specs.View.{Comes, Fits, View}
 use Rattle.tb_runtime16.specs.Laws.{Sent}
 use Rattle.tb_opcodes.specs.Bytes.{AreBytes}
 use Rattle.tb_runtime16.specs.Routines.{Entered, Here, Moves, WordAt, is_state, is_scratch}
-use Rattle.tb_runtime16.specs.Addresses.{COLUMN, HOME_S, LINE}
+use Rattle.tb_kept.specs.Addresses.{COLUMN, HOME_S, LINE}
 use Rattle.tb_simulation.specs.Layout.{place_address}
 use Rattle.tb_simulation.proofs.Frames.{low_is_state, put_away, state_told, word_put}
 use Rattle.tb_simulation.proofs.Mirrors.{HoldsState, Typable}

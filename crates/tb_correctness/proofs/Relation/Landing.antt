@@ -4,8 +4,8 @@ use Rattle.std.specs.Prelude.{slice_index, slice_set}
 use Rattle.std.proofs.lemmas.Bool.{cases_eq}
 use Rattle.tb_meaning.specs.Control.{State}
 use Rattle.tb_lower.specs.Slots.{Instr, Slots, with_word}
-use Rattle.tb_runtime16.specs.Addresses.{COLUMN, HELD, HOME_S, LINE, NOTES, OPEN, SEED, SEEDED}
-use Rattle.tb_templates.specs.Templates.{slot_at, var_at}
+use Rattle.tb_kept.specs.Addresses.{COLUMN, HELD, HOME_S, LINE, NOTES, OPEN, SEED, SEEDED, var_at}
+use Rattle.tb_templates.specs.Templates.{slot_at}
 use Rattle.tb_runtime16.specs.Routines.{SeedAt, WordAt, is_state}
 use Rattle.tb_simulation.proofs.Mirrors.{HoldsState}
 use Rattle.tb_simulation.specs.Layout.{Layout}

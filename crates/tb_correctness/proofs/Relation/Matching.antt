@@ -4,7 +4,7 @@ use Rattle.tb_reaching.specs.View.{View, Part}
 use Rattle.tb_meaning.specs.Steps.{Step}
 use Rattle.tb_meaning.specs.Control.{Place}
 use Rattle.tb_lower.specs.Slots.{Rest, Whole, Left, Slots, SlotState}
-use Rattle.tb_runtime16.specs.Addresses.{HELD}
+use Rattle.tb_kept.specs.Addresses.{HELD}
 use Rattle.tb_templates.specs.Templates.{slot_at}
 use Rattle.tb_runtime16.specs.Routines.{WordAt, Entered}
 use Rattle.tb_simulation.specs.Layout.{Layout, place_address}

@@ -10,7 +10,8 @@ use Rattle.tb_simulation.proofs.Pieces.{InData, word_in_data}
 use Rattle.tb_selection.specs.declared.liveness.Live.{Live}
 use Rattle.tb_selection.specs.Groups.{Operand, Constant, Variable, InSlot, IntoVariable, IntoHeld, Destination, IntoSlot, IntoHome, Calculate, fetch, kept, slot_of, expand}
 use Rattle.tb_correctness.proofs.Pieces.Sources.{value}
-use Rattle.tb_templates.specs.Templates.{slot_at, var_at}
+use Rattle.tb_templates.specs.Templates.{slot_at}
+use Rattle.tb_kept.specs.Addresses.{var_at}
 use Rattle.tb_templates.specs.declared.sources.Source.{Source}
 use Rattle.tb_templates.specs.Sources.{source_of, destination_at}
 use Rattle.tb_correctness.proofs.CodeBytes.GroupCode.{low, high}

@@ -10,7 +10,7 @@ use Rattle.tb_lower.specs.Ranges.{AreInRange}
 use Rattle.tb_lower.specs.Slots.{After, Instr, Random, SlotCode, Slots, Stays, act, into, leaving, settled, staying, with_word}
 use Rattle.tb_meaning.specs.Steps.{Faulted, Goes, Step, Stops}
 use Rattle.tb_meaning.specs.Values.{Fails, Gives, random}
-use Rattle.tb_runtime16.specs.Addresses.{HELD}
+use Rattle.tb_kept.specs.Addresses.{HELD}
 use Rattle.tb_runtime16.specs.Routines.{WordAt}
 use Rattle.tb_templates.specs.Templates.{slot_at}
 use Rattle.tb_selection.specs.Groups.{Operand, Constant, Variable, InSlot, IntoHome, IntoSlot, Destination, Conversion, Negated, Drawn, Convert, Usage}

@@ -15,7 +15,7 @@ use Rattle.tb_lower.specs.Slots.{Instr, Whole, Compute, Hold, JumpTo, LeaveUnles
 use Rattle.tb_meaning.specs.Steps.{Step, Stops, Faulted}
 use Rattle.tb_reaching.proofs.Comes.{chained, looser}
 use Rattle.tb_reaching.specs.View.{Comes, Fits, View}
-use Rattle.tb_runtime16.specs.Addresses.{LEFT, RIGHT}
+use Rattle.tb_kept.specs.Addresses.{LEFT, RIGHT}
 use Rattle.tb_simulation.proofs.Joins.{sent_in}
 use Rattle.tb_simulation.proofs.Resolved.{Code, Lies, Piece, faulting, pieces_size, next_at}
 use Rattle.tb_selection.specs.declared.liveness.Live.{Live}

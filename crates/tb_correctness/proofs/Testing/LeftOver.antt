@@ -11,7 +11,8 @@ use Rattle.tb_reaching.proofs.Instr.{Stands, ins, instr_bytes}
 use Rattle.tb_reaching.proofs.Placed.{placed_last}
 use Rattle.tb_reaching.specs.Start.{IsHome}
 use Rattle.tb_reaching.specs.View.{Bytes, Comes, Fits, Setup, View, is_data, view}
-use Rattle.tb_runtime16.specs.Addresses.{DIVIDE_AT, LEFT, RESULT, RIGHT}
+use Rattle.tb_runtime16.specs.Addresses.{DIVIDE_AT}
+use Rattle.tb_kept.specs.Addresses.{LEFT, RESULT, RIGHT}
 use Rattle.tb_runtime16.specs.Routines.{Here, Moves, WithA, WordAt}
 use Rattle.tb_runtime16.proofs.StatePlaces.{not_argument}
 use Rattle.tb_simulation.proofs.Mirrors.{Flagged}

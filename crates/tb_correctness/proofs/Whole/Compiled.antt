@@ -13,13 +13,13 @@ use Rattle.tb_lower.specs.Slots.{SlotCode}
 use Rattle.tb_runtime16.specs.Addresses.{PROLOGUE_AT}
 use Rattle.tb_program_code.specs.Program.{program_code, AreCodable}
 use Rattle.tb_runtime16.specs.Routines.{limit_by}
-use Rattle.tb_simulation.specs.Theorem.{Starts, Keeps}
+use Rattle.tb_kept.specs.Keeps.{Starts, Keeps}
 use Rattle.tb_selection.specs.Laws.{AreClosed}
 use Rattle.tb_settling.specs.Settled.{IsSettled}
 use Rattle.tb_simulation.specs.Layout.{layout_of}
 use Rattle.tb_correctness.specs.Laid.{ArePolled, Laid}
 use Rattle.tb_simulation.proofs.Headline.{begins_so}
-use Rattle.tb_simulation.specs.LineStarts.{MarksLines}
+use Rattle.tb_kept.specs.LineStarts.{MarksLines}
 use Rattle.tb_simulation.proofs.SameStarts.{Agree, told_so}
 use Rattle.tb_correctness.proofs.Whole.GroupWhole as whole
 use Rattle.tb_correctness.proofs.Image.Lines.{groups_laid}

@@ -5,7 +5,8 @@ use Rattle.tb_lower.specs.Slots.{Instr, SlotCode}
 use Rattle.tb_asm.specs.Layout.{distance}
 use Rattle.tb_reaching.specs.View.{Part}
 use Rattle.tb_reaching.proofs.Instr.{Stands}
-use Rattle.tb_simulation.specs.Layout.{Layout, inner, is_start}
+use Rattle.tb_simulation.specs.Layout.{Layout, inner}
+use Rattle.tb_kept.specs.LineStarts.{is_start}
 use Rattle.tb_simulation.proofs.LineStarts.{AreApart, has_content, not_inner}
 use Rattle.tb_simulation.proofs.Resolved.{Lies, highest_code}
 use Rattle.tb_correctness.proofs.Pieces.Branches.{added, branch_size, gets_there}

@@ -8,9 +8,9 @@ use Rattle.tb_syntax.specs.Source.{Program, numbers}
 use Rattle.tb_meaning.specs.Control.{first_place}
 use Rattle.tb_lower.specs.Follows.{Follows}
 use Rattle.tb_lower.specs.Slots.{SlotCode, SlotState, Whole}
-use Rattle.tb_runtime16.specs.Addresses.{LINES_AT}
-use Rattle.tb_simulation.specs.Theorem.{Starts, Keeps}
-use Rattle.tb_simulation.specs.LineStarts.{MarksLines}
+use Rattle.tb_kept.specs.Addresses.{LINES_AT}
+use Rattle.tb_kept.specs.Keeps.{Starts, Keeps}
+use Rattle.tb_kept.specs.LineStarts.{MarksLines}
 use Rattle.tb_simulation.specs.Layout.{Layout, inner, place_address}
 use Rattle.tb_runtime16.specs.Ends.{Begun}
 use Rattle.tb_simulation.proofs.Headline.{setup, room_so, OpeningLaw, StepLaws, headline}

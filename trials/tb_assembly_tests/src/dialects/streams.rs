@@ -28,7 +28,12 @@ fn each_fault_of_a_file_is_told(rt: HostRuntime) -> Result<(), Fail> {
         let mut shelf = Shelf::new(alloc, file.as_slice(), usize::MAX, room);
         let end = list_file(alloc, &mut shelf, "a.prg", Some(Dialect::Tass64));
         assert_eq!(rt; end, wanted);
-        assert!(rt; shelf.saved.iter().all(|text| text.as_slice() == FOR_64TASS.as_bytes()));
+        assert!(rt;
+            shelf
+                .saved
+                .iter()
+                .all(|text| text.as_slice() == FOR_64TASS.as_bytes())
+        );
         assert_eq!(rt; shelf.saved.len(), room);
     }
     Ok(())

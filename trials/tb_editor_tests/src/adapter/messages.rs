@@ -2,10 +2,11 @@
 use super::sessions::{MESSAGES, SOURCE};
 use super::support::{One, answers, frames, served, shown};
 use std::test::Fail;
+use tb_codegen::TinyBasic;
 use tb_debug_adapter::serve;
-use tb_parser::Notation;
 use tb_streams::Tracked;
 use tb_test_support::{FailingReader, FailingWriter};
+use tb_text::Notation;
 
 /// Contents that are no message, and what is told of them.
 const UNREAD: [(&str, &str); 9] = [
@@ -91,6 +92,7 @@ fn a_writer_that_fails_has_a_prefix(rt: HostRuntime) -> Result<(), Fail> {
         let mut reader = Tracked::new(FailingReader::new(messages.as_slice(), usize::MAX, 4096));
         let mut writer = Tracked::new(FailingWriter::new(alloc, length, 7));
         let outcome = serve(
+            &TinyBasic,
             alloc,
             Notation::Plain,
             &mut sources,

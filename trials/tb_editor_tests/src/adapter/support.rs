@@ -3,10 +3,11 @@ use std::alloc::Global;
 use std::io::Read;
 use std::test::Fail;
 use tb_check_engine::Sources;
+use tb_codegen::TinyBasic;
 use tb_debug_adapter::serve;
-use tb_parser::Notation;
 use tb_streams::{InputError, Tracked};
 use tb_test_support::FailingReader;
+use tb_text::Notation;
 
 /// Where the source is.
 pub const PATH: &str = "/a/t.bas";
@@ -61,7 +62,14 @@ pub fn served_in<R: Read + Drop>(
     let mut reader = Tracked::new(reader);
     let mut writer = Tracked::new(Vec::new(alloc));
     let mut sources = One { text: source };
-    let outcome = serve(alloc, notation, &mut sources, &mut reader, &mut writer);
+    let outcome = serve(
+        &TinyBasic,
+        alloc,
+        notation,
+        &mut sources,
+        &mut reader,
+        &mut writer,
+    );
     (outcome.status(), writer.stream)
 }
 

@@ -8,7 +8,8 @@ use std::io::Write;
 use std::str;
 use tb_check::CheckSettings;
 use tb_check_engine::{CheckOutcome, Sources, check_sources};
-use tb_codegen::{Notation, SizeLimit};
+use tb_codegen::TinyBasic;
+use tb_compiled::{Notation, SizeLimit};
 use tb_streams::{InputError, Tracked, read_input};
 use tb_test_support::FailingReader;
 
@@ -120,7 +121,14 @@ pub fn check_folder<W: Write>(
                 size,
                 notation: Notation::Plain,
             };
-            check_sources(alloc, &mut folder, names.as_slice(), writer, settings)
+            check_sources(
+                &TinyBasic,
+                alloc,
+                &mut folder,
+                names.as_slice(),
+                writer,
+                settings,
+            )
         }
         Err(_) => CheckOutcome::NoMemory,
     }

@@ -5,7 +5,7 @@ use crate::check::checks::{
 use crate::page::Page;
 use std::alloc::Global;
 use tb_check_engine::CheckOutcome;
-use tb_codegen::SizeLimit;
+use tb_compiled::SizeLimit;
 use tb_streams::Tracked;
 use tb_test_support::{FailingReader, FailingWriter};
 

@@ -3,8 +3,9 @@ use crate::check::checks::File;
 use crate::page::Page;
 use std::alloc::{AllocError, Global};
 use tb_check::{CheckSettings, Findings, SourceErrorKind, examine};
-use tb_codegen::{CompileError, CompileSettings, Notation, SizeLimit, compile_within};
-use tb_lower::LowerError;
+use tb_codegen::{TinyBasic, compile_within};
+use tb_compiled::{CompileError, CompileSettings, Notation, SizeLimit};
+use tb_meaning::LowerError;
 
 /// The seed of RND, on which nothing depends here.
 const SEED: u16 = 1;
@@ -19,7 +20,8 @@ fn agrees(alloc: Global, source: &[u8]) -> Result<bool, AllocError> {
 
 fn agrees_within(alloc: Global, source: &[u8], size: SizeLimit) -> Result<bool, AllocError> {
     let notation = Notation::Plain;
-    let found = examine(alloc, source, CheckSettings { size, notation })?.findings;
+    let asked = CheckSettings { size, notation };
+    let found = examine(&TinyBasic, alloc, source, asked)?.findings;
     let settings = CompileSettings {
         seed: SEED,
         size,

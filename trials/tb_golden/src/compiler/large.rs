@@ -2,7 +2,8 @@
 use crate::notation::bytes_of;
 use crate::page::Page;
 use std::alloc::Global;
-use tb_codegen::{CompileError, Compiled, Options, compile, compile_to_fit};
+use tb_codegen::{Options, compile, compile_to_fit};
+use tb_compiled::{CompileError, Compiled};
 use tb_driver::{Outcome, Tracked, run_prg};
 use tb_kernal::{Keyboard, Outside, Quiet, Rude};
 

@@ -1,7 +1,7 @@
 //! Machines with compiled programs, at their start.
 use crate::notation::{bytes_of, hex_word};
 use crate::page::Page;
-use tb_codegen::Compiled;
+use tb_compiled::Compiled;
 use tb_engines::start_regs;
 use tb_kernal::{Machine, Outside};
 use tb_memmap::{BASIC_START, Memory};

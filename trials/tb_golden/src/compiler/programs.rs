@@ -3,9 +3,11 @@ use crate::compiler::sources::{compiled, push_lines, source_of};
 use crate::notation::{bytes_of, cut, hex_word, number, word};
 use crate::page::Page;
 use std::alloc::Global;
-use tb_codegen::{CompileSettings, Compiled, Notation, Options, compile};
-use tb_driver::{Outcome, Tracked, build, run_prg, run_text, run_within};
+use tb_codegen::{Options, TinyBasic, compile};
+use tb_compiled::{CompileSettings, Compiled, Notation};
+use tb_driver::{Outcome, Tracked, build, run_prg, run_text};
 use tb_kernal::{Keyboard, Outside, Quiet, Rude};
+use tb_sources::run_within;
 use tb_test_support::no_keys;
 
 // The file that `build` writes for a source, as its bytes.
@@ -218,6 +220,7 @@ fn ran_with_signs<O: Outside>(
         ..CompileSettings::by_cost(1)
     };
     let report = run_within(
+        &TinyBasic,
         alloc,
         &mut source,
         screen,

@@ -2,7 +2,8 @@
 //! on each of these lines.
 use crate::notation::{cut, push_decoded, word};
 use crate::page::Page;
-use tb_codegen::{Compiled, Options, compile};
+use tb_codegen::{Options, compile};
+use tb_compiled::Compiled;
 
 /// Appends the same statement under each of these numbers.
 pub fn push_lines(page: &mut Page, source: &mut Vec<u8>, first: u16, last: u16, statement: &str) {

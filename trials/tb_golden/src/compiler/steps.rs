@@ -3,7 +3,7 @@ use crate::compiler::machines::{Start, are_same};
 use crate::compiler::sources::{compiled, source_of};
 use crate::notation::{cut, decoded, number, word};
 use crate::page::Page;
-use tb_codegen::Compiled;
+use tb_compiled::Compiled;
 use tb_driver::{Tracked, step_text};
 use tb_kernal::{Machine, Outside, Quiet, Rude, Status};
 use tb_parser::parse_expr;

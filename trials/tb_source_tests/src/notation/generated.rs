@@ -4,8 +4,9 @@ use std::alloc::{AllocError, Global};
 use std::test::Fail;
 use tb_driver::host_form;
 use tb_meaning::run_source;
-use tb_parser::{Notation, parse_in};
+use tb_parser::parse_in;
 use tb_signs::write_text;
+use tb_text::Notation;
 use tb_words::next_seed;
 
 /// How many texts are generated.

@@ -1,7 +1,8 @@
 //! Sources with texts that are refused: by which fault, and where.
 use std::alloc::Global;
 use std::test::Fail;
-use tb_parser::{Notation, SourceErrorKind, parse, parse_in};
+use tb_parser::{SourceErrorKind, parse, parse_in};
+use tb_text::Notation;
 
 /// A source, what is wrong with it, and where: the line and the column.
 type Row = (&'static str, SourceErrorKind, usize, usize);

@@ -1,8 +1,11 @@
 //! Sources and all that they show, in host form: `{XX}` for a byte that is neither from 32 to 90 nor a new line.
 use std::alloc::Global;
 use std::test::Fail;
-use tb_driver::{CompileSettings, Notation, SizeLimit, Tracked, run_within};
+use tb_codegen::TinyBasic;
+use tb_compiled::{CompileSettings, Notation, SizeLimit};
+use tb_driver::Tracked;
 use tb_kernal::Quiet;
+use tb_sources::run_within;
 use tb_test_support::keyboard_of;
 
 /// How many events a run takes at most.
@@ -187,6 +190,7 @@ pub fn shows(alloc: Global, source: &str, keys: &[u8], shown: &str) -> Result<bo
     let mut reader = Tracked::new(source.as_bytes());
     let mut writer = Tracked::new(Vec::new(alloc));
     let report = run_within(
+        &TinyBasic,
         alloc,
         &mut reader,
         &mut writer,

@@ -2,9 +2,9 @@
 use std::alloc::Global;
 use std::test::Fail;
 use tb_file_engine::{Numbering, RenumberOutcome, renumber_file};
-use tb_parser::Notation;
 use tb_streams::Done;
 use tb_test_support::Shelf;
+use tb_text::Notation;
 
 const SOURCE: &[u8] = b"2 GOSUB 4\n3 GOTO 2\n4 RETURN\n";
 
@@ -41,12 +41,7 @@ fn each_fault_of_a_source_is_told(rt: HostRuntime) -> Result<(), Fail> {
 #[test]
 fn a_source_with_signs_is_read(rt: HostRuntime) -> Result<(), Fail> {
     let alloc = rt.alloc();
-    let mut shelf = Shelf::new(
-        alloc,
-        b"1 PRINT \"{clr}\"\n2 GOTO 1\n",
-        usize::MAX,
-        1,
-    );
+    let mut shelf = Shelf::new(alloc, b"1 PRINT \"{clr}\"\n2 GOTO 1\n", usize::MAX, 1);
     renumbered(alloc, &mut shelf, Notation::Signs);
     let [text] = shelf.saved.as_slice() else {
         return Err(Fail::new("no text"));

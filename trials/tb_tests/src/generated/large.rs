@@ -5,7 +5,8 @@ use crate::generated::trials::{file_agrees_twice, run_of};
 use std::alloc::{AllocError, Global};
 use std::process::Abort;
 use std::test::Fail;
-use tb_codegen::{CompileError, Options, compile, compile_to_fit};
+use tb_codegen::{Options, compile, compile_to_fit};
+use tb_compiled::CompileError;
 use tb_meaning::RunEnd;
 
 /// How many lines head and tail have.

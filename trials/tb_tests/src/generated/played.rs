@@ -4,8 +4,12 @@ use crate::generated::programs::{Case, Choices};
 use crate::generated::trials::{AMPLE, Ran, SCANT, agrees, run_of};
 use std::alloc::{AllocError, Global};
 use std::test::Fail;
-use tb_driver::{CompileSettings, Played, Tracked, play_compiled, read_source};
+use tb_codegen::TinyBasic;
+use tb_compiled::CompileSettings;
+use tb_driver::Tracked;
 use tb_meaning::{RunEnd, SourceRun};
+use tb_play::Played;
+use tb_sources::{play_compiled, read_source};
 
 /// How many programs are played.
 const PROGRAMS: usize = 200;
@@ -67,7 +71,8 @@ fn limit_of(run: &SourceRun, lines: &[u8]) -> u64 {
 fn plays_as_its_source(alloc: Global, case: &Case) -> Result<bool, Fail> {
     let run = run_of(alloc, case)?;
     let mut reader = Tracked::new(case.source.as_slice());
-    let Ok(source) = read_source(alloc, &mut reader, CompileSettings::by_cost(case.seed)) else {
+    let settings = CompileSettings::by_cost(case.seed);
+    let Ok(source) = read_source(&TinyBasic, alloc, &mut reader, settings) else {
         return Ok(false);
     };
     let lines = lines_of(alloc, &case.keys)?;

@@ -2,9 +2,10 @@
 use crate::routines::setup::{Call, Called, End, ROMS, plain};
 use std::alloc::Global;
 use std::test::Fail;
+use tb_kept::{COLUMN, LINE, OPEN, RESULT};
 use tb_kernal::Machine;
 use tb_meaning::{RunEnd, SourceRun, run_source};
-use tb_runtime16::{COLUMN, LINE, OPEN, RESULT, Routine};
+use tb_runtime16::Routine;
 use tb_syntax::{Program, Statement};
 use tb_words::{Letter, next_seed};
 

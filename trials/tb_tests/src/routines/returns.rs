@@ -2,7 +2,8 @@
 use crate::routines::setup::{Call, Called, ROMS, plain};
 use std::alloc::Global;
 use std::test::Fail;
-use tb_runtime16::{LEFT, LINE, NOTES, RETURN_HIGH, RETURN_LOW, Routine};
+use tb_kept::{LEFT, LINE, NOTES, RETURN_HIGH, RETURN_LOW};
+use tb_runtime16::Routine;
 use tb_words::next_seed;
 
 // The most notes.

@@ -2,7 +2,8 @@
 use crate::routines::setup::{Call, Called, PROGRAM, ROMS, plain};
 use std::alloc::Global;
 use std::test::Fail;
-use tb_runtime16::{COUNT, LINE, Routine, TABLE, WANTED};
+use tb_kept::{COUNT, LINE, TABLE, WANTED};
+use tb_runtime16::Routine;
 use tb_words::next_seed;
 
 // The address of a line's code, if it is one of 10, 20, up to ten times the count.

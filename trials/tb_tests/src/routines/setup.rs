@@ -2,9 +2,10 @@
 use std::alloc::Global;
 use std::test::Fail;
 use tb_cpu::{Flags, Regs};
+use tb_kept::{HOME_S, LINE, LINES_AT, RESULT, VARS};
 use tb_kernal::{Machine, Quiet, Rude, Status, run};
 use tb_memmap::Memory;
-use tb_runtime16::{BLOCK_AT, HOME_S, LINE, LINES_AT, RESULT, Routine, VARS, block, entry};
+use tb_runtime16::{BLOCK_AT, Routine, block, entry};
 use tb_test_support::keyboard_of;
 use tb_words::{digits, next_seed};
 

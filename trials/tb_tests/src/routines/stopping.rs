@@ -4,9 +4,10 @@ use crate::routines::setup::{
 };
 use std::alloc::Global;
 use std::test::Fail;
+use tb_kept::{COLUMN, HOME_S, LINE, LINES_AT, NOTES, SEED, VARS};
 use tb_kernal::{Machine, Status};
 use tb_memmap::Memory;
-use tb_runtime16::{BLOCK_AT, COLUMN, HOME_S, LINE, LINES_AT, NOTES, Routine, SEED, VARS};
+use tb_runtime16::{BLOCK_AT, Routine};
 use tb_test_support::no_keys;
 
 // Whether Fault sends the text of a fault at a line, and ends.

@@ -1,7 +1,8 @@
 //! PRG files that are stepped through: what is answered, what is refused, and streams that fail.
 use std::alloc::{AllocError, Global};
 use std::test::Fail;
-use tb_driver::{End, Outcome, Tracked, step_prg};
+use tb_driver::{End, Outcome, Tracked};
+use tb_sources::step_prg;
 use tb_test_support::{FailingReader, FailingWriter, no_keys};
 
 /// A routine at `$C000`: it sends an H.

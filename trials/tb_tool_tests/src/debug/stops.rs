@@ -2,7 +2,8 @@
 use crate::debug::programs::{LOOP, TYPED};
 use std::alloc::Global;
 use std::test::Fail;
-use tb_codegen::{Compiled, Options, compile};
+use tb_codegen::{Options, compile};
+use tb_compiled::Compiled;
 use tb_debug::{Cause, Debugger, Rom};
 use tb_engines::start_machine;
 use tb_parser::Letter;

@@ -3,9 +3,11 @@ use crate::debug::programs::LOOP;
 use std::alloc::Global;
 use std::io::{Read, Write};
 use std::test::Fail;
+use tb_codegen::TinyBasic;
+use tb_compiled::CompileSettings;
 use tb_debug_engine::{Rom, Setting, debug};
-use tb_driver::{CompileSettings, CompiledSource, read_source};
 use tb_engines::{Failure, Outcome};
+use tb_sources::{CompiledSource, read_source};
 use tb_streams::Tracked;
 use tb_test_support::{CountingWriter, FailingReader, FailingWriter, HoldingWriter, no_keys};
 use tb_watch::Unwatched;
@@ -62,6 +64,7 @@ pub fn debugs<R: Read, W: Write>(
 pub fn source_of(alloc: Global, source: &[u8]) -> Result<CompiledSource, Fail> {
     Ok(
         read_source(
+            &TinyBasic,
             alloc,
             &mut Tracked::new(source),
             CompileSettings::by_cost(0),
@@ -133,7 +136,8 @@ fn reader_fails(alloc: Global, source: &CompiledSource, all: &[u8], until_fault:
 fn a_source_that_fails(rt: HostRuntime) -> Result<(), Fail> {
     for until_fault in 0..=LOOP.len() {
         let mut reader = Tracked::new(FailingReader::new(LOOP, until_fault, 3));
-        let source = read_source(rt.alloc(), &mut reader, CompileSettings::by_cost(0));
+        let settings = CompileSettings::by_cost(0);
+        let source = read_source(&TinyBasic, rt.alloc(), &mut reader, settings);
         assert!(rt; matches!(source, Err(Failure::ReadFault)), "{until_fault}");
     }
     Ok(())

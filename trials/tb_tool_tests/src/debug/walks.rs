@@ -2,7 +2,8 @@
 use crate::debug::programs::{ASKS, DRAWS, FAULTS, FOREVER, LOOP, NESTS, RUNS_PAST, TYPED};
 use std::alloc::{AllocError, Global};
 use std::test::Fail;
-use tb_codegen::{Compiled, Options, compile};
+use tb_codegen::{Options, compile};
+use tb_compiled::Compiled;
 use tb_debug::{Command, Debugger, Reached, Rom};
 use tb_engines::start_machine;
 use tb_kernal::Machine;

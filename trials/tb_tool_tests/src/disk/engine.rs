@@ -258,7 +258,11 @@ fn a_file_that_fails(rt: HostRuntime) -> Result<(), Fail> {
             let mut shelf = Shelf::new(alloc, b"\x01\x08 a program", until_fault, 1);
             shelf.most = most;
             let is_whole = until_fault > size;
-            let wanted = if is_whole { DiskOutcome::Ended(Done) } else { DiskOutcome::ReadFault };
+            let wanted = if is_whole {
+                DiskOutcome::Ended(Done)
+            } else {
+                DiskOutcome::ReadFault
+            };
             assert_eq!(rt; disk_on(alloc, &mut shelf)?, wanted);
             assert_eq!(rt; shelf.saved.len(), usize::from(is_whole));
         }

@@ -2,7 +2,8 @@
 use std::alloc::{AllocError, Global};
 use std::test::Fail;
 use tb_asm::{assemble, read_text};
-use tb_codegen::{Notation, Options, compile};
+use tb_codegen::{Options, compile};
+use tb_compiled::Notation;
 use tb_listing::{Made, make};
 use tb_words::next_seed;
 

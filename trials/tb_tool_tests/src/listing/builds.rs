@@ -1,7 +1,7 @@
 //! The files of a build, and what becomes of them at a refusal and at a fault.
 use std::alloc::Global;
 use std::test::Fail;
-use tb_driver::CompileSettings;
+use tb_compiled::CompileSettings;
 use tb_engines::{End, Outcome, Report};
 use tb_file_engine::{BuildNames, build_file};
 use tb_test_support::Shelf;
@@ -18,13 +18,7 @@ const NAMES: BuildNames<'static> = BuildNames {
 };
 
 fn built(alloc: Global, shelf: &mut Shelf<'_>) -> Report {
-    build_file(
-        alloc,
-        shelf,
-        "a.bas",
-        CompileSettings::by_cost(1),
-        NAMES,
-    )
+    build_file(alloc, shelf, "a.bas", CompileSettings::by_cost(1), NAMES)
 }
 
 #[test]

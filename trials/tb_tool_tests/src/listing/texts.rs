@@ -1,6 +1,7 @@
 //! A listing, labels and a map, byte for byte.
 use std::test::Fail;
-use tb_codegen::{Notation, Options, compile};
+use tb_codegen::{Options, compile};
+use tb_compiled::Notation;
 use tb_listing::make;
 
 /// Of two lines with one number the last counts. A line's number may be an address of the code.

@@ -98,6 +98,9 @@ fn files_that_fail_at_a_profile_of_a_prg(rt: HostRuntime) -> Result<(), Fail> {
         assert_eq!(rt; profiled(alloc, &mut shelf, b"")?, 3, "after {until_fault}");
         assert!(rt; shelf.saved.is_empty(), "after {until_fault}");
     }
-    assert_eq!(rt; profiled(alloc, &mut Shelf::new(alloc, SENDS, usize::MAX, 0), b"")?, 3);
+    assert_eq!(rt;
+        profiled(alloc, &mut Shelf::new(alloc, SENDS, usize::MAX, 0), b"")?,
+        3
+    );
     Ok(())
 }

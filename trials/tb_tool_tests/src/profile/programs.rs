@@ -1,6 +1,6 @@
 //! The programs that are profiled, with their tables.
 use std::alloc::Global;
-use tb_driver::CompileSettings;
+use tb_compiled::CompileSettings;
 use tb_file_engine::profile_file;
 use tb_kernal::Quiet;
 use tb_profile_engine::{Named, Run};

@@ -11,7 +11,12 @@ fn tables_are_those_of_an_independent_count(rt: HostRuntime) -> Result<(), Fail>
         let [table, _] = shelf.saved.as_slice() else {
             return Err(Fail::new("no table and page"));
         };
-        assert_eq!(rt; table.as_slice(), program.table.as_bytes(), "{}", program.name);
+        assert_eq!(rt;
+            table.as_slice(),
+            program.table.as_bytes(),
+            "{}",
+            program.name
+        );
     }
     Ok(())
 }

@@ -5,9 +5,9 @@ use Rattle.tb_adapter_requests.proofs.Reports.{is_report_of}
 use Rattle.tb_adapter_requests.proofs.loading.report.Goals as goal
 
 pub returns : goal.returns
-returns c =
+returns g c =
     let named : map string_bytes c.deref.result.now ≡ c.args.path.now ∷ [] = search rules in
     let unwritten : c.new-writer.result.stream.items ≡ [] = search rules in
-    is_report_of (λ old name given new. IsHeld old.text.now given) c.args.settings c.args.path.now c.args.text.now _ (λ name given t is. is)
+    is_report_of g.K.Compile.own (λ old name given new. IsHeld old.text.now given) c.args.settings c.args.path.now c.args.text.now _ (λ name given t is. is)
     c.check_sources-outcome.result (map string_bytes c.deref.result.now) _ c.new-writer.result.stream.items c.check_sources-outcome.new.writer.stream.items
     c.in-Ended.is named unwritten c.check_sources-outcome.ensures.checks

@@ -6,7 +6,7 @@ use Rattle.tb_assembly_engine.proofs.gathering.gather.Given as goal
 
 abbrev pub invariant-reading : goal.invariant-reading
 invariant-reading g l = record {
-  gathered : Gathers g.F.FileSystem.does g.F.Input.Read.remaining l.text l.fn.files [] (map source_of l.library.items) l.files;
+  gathered : Gathers g.F.FileSystem.does g.F.FileSystem.holds l.text l.fn.files [] (map source_of l.library.items) l.files;
   within : length l.library.items ≤ 257;
 }
 

@@ -7,7 +7,7 @@ use Rattle.tb_check.proofs.judging.judge_program.Goals as goal
 use Rattle.tb_check.proofs.judging.judge_program.Goals.{then-is_empty, else-is_empty}
 
 pub returns : goal.returns
-returns c =
+returns g c =
     let size = c.args.settings.size in
     let p = lines_of c.args.program in
     let faults = c.in_ok-faults.faults in
@@ -15,8 +15,8 @@ returns c =
     elim c.if-is_empty.branch [
       | then-is_empty w ↦
           let none = c.is_empty.ensures.0 w.if-is_empty.true in
-          subst (JudgesProgram size p) (sym w.result-is) (refl, good_of size p faults has none.0 none.1)
+          subst (JudgesProgram g.K.Compile.own size p) (sym w.result-is) (refl, good_of g.K.Compile.own size p faults has none.0 none.1)
       | else-is_empty w ↦
-          subst (JudgesProgram size p) (sym w.result-is)
-          (has, λ good. true≢false (sym (c.is_empty.ensures.1 (none_of size p faults has good)) ∙ w.if-is_empty.false))
+          subst (JudgesProgram g.K.Compile.own size p) (sym w.result-is)
+          (has, λ good. true≢false (sym (c.is_empty.ensures.1 (none_of g.K.Compile.own size p faults has good)) ∙ w.if-is_empty.false))
     ]

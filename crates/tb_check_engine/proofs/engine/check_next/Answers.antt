@@ -7,5 +7,5 @@ use Rattle.tb_check_engine.proofs.engine.check_next.Goals as goal
 pub returns-in-Ok-clause-next : goal.returns-in-Ok-clause-next
 returns-in-Ok-clause-next g c =
     let reads = g.S.Sources.reads in
-    next_told reads c.args.settings c.args.sources.now c.read.new.self c.args.name.now c.as_slice.result.now c.in-Ok.source.items
+    next_told g.K.Compile.own reads c.args.settings c.args.sources.now c.read.new.self c.args.name.now c.as_slice.result.now c.in-Ok.source.items
     c.tell.result _ _ c.as_slice.ensures.value c.in-Ok.ensures c.tell.ensures.tells

@@ -6,6 +6,6 @@ use Rattle.tb_check_engine.proofs.engine.check_sources.Given as goal
 
 abbrev pub invariant-loop-name : goal.invariant-loop-name
 invariant-loop-name g l =
-    Stands g.S.Sources.reads l.settings l.initial.sources (take l.name-index (map string_bytes l.names))
+    Stands g.K.Compile.own g.S.Sources.reads l.settings l.initial.sources (take l.name-index (map string_bytes l.names))
     (g.W.Write.contents l.initial.writer.stream) l.sources (g.W.Write.contents l.writer.stream) l.marks
     × (l.writer.failures ≡ l.initial.writer.failures)

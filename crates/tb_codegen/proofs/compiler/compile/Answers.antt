@@ -1,8 +1,8 @@
 -- The goals of `compile` in src/compiler.rt.
 use Rattle.std.proofs.Common.{subst}
 use Rattle.std.specs.Prelude.{IfOk}
-use Rattle.tb_codegen.specs.declared.settings.CompileSettings.{CompileSettings}
-use Rattle.tb_codegen.specs.Theorem.{KeepsSourceIn, MarksLinesIn}
+use Rattle.tb_compiled.specs.declared.settings.CompileSettings.{CompileSettings}
+use Rattle.tb_compiled.specs.Theorem.{KeepsSourceIn, MarksLinesIn}
 use Rattle.tb_codegen.proofs.GoodSources.{keeps_its_source, marks_its_lines}
 use Rattle.tb_codegen.proofs.compiler.compile.Goals as goal
 

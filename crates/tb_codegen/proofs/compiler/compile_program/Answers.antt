@@ -1,7 +1,7 @@
 -- The goals of `compile_program` in src/compiler.rt.
 use Rattle.tb_syntax.specs.PlainData.{lines_of}
 use Rattle.tb_codegen.proofs.Answering.{costs_too_much, linked_answer}
-use Rattle.tb_codegen.proofs.SmallPrograms.{are_small, cost_small}
+use Rattle.tb_compiled.proofs.SmallPrograms.{are_small, cost_small}
 use Rattle.tb_codegen.proofs.compiler.compile_program.Goals as goal
 
 pub excess-requires : goal.excess-requires
@@ -9,7 +9,7 @@ excess-requires c = cost_small (lines_of c.args.program.now) (are_small (lines_o
 
 pub returns-in-Some-clause-answer : goal.returns-in-Some-clause-answer
 returns-in-Some-clause-answer c =
-    (c.in_ok-code.ensures.code.shallow, costs_too_much c.args.settings.size c.args.settings.seed (lines_of c.args.program.now) c.in-Some.cost c.in-Some.ensures)
+    (c.in_ok-code.ensures.code.shallow, costs_too_much c.args.settings.size (lines_of c.args.program.now) c.in-Some.cost c.in-Some.ensures)
 
 pub returns-clause-answer : goal.returns-clause-answer
 returns-clause-answer c =

@@ -2,9 +2,10 @@
 use Rattle.std.proofs.Common.{subst}
 use Rattle.std.specs.Prelude.{IfOk}
 use Rattle.tb_parser.specs.Files.{Outcome}
-use Rattle.tb_codegen.specs.Answers.{OutcomeAnswer, SourceMakes}
-use Rattle.tb_codegen.specs.declared.settings.CompileSettings.{CompileSettings}
-use Rattle.tb_codegen.specs.Theorem.{KeepsSourceIn, MarksLinesIn}
+use Rattle.tb_compiled.specs.Answers.{OutcomeAnswer, SourceMakes}
+use Rattle.tb_compiled.specs.declared.settings.CompileSettings.{CompileSettings}
+use Rattle.tb_compiled.specs.Theorem.{KeepsSourceIn, MarksLinesIn}
+use Rattle.tb_codegen.specs.Templates.{templates}
 use Rattle.tb_codegen.proofs.GoodSources.{keeps_its_source, marks_its_lines}
 use Rattle.tb_codegen.proofs.Same.{gives_same}
 use Rattle.tb_codegen.proofs.compiler.compile_to_fit.Goals as goal
@@ -12,7 +13,7 @@ use Rattle.tb_codegen.proofs.compiler.compile_to_fit.Goals as goal
 pub returns-clause-same : goal.returns-clause-same
 returns-clause-same c =
     gives_same c.args.options.seed c.args.source.now c.compile_within.result
-    (subst (λ settings. (outcome : Outcome) → SourceMakes settings.notation c.args.source.now outcome → OutcomeAnswer settings outcome c.compile_within.result)
+    (subst (λ settings. (outcome : Outcome) → SourceMakes settings.notation c.args.source.now outcome → OutcomeAnswer templates settings outcome c.compile_within.result)
     c.by_memory.ensures c.compile_within.ensures.only)
 
 pub returns-clause-keeps : goal.returns-clause-keeps

@@ -2,15 +2,16 @@
 use Rattle.std.proofs.Common.{ℕ, List, [], refl, rules, subst, Result, Ok, Err}
 use Rattle.std.specs.Prelude.{IfOk}
 use Rattle.tb_syntax.specs.PlainData.{lines_of}
-use Rattle.tb_parser.specs.declared.notation.Notation.TheVariants.{Plain}
+use Rattle.tb_text.specs.declared.notation.Notation.TheVariants.{Plain}
 use Rattle.tb_parser.specs.Files.{Outcome}
-use Rattle.tb_parser.specs.Lines.{lines_of_file}
+use Rattle.tb_text.specs.Lines.{lines_of_file}
 use Rattle.tb_parser.specs.Signed.{LackSigns}
 use Rattle.tb_parser.proofs.Alike.{lines_alike}
 use Rattle.tb_compile_errors.specs.declared.refusals.CompileError.{CompileError}
-use Rattle.tb_codegen.specs.Answers.{LinesMake, OutcomeAnswer, SourceMakes}
-use Rattle.tb_codegen.specs.declared.compiled.Compiled.{Compiled}
-use Rattle.tb_codegen.specs.declared.settings.CompileSettings.{CompileSettings}
+use Rattle.tb_compiled.specs.Answers.{LinesMake, OutcomeAnswer, SourceMakes}
+use Rattle.tb_compiled.specs.declared.compiled.Compiled.{Compiled}
+use Rattle.tb_compiled.specs.declared.settings.CompileSettings.{CompileSettings}
+use Rattle.tb_codegen.specs.Templates.{templates}
 use Rattle.tb_codegen.proofs.Kept.{made_some}
 use Rattle.tb_codegen.proofs.compiler.compile_within.Goals as goal
 
@@ -20,8 +21,8 @@ with_first P Q (Err e) f h = tt
 
 -- if no text has a sign, what is answered for the lines in the notation is answered for them without signs
 plain_answer : (settings : CompileSettings) (source : List ℕ) (result : Result Compiled CompileError)
-    → ((outcome : Outcome) → SourceMakes settings.notation source outcome → OutcomeAnswer settings outcome result) → LackSigns (lines_of_file source)
-    → (outcome : Outcome) → LinesMake source outcome → OutcomeAnswer settings outcome result
+    → ((outcome : Outcome) → SourceMakes settings.notation source outcome → OutcomeAnswer templates settings outcome result) → LackSigns (lines_of_file source)
+    → (outcome : Outcome) → LinesMake source outcome → OutcomeAnswer templates settings outcome result
 plain_answer settings source result only lack outcome made =
     only outcome (lines_alike Plain settings.notation 1 [] (lines_of_file source) outcome lack made)
 
@@ -31,7 +32,7 @@ returns-in_err-program-clause-plain c = plain_answer c.args.settings c.args.sour
 pub returns-clause-plain : goal.returns-clause-plain
 returns-clause-plain c =
     plain_answer c.args.settings c.args.source.now c.compile_program.result (λ outcome made.
-    subst (λ said. OutcomeAnswer c.args.settings said c.compile_program.result) (c.in_ok-program.ensures.only outcome made) c.compile_program.ensures.answer)
+    subst (λ said. OutcomeAnswer templates c.args.settings said c.compile_program.result) (c.in_ok-program.ensures.only outcome made) c.compile_program.ensures.answer)
 
 pub returns-clause-keeps : goal.returns-clause-keeps
 returns-clause-keeps c =

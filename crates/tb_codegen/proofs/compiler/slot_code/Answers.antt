@@ -4,11 +4,11 @@ use Rattle.std.specs.Prelude.{IfOk}
 use Rattle.tb_syntax.specs.PlainData.{lines_of}
 use Rattle.tb_syntax.specs.Source.{Program, numbers, Rises}
 use Rattle.tb_syntax.specs.Texts.{HasShortTexts}
-use Rattle.tb_lower.specs.declared.lowering.LowerError.{LowerError}
+use Rattle.tb_meaning.specs.declared.needs.LowerError.{LowerError}
 use Rattle.tb_lower.specs.declared.slot_code.SlotCode.{SlotCode}
 use Rattle.tb_lower.specs.Follows.{Follows}
 use Rattle.tb_lower.specs.Lowered.{program_code}
-use Rattle.tb_lower.specs.Need.{too_deep}
+use Rattle.tb_meaning.specs.Need.{too_deep}
 use Rattle.tb_lower.specs.PlainData.{code_of}
 use Rattle.tb_lower.specs.Ranges.{IsCodeInRange}
 use Rattle.tb_parser.specs.Files.{AreStated}

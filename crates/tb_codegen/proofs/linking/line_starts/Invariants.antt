@@ -2,7 +2,8 @@
 use Rattle.std.proofs.Common.{◌≡◌, ◌++◌, map, drop}
 use Rattle.tb_syntax.specs.Source.{numbers}
 use Rattle.tb_lower.specs.PlainData.{code_of}
-use Rattle.tb_codegen.specs.Compiled.{AreKnown, pair_of, starts_in}
+use Rattle.tb_codegen.specs.Compiled.{AreKnown, starts_in}
+use Rattle.tb_compiled.specs.Compiled.{pair_of}
 use Rattle.tb_codegen.proofs.linking.line_starts.Given as goal
 
 abbrev pub invariant-loop-line : goal.invariant-loop-line

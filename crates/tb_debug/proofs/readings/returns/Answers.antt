@@ -1,7 +1,7 @@
 -- The goals of `returns` in src/readings.rt.
 use Rattle.std.proofs.Common.{ap, ◌∙◌}
 use Rattle.tb_memmap.specs.Bytes.{at}
-use Rattle.tb_codegen.specs.Compiled.{starts_of}
+use Rattle.tb_compiled.specs.Compiled.{starts_of}
 use Rattle.tb_debug.specs.Lines.{line_at}
 use Rattle.tb_debug.proofs.Returns.{one_told}
 use Rattle.tb_debug.proofs.readings.returns.Goals as goal

@@ -1,7 +1,7 @@
 -- What holds at each turn of the loop of `returns` in src/readings.rt.
 use Rattle.std.proofs.Common.{◌≡◌, ◌-◌, ◌++◌}
 use Rattle.tb_memmap.specs.Bytes.{at}
-use Rattle.tb_codegen.specs.Compiled.{starts_of}
+use Rattle.tb_compiled.specs.Compiled.{starts_of}
 use Rattle.tb_debug.specs.Readings.{lines_of_returns}
 use Rattle.tb_debug.proofs.readings.returns.Given as goal
 

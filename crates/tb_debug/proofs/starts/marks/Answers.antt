@@ -1,7 +1,7 @@
 -- The goals of `marks` in src/starts.rt.
 use Rattle.std.proofs.Common.{rules, ◌||◌, false, map, slice_index_or, ap, ◌∙◌}
 use Rattle.std.proofs.Math.Bool.{or-false}
-use Rattle.tb_codegen.specs.Compiled.{pair_of}
+use Rattle.tb_compiled.specs.Compiled.{pair_of}
 use Rattle.tb_debug.specs.Runs.{begins_at}
 use Rattle.tb_debug.proofs.Marking.{none_marked}
 use Rattle.tb_debug.proofs.starts.marks.Goals as goal

@@ -1,6 +1,6 @@
 -- What holds at each turn of the loop of `marks` in src/starts.rt.
 use Rattle.std.proofs.Common.{◌≡◌, ℕ, ◌||◌, false, drop, map, slice_index_or, vec_len}
-use Rattle.tb_codegen.specs.Compiled.{pair_of}
+use Rattle.tb_compiled.specs.Compiled.{pair_of}
 use Rattle.tb_debug.specs.Runs.{begins_at}
 use Rattle.tb_debug.proofs.starts.marks.Given as goal
 

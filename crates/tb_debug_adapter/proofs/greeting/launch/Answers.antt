@@ -6,5 +6,5 @@ use Rattle.tb_debug_adapter.proofs.greeting.launch.Goals as goal
 
 pub returns-in_ok-load-in-Some : goal.returns-in_ok-load-in-Some
 returns-in_ok-load-in-Some g c =
-    subst (λ launch. Launches g.S.Sources.reads (option_map asked_of launch) c.args.sources.now c.greeted.result c.load.new.sources)
+    subst (λ launch. Launches g.K.Compile.own g.S.Sources.reads (option_map asked_of launch) c.args.sources.now c.greeted.result c.load.new.sources)
     (sym c.in-Some.is) (c.in_ok-load-in-Some.field-0, c.in_ok-load-in-Some.ensures, c.greeted.ensures)

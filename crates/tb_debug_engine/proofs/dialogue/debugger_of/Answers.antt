@@ -2,7 +2,7 @@
 use Rattle.std.proofs.Common.{refl, subst}
 use Rattle.tb_opcodes.specs.Bytes.{AreBytes}
 use Rattle.tb_prg.specs.Prg.{content_of}
-use Rattle.tb_codegen.specs.Compiled.{prg_of}
+use Rattle.tb_compiled.specs.Compiled.{prg_of}
 use Rattle.tb_debug_engine.proofs.Opening.{begun, not_begun}
 use Rattle.tb_debug_engine.proofs.dialogue.debugger_of.Goals as goal
 

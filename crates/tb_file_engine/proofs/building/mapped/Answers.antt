@@ -1,6 +1,7 @@
 -- The goal of `mapped` in src/building.rt.
 use Rattle.std.proofs.Common.{Ok, refl, subst, ◌∙◌}
-use Rattle.tb_driver.specs.Sources.{IsAnswer}
+use Rattle.tb_codegen.specs.Templates.{templates}
+use Rattle.tb_compiled.specs.Answers.{IsAnswer}
 use Rattle.tb_listing.specs.Builds.{IsMade}
 use Rattle.tb_file_engine.proofs.building.mapped.Goals as goal
 
@@ -10,7 +11,7 @@ returns c =
     let same = c.in_ok-source.ensures.0 in (
       refl,
       program,
-      subst (λ t. IsAnswer c.args.settings t (Ok program)) same c.in_ok-source.ensures.1.answer,
+      subst (λ t. IsAnswer templates c.args.settings t (Ok program)) same c.in_ok-source.ensures.1.answer,
       c.in_ok-made.made,
       subst (λ t. IsMade c.args.settings.notation t program c.in_ok-made.made) (c.as_slice.ensures.value ∙ same) c.in_ok-made.ensures,
       c.in_ok-only.ensures,

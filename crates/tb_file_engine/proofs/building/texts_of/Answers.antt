@@ -1,6 +1,6 @@
 -- The goals of `texts_of` in src/building.rt.
 use Rattle.std.proofs.Common.{sym, ◌∙◌}
-use Rattle.tb_codegen.specs.Compiled.{prg_of}
+use Rattle.tb_compiled.specs.Compiled.{prg_of}
 use Rattle.tb_file_engine.proofs.Built.{all_tell, is_prg}
 use Rattle.tb_file_engine.proofs.building.texts_of.Goals as goal
 

@@ -1,5 +1,5 @@
 -- The goal of `save_all` in src/transfers.rt.
-use Rattle.std.proofs.Common.{◌-◌, ◌∷◌, ◌∙◌, ap, sym, subst, take, drop, length, get_or, [], Bor, List, ℕ}
+use Rattle.std.proofs.Common.{◌-◌, ◌∷◌, ◌∙◌, ap, sym, subst, take, drop, length, get_or, [], Ok, Bor, List, ℕ}
 use Rattle.tb_files.specs.Deeds.{Saves}
 use Rattle.tb_files.proofs.Orders.{first_of, saved_more}
 use Rattle.tb_files.proofs.transfers.+save_all.Goals as goal
@@ -13,5 +13,5 @@ returns-clause-broken g t c =
     (take (length all - 1) (drop 1 all)) all c.text-item.result (take (length each - 1) (drop 1 each)) each
     (first_of all none c.in-len1-up.len_at_least)
     (first_of each c.text-item.result c.in-len1-up-texts.len_at_least ∙ ap (λ t. t ∷ take (length each - 1) (drop 1 each)) (sym c.text-item.is))
-    (subst (λ t. g.F.FileSystem.does c.args.files.now (Saves (get_or all 0 none).now t) c.save.new.self) c.as_slice.ensures.value c.save.ensures)
+    (subst (λ t. g.F.FileSystem.does c.args.files.now (Saves (get_or all 0 none).now t (Ok tt)) c.save.new.self) c.as_slice.ensures.value c.in_ok-save.ensures)
     c.save_all.ensures.broken

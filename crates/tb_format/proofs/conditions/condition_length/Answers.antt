@@ -1,6 +1,6 @@
 -- The goals of `condition_length` in src/conditions.rt.
 use Rattle.std.proofs.Common.{◌≡◌, sym, arith}
-use Rattle.tb_parser.proofs.Steps.{rest_of}
+use Rattle.tb_text.proofs.FirstLine.{rest_of}
 use Rattle.tb_format.specs.Conditions.{condition_length}
 use Rattle.tb_format.specs.declared.conditions.Place.TheVariants.{Operand}
 use Rattle.tb_format.proofs.ConditionEnds.{goes_on, stops, runs_out}

@@ -1,6 +1,6 @@
 -- The goals of `split_line` in src/texts.rt.
 use Rattle.std.proofs.Common.{◌+◌, arith, below_more}
-use Rattle.tb_parser.proofs.Steps.{rest_of}
+use Rattle.tb_text.proofs.FirstLine.{rest_of}
 use Rattle.tb_format.proofs.TextSteps.{around, within_all, within_take}
 use Rattle.tb_format.proofs.texts.split_line.Goals as goal
 

@@ -1,7 +1,7 @@
 -- The goals of `edits_between` in src/edits.rt.
 use Rattle.std.proofs.Common.{◌≡◌, ℕ, List, [], ◌∷◌, ◌++◌, ap, refl, sym, ◌∙◌, append-nil, false}
 use Rattle.serde_json.specs.Data.{Data}
-use Rattle.tb_parser.specs.Lines.{lines_from}
+use Rattle.tb_text.specs.Lines.{lines_from}
 use Rattle.tb_formatting.specs.Edits.{line_edits}
 use Rattle.tb_formatting.proofs.edits.edits_between.Goals as goal
 

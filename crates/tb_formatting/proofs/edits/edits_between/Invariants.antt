@@ -1,7 +1,7 @@
 -- What holds at each turn of the loop of `edits_between` in src/edits.rt.
 use Rattle.std.proofs.Common.{◌≡◌, ◌+◌, ◌≤◌, ◌++◌, false, length, map}
 use Rattle.serde_json.specs.View.{view}
-use Rattle.tb_parser.specs.Lines.{lines_from}
+use Rattle.tb_text.specs.Lines.{lines_from}
 use Rattle.tb_formatting.specs.Edits.{line_edits, text_edits}
 use Rattle.tb_formatting.proofs.edits.edits_between.Given as goal
 

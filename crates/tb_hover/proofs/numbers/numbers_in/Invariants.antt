@@ -2,7 +2,7 @@
 use Rattle.std.proofs.Common.{◌≡◌, ◌+◌, ◌<◌, map, sum_by}
 use Rattle.tb_syntax.specs.PlainData.{lines_of}
 use Rattle.tb_meaning.specs.Cost.{statement_cost}
-use Rattle.tb_codegen.specs.Compiled.{pair_of}
+use Rattle.tb_compiled.specs.Compiled.{pair_of}
 use Rattle.tb_hover.specs.Numbers.{part_of}
 use Rattle.tb_hover.proofs.numbers.numbers_in.Given as goal
 

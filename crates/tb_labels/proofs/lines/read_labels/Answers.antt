@@ -1,6 +1,6 @@
 -- The goals of `read_labels` in src/lines.rt.
 use Rattle.std.proofs.Common.{◌≡◌, ℕ, List, [], Ok, ap, sym, ◌∙◌, map}
-use Rattle.tb_parser.specs.Lines.{lines_from, lines_of_file}
+use Rattle.tb_text.specs.Lines.{lines_from, lines_of_file}
 use Rattle.tb_labels.specs.Lines.{labels_from, labels_of, pair_of}
 use Rattle.tb_labels.proofs.lines.read_labels.Goals as goal
 

@@ -1,6 +1,6 @@
 -- What holds at each turn of the loop of `read_labels` in src/lines.rt.
 use Rattle.std.proofs.Common.{◌≡◌, ◌≤◌, ◌+◌, length, map}
-use Rattle.tb_parser.specs.Lines.{lines_of_file}
+use Rattle.tb_text.specs.Lines.{lines_of_file}
 use Rattle.tb_labels.specs.Lines.{labels_from, labels_of, pair_of}
 use Rattle.tb_labels.proofs.lines.read_labels.Given as goal
 

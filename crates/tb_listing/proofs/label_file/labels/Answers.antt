@@ -2,7 +2,7 @@
 use Rattle.std.proofs.Common.{[], ◌++◌, ◌∷◌, map, ap, sym, ◌∙◌}
 use Rattle.std.specs.Prelude.{codes}
 use Rattle.std.proofs.lemmas.Grind.{flat_map-append}
-use Rattle.tb_codegen.specs.Compiled.{pair_of}
+use Rattle.tb_compiled.specs.Compiled.{pair_of}
 use Rattle.tb_listing.specs.Labels.{line_label, block_labels, data_labels, label_text, labels_text}
 use Rattle.tb_listing.proofs.Appending.{before}
 use Rattle.tb_listing.proofs.label_file.labels.Goals as goal

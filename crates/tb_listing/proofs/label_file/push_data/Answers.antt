@@ -4,7 +4,7 @@ use Rattle.std.specs.Prelude.{codes}
 use Rattle.std.specs.List.{range_with_len}
 use Rattle.std.proofs.lemmas.Grind.{flat_map-append}
 use Rattle.tb_kernal.specs.Numbers.{CHRIN, CHROUT, GETIN}
-use Rattle.tb_runtime16.specs.Addresses.{NOTES}
+use Rattle.tb_kept.specs.Addresses.{NOTES}
 use Rattle.tb_listing.specs.Labels.{variable_label, service_labels, label_text, labels_text}
 use Rattle.tb_listing.proofs.Appending.{last, before}
 use Rattle.tb_listing.proofs.label_file.push_data.Goals as goal

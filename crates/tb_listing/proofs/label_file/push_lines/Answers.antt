@@ -1,6 +1,6 @@
 -- The goals of `push_lines` in src/label_file.rt.
 use Rattle.std.proofs.Common.{map, refl}
-use Rattle.tb_codegen.specs.Compiled.{pair_of}
+use Rattle.tb_compiled.specs.Compiled.{pair_of}
 use Rattle.tb_listing.specs.Labels.{line_label, label_text, labels_text}
 use Rattle.tb_listing.proofs.Appending.{more}
 use Rattle.tb_listing.proofs.label_file.push_lines.Goals as goal

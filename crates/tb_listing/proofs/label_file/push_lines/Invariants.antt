@@ -1,6 +1,6 @@
 -- What holds at each turn of the loop of `push_lines` in src/label_file.rt.
 use Rattle.std.proofs.Common.{◌≡◌, ◌++◌, drop, map}
-use Rattle.tb_codegen.specs.Compiled.{pair_of}
+use Rattle.tb_compiled.specs.Compiled.{pair_of}
 use Rattle.tb_listing.specs.Labels.{line_label, labels_text}
 use Rattle.tb_listing.proofs.label_file.push_lines.Given as goal
 

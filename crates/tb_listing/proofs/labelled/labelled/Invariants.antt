@@ -1,6 +1,6 @@
 -- What holds at each turn of the loop of `labelled` in src/labelled.rt.
 use Rattle.std.proofs.Common.{◌≡◌, ◌++◌, drop, map, take}
-use Rattle.tb_codegen.specs.Compiled.{pair_of as start_pair}
+use Rattle.tb_compiled.specs.Compiled.{pair_of as start_pair}
 use Rattle.tb_source_text.specs.Lines.{pair_of}
 use Rattle.tb_listing.specs.Comments.{HasHeadings, heading_on}
 use Rattle.tb_listing.specs.Pieces.{plan_of, row_of}

@@ -3,7 +3,7 @@ use Rattle.std.proofs.Common.{◌≡◌, ◌∙◌, ℕ, ap, drop, map, subst}
 use Rattle.std.specs.declared.alloc.Global.{Global}
 use Rattle.std.specs.declared.vec.Vec.{Vec}
 use Rattle.std.proofs.lemmas.Result.{IfOk-weaker}
-use Rattle.tb_codegen.specs.Compiled.{pair_of, prg_of, starts_of, table_of}
+use Rattle.tb_compiled.specs.Compiled.{pair_of, prg_of, starts_of, table_of}
 use Rattle.tb_listing.specs.Places.{Shows, ShowsProgram, plan_by}
 use Rattle.tb_listing.proofs.Named.{program_shown}
 use Rattle.tb_listing.proofs.listing.list.Goals as goal

@@ -3,7 +3,7 @@ use Rattle.std.proofs.Common.{◌≡◌, [], ◌∷◌, ◌++◌, ◌+◌, ◌-�
 use Rattle.std.specs.Prelude.{codes}
 use Rattle.tb_syntax.specs.PlainData.{lines_of}
 use Rattle.tb_runtime16.specs.Addresses.{PROLOGUE_AT}
-use Rattle.tb_codegen.specs.Compiled.{prg_of, starts_of, table_of, most_cost}
+use Rattle.tb_compiled.specs.Compiled.{prg_of, starts_of, table_of, most_cost}
 use Rattle.tb_meaning.specs.Cost.{cost}
 use Rattle.tb_listing.specs.Map.{row_text, rows_text, parts, sum_part, left_part}
 use Rattle.tb_listing.proofs.Parts.{parts_text}

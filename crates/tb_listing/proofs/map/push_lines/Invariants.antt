@@ -2,7 +2,7 @@
 use Rattle.std.proofs.Common.{◌≡◌, ◌+◌, ◌++◌, map, sum_by}
 use Rattle.tb_syntax.specs.PlainData.{lines_of}
 use Rattle.tb_meaning.specs.Cost.{statement_cost, cost}
-use Rattle.tb_codegen.specs.Compiled.{pair_of}
+use Rattle.tb_compiled.specs.Compiled.{pair_of}
 use Rattle.tb_listing.specs.Map.{line_parts, rows_text}
 use Rattle.tb_listing.proofs.map.push_lines.Given as goal
 

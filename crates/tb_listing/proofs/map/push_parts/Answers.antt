@@ -3,7 +3,7 @@ use Rattle.std.proofs.Common.{◌≡◌, ◌++◌, ap, ◌∙◌}
 use Rattle.std.specs.Prelude.{codes}
 use Rattle.tb_syntax.specs.PlainData.{lines_of}
 use Rattle.tb_runtime16.specs.Addresses.{PROLOGUE_AT}
-use Rattle.tb_codegen.specs.Compiled.{starts_of, table_of}
+use Rattle.tb_compiled.specs.Compiled.{starts_of, table_of}
 use Rattle.tb_listing.specs.Map.{row_text, rows_text, line_parts, block_part, table_part}
 use Rattle.tb_listing.proofs.Appending.{before}
 use Rattle.tb_listing.proofs.map.push_parts.Goals as goal

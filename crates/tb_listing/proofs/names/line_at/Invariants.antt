@@ -1,6 +1,6 @@
 -- What holds at each turn of the loop of `line_at` in src/names.rt.
 use Rattle.std.proofs.Common.{◌≡◌, drop, map}
-use Rattle.tb_codegen.specs.Compiled.{pair_of}
+use Rattle.tb_compiled.specs.Compiled.{pair_of}
 use Rattle.tb_listing.specs.PlaceNames.{line_at}
 use Rattle.tb_listing.proofs.names.line_at.Given as goal
 

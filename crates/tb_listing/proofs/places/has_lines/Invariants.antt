@@ -1,6 +1,6 @@
 -- What holds at each turn of the loop of `has_lines` in src/places.rt.
 use Rattle.std.proofs.Common.{drop, map}
-use Rattle.tb_codegen.specs.Compiled.{pair_of}
+use Rattle.tb_compiled.specs.Compiled.{pair_of}
 use Rattle.tb_listing.specs.Labels.{line_label}
 use Rattle.tb_listing.specs.Places.{AreNamed}
 use Rattle.tb_listing.proofs.places.has_lines.Given as goal

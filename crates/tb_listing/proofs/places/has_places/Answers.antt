@@ -2,7 +2,7 @@
 use Rattle.std.proofs.Common.{◌≡◌, ℕ, Bool, false, List, ◌++◌, ◌∷◌, [], map, rules, true}
 use Rattle.std.proofs.lemmas.Result.{IfOk-weaker}
 use Rattle.std.specs.Prelude.{MatchBool, codes}
-use Rattle.tb_codegen.specs.Compiled.{pair_of}
+use Rattle.tb_compiled.specs.Compiled.{pair_of}
 use Rattle.tb_listing.specs.Labels.{block_labels, line_label}
 use Rattle.tb_listing.specs.Places.{AreNamed, image_labels}
 use Rattle.tb_listing.proofs.Named.{named_back, on_false, on_true, with_lines}

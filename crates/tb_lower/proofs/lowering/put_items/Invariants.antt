@@ -2,7 +2,7 @@
 use Rattle.std.proofs.Common.{◌≡◌, ◌++◌, ◌≤◌, map, drop}
 use Rattle.tb_syntax.specs.PlainData.{item_of}
 use Rattle.tb_lower.specs.Lowered.{items_code}
-use Rattle.tb_lower.specs.Need.{items_need}
+use Rattle.tb_meaning.specs.Need.{items_need}
 use Rattle.tb_lower.specs.PlainData.{instr_of}
 use Rattle.tb_lower.proofs.lowering.put_items.Given as goal
 

@@ -6,7 +6,7 @@ use Rattle.tb_syntax.specs.Source.{Expression}
 use Rattle.tb_syntax.specs.PlainData.{expression_of}
 use Rattle.tb_parser.specs.declared.errors.LineFault.{LineFault}
 use Rattle.tb_parser.specs.Answers.{Says, refusal_of}
-use Rattle.tb_parser.specs.declared.notation.Notation.TheVariants.{Plain}
+use Rattle.tb_text.specs.declared.notation.Notation.TheVariants.{Plain}
 use Rattle.tb_parser.specs.Readings.{Expresses, ExpressionIs, IsFitIn, IsUnfitIn, TextIs, unfit_text, fit_text}
 use Rattle.tb_parser.specs.Squeezed.{squeezed}
 use Rattle.tb_parser.proofs.ReaderAnswers.{passes}

@@ -4,8 +4,8 @@ use Rattle.tb_parser.specs.Scans.{Counted}
 use Rattle.tb_parser.proofs.Numbers.{grows, number_ends}
 use Rattle.tb_parser.proofs.scans.line_number.Goals as goal
 
-pub returns-then-value-gt-HIGHEST_LINE : goal.returns-then-value-gt-HIGHEST_LINE
-returns-then-value-gt-HIGHEST_LINE c = λ range.
+pub returns-then-value-from : goal.returns-then-value-from
+returns-then-value-from c = λ range.
     let more = sym (c.in-Some.ensures.3 c.loop-digit.value) ∙ c.loop-digit.invariant.so_far in
     let value = ap (λ (r : Counted). r.value) more in
     omega (arith, range, value, grows (10 * c.loop-digit.value + c.in-Some.digit) c.in-Some.tail.now)

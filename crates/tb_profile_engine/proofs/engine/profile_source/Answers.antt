@@ -1,6 +1,6 @@
 -- The goals of `profile_source` in src/engine.rt.
 use Rattle.std.proofs.Common.{Ok, subst}
-use Rattle.tb_driver.specs.Sources.{IsAnswer}
+use Rattle.tb_compiled.specs.Answers.{IsAnswer}
 use Rattle.tb_profile_engine.specs.Facts.{facts_on}
 use Rattle.tb_profile_engine.specs.Profiles.{Profiles}
 use Rattle.tb_profile_engine.specs.Running.{given}
@@ -17,7 +17,7 @@ returns g c =
     let made = c.in_ok-made.made in
     let same = c.in_ok-source.ensures.0 in (
       program,
-      subst (λ t. IsAnswer settings t (Ok program)) same c.in_ok-source.ensures.1.answer,
+      subst (λ t. IsAnswer g.K.Compile.own settings t (Ok program)) same c.in_ok-source.ensures.1.answer,
       c.into_warnings.ensures,
       subst (λ t. Profiles (facts_on c.args.named.now settings run) settings.notation run t program made.texts made.end) same c.in_ok-made.ensures,
     )

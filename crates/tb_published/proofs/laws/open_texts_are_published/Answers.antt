@@ -3,4 +3,4 @@ use Rattle.tb_published.proofs.Published as published
 use Rattle.tb_published.proofs.laws.open_texts_are_published.Goals as goal
 
 pub returns : goal.returns
-returns c = published.open_texts_are_published
+returns g c = published.open_texts_are_published g.K.Compile.own

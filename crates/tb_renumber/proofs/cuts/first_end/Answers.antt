@@ -1,6 +1,6 @@
 -- The goals of `first_end` in src/cuts.rt.
 use Rattle.std.proofs.Common.{arith}
-use Rattle.tb_parser.proofs.Steps.{rest_of}
+use Rattle.tb_text.proofs.FirstLine.{rest_of}
 use Rattle.tb_renumber.proofs.FirstEnds.{behind_first, behind_last, first_end, last_end}
 use Rattle.tb_renumber.proofs.cuts.first_end.Goals as goal
 

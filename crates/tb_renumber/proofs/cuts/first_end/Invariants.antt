@@ -1,6 +1,6 @@
 -- What holds at each turn of the loop of `first_end` in src/cuts.rt.
 use Rattle.std.proofs.Common.{ℕ, ◌<◌}
-use Rattle.tb_parser.proofs.FirstLine.{IsInside}
+use Rattle.tb_text.proofs.FirstLine.{IsInside}
 use Rattle.tb_renumber.proofs.cuts.first_end.Given as goal
 
 abbrev pub invariant-loop-i : goal.invariant-loop-i

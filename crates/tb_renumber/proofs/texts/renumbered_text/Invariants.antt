@@ -2,7 +2,7 @@
 use Rattle.std.proofs.Common.{◌≡◌, drop, false, map}
 use Rattle.tb_syntax.specs.PlainData.{lines_of}
 use Rattle.tb_syntax.specs.Source.{numbers}
-use Rattle.tb_parser.specs.Lines.{lines_from}
+use Rattle.tb_text.specs.Lines.{lines_from}
 use Rattle.tb_renumbering.specs.Renumbered.{new_number}
 use Rattle.tb_source_names.specs.Sources.{edits_of}
 use Rattle.tb_renumber.specs.Ends.{ends_from}

@@ -1,6 +1,6 @@
 -- The goal of `lines_of` in src/sources.rt.
 use Rattle.std.proofs.Common.{◌≡◌, ℕ, List, [], ◌++◌, ap, sym, ◌∙◌, append-nil, false}
-use Rattle.tb_parser.specs.Lines.{lines_from, lines_of_file}
+use Rattle.tb_text.specs.Lines.{lines_from, lines_of_file}
 use Rattle.tb_source_names.proofs.sources.lines_of.Goals as goal
 
 at_end : (lines : List (List ℕ)) (rest source : List ℕ) → rest ≡ [] → lines ++ lines_from false rest ≡ lines_of_file source → lines ≡ lines_of_file source

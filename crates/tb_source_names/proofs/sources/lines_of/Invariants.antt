@@ -1,6 +1,6 @@
 -- What holds at each turn of the loop of `lines_of` in src/sources.rt.
 use Rattle.std.proofs.Common.{◌≡◌, ◌++◌, All, length, map, false}
-use Rattle.tb_parser.specs.Lines.{lines_from, lines_of_file}
+use Rattle.tb_text.specs.Lines.{lines_from, lines_of_file}
 use Rattle.tb_source_names.proofs.sources.lines_of.Given as goal
 
 abbrev pub invariant-loop-text : goal.invariant-loop-text

@@ -1,6 +1,6 @@
 -- The goals of `numbered_lines` in src/lines.rt.
 use Rattle.std.proofs.Common.{◌≡◌, ℕ, List, [], ◌++◌, ap, sym, ◌∙◌, append-nil}
-use Rattle.tb_parser.specs.Lines.{lines_from}
+use Rattle.tb_text.specs.Lines.{lines_from}
 use Rattle.tb_source_text.specs.Lines.{numbered}
 use Rattle.tb_source_text.proofs.lines.numbered_lines.Goals as goal
 

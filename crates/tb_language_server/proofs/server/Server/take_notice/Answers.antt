@@ -6,8 +6,8 @@ use Rattle.tb_language_server.specs.Texts.{has}
 use Rattle.tb_language_server.proofs.server.Server.take_notice.Goals as goal
 
 pub returns-in_ok-take_text-in-Change : goal.returns-in_ok-take_text-in-Change
-returns-in_ok-take_text-in-Change c =
+returns-in_ok-take_text-in-Change g c =
     let is : has c.in-Change.uri.now c.args.self.now.texts.all.items ≡ true = sym c.has.ensures ∙ c.if-has.true in
-    subst (λ n. TakesNotice (told n) c.args.self.now c.in_ok-take_text-in-Change.field-0 c.take_text-then-has.new.self) (sym c.in-Change.is)
-    (subst (λ b. TakesChange b c.in-Change.uri.now c.in-Change.text.now c.in-Change.version c.args.self.now c.in_ok-take_text-in-Change.field-0 c.take_text-then-has.new.self) (sym is)
+    subst (λ n. TakesNotice g.K.Compile.own (told n) c.args.self.now c.in_ok-take_text-in-Change.field-0 c.take_text-then-has.new.self) (sym c.in-Change.is)
+    (subst (λ b. TakesChange g.K.Compile.own b c.in-Change.uri.now c.in-Change.text.now c.in-Change.version c.args.self.now c.in_ok-take_text-in-Change.field-0 c.take_text-then-has.new.self) (sym is)
     c.in_ok-take_text-in-Change.ensures)

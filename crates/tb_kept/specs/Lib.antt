@@ -1,0 +1,4 @@
+pub mod Addresses
+pub mod Pinned
+pub mod Keeps
+pub mod LineStarts

@@ -1,0 +1,2 @@
+-- where the first line of a source ends
+pub mod FirstLine
