@@ -1,7 +1,10 @@
 #!/usr/bin/env python3
-"""Proves the crates that the program is made of, from below, and builds it. Each crate stays in its crates/NAME/out, as
-rt lib and rt run leave it, so a build that was broken off goes on there. Crates of which none is above another are proved
-side by side: RT_JOBS of them, or as many as there are processors and memory for.
+"""Proves the crates that the program is made of, from below, and builds it. Each crate stays in its crates/NAME/out, so a
+build that was broken off goes on there. Crates of which none is above another are proved side by side: RT_JOBS of them, or
+as many as there are processors and memory for.
+
+A library is proved from nothing and keeps its statements alone, as those of rt ci do: they take half the memory of whole
+libraries to read. One that rt check left work of is proved over that work, and kept whole, as rt lib leaves it.
 
     tools/build.py
 
@@ -59,10 +62,14 @@ rtlib.Crate.stamp = once(rtlib.Crate.stamp)
 
 
 def proves(crate, jobs):
-    """Proves a crate and builds it over its kept work; the program is started, too. Returns the toolchain's status."""
+    """Proves a crate and builds it; the program is started, too. Returns the toolchain's status."""
     os.makedirs(f"{crate.folder}/out", exist_ok=True)
     flags = ["--jobs", str(jobs)]
-    return crate.run(flags, ["--version"]) if crate.is_program else crate.build_rlib(flags, anew=False)
+    if crate.is_program:
+        return crate.run(flags, ["--version"])
+    if crate.has_kept():
+        return crate.build_rlib(flags, anew=False)
+    return crate.build_rlib([*flags, "--statements"], anew=True)
 
 
 def step(crate, given, jobs):

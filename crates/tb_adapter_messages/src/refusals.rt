@@ -2,6 +2,29 @@
 ghost use Rattle.std.specs.Prelude.{◌≡◌};
 ghost use Rattle.tb_adapter_messages.specs.Refusals.{text_of};
 
+use tb_messages::{INITIALIZED, NO_JSON, NO_MESSAGE, NOT_INITIALIZED, TOO_LARGE};
+
+// What else is said, text by text.
+const UNKNOWN_COMMAND: &str = "unknown command";
+
+const BAD_ARGUMENTS: &str = "bad arguments";
+
+const NOT_LAUNCHED: &str = "not launched";
+
+const LAUNCHED: &str = "launched already";
+
+const NOT_STARTED: &str = "not started";
+
+const STARTED: &str = "started already";
+
+const BAD_KEYS: &str = "bad key list";
+
+const READ_FAULT: &str = "read fault";
+
+const TOO_MUCH_TYPED: &str = "too much is typed";
+
+const NO_CHANGE: &str = "a run can't be changed: type other keys, or launch with another seed";
+
 /// Why a message or a request is refused.
 #[derive(Clone, Copy, Debug, PartialEq, Eq, Drop)]
 pub enum Refusal {
@@ -41,23 +64,22 @@ impl Refusal {
         ensures { result.now ≡ text_of self }
     {
         match self {
-            Refusal::NoJson => "no JSON",
-            Refusal::TooLarge => "message too large",
-            Refusal::NoMessage => "no message",
-            Refusal::UnknownCommand => "unknown command",
-            Refusal::BadArguments => "bad arguments",
-            Refusal::NotInitialized => "not initialized",
-            Refusal::Initialized => "initialized already",
-            Refusal::NotLaunched => "not launched",
-            Refusal::Launched => "launched already",
-            Refusal::NotStarted => "not started",
-            Refusal::Started => "started already",
+            Refusal::NoJson => NO_JSON,
+            Refusal::TooLarge => TOO_LARGE,
+            Refusal::NoMessage => NO_MESSAGE,
+            Refusal::UnknownCommand => UNKNOWN_COMMAND,
+            Refusal::BadArguments => BAD_ARGUMENTS,
+            Refusal::NotInitialized => NOT_INITIALIZED,
+            Refusal::Initialized => INITIALIZED,
+            Refusal::NotLaunched => NOT_LAUNCHED,
+            Refusal::Launched => LAUNCHED,
+            Refusal::NotStarted => NOT_STARTED,
+            Refusal::Started => STARTED,
             Refusal::Terminated => "terminated",
-            Refusal::BadKeys => "bad key list",
-            Refusal::ReadFault => "read fault",
-            Refusal::TooMuchTyped => "too much is typed",
-            Refusal::NoChange =>
-                "a run can't be changed: type other keys, or launch with another seed",
+            Refusal::BadKeys => BAD_KEYS,
+            Refusal::ReadFault => READ_FAULT,
+            Refusal::TooMuchTyped => TOO_MUCH_TYPED,
+            Refusal::NoChange => NO_CHANGE,
         }
     }
 }

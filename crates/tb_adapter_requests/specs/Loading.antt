@@ -36,6 +36,7 @@ use Rattle.tb_adapter_requests.specs.declared.loading.Loaded.{Loaded}
 use Rattle.tb_adapter_requests.specs.declared.loading.Loading.{Loading}
 use Rattle.tb_adapter_requests.specs.declared.loading.Loading.TheVariants as loading
 use Rattle.tb_compiled.specs.Promise.{Own}
+use Rattle.tb_streams.specs.declared.outcome.TheConstants.{OUT_OF_MEMORY}
 
 -- a text that is held is read, if there is memory for it
 abbrev pub IsHeld : List ℕ → Result (List ℕ) InputError → Type 0
@@ -58,9 +59,9 @@ too_deep_text line = codes "line " ++ (decimal line ++ (codes ": " ++ texts.too_
 abbrev pub error_text : CompileError → List ℕ
 error_text (compile_error.Source e) = source_error_text e
 error_text (compile_error.Lower (TooDeep line)) = too_deep_text line
-error_text (compile_error.Lower NoLowerMemory) = codes "out of memory"
+error_text (compile_error.Lower NoLowerMemory) = OUT_OF_MEMORY.now
 error_text (compile_error.TooLarge cost) = texts.too_large_text cost
-error_text compile_error.NoMemory = codes "out of memory"
+error_text compile_error.NoMemory = OUT_OF_MEMORY.now
 
 -- how a source is checked that is compiled like this
 abbrev pub check_settings : CompileSettings → CheckSettings

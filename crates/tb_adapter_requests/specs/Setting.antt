@@ -17,6 +17,7 @@ use Rattle.tb_words.specs.Letters.{letter_index}
 use Rattle.tb_words.specs.declared.Letter.{Letter}
 use Rattle.tb_adapter_requests.specs.declared.setting.Breakpoints.{Breakpoints}
 use Rattle.tb_adapter_requests.specs.declared.setting.Wanted.{Wanted}
+use Rattle.tb_adapter_requests.specs.declared.setting.TheConstants.{ANOTHER_FILE, NO_CONDITIONS, NO_LINE, ONLY_WRITES}
 
 -- a value has a member
 abbrev pub has : Data → List ℕ → Bool
@@ -92,8 +93,8 @@ lines_of f (w ∷ ws) = with_line (spot_of f w) (lines_of f ws)
 -- a breakpoint that breaks nowhere, and why
 abbrev pub nowhere : Bool → Data
 nowhere special =
-    if special then unverified_value (codes "conditions and messages are not supported")
-    else unverified_value (codes "no line of the program from here on")
+    if special then unverified_value NO_CONDITIONS.now
+    else unverified_value NO_LINE.now
 
 -- the line of a file at a place, as far as a number of 64 bits goes
 abbrev pub line_of : ℕ → ℕ
@@ -113,7 +114,7 @@ placed_body f ws = breakpoints_body (items_of (map (placed_value f) ws))
 
 -- so many breakpoints of another file
 abbrev pub elsewhere_body : ℕ → Data
-elsewhere_body n = breakpoints_body (items_of (replicate n (unverified_value (codes "the program is another file"))))
+elsewhere_body n = breakpoints_body (items_of (replicate n (unverified_value ANOTHER_FILE.now)))
 
 -- ---- watches
 
@@ -168,7 +169,7 @@ letters_of (w ∷ ws) = with_letter w (letters_of ws)
 -- a watch as it is answered
 abbrev pub watch_value : Option Letter → Data
 watch_value (Some w) = watched_value
-watch_value None = unverified_value (codes "only writes of a variable are watched")
+watch_value None = unverified_value ONLY_WRITES.now
 
 -- the watches, as they are answered
 abbrev pub watched_body : List (Option Letter) → Data

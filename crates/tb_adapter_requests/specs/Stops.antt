@@ -22,6 +22,7 @@ use Rattle.tb_words.specs.declared.Letter.{Letter}
 use Rattle.tb_adapter_requests.specs.Said.{Saying, event}
 use Rattle.tb_adapter_requests.specs.declared.stops.Stop.{Stop}
 use Rattle.tb_adapter_requests.specs.declared.stops.Stop.TheVariants as stop
+use Rattle.tb_adapter_requests.specs.declared.stops.TheConstants.{DATA_BREAKPOINT, DATA_BREAKPOINT_HINT, WAITS_FOR_LINE}
 
 -- a movement leads back
 abbrev pub leads_back : Movement → Bool
@@ -81,7 +82,7 @@ abbrev pub letter_byte : Letter → ℕ
 letter_byte letter = 65 + letter_index letter
 
 abbrev pub watch_value : Letter → ℤ → Data
-watch_value letter value = stopped (codes "data breakpoint") (encode_utf8 (letter_byte letter) ++ (codes " is " ++ signed_decimal value))
+watch_value letter value = stopped DATA_BREAKPOINT.now (encode_utf8 (letter_byte letter) ++ (codes " is " ++ signed_decimal value))
 
 abbrev pub pause_value : ℕ → Data
 pause_value limit = stopped (codes "pause") (codes "paused after " ++ (decimal limit ++ codes " events"))
@@ -95,10 +96,10 @@ abbrev pub stop_value : Stop → Debugger → Data
 stop_value stop.Entry d = stopped (codes "entry") (codes "entry")
 stop_value (stop.Breakpoint line) d = breakpoint_value line
 stop_value (stop.Watch letter) d = watch_value letter (slice_index_or (variables_here d) (letter_index letter) (pos 0))
-stop_value stop.Change d = stopped (codes "data breakpoint") (codes "a watched variable changes here")
+stop_value stop.Change d = stopped DATA_BREAKPOINT.now DATA_BREAKPOINT_HINT.now
 stop_value stop.Step d = stopped (codes "step") (codes "step")
 stop_value (stop.Pause limit) d = pause_value limit
-stop_value stop.Input d = stopped (codes "input") (codes "waits for a line: type > and the line in the debug console")
+stop_value stop.Input d = stopped (codes "input") WAITS_FOR_LINE.now
 stop_value stop.End d = stopped (codes "end") (codes "returned")
 stop_value (stop.Wrong wrong pc) d = wrong_value wrong pc
 

@@ -20,7 +20,9 @@ use tb_meaning::LowerError;
 use tb_navigation::shown;
 use tb_parser::SourceError;
 use tb_sources::{CompiledSource, start_program};
-use tb_streams::{InputError, KeyError, Tracked, key_list};
+use tb_streams::{InputError, KeyError, OUT_OF_MEMORY, Tracked, key_list};
+
+// What is said, text by text.
 
 /// A program that is loaded.
 #[derive(Drop)]
@@ -121,7 +123,7 @@ fn error_text(alloc: Global, error: CompileError) -> Result<String, AllocError>
         CompileError::Lower(LowerError::TooDeep(line)) => too_deep_text(alloc, line),
         CompileError::TooLarge(cost) => format!(in alloc; "{}", TooLarge(cost)),
         CompileError::Lower(LowerError::NoMemory) | CompileError::NoMemory => {
-            String::from_str(alloc, "out of memory")
+            String::from_str(alloc, OUT_OF_MEMORY)
         }
     }
 }

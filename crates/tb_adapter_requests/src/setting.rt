@@ -13,6 +13,15 @@ use tb_adapter_values::{
 use tb_adapter_views::{Breakable, SourceFile};
 use tb_words::Letter;
 
+// What is said, text by text.
+const NO_CONDITIONS: &str = "conditions and messages are not supported";
+
+const NO_LINE: &str = "no line of the program from here on";
+
+const ANOTHER_FILE: &str = "the program is another file";
+
+const ONLY_WRITES: &str = "only writes of a variable are watched";
+
 /// A breakpoint that is asked for.
 #[derive(Clone, Copy, Debug, PartialEq, Eq, Drop)]
 pub struct Wanted {
@@ -138,9 +147,9 @@ fn spot_value(
         }
         None => {
             if wanted.is_special {
-                unverified_value(alloc, "conditions and messages are not supported")
+                unverified_value(alloc, NO_CONDITIONS)
             } else {
-                unverified_value(alloc, "no line of the program from here on")
+                unverified_value(alloc, NO_LINE)
             }
         }
     }
@@ -167,7 +176,7 @@ pub fn elsewhere_body(alloc: Global, count: usize) -> Result<Value, AllocError>
 {
     let mut values = Vec::new(alloc);
     for _ in 0..count {
-        values.push(unverified_value(alloc, "the program is another file")?)?;
+        values.push(unverified_value(alloc, ANOTHER_FILE)?)?;
     }
     breakpoints_body(alloc, values)
 }
@@ -259,7 +268,7 @@ fn watch_value(alloc: Global, wanted: Option<Letter>) -> Result<Value, AllocErro
 {
     match wanted {
         Some(_) => watched_value(alloc),
-        None => unverified_value(alloc, "only writes of a variable are watched"),
+        None => unverified_value(alloc, ONLY_WRITES),
     }
 }
 

@@ -14,6 +14,13 @@ use tb_engines::End;
 use tb_kernal::Status;
 use tb_words::Letter;
 
+// What is said, text by text.
+const DATA_BREAKPOINT: &str = "data breakpoint";
+
+const DATA_BREAKPOINT_HINT: &str = "a watched variable changes here";
+
+const WAITS_FOR_LINE: &str = "waits for a line: type > and the line in the debug console";
+
 /// Why a run stopped.
 #[derive(Clone, Copy, Debug, PartialEq, Eq, Drop)]
 pub enum Stop {
@@ -134,7 +141,7 @@ fn watch_value(alloc: Global, letter: Letter, value: i16) -> Result<Value, Alloc
 {
     let letter = char::from(letter_byte(letter));
     let text = format!(in alloc; "{letter} is {value}")?;
-    stopped(alloc, "data breakpoint", &text)
+    stopped(alloc, DATA_BREAKPOINT, &text)
 }
 
 // The byte of a letter.
@@ -170,14 +177,10 @@ fn stop_value(alloc: Global, stop: Stop, debugger: &Debugger<'_>) -> Result<Valu
             let values = debugger.variables();
             watch_value(alloc, letter, values[letter.index()])
         }
-        Stop::Change => stopped(alloc, "data breakpoint", "a watched variable changes here"),
+        Stop::Change => stopped(alloc, DATA_BREAKPOINT, DATA_BREAKPOINT_HINT),
         Stop::Step => stopped(alloc, "step", "step"),
         Stop::Pause(limit) => pause_value(alloc, limit),
-        Stop::Input => stopped(
-            alloc,
-            "input",
-            "waits for a line: type > and the line in the debug console",
-        ),
+        Stop::Input => stopped(alloc, "input", WAITS_FOR_LINE),
         Stop::End => stopped(alloc, "end", "returned"),
         Stop::Wrong { wrong, pc } => wrong_value(alloc, wrong, pc),
     }

@@ -1,6 +1,7 @@
 -- Breakpoints and watches, as they are answered.
 use Rattle.std.specs.Prelude.{ℕ, true, false, List, codes}
 use Rattle.serde_json.specs.Data.{Data, Items, array, boolean, item, member, no_items, no_members, null, number, object, string, unsigned}
+use Rattle.tb_adapter_values.specs.declared.stops.TheConstants.{NO_VARIABLE}
 
 -- a breakpoint that is set at a line of a file
 abbrev pub verified_value : ℕ → ℕ → Data → Data
@@ -32,4 +33,4 @@ watchable_body name =
 -- that something can't be watched
 abbrev pub unwatchable_body : Data
 unwatchable_body =
-    object (member (codes "dataId") null (member (codes "description") (string (codes "no variable")) no_members))
+    object (member (codes "dataId") null (member (codes "description") (string NO_VARIABLE.now) no_members))

@@ -6,6 +6,9 @@ ghost use Rattle.tb_adapter_values.specs.Stops as spec;
 use serde_json::{Value, json};
 use std::alloc::{AllocError, Global};
 
+// What is said, text by text.
+const NO_VARIABLE: &str = "no variable";
+
 /// A breakpoint that is set at a line of a file.
 pub fn verified_value(alloc: Global, id: u16, line: u64, source: Value) -> Result<Value, AllocError>
     ensures { IfOk result (λ v. view v ≡ spec.verified_value id line (view source)) }
@@ -51,5 +54,5 @@ pub fn watchable_body(alloc: Global, name: &str) -> Result<Value, AllocError>
 pub fn unwatchable_body(alloc: Global) -> Result<Value, AllocError>
     ensures { IfOk result (λ v. view v ≡ spec.unwatchable_body) }
 {
-    json!(in alloc; {"dataId": null, "description": "no variable"})
+    json!(in alloc; {"dataId": null, "description": NO_VARIABLE})
 }

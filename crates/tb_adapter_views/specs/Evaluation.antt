@@ -9,6 +9,7 @@ use Rattle.tb_meaning.specs.declared.evaluation.EvalError.{EvalError}
 use Rattle.tb_meaning.specs.declared.evaluation.EvalError.TheVariants.{DivideByZero, HasRnd}
 use Rattle.tb_adapter_views.specs.declared.evaluation.Evaluated.{Evaluated}
 use Rattle.tb_adapter_views.specs.declared.evaluation.Evaluated.TheVariants.{Known, Unknown}
+use Rattle.tb_adapter_views.specs.declared.evaluation.TheConstants.{DIVISION_BY_ZERO, HAS_RND}
 
 -- a body, or why there is none
 abbrev pub seen : Evaluated → Result Data (List ℕ)
@@ -18,8 +19,8 @@ seen (Unknown why) = Err why.now
 -- what is answered to a text that came to this
 abbrev pub answered : Option (Result ℤ EvalError) → Result Data (List ℕ)
 answered (Some (Ok value)) = Ok (value_body (signed_decimal value))
-answered (Some (Err DivideByZero)) = Err (codes "division by zero")
-answered (Some (Err HasRnd)) = Err (codes "has RND")
+answered (Some (Err DivideByZero)) = Err DIVISION_BY_ZERO.now
+answered (Some (Err HasRnd)) = Err HAS_RND.now
 answered None = Err (codes "what?")
 
 -- what a text comes to over the words of variables is answered

@@ -11,6 +11,11 @@ use tb_debug::Debugger;
 use tb_inspection::value_of_text;
 use tb_meaning::EvalError;
 
+// What is said, text by text.
+const DIVISION_BY_ZERO: &str = "division by zero";
+
+const HAS_RND: &str = "has RND";
+
 /// What a text comes to.
 #[derive(Drop)]
 pub enum Evaluated {
@@ -34,8 +39,8 @@ pub fn evaluate(alloc: Global, debugger: &Debugger<'_>, text: &str) -> Result<Ev
 {
     match value_of_text(alloc, text.as_bytes(), &debugger.variables())? {
         Some(Ok(value)) => known(alloc, value),
-        Some(Err(EvalError::DivideByZero)) => Ok(Evaluated::Unknown("division by zero")),
-        Some(Err(EvalError::HasRnd)) => Ok(Evaluated::Unknown("has RND")),
+        Some(Err(EvalError::DivideByZero)) => Ok(Evaluated::Unknown(DIVISION_BY_ZERO)),
+        Some(Err(EvalError::HasRnd)) => Ok(Evaluated::Unknown(HAS_RND)),
         None => Ok(Evaluated::Unknown("what?")),
     }
 }

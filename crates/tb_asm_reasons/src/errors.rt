@@ -7,6 +7,21 @@ ghost use Rattle.tb_asm_reasons.specs.Errors.{error_text, letters_in, letters_of
 use std::alloc::AllocError;
 use tb_asm::{AsmErrorKind, Item, Operand};
 
+// What is said, text by text.
+const NO_SUCH_MODE: &[u8] = b"this instruction has no such operand";
+
+const UNKNOWN_LABEL: &[u8] = b"no label ";
+
+const LABEL_TWICE: &[u8] = b"an earlier line has the label ";
+
+const BRANCH_OUT_OF_RANGE: &[u8] = b"a branch reaches from -128 to 127 bytes";
+
+const RUNS_PAST: &[u8] = b"this ends past $FFFF";
+
+const INDIRECT_AT_PAGE_END: &[u8] = b"an indirect jump takes no pointer at the end of a page";
+
+const NO_MEMORY: &[u8] = b"out of memory";
+
 // The letters of the label of which an operand takes the address; none if it takes none.
 fn letters_in(operand: &Operand) -> &[u8]
     ensures { result.now ≡ letters_in operand.now }
@@ -35,17 +50,13 @@ pub fn push_error(text: &mut Vec<u8>, kind: AsmErrorKind, letters: &[u8]) -> Res
     ensures { AppendsBytes result text.old text.new (error_text kind letters.now) }
 {
     match kind {
-        AsmErrorKind::NoSuchMode => text.extend_from_slice(b"this instruction has no such operand"),
-        AsmErrorKind::UnknownLabel => push_labelled(text, b"no label ", letters),
-        AsmErrorKind::LabelTwice => push_labelled(text, b"an earlier line has the label ", letters),
-        AsmErrorKind::BranchOutOfRange => {
-            text.extend_from_slice(b"a branch reaches from -128 to 127 bytes")
-        }
-        AsmErrorKind::RunsPast => text.extend_from_slice(b"this ends past $FFFF"),
-        AsmErrorKind::IndirectAtPageEnd => {
-            text.extend_from_slice(b"an indirect jump takes no pointer at the end of a page")
-        }
-        AsmErrorKind::NoMemory => text.extend_from_slice(b"out of memory"),
+        AsmErrorKind::NoSuchMode => text.extend_from_slice(NO_SUCH_MODE),
+        AsmErrorKind::UnknownLabel => push_labelled(text, UNKNOWN_LABEL, letters),
+        AsmErrorKind::LabelTwice => push_labelled(text, LABEL_TWICE, letters),
+        AsmErrorKind::BranchOutOfRange => { text.extend_from_slice(BRANCH_OUT_OF_RANGE) }
+        AsmErrorKind::RunsPast => text.extend_from_slice(RUNS_PAST),
+        AsmErrorKind::IndirectAtPageEnd => { text.extend_from_slice(INDIRECT_AT_PAGE_END) }
+        AsmErrorKind::NoMemory => text.extend_from_slice(NO_MEMORY),
     }
 }
 

@@ -4,6 +4,30 @@ ghost use Rattle.tb_asm_reasons.specs.Texts.{reason_text};
 
 use std::fmt;
 
+// What is said, text by text.
+const NUMBER: &str = "numbers are written $05 or $1234";
+
+const TAB: &str = "words are separated by spaces, not by tabs";
+
+const QUOTE: &str = "texts are written as bytes: .byte $48,$49";
+
+const SUM: &str = "there are no sums and no constants";
+
+const STRAY: &str = "nothing begins with this";
+
+const ITEM: &str = "here stands a label, an instruction, .byte or .word";
+
+const NAME: &str = "a label is a letter and then letters, digits or _, 31 at most, and not A";
+
+const COLON: &str = "a label ends with a colon";
+
+const DIRECTIVE: &str = "there is .byte $05,$06 and .word $1234, or .word NAME";
+
+const MNEMONIC: &str = "no such instruction";
+
+const OPERAND: &str =
+    "operands are $05, $1234, NAME (with ,X or ,Y), #$05, #<NAME, #>NAME, ($05,X), ($05),Y and ($1234)";
+
 /// What is wrong with a line of assembler text.
 #[derive(Clone, Copy, PartialEq, Eq, Debug, Drop)]
 pub enum LineReason {
@@ -36,21 +60,17 @@ impl LineReason {
         ensures { result.now ≡ reason_text self }
     {
         match self {
-            LineReason::Number => "numbers are written $05 or $1234",
-            LineReason::Tab => "words are separated by spaces, not by tabs",
-            LineReason::Quote => "texts are written as bytes: .byte $48,$49",
-            LineReason::Sum => "there are no sums and no constants",
-            LineReason::Stray => "nothing begins with this",
-            LineReason::Item => "here stands a label, an instruction, .byte or .word",
-            LineReason::Name => {
-                "a label is a letter and then letters, digits or _, 31 at most, and not A"
-            }
-            LineReason::Colon => "a label ends with a colon",
-            LineReason::Directive => "there is .byte $05,$06 and .word $1234, or .word NAME",
-            LineReason::Mnemonic => "no such instruction",
-            LineReason::Operand => {
-                "operands are $05, $1234, NAME (with ,X or ,Y), #$05, #<NAME, #>NAME, ($05,X), ($05),Y and ($1234)"
-            }
+            LineReason::Number => NUMBER,
+            LineReason::Tab => TAB,
+            LineReason::Quote => QUOTE,
+            LineReason::Sum => SUM,
+            LineReason::Stray => STRAY,
+            LineReason::Item => ITEM,
+            LineReason::Name => { NAME }
+            LineReason::Colon => COLON,
+            LineReason::Directive => DIRECTIVE,
+            LineReason::Mnemonic => MNEMONIC,
+            LineReason::Operand => { OPERAND }
         }
     }
 }

@@ -6,10 +6,11 @@ use Rattle.tb_assembly_meaning.specs.declared.faults.Wrong.TheVariants.{UnknownN
 use Rattle.tb_assembly_report.specs.declared.causes.Cause.{Cause}
 use Rattle.tb_assembly_report.specs.declared.causes.Cause.TheVariants.{Line, Include, Meaning}
 use Rattle.tb_assembly_report.specs.Near.{near_name}
+use Rattle.tb_assembly_report.specs.declared.notes.TheConstants.{DID_YOU_MEAN, OTHER_WAY}
 
 -- that a name may be meant
 abbrev pub meant : List ℕ → List ℕ
-meant name = codes "did you mean " ++ name
+meant name = DID_YOU_MEAN.now ++ name
 
 -- the words of directives, in upper case
 abbrev pub directive_words : List (List ℕ)
@@ -25,7 +26,7 @@ line_note k word = None
 -- what helps with a cause at a word: a name that is near it, or another way
 abbrev pub note_of : List (List ℕ) → List ℕ → Cause → Option (List ℕ)
 note_of names word (Meaning UnknownName) = option_map meant (near_name word names)
-note_of names word (Meaning TooFar) = Some (codes "branch the other way, over a JMP")
+note_of names word (Meaning TooFar) = Some OTHER_WAY.now
 note_of names word (Meaning w) = None
 note_of names word (Line k) = line_note k word
 note_of names word (Include f) = None

@@ -6,6 +6,85 @@ use tb_assembly_files::{IncludeFault, Place};
 use tb_assembly_meaning::Wrong;
 use tb_assembly_text::FaultKind;
 
+// What is said, text by text.
+const STRAY: &str = "nothing begins with this";
+
+const OPEN_TEXT: &str = "the text has no second quote";
+
+const CHARACTER: &str = "a character is written 'A'";
+
+const NO_DIGITS: &str = "digits are missing";
+
+const NUMBER_TOO_LARGE: &str = "the number is too large";
+
+const NAME_TOO_LONG: &str = "a name has at most 255 letters";
+
+const RESERVED: &str = "A is the accumulator";
+
+const WANTS_VALUE: &str = "a value is missing";
+
+const WANTS_RIGHT: &str = "a parenthesis is not closed";
+
+const WANTS_REGISTER: &str = "X or Y is missing";
+
+const WANTS_EQUALS: &str = "= is missing";
+
+const WANTS_TEXT: &str = "a text in quotes is missing";
+
+const WANTS_ITEM: &str = "here stands a label, an instruction or a directive";
+
+const UNKNOWN_DIRECTIVE: &str = "no such directive";
+
+const UNKNOWN_MNEMONIC: &str = "no such instruction";
+
+const EXTRA: &str = "nothing may follow here";
+
+const CIRCLE: &str = "the file includes itself";
+
+const TOO_DEEP: &str = "files are included more than 16 deep";
+
+const TOO_MANY: &str = "too many lines are included";
+
+const UNREAD: &str = "the file can't be read";
+
+const UNKNOWN_NAME: &str = "nothing has this name";
+
+const NOT_YET_KNOWN: &str = "the value of this name is not known here";
+
+const NAME_TWICE: &str = "an earlier line has this name";
+
+const OVERFLOW: &str = "a value has at most 32 bits";
+
+const DIVISION_BY_ZERO: &str = "division by 0";
+
+const NEGATIVE: &str = "a negative number has no single bits";
+
+const SHIFT_TOO_FAR: &str = "bits are moved by 31 at most";
+
+const NO_BYTE: &str = "a byte is from -128 to 255";
+
+const NO_WORD: &str = "a word is from -32768 to 65535";
+
+const NO_ADDRESS: &str = "an address is from 0 to $FFFF";
+
+const NO_ZERO_PAGE: &str = "an address in page zero is from 0 to $FF";
+
+const NO_COUNT: &str = "a count is from 0 to 65536";
+
+const NO_MULTIPLE: &str = "a multiple is from 1 to 65536";
+
+const BACKWARD: &str = "this address was passed already";
+
+const NO_SUCH_MODE: &str = "this instruction has no such operand";
+
+const TOO_FAR: &str = "a branch reaches from -128 to 127 bytes";
+
+const PAGE_END: &str = "an indirect jump takes no pointer at the end of a page";
+
+const PAST_END: &str = "this ends past $FFFF";
+
+const NOT_READ: &str = "the file was not read";
+
 /// Why a text is refused: for a line that is bad, a file that is not included, or what a statement means.
 #[derive(Clone, Copy, PartialEq, Eq, Debug, Drop)]
 pub enum Cause {
@@ -26,22 +105,22 @@ fn line_text(kind: FaultKind) -> &'static str
     ensures { result.now ≡ line_text kind }
 {
     match kind {
-        FaultKind::Stray => "nothing begins with this",
-        FaultKind::OpenText => "the text has no second quote",
-        FaultKind::Character => "a character is written 'A'",
-        FaultKind::NoDigits => "digits are missing",
-        FaultKind::NumberTooLarge => "the number is too large",
-        FaultKind::NameTooLong => "a name has at most 255 letters",
-        FaultKind::Reserved => "A is the accumulator",
-        FaultKind::WantsValue => "a value is missing",
-        FaultKind::WantsRight => "a parenthesis is not closed",
-        FaultKind::WantsRegister => "X or Y is missing",
-        FaultKind::WantsEquals => "= is missing",
-        FaultKind::WantsText => "a text in quotes is missing",
-        FaultKind::WantsItem => "here stands a label, an instruction or a directive",
-        FaultKind::UnknownDirective => "no such directive",
-        FaultKind::UnknownMnemonic => "no such instruction",
-        FaultKind::Extra => "nothing may follow here",
+        FaultKind::Stray => STRAY,
+        FaultKind::OpenText => OPEN_TEXT,
+        FaultKind::Character => CHARACTER,
+        FaultKind::NoDigits => NO_DIGITS,
+        FaultKind::NumberTooLarge => NUMBER_TOO_LARGE,
+        FaultKind::NameTooLong => NAME_TOO_LONG,
+        FaultKind::Reserved => RESERVED,
+        FaultKind::WantsValue => WANTS_VALUE,
+        FaultKind::WantsRight => WANTS_RIGHT,
+        FaultKind::WantsRegister => WANTS_REGISTER,
+        FaultKind::WantsEquals => WANTS_EQUALS,
+        FaultKind::WantsText => WANTS_TEXT,
+        FaultKind::WantsItem => WANTS_ITEM,
+        FaultKind::UnknownDirective => UNKNOWN_DIRECTIVE,
+        FaultKind::UnknownMnemonic => UNKNOWN_MNEMONIC,
+        FaultKind::Extra => EXTRA,
     }
 }
 
@@ -49,10 +128,10 @@ fn include_text(fault: IncludeFault) -> &'static str
     ensures { result.now ≡ include_text fault }
 {
     match fault {
-        IncludeFault::Circle => "the file includes itself",
-        IncludeFault::TooDeep => "files are included more than 16 deep",
-        IncludeFault::TooMany => "too many lines are included",
-        IncludeFault::Unread => "the file can't be read",
+        IncludeFault::Circle => CIRCLE,
+        IncludeFault::TooDeep => TOO_DEEP,
+        IncludeFault::TooMany => TOO_MANY,
+        IncludeFault::Unread => UNREAD,
     }
 }
 
@@ -60,25 +139,25 @@ fn wrong_text(wrong: Wrong) -> &'static str
     ensures { result.now ≡ wrong_text wrong }
 {
     match wrong {
-        Wrong::UnknownName => "nothing has this name",
-        Wrong::NotYetKnown => "the value of this name is not known here",
-        Wrong::NameTwice => "an earlier line has this name",
-        Wrong::Overflow => "a value has at most 32 bits",
-        Wrong::DivisionByZero => "division by 0",
-        Wrong::Negative => "a negative number has no single bits",
-        Wrong::ShiftTooFar => "bits are moved by 31 at most",
-        Wrong::NoByte => "a byte is from -128 to 255",
-        Wrong::NoWord => "a word is from -32768 to 65535",
-        Wrong::NoAddress => "an address is from 0 to $FFFF",
-        Wrong::NoZeroPage => "an address in page zero is from 0 to $FF",
-        Wrong::NoCount => "a count is from 0 to 65536",
-        Wrong::NoMultiple => "a multiple is from 1 to 65536",
-        Wrong::Backward => "this address was passed already",
-        Wrong::NoSuchMode => "this instruction has no such operand",
-        Wrong::TooFar => "a branch reaches from -128 to 127 bytes",
-        Wrong::PageEnd => "an indirect jump takes no pointer at the end of a page",
-        Wrong::PastEnd => "this ends past $FFFF",
-        Wrong::NotRead => "the file was not read",
+        Wrong::UnknownName => UNKNOWN_NAME,
+        Wrong::NotYetKnown => NOT_YET_KNOWN,
+        Wrong::NameTwice => NAME_TWICE,
+        Wrong::Overflow => OVERFLOW,
+        Wrong::DivisionByZero => DIVISION_BY_ZERO,
+        Wrong::Negative => NEGATIVE,
+        Wrong::ShiftTooFar => SHIFT_TOO_FAR,
+        Wrong::NoByte => NO_BYTE,
+        Wrong::NoWord => NO_WORD,
+        Wrong::NoAddress => NO_ADDRESS,
+        Wrong::NoZeroPage => NO_ZERO_PAGE,
+        Wrong::NoCount => NO_COUNT,
+        Wrong::NoMultiple => NO_MULTIPLE,
+        Wrong::Backward => BACKWARD,
+        Wrong::NoSuchMode => NO_SUCH_MODE,
+        Wrong::TooFar => TOO_FAR,
+        Wrong::PageEnd => PAGE_END,
+        Wrong::PastEnd => PAST_END,
+        Wrong::NotRead => NOT_READ,
     }
 }
 

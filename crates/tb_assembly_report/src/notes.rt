@@ -9,6 +9,11 @@ use std::alloc::{AllocError, Global};
 use tb_assembly_meaning::Wrong;
 use tb_assembly_text::FaultKind;
 
+// What is said, text by text.
+const DID_YOU_MEAN: &[u8] = b"did you mean ";
+
+const OTHER_WAY: &[u8] = b"branch the other way, over a JMP";
+
 /// The words of directives, in upper case.
 const DIRECTIVES: [&[u8]; 14] = [
     b".BYTE",
@@ -34,7 +39,7 @@ fn meant(alloc: Global, name: &[u8]) -> Result<Vec<u8>, AllocError>
     ensures { IfOk result (λ r. r.items ≡ meant name.now) }
 {
     let mut text = Vec::new(alloc);
-    text.extend_from_slice(b"did you mean ")?;
+    text.extend_from_slice(DID_YOU_MEAN)?;
     text.extend_from_slice(name)?;
     Ok(text)
 }
@@ -67,9 +72,7 @@ fn note_of(
 {
     match cause {
         Cause::Meaning(Wrong::UnknownName) => near_note(alloc, names, word),
-        Cause::Meaning(Wrong::TooFar) => {
-            Ok(Some(Vec::from_slice(alloc, b"branch the other way, over a JMP")?))
-        }
+        Cause::Meaning(Wrong::TooFar) => { Ok(Some(Vec::from_slice(alloc, OTHER_WAY)?)) }
         Cause::Line(FaultKind::UnknownDirective) => directive_note(alloc, word),
         _ => Ok(None),
     }

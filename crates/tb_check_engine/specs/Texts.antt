@@ -11,71 +11,78 @@ use Rattle.tb_check.specs.declared.notes.Note.{Note}
 use Rattle.tb_check.specs.declared.notes.Note.TheVariants as note
 use Rattle.tb_check.specs.declared.warnings.Warning.{Warning}
 use Rattle.tb_check.specs.declared.warnings.Warning.TheVariants as warning
+use Rattle.tb_check_engine.specs.declared.texts.TheConstants.{ABS_ADVICE, AND_ADVICE, AT_LEAST, AT_MOST, BOUND_OF_ONE, BYTE_ORDER_MARK, CHR_ADVICE, CLS_ADVICE}
+use Rattle.tb_check_engine.specs.declared.texts.TheConstants.{COLON, DEF_ADVICE, ELSE_ADVICE, EXTRA_PARENTHESIS, FOR_ADVICE, FRACTION, GET_ADVICE, INT_ADVICE}
+use Rattle.tb_check_engine.specs.declared.texts.TheConstants.{LINE_NAME, LONG_NAME, MOD_ADVICE, NOTHING_BEHIND, NOT_ADVICE, NOT_CLOSED, NO_ARRAYS, NO_ITEM}
+use Rattle.tb_check_engine.specs.declared.texts.TheConstants.{NO_RELATION, NO_SEPARATOR, ONE_EQUAL_SIGN, ON_ADVICE, OPEN_TEXT, OR_ADVICE, POKE_ADVICE, POWER}
+use Rattle.tb_check_engine.specs.declared.texts.TheConstants.{QUESTION_MARK, READ_ADVICE, RELATION_AS_VALUE, REMAINDER, REMARK_BEHIND, RUNS_PAST, SGN_ADVICE}
+use Rattle.tb_check_engine.specs.declared.texts.TheConstants.{SHORTHAND, SIGNED_OPERAND, SIGN_IN_TEXT, STOP_ADVICE, SYS_ADVICE, TAB, TAB_ADVICE, TEXT_IN_INPUT}
+use Rattle.tb_check_engine.specs.declared.texts.TheConstants.{TEXT_NAME, THEN_NUMBER, UNEQUAL, WHILE_ADVICE, WHOLE_NAME, ZERO_DIVISOR}
 
 -- what helps in place of a word of other BASICs
 abbrev pub advice : ForeignWord → List ℕ
-advice foreign.For = codes "count with LET, IF and GOTO"
-advice foreign.Next = codes "count with LET, IF and GOTO"
-advice foreign.Step = codes "count with LET, IF and GOTO"
-advice foreign.Poke = codes "a program has its variables and no other memory"
-advice foreign.Peek = codes "a program has its variables and no other memory"
-advice foreign.Dim = codes "there are the variables A to Z and no arrays"
-advice foreign.Get = codes "INPUT takes numbers from the keyboard"
-advice foreign.On = codes "GOTO and GOSUB take an expression, as GOTO 100*X"
-advice foreign.Read = codes "set variables with LET"
-advice foreign.Data = codes "set variables with LET"
-advice foreign.Def = codes "write the expression where it is used, or GOSUB"
-advice foreign.Else = codes "write a second IF, or GOTO"
-advice foreign.And = codes "an IF may stand behind an IF: IF A=1 IF B=2 GOTO 100"
-advice foreign.Or = codes "write an IF for each side, on lines of their own"
-advice foreign.Not = codes "turn the relation round: <> for =, >= for <"
-advice foreign.Stop = codes "END ends the run"
-advice foreign.Cls = codes "PRINT writes new lines"
-advice foreign.Abs = codes "IF X<0 LET X=-X does it"
-advice foreign.Tab = codes "a comma in PRINT goes on to the next zone of 8 columns"
-advice foreign.Chr = codes "PRINT takes texts between quotes"
-advice foreign.Mod = codes "A-A/B*B is the remainder"
-advice foreign.Int = codes "all numbers are whole, and so is a quotient"
-advice foreign.Sgn = codes "IF X<0 LET S=-1 does it, with an IF for each sign"
-advice foreign.While = codes "go back with IF and GOTO"
-advice foreign.Sys = codes "a program calls no machine code"
+advice foreign.For = FOR_ADVICE.now
+advice foreign.Next = FOR_ADVICE.now
+advice foreign.Step = FOR_ADVICE.now
+advice foreign.Poke = POKE_ADVICE.now
+advice foreign.Peek = POKE_ADVICE.now
+advice foreign.Dim = NO_ARRAYS.now
+advice foreign.Get = GET_ADVICE.now
+advice foreign.On = ON_ADVICE.now
+advice foreign.Read = READ_ADVICE.now
+advice foreign.Data = READ_ADVICE.now
+advice foreign.Def = DEF_ADVICE.now
+advice foreign.Else = ELSE_ADVICE.now
+advice foreign.And = AND_ADVICE.now
+advice foreign.Or = OR_ADVICE.now
+advice foreign.Not = NOT_ADVICE.now
+advice foreign.Stop = STOP_ADVICE.now
+advice foreign.Cls = CLS_ADVICE.now
+advice foreign.Abs = ABS_ADVICE.now
+advice foreign.Tab = TAB_ADVICE.now
+advice foreign.Chr = CHR_ADVICE.now
+advice foreign.Mod = MOD_ADVICE.now
+advice foreign.Int = INT_ADVICE.now
+advice foreign.Sgn = SGN_ADVICE.now
+advice foreign.While = WHILE_ADVICE.now
+advice foreign.Sys = SYS_ADVICE.now
 
 -- the text of a note
 abbrev pub note_text : Note → List ℕ
 note_text (note.ForeignWord m) = codes "Tiny BASIC has no " ++ (name_of m ++ (codes "; " ++ advice m))
-note_text note.QuestionMark = codes "Tiny BASIC has no ? for PRINT; write PRINT or PR"
-note_text note.Colon = codes "a line has one statement; give the next one a line of its own"
-note_text note.LongName = codes "a variable's name is one letter, A to Z"
-note_text note.TextName = codes "variables hold numbers alone; texts stand in PRINT"
-note_text note.ThenNumber = codes "a statement follows THEN; write THEN GOTO"
-note_text note.OpenText = codes "the text has no second quote"
-note_text note.Tab = codes "this is a tab; write spaces"
-note_text note.ByteOrderMark = codes "the file begins with a byte order mark (EF BB BF); save it without one"
+note_text note.QuestionMark = QUESTION_MARK.now
+note_text note.Colon = COLON.now
+note_text note.LongName = LONG_NAME.now
+note_text note.TextName = TEXT_NAME.now
+note_text note.ThenNumber = THEN_NUMBER.now
+note_text note.OpenText = OPEN_TEXT.now
+note_text note.Tab = TAB.now
+note_text note.ByteOrderMark = BYTE_ORDER_MARK.now
 note_text (note.Near word) = codes "did you mean " ++ spelling_of word
-note_text note.SignInText = codes "a text holds letters, digits, spaces and the signs from ! to @"
+note_text note.SignInText = SIGN_IN_TEXT.now
 note_text (note.NearSign byte) = codes "did you mean {" ++ (option_map_or (λ name. name) (signs.name_of byte) [] ++ codes "}")
 note_text note.UnknownSign = codes "a sign in a text is a name, as {clr} and {3 down}, or two hexadecimal digits, as {C1}"
-note_text note.TextInInput = codes "INPUT takes variables alone; PRINT the text on the line before"
-note_text note.Power = codes "Tiny BASIC has no powers; write A*A"
-note_text note.SignedOperand = codes "a sign behind an operator stands in parentheses: A*(-1)"
-note_text note.AtLeast = codes "write >= for =>"
-note_text note.AtMost = codes "write <= for =<"
-note_text note.OneEqualSign = codes "write = for =="
-note_text note.Unequal = codes "write <> for !="
-note_text note.ExtraParenthesis = codes "no parenthesis is open here"
-note_text note.RelationAsValue = codes "a relation is no value; IF takes one, without parentheses around it"
-note_text note.NotClosed = codes "a parenthesis is not closed"
-note_text note.NothingBehind = codes "nothing follows END and RETURN on a line"
-note_text note.Array = codes "there are the variables A to Z and no arrays"
-note_text note.Fraction = codes "numbers are whole; there is no decimal point"
-note_text note.Shorthand = codes "write the operation out: LET A=A+1"
-note_text note.Remainder = codes "Tiny BASIC has no %; A-A/B*B is the remainder"
-note_text note.WholeName = codes "all variables hold whole numbers; leave out the %"
-note_text note.NoRelation = codes "IF takes a relation: IF A<>0"
-note_text note.RemarkBehind = codes "a remark has a line of its own"
-note_text note.LineName = codes "GOTO and GOSUB take the number of a line"
-note_text note.NoItem = codes "an item stands before each separator of PRINT; \"\" is an empty one"
-note_text note.NoSeparator = codes "PRINT has ; or , between its items"
+note_text note.TextInInput = TEXT_IN_INPUT.now
+note_text note.Power = POWER.now
+note_text note.SignedOperand = SIGNED_OPERAND.now
+note_text note.AtLeast = AT_LEAST.now
+note_text note.AtMost = AT_MOST.now
+note_text note.OneEqualSign = ONE_EQUAL_SIGN.now
+note_text note.Unequal = UNEQUAL.now
+note_text note.ExtraParenthesis = EXTRA_PARENTHESIS.now
+note_text note.RelationAsValue = RELATION_AS_VALUE.now
+note_text note.NotClosed = NOT_CLOSED.now
+note_text note.NothingBehind = NOTHING_BEHIND.now
+note_text note.Array = NO_ARRAYS.now
+note_text note.Fraction = FRACTION.now
+note_text note.Shorthand = SHORTHAND.now
+note_text note.Remainder = REMAINDER.now
+note_text note.WholeName = WHOLE_NAME.now
+note_text note.NoRelation = NO_RELATION.now
+note_text note.RemarkBehind = REMARK_BEHIND.now
+note_text note.LineName = LINE_NAME.now
+note_text note.NoItem = NO_ITEM.now
+note_text note.NoSeparator = NO_SEPARATOR.now
 
 -- how often a bound of RND goes into 32,767
 abbrev pub times_of : ℕ → ℕ
@@ -92,9 +99,9 @@ abbrev pub warning_text : Warning → List ℕ
 warning_text (warning.NoLine target) = codes "no line " ++ signed_decimal target
 warning_text (warning.Replaced number by) = codes "line " ++ (decimal number ++ (codes " is replaced by line " ++ (decimal by ++ codes " of the file")))
 warning_text (warning.TakenOut number by) = codes "line " ++ (decimal number ++ (codes " is taken out by line " ++ (decimal by ++ codes " of the file")))
-warning_text warning.RunsPast = codes "runs past the last line (fault 7)"
+warning_text warning.RunsPast = RUNS_PAST.now
 warning_text (warning.EvenBound bound) = bound_text bound
 warning_text (warning.HighTarget target) = decimal target ++ codes " is read as a negative number; line numbers end at 32767"
-warning_text warning.BoundOfOne = codes "RND(1) is always 0"
+warning_text warning.BoundOfOne = BOUND_OF_ONE.now
 warning_text (warning.BadBound bound) = codes "fault 3: the bound of RND is " ++ signed_decimal bound
-warning_text warning.ZeroDivisor = codes "fault 2: a divisor is 0"
+warning_text warning.ZeroDivisor = ZERO_DIVISOR.now

@@ -6,6 +6,115 @@ use std::fmt;
 use tb_check::{ForeignWord, Note, Warning};
 use tb_signs::name_of;
 
+// What is said, text by text.
+const FOR_ADVICE: &str = "count with LET, IF and GOTO";
+
+const POKE_ADVICE: &str = "a program has its variables and no other memory";
+
+const NO_ARRAYS: &str = "there are the variables A to Z and no arrays";
+
+const GET_ADVICE: &str = "INPUT takes numbers from the keyboard";
+
+const ON_ADVICE: &str = "GOTO and GOSUB take an expression, as GOTO 100*X";
+
+const READ_ADVICE: &str = "set variables with LET";
+
+const DEF_ADVICE: &str = "write the expression where it is used, or GOSUB";
+
+const ELSE_ADVICE: &str = "write a second IF, or GOTO";
+
+const AND_ADVICE: &str = "an IF may stand behind an IF: IF A=1 IF B=2 GOTO 100";
+
+const OR_ADVICE: &str = "write an IF for each side, on lines of their own";
+
+const NOT_ADVICE: &str = "turn the relation round: <> for =, >= for <";
+
+const STOP_ADVICE: &str = "END ends the run";
+
+const CLS_ADVICE: &str = "PRINT writes new lines";
+
+const ABS_ADVICE: &str = "IF X<0 LET X=-X does it";
+
+const TAB_ADVICE: &str = "a comma in PRINT goes on to the next zone of 8 columns";
+
+const CHR_ADVICE: &str = "PRINT takes texts between quotes";
+
+const MOD_ADVICE: &str = "A-A/B*B is the remainder";
+
+const INT_ADVICE: &str = "all numbers are whole, and so is a quotient";
+
+const SGN_ADVICE: &str = "IF X<0 LET S=-1 does it, with an IF for each sign";
+
+const WHILE_ADVICE: &str = "go back with IF and GOTO";
+
+const SYS_ADVICE: &str = "a program calls no machine code";
+
+const QUESTION_MARK: &str = "Tiny BASIC has no ? for PRINT; write PRINT or PR";
+
+const COLON: &str = "a line has one statement; give the next one a line of its own";
+
+const LONG_NAME: &str = "a variable's name is one letter, A to Z";
+
+const TEXT_NAME: &str = "variables hold numbers alone; texts stand in PRINT";
+
+const THEN_NUMBER: &str = "a statement follows THEN; write THEN GOTO";
+
+const OPEN_TEXT: &str = "the text has no second quote";
+
+const TAB: &str = "this is a tab; write spaces";
+
+const BYTE_ORDER_MARK: &str =
+    "the file begins with a byte order mark (EF BB BF); save it without one";
+
+const SIGN_IN_TEXT: &str = "a text holds letters, digits, spaces and the signs from ! to @";
+
+const TEXT_IN_INPUT: &str = "INPUT takes variables alone; PRINT the text on the line before";
+
+const POWER: &str = "Tiny BASIC has no powers; write A*A";
+
+const SIGNED_OPERAND: &str = "a sign behind an operator stands in parentheses: A*(-1)";
+
+const AT_LEAST: &str = "write >= for =>";
+
+const AT_MOST: &str = "write <= for =<";
+
+const ONE_EQUAL_SIGN: &str = "write = for ==";
+
+const UNEQUAL: &str = "write <> for !=";
+
+const EXTRA_PARENTHESIS: &str = "no parenthesis is open here";
+
+const RELATION_AS_VALUE: &str =
+    "a relation is no value; IF takes one, without parentheses around it";
+
+const NOT_CLOSED: &str = "a parenthesis is not closed";
+
+const NOTHING_BEHIND: &str = "nothing follows END and RETURN on a line";
+
+const FRACTION: &str = "numbers are whole; there is no decimal point";
+
+const SHORTHAND: &str = "write the operation out: LET A=A+1";
+
+const REMAINDER: &str = "Tiny BASIC has no %; A-A/B*B is the remainder";
+
+const WHOLE_NAME: &str = "all variables hold whole numbers; leave out the %";
+
+const NO_RELATION: &str = "IF takes a relation: IF A<>0";
+
+const REMARK_BEHIND: &str = "a remark has a line of its own";
+
+const LINE_NAME: &str = "GOTO and GOSUB take the number of a line";
+
+const NO_ITEM: &str = "an item stands before each separator of PRINT; \"\" is an empty one";
+
+const NO_SEPARATOR: &str = "PRINT has ; or , between its items";
+
+const RUNS_PAST: &str = "runs past the last line (fault 7)";
+
+const BOUND_OF_ONE: &str = "RND(1) is always 0";
+
+const ZERO_DIVISOR: &str = "fault 2: a divisor is 0";
+
 /// The largest bound of RND that is advised.
 const ADVISED: u32 = 32_767;
 
@@ -22,27 +131,27 @@ fn advice(word: ForeignWord) -> &'static str
     ensures { result.now ≡ advice word }
 {
     match word {
-        ForeignWord::For | ForeignWord::Next | ForeignWord::Step => "count with LET, IF and GOTO",
-        ForeignWord::Poke | ForeignWord::Peek => "a program has its variables and no other memory",
-        ForeignWord::Dim => "there are the variables A to Z and no arrays",
-        ForeignWord::Get => "INPUT takes numbers from the keyboard",
-        ForeignWord::On => "GOTO and GOSUB take an expression, as GOTO 100*X",
-        ForeignWord::Read | ForeignWord::Data => "set variables with LET",
-        ForeignWord::Def => "write the expression where it is used, or GOSUB",
-        ForeignWord::Else => "write a second IF, or GOTO",
-        ForeignWord::And => "an IF may stand behind an IF: IF A=1 IF B=2 GOTO 100",
-        ForeignWord::Or => "write an IF for each side, on lines of their own",
-        ForeignWord::Not => "turn the relation round: <> for =, >= for <",
-        ForeignWord::Stop => "END ends the run",
-        ForeignWord::Cls => "PRINT writes new lines",
-        ForeignWord::Abs => "IF X<0 LET X=-X does it",
-        ForeignWord::Tab => "a comma in PRINT goes on to the next zone of 8 columns",
-        ForeignWord::Chr => "PRINT takes texts between quotes",
-        ForeignWord::Mod => "A-A/B*B is the remainder",
-        ForeignWord::Int => "all numbers are whole, and so is a quotient",
-        ForeignWord::Sgn => "IF X<0 LET S=-1 does it, with an IF for each sign",
-        ForeignWord::While => "go back with IF and GOTO",
-        ForeignWord::Sys => "a program calls no machine code",
+        ForeignWord::For | ForeignWord::Next | ForeignWord::Step => FOR_ADVICE,
+        ForeignWord::Poke | ForeignWord::Peek => POKE_ADVICE,
+        ForeignWord::Dim => NO_ARRAYS,
+        ForeignWord::Get => GET_ADVICE,
+        ForeignWord::On => ON_ADVICE,
+        ForeignWord::Read | ForeignWord::Data => READ_ADVICE,
+        ForeignWord::Def => DEF_ADVICE,
+        ForeignWord::Else => ELSE_ADVICE,
+        ForeignWord::And => AND_ADVICE,
+        ForeignWord::Or => OR_ADVICE,
+        ForeignWord::Not => NOT_ADVICE,
+        ForeignWord::Stop => STOP_ADVICE,
+        ForeignWord::Cls => CLS_ADVICE,
+        ForeignWord::Abs => ABS_ADVICE,
+        ForeignWord::Tab => TAB_ADVICE,
+        ForeignWord::Chr => CHR_ADVICE,
+        ForeignWord::Mod => MOD_ADVICE,
+        ForeignWord::Int => INT_ADVICE,
+        ForeignWord::Sgn => SGN_ADVICE,
+        ForeignWord::While => WHILE_ADVICE,
+        ForeignWord::Sys => SYS_ADVICE,
     }
 }
 
@@ -54,22 +163,16 @@ impl fmt::Display for NoteText {
             Note::ForeignWord(word) => {
                 write!(f, "Tiny BASIC has no {}; {}", word.name(), advice(word))
             }
-            Note::QuestionMark => f.write_str("Tiny BASIC has no ? for PRINT; write PRINT or PR"),
-            Note::Colon => {
-                f.write_str("a line has one statement; give the next one a line of its own")
-            }
-            Note::LongName => f.write_str("a variable's name is one letter, A to Z"),
-            Note::TextName => f.write_str("variables hold numbers alone; texts stand in PRINT"),
-            Note::ThenNumber => f.write_str("a statement follows THEN; write THEN GOTO"),
-            Note::OpenText => f.write_str("the text has no second quote"),
-            Note::Tab => f.write_str("this is a tab; write spaces"),
-            Note::ByteOrderMark => f.write_str(
-                "the file begins with a byte order mark (EF BB BF); save it without one",
-            ),
+            Note::QuestionMark => f.write_str(QUESTION_MARK),
+            Note::Colon => { f.write_str(COLON) }
+            Note::LongName => f.write_str(LONG_NAME),
+            Note::TextName => f.write_str(TEXT_NAME),
+            Note::ThenNumber => f.write_str(THEN_NUMBER),
+            Note::OpenText => f.write_str(OPEN_TEXT),
+            Note::Tab => f.write_str(TAB),
+            Note::ByteOrderMark => f.write_str(BYTE_ORDER_MARK),
             Note::Near(word) => write!(f, "did you mean {}", word.spelling()),
-            Note::SignInText => f.write_str(
-                "a text holds letters, digits, spaces and the signs from ! to @",
-            ),
+            Note::SignInText => f.write_str(SIGN_IN_TEXT),
             Note::NearSign(byte) => {
                 let name = name_of(byte).unwrap_or("");
                 write!(f, "did you mean {{{name}}}")
@@ -77,35 +180,27 @@ impl fmt::Display for NoteText {
             Note::UnknownSign => f.write_str(
                 "a sign in a text is a name, as {clr} and {3 down}, or two hexadecimal digits, as {C1}",
             ),
-            Note::TextInInput => f.write_str(
-                "INPUT takes variables alone; PRINT the text on the line before",
-            ),
-            Note::Power => f.write_str("Tiny BASIC has no powers; write A*A"),
-            Note::SignedOperand => f.write_str(
-                "a sign behind an operator stands in parentheses: A*(-1)",
-            ),
-            Note::AtLeast => f.write_str("write >= for =>"),
-            Note::AtMost => f.write_str("write <= for =<"),
-            Note::OneEqualSign => f.write_str("write = for =="),
-            Note::Unequal => f.write_str("write <> for !="),
-            Note::ExtraParenthesis => f.write_str("no parenthesis is open here"),
-            Note::RelationAsValue => f.write_str(
-                "a relation is no value; IF takes one, without parentheses around it",
-            ),
-            Note::NotClosed => f.write_str("a parenthesis is not closed"),
-            Note::NothingBehind => f.write_str("nothing follows END and RETURN on a line"),
-            Note::Array => f.write_str("there are the variables A to Z and no arrays"),
-            Note::Fraction => f.write_str("numbers are whole; there is no decimal point"),
-            Note::Shorthand => f.write_str("write the operation out: LET A=A+1"),
-            Note::Remainder => f.write_str("Tiny BASIC has no %; A-A/B*B is the remainder"),
-            Note::WholeName => f.write_str("all variables hold whole numbers; leave out the %"),
-            Note::NoRelation => f.write_str("IF takes a relation: IF A<>0"),
-            Note::RemarkBehind => f.write_str("a remark has a line of its own"),
-            Note::LineName => f.write_str("GOTO and GOSUB take the number of a line"),
-            Note::NoItem => f.write_str(
-                "an item stands before each separator of PRINT; \"\" is an empty one",
-            ),
-            Note::NoSeparator => f.write_str("PRINT has ; or , between its items"),
+            Note::TextInInput => f.write_str(TEXT_IN_INPUT),
+            Note::Power => f.write_str(POWER),
+            Note::SignedOperand => f.write_str(SIGNED_OPERAND),
+            Note::AtLeast => f.write_str(AT_LEAST),
+            Note::AtMost => f.write_str(AT_MOST),
+            Note::OneEqualSign => f.write_str(ONE_EQUAL_SIGN),
+            Note::Unequal => f.write_str(UNEQUAL),
+            Note::ExtraParenthesis => f.write_str(EXTRA_PARENTHESIS),
+            Note::RelationAsValue => f.write_str(RELATION_AS_VALUE),
+            Note::NotClosed => f.write_str(NOT_CLOSED),
+            Note::NothingBehind => f.write_str(NOTHING_BEHIND),
+            Note::Array => f.write_str(NO_ARRAYS),
+            Note::Fraction => f.write_str(FRACTION),
+            Note::Shorthand => f.write_str(SHORTHAND),
+            Note::Remainder => f.write_str(REMAINDER),
+            Note::WholeName => f.write_str(WHOLE_NAME),
+            Note::NoRelation => f.write_str(NO_RELATION),
+            Note::RemarkBehind => f.write_str(REMARK_BEHIND),
+            Note::LineName => f.write_str(LINE_NAME),
+            Note::NoItem => f.write_str(NO_ITEM),
+            Note::NoSeparator => f.write_str(NO_SEPARATOR),
         }
     }
 }
@@ -134,7 +229,7 @@ impl fmt::Display for WarningText {
             Warning::TakenOut { number, by } => {
                 write!(f, "line {number} is taken out by line {by} of the file")
             }
-            Warning::RunsPast => f.write_str("runs past the last line (fault 7)"),
+            Warning::RunsPast => f.write_str(RUNS_PAST),
             Warning::EvenBound(bound) => {
                 let times = times_of(bound);
                 let larger = times * u32::from(bound);
@@ -147,9 +242,9 @@ impl fmt::Display for WarningText {
                 f,
                 "{target} is read as a negative number; line numbers end at 32767"
             ),
-            Warning::BoundOfOne => f.write_str("RND(1) is always 0"),
+            Warning::BoundOfOne => f.write_str(BOUND_OF_ONE),
             Warning::BadBound(bound) => write!(f, "fault 3: the bound of RND is {bound}"),
-            Warning::ZeroDivisor => f.write_str("fault 2: a divisor is 0"),
+            Warning::ZeroDivisor => f.write_str(ZERO_DIVISOR),
         }
     }
 }

@@ -8,6 +8,11 @@ use tb_cpu::Regs;
 use tb_inspection::{LIMIT, NO_SUCH_LINE, Value, WHAT, push_registers, push_value, status_text};
 use tb_kernal::Status;
 
+// What is said, text by text.
+const NOTHING_BACK: &[u8] = b"nothing back";
+
+const NO_SOURCE: &[u8] = b"no source";
+
 /// What a command is answered by.
 #[derive(Clone, Copy, PartialEq, Eq, Debug, Drop)]
 pub enum Answer {
@@ -55,12 +60,12 @@ impl Answer {
             Answer::Registers { regs, line, status } => {
                 push_registers(alloc, text, regs, line, status)
             }
-            Answer::NothingBack => text.extend_from_slice(b"nothing back"),
+            Answer::NothingBack => text.extend_from_slice(NOTHING_BACK),
             Answer::At(line) => {
                 text.extend_from_slice(format!(in alloc; "at {line}")?.as_bytes())
             }
             Answer::NoSuchLine => text.extend_from_slice(NO_SUCH_LINE),
-            Answer::NoSource => text.extend_from_slice(b"no source"),
+            Answer::NoSource => text.extend_from_slice(NO_SOURCE),
             Answer::Limit => text.extend_from_slice(LIMIT),
             Answer::Stands(status) => text.extend_from_slice(status_text(status).as_bytes()),
             Answer::Value(value) => push_value(text, value),

@@ -18,6 +18,7 @@ use Rattle.tb_debug.specs.declared.answer.Location.{Location}
 use Rattle.tb_debug.specs.declared.answer.Location.TheVariants as location
 use Rattle.tb_debug.specs.declared.answer.Stand.{Stand}
 use Rattle.tb_debug_engine.specs.Lists.{list_text, written}
+use Rattle.tb_debug_engine.specs.declared.texts.TheConstants.{GOES_THROUGH_FAULTS, NO_SOURCE, STOPS_AT_FAULTS, WHAT}
 
 -- a text in a line of its own
 abbrev pub line : List ℕ → List ℕ
@@ -135,13 +136,13 @@ help_text =
 
 -- the answer to a line that is no command, and to a text that is no expression: with what helps, or without
 abbrev pub what_text : (hints : Bool) → List ℕ
-what_text true = codes "what? (h lists the commands)"
+what_text true = WHAT.now
 what_text false = what
 
 -- whether faults stop `c` then
 abbrev pub faults_text : Bool → List ℕ
-faults_text true = codes "stops at faults"
-faults_text false = codes "goes through faults"
+faults_text true = STOPS_AT_FAULTS.now
+faults_text false = GOES_THROUGH_FAULTS.now
 
 -- the text of an answer: lines, each ended by 10
 abbrev pub text_of : (hints : Bool) → List (ℕ × List ℕ) → List ℕ → Answer → List ℕ
@@ -163,5 +164,5 @@ text_of hints lines numbers (answer.Memory at bytes) = line (bytes_text 0 at byt
 text_of hints lines numbers (answer.Code code) = code_text code.items
 text_of hints lines numbers answer.Help = help_text
 text_of hints lines numbers answer.NoSuchLine = line no_such_line
-text_of hints lines numbers answer.NoSource = line (codes "no source")
+text_of hints lines numbers answer.NoSource = line NO_SOURCE.now
 text_of hints lines numbers answer.What = line (what_text hints)

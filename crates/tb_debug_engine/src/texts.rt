@@ -26,6 +26,15 @@ use tb_kernal::Status;
 use tb_source_text::Numbered;
 use tb_streams::host_form;
 
+// What is said, text by text.
+const STOPS_AT_FAULTS: &[u8] = b"stops at faults";
+
+const GOES_THROUGH_FAULTS: &[u8] = b"goes through faults";
+
+const WHAT: &[u8] = b"what? (h lists the commands)";
+
+const NO_SOURCE: &[u8] = b"no source";
+
 /// How many bytes of memory are shown on a line.
 const ROW: usize = 16;
 
@@ -382,9 +391,9 @@ fn push_faults(text: &mut Vec<u8>, is_set: bool) -> Result<(), AllocError>
     ensures { AppendsBytes result text.old text.new (texts.line (faults_text is_set)) }
 {
     if is_set {
-        push_line(text, b"stops at faults")
+        push_line(text, STOPS_AT_FAULTS)
     } else {
-        push_line(text, b"goes through faults")
+        push_line(text, GOES_THROUGH_FAULTS)
     }
 }
 
@@ -394,7 +403,7 @@ fn push_what(text: &mut Vec<u8>, hints: bool) -> Result<(), AllocError>
     ensures { AppendsBytes result text.old text.new (texts.line (what_text hints)) }
 {
     if hints {
-        push_line(text, b"what? (h lists the commands)")
+        push_line(text, WHAT)
     } else {
         push_line(text, WHAT)
     }
@@ -450,7 +459,7 @@ fn push_text(
         }
         Answer::Value(value) => push_value_line(text, value),
         Answer::NoSuchLine => push_line(text, NO_SUCH_LINE),
-        Answer::NoSource => push_line(text, b"no source"),
+        Answer::NoSource => push_line(text, NO_SOURCE),
         Answer::What => push_what(text, hints),
     }
 }

@@ -18,6 +18,7 @@ use Rattle.tb_places.specs.Spans.{line_span, place_span, whole_span}
 use Rattle.tb_diagnostics.specs.declared.findings.Lines.{Lines}
 use Rattle.tb_diagnostics.specs.Codes.{error_code, warning_code}
 use Rattle.tb_diagnostics.specs.Values.{plain, superseded}
+use Rattle.tb_diagnostics.specs.declared.findings.TheConstants.{TOO_LONG}
 
 -- the bytes of a text
 abbrev pub bytes_of : String Global → List ℕ
@@ -91,7 +92,7 @@ on_warning uri lines w = warned uri lines w (superseding w.warning)
 
 -- a text that has too many bytes
 abbrev pub too_long : Data
-too_long = on_whole (codes "read-fault") (codes "more than 1048576 bytes")
+too_long = on_whole (codes "read-fault") TOO_LONG.now
 
 -- the diagnostics of findings of a text with these lines
 abbrev pub diagnostics_of : List ℕ → List (List ℕ) → Findings → List Data

@@ -5,6 +5,7 @@ use Rattle.tb_places.specs.declared.spans.Span.{Span}
 use Rattle.tb_place_values.specs.Ranges.{location_of, range_of}
 use Rattle.tb_diagnostics.specs.declared.values.Severity.{Severity}
 use Rattle.tb_diagnostics.specs.declared.values.Severity.TheVariants.{Error, Warning}
+use Rattle.tb_diagnostics.specs.declared.values.TheConstants.{BY_THIS_LINE}
 
 -- the number of a severity
 abbrev pub severity_number : Severity → ℕ
@@ -20,7 +21,7 @@ plain code message span severity =
 -- where the line is that does away with another
 abbrev pub related : List ℕ → Span → Data
 related uri by =
-    array (item (object (member (codes "location") (location_of uri by) (member (codes "message") (string (codes "by this line")) no_members))) no_items)
+    array (item (object (member (codes "location") (location_of uri by) (member (codes "message") (string BY_THIS_LINE.now) no_members))) no_items)
 
 -- the tag of what is unnecessary
 abbrev pub tags : Data

@@ -12,6 +12,9 @@ use tb_check_engine::{NoteText, WarningText};
 use tb_engines::{TOO_DEEP, TooLarge, source_text};
 use tb_places::{Span, line_span, place_span, whole_span};
 
+// What is said, text by text.
+const TOO_LONG: &str = "more than 1048576 bytes";
+
 /// A text of which something is said.
 #[derive(Clone, Copy, Drop)]
 pub struct Lines<'a> {
@@ -263,7 +266,7 @@ fn only(alloc: Global, diagnostic: Value) -> Result<Vec<Value>, AllocError>
 pub fn too_long(alloc: Global) -> Result<Vec<Value>, AllocError>
     ensures { IfOk result (λ found. map view found.items ≡ spec.too_long ∷ []) }
 {
-    let diagnostic = on_whole(alloc, "read-fault", "more than 1048576 bytes")?;
+    let diagnostic = on_whole(alloc, "read-fault", TOO_LONG)?;
     only(alloc, diagnostic)
 }
 

@@ -8,6 +8,9 @@ use std::alloc::{AllocError, Global};
 use tb_place_values::{location_value, range_value};
 use tb_places::Span;
 
+// What is said, text by text.
+const BY_THIS_LINE: &str = "by this line";
+
 /// How bad it is.
 #[derive(Clone, Copy, Debug, PartialEq, Eq, Drop)]
 pub enum Severity {
@@ -56,7 +59,7 @@ fn related_value(alloc: Global, uri: &str, by: Span) -> Result<Value, AllocError
     ensures { IfOk result (λ v. view v ≡ related uri.now by) }
 {
     let location = location_value(alloc, uri, by)?;
-    json!(in alloc; [{"location": location, "message": "by this line"}])
+    json!(in alloc; [{"location": location, "message": BY_THIS_LINE}])
 }
 
 // The tag of what is unnecessary.

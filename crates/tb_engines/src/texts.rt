@@ -10,6 +10,30 @@ use tb_cpu::Wrong;
 use tb_meaning::LowerError;
 use tb_parser::{SourceError, SourceErrorKind};
 use tb_prg::PrgError;
+use tb_streams::OUT_OF_MEMORY;
+
+// What is said, text by text.
+const UNKNOWN_OPCODE: &str = "unknown opcode";
+
+const BAD_DECIMAL: &str = "bad decimal";
+
+const LINE_TOO_LONG: &str = "line too long";
+
+const BAD_BYTE: &str = "bad byte";
+
+const UNNUMBERED: &str = "no line number";
+
+const BAD_LINE_NUMBER: &str = "bad line number";
+
+const NOT_COMPILED: &str = "not compiled";
+
+const NUMBER_TOO_LARGE: &str = "number too large";
+
+const EMPTY: &str = "empty program";
+
+const STEP_LIMIT: &str = "step limit";
+
+const WAITS_FOR_KEY: &str = "waits for a key";
 
 fn kind_text(kind: AsmErrorKind) -> &'static str {
     match kind {
@@ -19,7 +43,7 @@ fn kind_text(kind: AsmErrorKind) -> &'static str {
         AsmErrorKind::BranchOutOfRange => "branch out of range",
         AsmErrorKind::RunsPast => "runs past the end",
         AsmErrorKind::IndirectAtPageEnd => "indirect at page end",
-        AsmErrorKind::NoMemory => "out of memory",
+        AsmErrorKind::NoMemory => OUT_OF_MEMORY,
     }
 }
 
@@ -32,8 +56,8 @@ impl fmt::Display for WrongText {
 
     fn fmt<W: fmt::Write>(&self, f: &mut fmt::Formatter<W>) -> fmt::Result {
         match self.0 {
-            Wrong::UnknownOpcode => f.write_str("unknown opcode"),
-            Wrong::BadDecimal => f.write_str("bad decimal"),
+            Wrong::UnknownOpcode => f.write_str(UNKNOWN_OPCODE),
+            Wrong::BadDecimal => f.write_str(BAD_DECIMAL),
             Wrong::Closed(address) => write!(f, "closed address {address:04X}"),
             Wrong::Brk => f.write_str("brk"),
         }
@@ -48,15 +72,15 @@ pub fn source_text(kind: SourceErrorKind) -> &'static str
     ensures { result.now ≡ source_text kind }
 {
     match kind {
-        SourceErrorKind::LineTooLong => "line too long",
-        SourceErrorKind::BadByte => "bad byte",
-        SourceErrorKind::Unnumbered => "no line number",
-        SourceErrorKind::BadLineNumber => "bad line number",
-        SourceErrorKind::NotCompiled => "not compiled",
+        SourceErrorKind::LineTooLong => LINE_TOO_LONG,
+        SourceErrorKind::BadByte => BAD_BYTE,
+        SourceErrorKind::Unnumbered => UNNUMBERED,
+        SourceErrorKind::BadLineNumber => BAD_LINE_NUMBER,
+        SourceErrorKind::NotCompiled => NOT_COMPILED,
         SourceErrorKind::Syntax => "syntax",
-        SourceErrorKind::NumberTooLarge => "number too large",
-        SourceErrorKind::Empty => "empty program",
-        SourceErrorKind::NoMemory => "out of memory",
+        SourceErrorKind::NumberTooLarge => NUMBER_TOO_LARGE,
+        SourceErrorKind::Empty => EMPTY,
+        SourceErrorKind::NoMemory => OUT_OF_MEMORY,
     }
 }
 
@@ -88,7 +112,7 @@ fn write_compile_error<W: fmt::Write>(
         CompileError::Lower(LowerError::TooDeep(line)) => { write!(f, "line {line}: {TOO_DEEP}") }
         CompileError::TooLarge(cost) => write!(f, "{}", TooLarge(cost)),
         CompileError::Lower(LowerError::NoMemory) | CompileError::NoMemory => {
-            f.write_str("out of memory")
+            f.write_str(OUT_OF_MEMORY)
         }
     }
 }
@@ -112,8 +136,8 @@ impl fmt::Display for End {
     fn fmt<W: fmt::Write>(&self, f: &mut fmt::Formatter<W>) -> fmt::Result {
         match self {
             End::Done => Ok(()),
-            End::StepLimit => f.write_str("step limit"),
-            End::WaitsForKey => f.write_str("waits for a key"),
+            End::StepLimit => f.write_str(STEP_LIMIT),
+            End::WaitsForKey => f.write_str(WAITS_FOR_KEY),
             End::WentWrong { wrong, pc } => {
                 write!(f, "wrong: {} at {pc:04X}", WrongText(*wrong))
             }

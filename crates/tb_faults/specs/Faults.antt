@@ -6,6 +6,7 @@ use Rattle.tb_cpu.specs.Operands.{word_in}
 use Rattle.tb_kept.specs.Addresses.{LINE}
 use Rattle.tb_faults.specs.declared.faults.FaultKind.{FaultKind}
 use Rattle.tb_faults.specs.declared.faults.FaultKind.TheVariants.{Stopped, NoSuchLine, DividedByZero, BadBound, TooManyCalls, NoCall, NoNumber, RanPast}
+use Rattle.tb_faults.specs.declared.faults.TheConstants.{BAD_BOUND, DIVIDED_BY_ZERO, NO_CALL, NO_NUMBER, NO_SUCH_LINE, RAN_PAST, STOPPED, TOO_MANY_CALLS}
 
 -- the number of a fault
 abbrev pub number_of : FaultKind → ℕ
@@ -24,14 +25,14 @@ faults = Stopped ∷ NoSuchLine ∷ DividedByZero ∷ BadBound ∷ TooManyCalls 
 
 -- what a fault means
 abbrev pub meaning_of : FaultKind → List ℕ
-meaning_of Stopped = codes "the STOP key was pressed"
-meaning_of NoSuchLine = codes "a jump goes to no line"
-meaning_of DividedByZero = codes "a divisor is 0"
-meaning_of BadBound = codes "the bound of RND is below 1"
-meaning_of TooManyCalls = codes "more than 500 GOSUBs are open"
-meaning_of NoCall = codes "RETURN without GOSUB"
-meaning_of NoNumber = codes "what was typed is no number"
-meaning_of RanPast = codes "it ran past the last line; an END is missing"
+meaning_of Stopped = STOPPED.now
+meaning_of NoSuchLine = NO_SUCH_LINE.now
+meaning_of DividedByZero = DIVIDED_BY_ZERO.now
+meaning_of BadBound = BAD_BOUND.now
+meaning_of TooManyCalls = TOO_MANY_CALLS.now
+meaning_of NoCall = NO_CALL.now
+meaning_of NoNumber = NO_NUMBER.now
+meaning_of RanPast = RAN_PAST.now
 
 -- what a program sends last that ends by a fault at a line
 abbrev pub fault_text : ℕ → FaultKind → List ℕ

@@ -9,6 +9,23 @@ use tb_kept::LINE;
 use tb_kernal::Machine;
 use tb_memmap::Memory;
 
+// What is said, text by text.
+const STOPPED: &str = "the STOP key was pressed";
+
+const NO_SUCH_LINE: &str = "a jump goes to no line";
+
+const DIVIDED_BY_ZERO: &str = "a divisor is 0";
+
+const BAD_BOUND: &str = "the bound of RND is below 1";
+
+const TOO_MANY_CALLS: &str = "more than 500 GOSUBs are open";
+
+const NO_CALL: &str = "RETURN without GOSUB";
+
+const NO_NUMBER: &str = "what was typed is no number";
+
+const RAN_PAST: &str = "it ran past the last line; an END is missing";
+
 /// A fault of a program.
 #[derive(Clone, Copy, PartialEq, Eq, Debug, Drop)]
 pub enum FaultKind {
@@ -55,14 +72,14 @@ impl FaultKind {
         ensures { result.now ≡ meaning_of self }
     {
         match self {
-            FaultKind::Stopped => "the STOP key was pressed",
-            FaultKind::NoSuchLine => "a jump goes to no line",
-            FaultKind::DividedByZero => "a divisor is 0",
-            FaultKind::BadBound => "the bound of RND is below 1",
-            FaultKind::TooManyCalls => "more than 500 GOSUBs are open",
-            FaultKind::NoCall => "RETURN without GOSUB",
-            FaultKind::NoNumber => "what was typed is no number",
-            FaultKind::RanPast => "it ran past the last line; an END is missing",
+            FaultKind::Stopped => STOPPED,
+            FaultKind::NoSuchLine => NO_SUCH_LINE,
+            FaultKind::DividedByZero => DIVIDED_BY_ZERO,
+            FaultKind::BadBound => BAD_BOUND,
+            FaultKind::TooManyCalls => TOO_MANY_CALLS,
+            FaultKind::NoCall => NO_CALL,
+            FaultKind::NoNumber => NO_NUMBER,
+            FaultKind::RanPast => RAN_PAST,
         }
     }
 }

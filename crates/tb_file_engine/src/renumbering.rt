@@ -13,7 +13,7 @@ use tb_compiled::{CompileSettings, Notation, SizeLimit};
 use tb_files::{FileSystem, Maker, STANDARD, convert, replace};
 use tb_renumber::{JumpFault, Numbering, Refusal, renumber};
 use tb_sources::compile_source;
-use tb_streams::{Done, ExitStatus, Failure, Outcome, status};
+use tb_streams::{Done, ExitStatus, Failure, OUT_OF_MEMORY, Outcome, status};
 
 /// Why a source is not renumbered. It is never want of memory.
 #[derive(Clone, Copy, PartialEq, Eq, Debug, Drop)]
@@ -46,7 +46,7 @@ fn write_refusal<W: fmt::Write>(refusal: Refusal, f: &mut fmt::Formatter<W>) -> 
         Refusal::AboveHighest => f.write_str("line number above 32767"),
         Refusal::LineTooLong(line) => write!(f, "line {line}: line too long"),
         Refusal::Source(_) | Refusal::Other => f.write_str("the new text reads otherwise"),
-        Refusal::NoMemory => f.write_str("out of memory"),
+        Refusal::NoMemory => f.write_str(OUT_OF_MEMORY),
     }
 }
 

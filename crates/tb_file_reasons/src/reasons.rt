@@ -4,6 +4,37 @@ ghost use Rattle.tb_file_reasons.specs.Texts.{file_note_text, reason_text};
 
 use std::fmt;
 
+// What is said, text by text.
+const NO_SUCH_FILE: &str = "no such file";
+
+const NO_SUCH_FOLDER: &str = "no such folder";
+
+const IS_FOLDER: &str = "is a folder";
+
+const NO_PERMISSION: &str = "no permission";
+
+const DISK_FULL: &str = "disk full";
+
+const KEPT: &str = "what it held is in the file of this name with ~ at its end";
+
+const TOO_LONG: &str = "longer than 1,048,576 bytes";
+
+const KEYS_TOO_LONG: &str = "longer than 2,097,154 bytes";
+
+const NO_IMAGE_NAME: &str = "the name of a disk image ends in .d64";
+
+const NO_DISK_NAME: &str = "a name on a disk is 1 to 16 of A to Z, 0 to 9, space, - and .";
+
+const DISK_NAME_TWICE: &str = "an earlier file has this name on the disk";
+
+const TOO_SHORT: &str = "a PRG file has two bytes or more";
+
+const RUNS_PAST: &str = "its bytes end past 65,536";
+
+const TEXT: &str = "this is a text";
+
+const NOT_RAM: &str = "a byte of it would lie outside of RAM";
+
 /// What is wrong with a file.
 #[derive(Clone, Copy, PartialEq, Eq, Debug, Drop)]
 pub enum FileReason {
@@ -42,24 +73,22 @@ impl FileReason {
         ensures { result.now ≡ reason_text self }
     {
         match self {
-            FileReason::NoSuchFile => "no such file",
-            FileReason::NoSuchFolder => "no such folder",
-            FileReason::IsFolder => "is a folder",
-            FileReason::NoPermission => "no permission",
-            FileReason::DiskFull => "disk full",
+            FileReason::NoSuchFile => NO_SUCH_FILE,
+            FileReason::NoSuchFolder => NO_SUCH_FOLDER,
+            FileReason::IsFolder => IS_FOLDER,
+            FileReason::NoPermission => NO_PERMISSION,
+            FileReason::DiskFull => DISK_FULL,
             FileReason::Replaced => "replaced",
-            FileReason::Kept => "what it held is in the file of this name with ~ at its end",
-            FileReason::TooLong => "longer than 1,048,576 bytes",
-            FileReason::KeysTooLong => "longer than 2,097,154 bytes",
-            FileReason::NoImageName => "the name of a disk image ends in .d64",
-            FileReason::NoDiskName => {
-                "a name on a disk is 1 to 16 of A to Z, 0 to 9, space, - and ."
-            }
-            FileReason::DiskNameTwice => "an earlier file has this name on the disk",
-            FileReason::TooShort => "a PRG file has two bytes or more",
-            FileReason::RunsPast => "its bytes end past 65,536",
-            FileReason::Text => "this is a text",
-            FileReason::NotRam => "a byte of it would lie outside of RAM",
+            FileReason::Kept => KEPT,
+            FileReason::TooLong => TOO_LONG,
+            FileReason::KeysTooLong => KEYS_TOO_LONG,
+            FileReason::NoImageName => NO_IMAGE_NAME,
+            FileReason::NoDiskName => { NO_DISK_NAME }
+            FileReason::DiskNameTwice => DISK_NAME_TWICE,
+            FileReason::TooShort => TOO_SHORT,
+            FileReason::RunsPast => RUNS_PAST,
+            FileReason::Text => TEXT,
+            FileReason::NotRam => NOT_RAM,
         }
     }
 }

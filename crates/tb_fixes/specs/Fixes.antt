@@ -20,6 +20,8 @@ use Rattle.tb_fixes.specs.Mends.{Mends}
 use Rattle.tb_fixes.specs.Signs.{writes_sign}
 use Rattle.tb_fixes.specs.Writing.{behind, fix_by, writes}
 use Rattle.tb_source_names.specs.declared.lines.Line.{Line as SourceLine}
+use Rattle.tb_fixes.specs.declared.fixes.TheConstants.{ADD_A_LINE_WITH_END, CLOSE_THE_TEXT, REMOVE_THE_BYTE_ORDER_MARK, REMOVE_THE_LINE, WRITE_A_SPACE}
+use Rattle.tb_fixes.specs.declared.fixes.TheConstants.{WRITE_PRINT, WRITE_THEN_GOTO}
 
 -- PRINT in place of `?`, with a space where none stands and something follows
 abbrev pub print_before : List ℕ → List ℕ
@@ -32,13 +34,13 @@ writes_word line text column word = writes (codes "Write " ++ word) (word_span l
 
 -- what mends a line by a note at a column
 abbrev pub fix_by_note : ℕ → List ℕ → ℕ → Note → Option Mends
-fix_by_note line text column ThenNumber = writes (codes "Write THEN GOTO") (piece line text (column - 1) 0) (codes "GOTO ")
-fix_by_note line text column QuestionMark = writes (codes "Write PRINT") (piece line text (column - 1) 1) (print_before (behind (column - 1) text))
+fix_by_note line text column ThenNumber = writes WRITE_THEN_GOTO.now (piece line text (column - 1) 0) (codes "GOTO ")
+fix_by_note line text column QuestionMark = writes WRITE_PRINT.now (piece line text (column - 1) 1) (print_before (behind (column - 1) text))
 fix_by_note line text column (Near word) = writes_word line text column (spelling_of word)
 fix_by_note line text column (NearSign byte) = option_and_then (writes_sign line text (column - 1)) (name_of byte)
-fix_by_note line text column OpenText = writes (codes "Close the text") (piece line text (length text) 0) (34 ∷ [])
-fix_by_note line text column Tab = writes (codes "Write a space") (piece line text (column - 1) 1) (codes " ")
-fix_by_note line text column ByteOrderMark = writes (codes "Remove the byte order mark") (piece line text (column - 1) 3) []
+fix_by_note line text column OpenText = writes CLOSE_THE_TEXT.now (piece line text (length text) 0) (34 ∷ [])
+fix_by_note line text column Tab = writes WRITE_A_SPACE.now (piece line text (column - 1) 1) (codes " ")
+fix_by_note line text column ByteOrderMark = writes REMOVE_THE_BYTE_ORDER_MARK.now (piece line text (column - 1) 3) []
 fix_by_note line text column _ = None
 
 -- what mends a bad line
@@ -62,11 +64,11 @@ end_edit count last false n = edit_value (piece count last (length last) 0) (10 
 -- the same, where a number is left above the highest one
 abbrev pub ends : ℕ → List ℕ → Bool → ℕ → Option Mends
 ends count last is_ended highest =
-    if nat_lt highest 32767 then fix_by (codes "Add a line with END") (end_edit count last is_ended (min (highest + 10) 32767)) else None
+    if nat_lt highest 32767 then fix_by ADD_A_LINE_WITH_END.now (end_edit count last is_ended (min (highest + 10) 32767)) else None
 
 -- a line is removed with its end
 abbrev pub removes : ℕ → Option Mends
-removes line = fix_by (codes "Remove the line") (lines_edit (line - 1) line [])
+removes line = fix_by REMOVE_THE_LINE.now (lines_edit (line - 1) line [])
 
 -- what mends what a warning on a line tells
 abbrev pub fix_by_warning : List (List ℕ) → List SourceLine → Bool → ℕ → Warning → Option Mends

@@ -18,6 +18,21 @@ use tb_source_names::Source;
 use tb_source_text::{Numbered, numbered_lines};
 use tb_syntax::HIGHEST_LINE;
 
+// What is said, text by text.
+const WRITE_THEN_GOTO: &str = "Write THEN GOTO";
+
+const WRITE_PRINT: &str = "Write PRINT";
+
+const CLOSE_THE_TEXT: &str = "Close the text";
+
+const WRITE_A_SPACE: &str = "Write a space";
+
+const REMOVE_THE_BYTE_ORDER_MARK: &str = "Remove the byte order mark";
+
+const ADD_A_LINE_WITH_END: &str = "Add a line with END";
+
+const REMOVE_THE_LINE: &str = "Remove the line";
+
 /// What mends a finding.
 #[derive(Drop)]
 pub struct Fix {
@@ -93,22 +108,22 @@ fn fix_by_note(
     match note {
         Note::ThenNumber => {
             let span = piece(line, text, place, 0);
-            writes(alloc, "Write THEN GOTO", span, "GOTO ")
+            writes(alloc, WRITE_THEN_GOTO, span, "GOTO ")
         }
         Note::QuestionMark => {
             let print = print_before(behind(text, place));
-            writes(alloc, "Write PRINT", piece(line, text, place, 1), print)
+            writes(alloc, WRITE_PRINT, piece(line, text, place, 1), print)
         }
         Note::Near(word) => writes_word(alloc, line, text, column, word.spelling()),
         Note::NearSign(byte) => writes_near(alloc, line, text, place, byte),
         Note::OpenText => {
             let span = piece(line, text, text.len(), 0);
-            writes(alloc, "Close the text", span, "\"")
+            writes(alloc, CLOSE_THE_TEXT, span, "\"")
         }
-        Note::Tab => writes(alloc, "Write a space", piece(line, text, place, 1), " "),
+        Note::Tab => writes(alloc, WRITE_A_SPACE, piece(line, text, place, 1), " "),
         Note::ByteOrderMark => {
             let span = piece(line, text, place, 3);
-            writes(alloc, "Remove the byte order mark", span, "")
+            writes(alloc, REMOVE_THE_BYTE_ORDER_MARK, span, "")
         }
         _ => Ok(None),
     }
@@ -182,7 +197,7 @@ fn ends(
     }
     let number = (highest + 10).min(u32::from(HIGHEST_LINE));
     let edit = end_edit(alloc, count, last, is_ended, number)?;
-    fix_by(alloc, "Add a line with END", edit)
+    fix_by(alloc, ADD_A_LINE_WITH_END, edit)
 }
 
 // The line with its end is removed; another one follows it.
@@ -190,7 +205,7 @@ fn removes(alloc: Global, line: usize) -> Result<Option<Fix>, AllocError>
     ensures { IfOk result (λ fix. option_map writing.seen fix ≡ spec.removes line) }
 {
     let edit = lines_edit(alloc, line.saturating_sub(1), line, "")?;
-    fix_by(alloc, "Remove the line", edit)
+    fix_by(alloc, REMOVE_THE_LINE, edit)
 }
 
 /// What mends what a warning tells of a text, by whether that ends its last line, if anything is known to.

@@ -9,6 +9,7 @@ use Rattle.tb_kernal.specs.declared.status.Status.{Status}
 use Rattle.tb_kernal.specs.declared.status.Status.TheVariants.{Running, Waits, Returned, Wrong}
 use Rattle.tb_meaning.specs.declared.evaluation.EvalError.{EvalError}
 use Rattle.tb_meaning.specs.declared.evaluation.EvalError.TheVariants.{DivideByZero, HasRnd}
+use Rattle.tb_inspection.specs.declared.texts.TheConstants.{DIVISION_BY_ZERO, HAS_RND, NO_SUCH_LINE}
 
 -- the answer to a line that is no command, and to a text that is no expression
 abbrev pub what : List ℕ
@@ -16,7 +17,7 @@ what = codes "what?"
 
 -- the answer to the number of a line that the program doesn't have
 abbrev pub no_such_line : List ℕ
-no_such_line = codes "no such line"
+no_such_line = NO_SUCH_LINE.now
 
 -- what is said of a run that its limit ended
 abbrev pub limit : List ℕ
@@ -25,8 +26,8 @@ limit = codes "limit"
 -- the value of an expression, or why it has none
 abbrev pub value_text : Result ℤ EvalError → List ℕ
 value_text (Ok value) = digits_of (word_of value)
-value_text (Err DivideByZero) = codes "division by zero"
-value_text (Err HasRnd) = codes "has RND"
+value_text (Err DivideByZero) = DIVISION_BY_ZERO.now
+value_text (Err HasRnd) = HAS_RND.now
 
 -- the word for how a machine stands
 abbrev pub status_text : Status → List ℕ

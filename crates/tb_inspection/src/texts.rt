@@ -11,6 +11,11 @@ use tb_kernal::Status;
 use tb_meaning::EvalError;
 use tb_words::digits;
 
+// What is said, text by text.
+const DIVISION_BY_ZERO: &[u8] = b"division by zero";
+
+const HAS_RND: &[u8] = b"has RND";
+
 /// The answer to a line that is no command, and to a text that is no expression.
 pub const WHAT: &[u8] = b"what?";
 
@@ -26,8 +31,8 @@ pub fn push_value(text: &mut Vec<u8>, value: Value) -> Result<(), AllocError>
 {
     match value {
         Ok(value) => text.extend_from_slice(digits(value).as_slice()),
-        Err(EvalError::DivideByZero) => text.extend_from_slice(b"division by zero"),
-        Err(EvalError::HasRnd) => text.extend_from_slice(b"has RND"),
+        Err(EvalError::DivideByZero) => text.extend_from_slice(DIVISION_BY_ZERO),
+        Err(EvalError::HasRnd) => text.extend_from_slice(HAS_RND),
     }
 }
 

@@ -12,4 +12,4 @@ mod refusals;
 
 pub use answers::{failure, success};
 pub use messages::{Message, Unreadable, message_of, read_value};
-pub use refusals::Refusal;
+pub use refusals::{INITIALIZED, NO_JSON, NO_MESSAGE, NOT_INITIALIZED, Refusal, TOO_LARGE};

@@ -2,6 +2,40 @@
 ghost use Rattle.std.specs.Prelude.{◌≡◌};
 ghost use Rattle.tb_messages.specs.Refusals.{code_of, text_of};
 
+/// What is said of a content that is no JSON.
+pub const NO_JSON: &str = "no JSON";
+
+/// What is said of a content that has too many bytes.
+pub const TOO_LARGE: &str = "message too large";
+
+/// What is said of a content that is no message.
+pub const NO_MESSAGE: &str = "no message";
+
+/// What is said of a request that comes before the first one.
+pub const NOT_INITIALIZED: &str = "not initialized";
+
+/// What is said of a first request that comes again.
+pub const INITIALIZED: &str = "initialized already";
+
+// What else is said, text by text.
+const SHUT_DOWN: &str = "shut down";
+
+const UNKNOWN_METHOD: &str = "unknown method";
+
+const BAD_PARAMS: &str = "bad params";
+
+const NOT_OPEN: &str = "text not open";
+
+const NO_VARIABLE: &str = "no variable here";
+
+const NOT_A_LETTER: &str = "not a letter";
+
+const BAD_LINE: &str = "bad line in the text";
+
+const LETTER_IN_USE: &str = "letter in use";
+
+const READS_OTHERWISE: &str = "the new text reads otherwise";
+
 /// Why a message is refused.
 #[derive(Clone, Copy, Debug, PartialEq, Eq, Drop)]
 pub enum Refusal {
@@ -56,20 +90,20 @@ impl Refusal {
         ensures { result.now ≡ text_of self }
     {
         match self {
-            Refusal::NoJson => "no JSON",
-            Refusal::TooLarge => "message too large",
-            Refusal::NoMessage => "no message",
-            Refusal::NotInitialized => "not initialized",
-            Refusal::Initialized => "initialized already",
-            Refusal::ShutDown => "shut down",
-            Refusal::UnknownMethod => "unknown method",
-            Refusal::BadParams => "bad params",
-            Refusal::NotOpen => "text not open",
-            Refusal::NoVariable => "no variable here",
-            Refusal::NotALetter => "not a letter",
-            Refusal::BadLine => "bad line in the text",
-            Refusal::LetterInUse => "letter in use",
-            Refusal::ReadsOtherwise => "the new text reads otherwise",
+            Refusal::NoJson => NO_JSON,
+            Refusal::TooLarge => TOO_LARGE,
+            Refusal::NoMessage => NO_MESSAGE,
+            Refusal::NotInitialized => NOT_INITIALIZED,
+            Refusal::Initialized => INITIALIZED,
+            Refusal::ShutDown => SHUT_DOWN,
+            Refusal::UnknownMethod => UNKNOWN_METHOD,
+            Refusal::BadParams => BAD_PARAMS,
+            Refusal::NotOpen => NOT_OPEN,
+            Refusal::NoVariable => NO_VARIABLE,
+            Refusal::NotALetter => NOT_A_LETTER,
+            Refusal::BadLine => BAD_LINE,
+            Refusal::LetterInUse => LETTER_IN_USE,
+            Refusal::ReadsOtherwise => READS_OTHERWISE,
         }
     }
 }

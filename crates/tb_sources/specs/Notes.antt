@@ -11,6 +11,7 @@ use Rattle.tb_sources.specs.Places.{line_of}
 use Rattle.tb_sources.specs.Faults.{fault_of, fault_note_text}
 use Rattle.tb_sources.specs.declared.notes.EndNote.{EndNote}
 use Rattle.tb_sources.specs.declared.notes.EndNote.TheVariants.{Running, Waits, Fault}
+use Rattle.tb_sources.specs.declared.notes.TheConstants.{MORE_EVENTS, PLAY}
 
 -- what a machine tells, by how it stands: the line that it does, or the fault by which the program ended
 abbrev pub end_note : Compiled → Status → Content → Option EndNote
@@ -27,7 +28,7 @@ IsTold wanted note = note ≡ wanted
 -- what is said of a note
 abbrev pub note_text : EndNote → List ℕ
 note_text (Running (Some line)) = codes "line " ++ (decimal line ++ codes " was begun last; --limit N allows more events")
-note_text (Running None) = codes "--limit N allows more events"
+note_text (Running None) = MORE_EVENTS.now
 note_text (Waits (Some line)) = codes "line " ++ (decimal line ++ codes " waits; tbc play takes keys from the keyboard")
-note_text (Waits None) = codes "tbc play takes keys from the keyboard"
+note_text (Waits None) = PLAY.now
 note_text (Fault f) = fault_note_text f

@@ -10,6 +10,11 @@ use std::fmt;
 use tb_compiled::Compiled;
 use tb_kernal::{Machine, Status};
 
+// What is said, text by text.
+const MORE_EVENTS: &str = "--limit N allows more events";
+
+const PLAY: &str = "tbc play takes keys from the keyboard";
+
 /// What there is to say of the end of a run.
 #[derive(Clone, Copy, PartialEq, Eq, Debug, Drop)]
 pub enum EndNote {
@@ -30,14 +35,14 @@ impl fmt::Display for EndNote {
                 f,
                 "line {line} was begun last; --limit N allows more events"
             ),
-            EndNote::Running(None) => f.write_str("--limit N allows more events"),
+            EndNote::Running(None) => f.write_str(MORE_EVENTS),
             EndNote::Waits(Some(line)) => {
                 write!(
                     f,
                     "line {line} waits; tbc play takes keys from the keyboard"
                 )
             }
-            EndNote::Waits(None) => f.write_str("tbc play takes keys from the keyboard"),
+            EndNote::Waits(None) => f.write_str(PLAY),
             EndNote::Fault(fault) => write!(f, "{fault}"),
         }
     }

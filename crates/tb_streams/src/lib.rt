@@ -26,7 +26,9 @@ pub use key_files::{KeyFileError, MOST_KEY_FILE, key_file, read_key_file};
 pub use keys::{KeyError, address, key_list};
 pub use lines::{read_line, without_return};
 pub use numbers::constants_are_numbers;
-pub use outcome::{Done, ExitStatus, Failure, NoRefusal, Outcome};
+pub use outcome::{
+    Done, ExitStatus, Failure, NoRefusal, OUT_OF_MEMORY, Outcome, READ_FAULT, WRITE_FAULT,
+};
 pub use screen::host_form;
 pub use stream::{InputError, MOST_INPUT, read_input, write_output};
 pub use tracked::{StreamFailure, Tracked};

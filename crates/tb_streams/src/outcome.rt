@@ -8,6 +8,15 @@ use std::alloc::AllocError;
 use std::convert::Infallible;
 use std::fmt;
 
+/// What is said where a file or a stream could not be read.
+pub const READ_FAULT: &str = "read fault";
+
+/// What is said where a file or a stream could not be written.
+pub const WRITE_FAULT: &str = "write fault";
+
+/// What is said where memory ran out.
+pub const OUT_OF_MEMORY: &str = "out of memory";
+
 /// What has an exit status.
 pub trait ExitStatus {
     // the exit status
@@ -112,9 +121,9 @@ impl<E: fmt::Display, R: fmt::Display> fmt::Display for Outcome<E, R> {
         match self {
             Outcome::Ended(end) => end.fmt(f),
             Outcome::Refused(refusal) => refusal.fmt(f),
-            Outcome::ReadFault => f.write_str("read fault"),
-            Outcome::WriteFault => f.write_str("write fault"),
-            Outcome::NoMemory => f.write_str("out of memory"),
+            Outcome::ReadFault => f.write_str(READ_FAULT),
+            Outcome::WriteFault => f.write_str(WRITE_FAULT),
+            Outcome::NoMemory => f.write_str(OUT_OF_MEMORY),
         }
     }
 }
