@@ -15,7 +15,7 @@ const debuggers = () => [
       new vscode.DebugAdapterExecutable(settings.program(), ['dap', ...settings.notation()])
   }),
   vscode.debug.registerDebugConfigurationProvider('tbc', {
-    resolveDebugConfiguration: (_, found) => ({ fit: settings.fits(), ...(found.type ? found : LAUNCH) })
+    resolveDebugConfiguration: (_, found) => (found.type ? found : { ...LAUNCH })
   })
 ]
 

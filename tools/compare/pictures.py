@@ -1,6 +1,7 @@
 #!/usr/bin/env python3
 """Draws the pictures of docs/pictures from what the program and the documents say, except speed.svg (tools/measure/speed_bars.py):
 
+  screen.svg     a listing, and what its program leaves on the machine's screen
   debugger.svg   a session of `tbc debug` at a terminal, which goes on and back
   backwards.svg  a bug that is found backwards in an editor, by what `tbc dap` tells it
   memory.svg     the machine's memory by the table of docs/MACHINE.md, with a program by its map
@@ -20,6 +21,10 @@ import textwrap
 from pathlib import Path
 
 ROOT = Path(__file__).resolve().parents[2]
+sys.dont_write_bytecode = True
+sys.path.insert(0, str(ROOT / "tools"))
+import screen_model
+
 TO = ROOT / "docs/pictures"
 PROGRAM = ROOT / "crates/tbc/out/tbc"
 DARK = "@media(prefers-color-scheme:dark){text{fill:#ddd} .dark{fill:#222}}"
@@ -47,6 +52,21 @@ def text(x, y, words, more=""):
 
 def box(x, y, width, height, colour, more=""):
     return f'<rect x="{x:.1f}" y="{y}" width="{width:.1f}" height="{height}" fill="{colour}"{more}/>'
+
+
+def screen():
+    """A listing, and the screen of 40 by 25 characters after its run, by the model of the ROM's own editor."""
+    source = ROOT / "examples/times.bas"
+    ran = subprocess.run([PROGRAM, "run", source], capture_output=True, text=True, check=True)
+    shown = screen_model.Screen()
+    for byte in ran.stdout.replace("\n", "\r").encode():
+        shown.printed(byte)
+    parts = [text(16, 30 + 19 * at, line, ' class="listing" xml:space="preserve"') for at, line in enumerate(source.read_text().splitlines())]
+    parts += [box(330, 8, 370, 276, "#6c5eb5", ' rx="4"'), box(345, 20, 340, 252, "#352879")]
+    rows = ["".join(screen_model.SIGNS[code & 127] for code in row).rstrip() for row in shown.codes]
+    parts += [text(351, 31 + 10 * at, row, ' class="screen" xml:space="preserve"') for at, row in enumerate(rows) if row]
+    style = ".listing,.screen{font-family:monospace;white-space:pre} .screen{font-size:13.5px;fill:#a59ae8 !important} "
+    return svg(710, 292, "A listing in Tiny BASIC, and the Commodore 64's screen after its run", parts, style)
 
 
 def debugger():
@@ -200,7 +220,7 @@ def main(words):
         sys.exit("build the program first: ./tbc --build")
     with tempfile.TemporaryDirectory() as folder:
         room = Path(folder)
-        drawn = {"debugger.svg": debugger(), "backwards.svg": backwards(room), "memory.svg": memory(room), "promises.svg": promises()}
+        drawn = {"screen.svg": screen(), "debugger.svg": debugger(), "backwards.svg": backwards(room), "memory.svg": memory(room), "promises.svg": promises()}
         if words == ["--check"]:
             bad = [name for name, picture in drawn.items() if (TO / name).read_text() != picture]
             print("\n".join([*(f"docs/pictures/{it} is not what is drawn now: tools/compare/pictures.py" for it in bad), f"{len(drawn)} pictures, {len(bad)} others"]))

@@ -2,7 +2,8 @@
 use Rattle.std.proofs.Common.{◌≡◌, ◌⊎◌, inl, inr, ℕ, List, [], ◌∷◌, ◌++◌, map, flat_map, Some, Result, Ok, Err, sym, ap, subst, ◌∙◌, append-nil}
 use Rattle.tb_check.specs.Findings.{AreFindings}
 use Rattle.tb_check_engine.specs.Checks.{Checks, IsLook, Look, Looks, Missed, Saw, Told, Turn, said}
-use Rattle.tb_check_engine.specs.Reports.{report}
+use Rattle.tb_check.specs.Fitted.{TellsFits, excess_in}
+use Rattle.tb_check_engine.specs.Reports.{told_of}
 use Rattle.tb_check_engine.specs.Outcomes.{CheckOutcome}
 use Rattle.tb_check_engine.specs.declared.outcome.Checked.{Checked}
 use Rattle.tb_streams.specs.declared.outcome.NoRefusal.{NoRefusal}
@@ -18,9 +19,14 @@ module _ {S : Type 0} (own : Own) (reads : S → List ℕ → Result (List ℕ) 
     (held : (name : List ℕ) (given : Result (List ℕ) InputError) (t : S) → reads s name given t → IsHeld text given) where
   -- what is said of it
   one_said : (name : List ℕ) (look : Look) (t : S) → name ≡ path → IsLook own reads settings s name look t → IsReport own settings path text (said (record { name = name; look = look }))
-  one_said name (Saw source found) t named (given, are) =
-      let is : source ≡ text = held name (Ok source) t given in
-      (found, subst (λ x. AreFindings own settings x found) is are, ap (λ n. report n (lines_of_file source) found) named ∙ ap (λ x. report path (lines_of_file x) found) is)
+  one_said name (Saw source found fits) t named (given, are, tells) =
+      let is : source ≡ text = held name (Ok source) t given in (
+        found,
+        fits,
+        subst (λ x. AreFindings own settings x found) is are,
+        subst (λ x. TellsFits own settings.notation x (excess_in found) fits) is tells,
+        ap (λ n. told_of n (lines_of_file source) found fits) named ∙ ap (λ x. told_of path (lines_of_file x) found fits) is,
+      )
   one_said name Missed t named given = let never : Fault ≡ NoMemory = held name (Err Fault) t given in absurd (cc)
 
   turns_said : (turns : List Turn) (t : S) (new : List ℕ) → map (λ turn. turn.name) turns ≡ path ∷ [] → Looks own reads settings s turns t

@@ -45,7 +45,7 @@ settings_by seed fit petscii = record { seed = seed; size = size_by fit; notatio
 abbrev pub settings_in : Notation → Data → Option CompileSettings
 settings_in usual d =
     option_and_then (λ seed. option_and_then (λ fit. option_map (λ petscii. settings_by seed fit petscii)
-    (flag_in d (codes "petscii") (has_signs usual))) (flag_in d (codes "fit") false)) (seed_in d)
+    (flag_in d (codes "petscii") (has_signs usual))) (flag_in d (codes "fit") true)) (seed_in d)
 
 -- a rude ROM
 abbrev pub rude_by : ℕ → Option Rom

@@ -1,5 +1,5 @@
 -- Programs that are loaded as they are launched.
-use Rattle.std.specs.Prelude.{ℕ, ◌≡◌, ◌⊎◌, nat_lt, true, false, is_err, List, [], ◌∷◌, ◌++◌, codes, map, string_bytes, Option, Some, None, Result, Ok, Err, if◌then◌else◌}
+use Rattle.std.specs.Prelude.{ℕ, ◌≡◌, ◌⊎◌, nat_lt, Bool, true, false, is_err, List, [], ◌∷◌, ◌++◌, codes, map, string_bytes, Option, Some, None, Result, Ok, Err, if◌then◌else◌}
 use Rattle.std.specs.Fmt.{decimal}
 use Rattle.std.specs.declared.alloc.Global.{Global}
 use Rattle.std.specs.declared.vec.Vec.{Vec}
@@ -9,7 +9,8 @@ use Rattle.tb_adapter_messages.specs.declared.refusals.Refusal.{Refusal}
 use Rattle.tb_adapter_messages.specs.declared.refusals.Refusal.TheVariants.{BadKeys, ReadFault}
 use Rattle.tb_check.specs.Findings.{AreFindings}
 use Rattle.tb_check.specs.declared.examination.Findings.{Findings}
-use Rattle.tb_check_engine.specs.Reports.{report}
+use Rattle.tb_check.specs.Fitted.{TellsFits, excess_in}
+use Rattle.tb_check_engine.specs.Reports.{told_of}
 use Rattle.tb_compiled.specs.Compiled.{prg_of}
 use Rattle.tb_compiled.specs.declared.settings.CompileSettings.{CompileSettings}
 use Rattle.tb_check.specs.declared.settings.CheckSettings.{CheckSettings}
@@ -67,9 +68,11 @@ error_text compile_error.NoMemory = OUT_OF_MEMORY.now
 abbrev pub check_settings : CompileSettings → CheckSettings
 check_settings settings = record { size = settings.size; notation = settings.notation }
 
--- what `check` says of a source under its path: of all that is found in it
+-- what `check` says of a source under its path: of all that is found in it, and whether the memory holds it
 abbrev pub IsReport : Own → CheckSettings → (path text said : List ℕ) → Type 0
-IsReport own settings path text said = (found : Findings) × AreFindings own settings text found × (said ≡ report path (lines_of_file text) found)
+IsReport own settings path text said =
+    (found : Findings) × (fits : Bool) × AreFindings own settings text found × TellsFits own settings.notation text (excess_in found) fits
+    × (said ≡ told_of path (lines_of_file text) found fits)
 
 -- what `check` says of a source, and then the refusal
 abbrev pub IsUnfit : Own → CheckSettings → (path text : List ℕ) → CompileError → List Saying → Type 0

@@ -90,7 +90,7 @@ fn settings_in(arguments: &Value, usual: Notation) -> Option<CompileSettings>
     ensures { result ≡ spec.settings_in usual (view arguments.now) }
 {
     let seed = seed_in(arguments)?;
-    let fit = flag_in(arguments, "fit", false)?;
+    let fit = flag_in(arguments, "fit", true)?;
     let petscii = flag_in(arguments, "petscii", has_signs(usual))?;
     Some(CompileSettings {
         seed,

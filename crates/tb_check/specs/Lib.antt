@@ -31,5 +31,7 @@ pub mod Notes
 pub mod Warnings
 -- all that is told of a source
 pub mod Findings
+-- what is told to whoever takes any source that fits the memory
+pub mod Fitted
 -- the numbers that are promised
 pub mod Numbers

@@ -18,6 +18,7 @@
 #![tactic(auto)]
 
 mod examination;
+mod fitting;
 mod foreign_words;
 mod judging;
 mod lines;
@@ -32,6 +33,7 @@ mod surroundings;
 mod warnings;
 
 pub use examination::{BadLine, Examined, Findings, examine};
+pub use fitting::{Fitted, examine_to_fit, fits_memory};
 pub use foreign_words::ForeignWord;
 pub use judging::{ProgramFaults, Verdict, judge};
 pub use lines::bad_lines;

@@ -56,10 +56,10 @@ module _ {S : Type 0} (own : Own) (reads : S → List ℕ → Result (List ℕ) 
   -- a source was read, and told of as far as its writer took it
   pub next_told : (s t : S) (name source read : List ℕ) (answer : Result Seen CheckOutcome) (old new : Option (List ℕ)) → source ≡ read
       → reads s name (Ok read) t → Tells own settings name source answer old new → ChecksNext own reads settings s name old answer t new
-  next_told s t name source read (Ok answer) old new same gave (found, are, wrote, is) =
-      (Saw source found, (subst (λ x. reads s name (Ok x) t) (sym same) gave, are), wrote, is)
-  next_told s t name source read (Err WriteFault) old new same gave (found, are, wrote) =
-      (Saw source found, (subst (λ x. reads s name (Ok x) t) (sym same) gave, are), wrote)
+  next_told s t name source read (Ok answer) old new same gave (found, fits, are, tells, wrote, is) =
+      (Saw source found fits, (subst (λ x. reads s name (Ok x) t) (sym same) gave, are, tells), wrote, is)
+  next_told s t name source read (Err WriteFault) old new same gave (found, fits, are, tells, wrote) =
+      (Saw source found fits, (subst (λ x. reads s name (Ok x) t) (sym same) gave, are, tells), wrote)
   next_told s t name source read (Err NoMemory) old new same gave kept = (Ok read, gave, kept)
   next_told s t name source read (Err (Ended end)) old new same gave none = absurd none
   next_told s t name source read (Err (Refused never)) old new same gave none = absurd none
@@ -102,10 +102,10 @@ seen_more false unread false = refl
 
 -- what came of all sources, with one more
 marks_more : (turns : List Turn) (name : List ℕ) (look : Look) → marked (marks_of turns) (seen_of look) ≡ marks_of (turns ++ turn_of name look ∷ [])
-marks_more turns name (Saw source found) =
+marks_more turns name (Saw source found fits) =
     let refused = list_any (λ t. is_refusal t.look) turns in
     let unread = list_any (λ t. is_miss t.look) turns in
-    let turn = turn_of name (Saw source found) in
+    let turn = turn_of name (Saw source found fits) in
     seen_more refused unread (is_refused found)
     ∙ ap (λ b. marks b unread) (ap (λ b. refused || b) (sym (or_false (is_refused found))) ∙ sym (list_any-append (λ t. is_refusal t.look) turns (turn ∷ [])))
     ∙ ap (λ b. marks (list_any (λ t. is_refusal t.look) (turns ++ turn ∷ [])) b) (sym (or_false unread) ∙ sym (list_any-append (λ t. is_miss t.look) turns (turn ∷ [])))

@@ -10,9 +10,10 @@ use Rattle.tb_streams.specs.declared.stream.InputError.TheVariants.{Fault}
 use Rattle.tb_check.specs.declared.settings.CheckSettings.{CheckSettings}
 use Rattle.tb_text.specs.Lines.{lines_of_file}
 use Rattle.tb_check.specs.Findings.{AreFindings}
+use Rattle.tb_check.specs.Fitted.{TellsFits, excess_in}
 use Rattle.tb_check.specs.declared.examination.Findings.{Findings}
 use Rattle.tb_check.specs.declared.examination.Findings.TheVariants as findings
-use Rattle.tb_check_engine.specs.Reports.{report}
+use Rattle.tb_check_engine.specs.Reports.{told_of}
 use Rattle.tb_check_engine.specs.declared.engine.Marks.{Marks}
 use Rattle.tb_check_engine.specs.declared.engine.Seen.{Seen}
 use Rattle.tb_check_engine.specs.declared.engine.Seen.TheVariants as seen
@@ -35,9 +36,10 @@ is_refused (findings.Accepted warnings) = false
 
 -- ---- one source
 
--- what came of a source: it was read, and this was found; or it could not be read
+-- what came of a source: it was read, and this was found, and whether the memory holds it, if it is refused for its size;
+-- or it could not be read
 pub data Look : Type 0 where
-  Saw : List ℕ → Findings → Look
+  Saw : List ℕ → Findings → Bool → Look
   Missed : Look
 
 -- a source whose turn has come
@@ -47,7 +49,7 @@ pub record Turn : Type 0 where
 
 -- what is said of a source under a name
 abbrev pub said_of : List ℕ → Look → List ℕ
-said_of name (Saw source found) = report name (lines_of_file source) found
+said_of name (Saw source found fits) = told_of name (lines_of_file source) found fits
 said_of name Missed = []
 
 -- the same of a source whose turn has come
@@ -56,17 +58,18 @@ said turn = said_of turn.name turn.look
 
 -- a source that is not compiled
 abbrev pub is_refusal : Look → Bool
-is_refusal (Saw source found) = is_refused found
+is_refusal (Saw source found fits) = is_refused found
 is_refusal Missed = false
 
 -- a source that could not be read
 abbrev pub is_miss : Look → Bool
-is_miss (Saw source found) = false
+is_miss (Saw source found fits) = false
 is_miss Missed = true
 
 -- a source was read by its name, and this is what is found in it; or reading it failed
 abbrev pub IsLook : {S : Type 0} → Own → (S → List ℕ → Result (List ℕ) InputError → S → Type 0) → CheckSettings → S → List ℕ → Look → S → Type 0
-IsLook own reads settings s name (Saw source found) t = reads s name (Ok source) t × AreFindings own settings source found
+IsLook own reads settings s name (Saw source found fits) t =
+    reads s name (Ok source) t × AreFindings own settings source found × TellsFits own settings.notation source (excess_in found) fits
 IsLook own reads settings s name Missed t = reads s name (Err Fault) t
 
 -- ---- all sources
@@ -120,7 +123,7 @@ WriteFaults NoMemory old new = new ≡ old
 
 -- what came of a source
 abbrev pub seen_of : Look → Seen
-seen_of (Saw source found) = if is_refused found then seen.Refused else seen.Accepted
+seen_of (Saw source found fits) = if is_refused found then seen.Refused else seen.Accepted
 seen_of Missed = seen.Unread
 
 -- with what came of one more source
@@ -137,10 +140,11 @@ outcome_of (Err outcome) = outcome
 -- a source was looked at, and told of as far as its writer took it
 abbrev pub Tells : Own → CheckSettings → List ℕ → List ℕ → Result Seen CheckOutcome → Option (List ℕ) → Option (List ℕ) → Type 0
 Tells own settings name source (Ok answer) old new =
-    (found : Findings) × AreFindings own settings source found × Appends old new (report name (lines_of_file source) found)
-    × (answer ≡ seen_of (Saw source found))
+    (found : Findings) × (fits : Bool) × AreFindings own settings source found × TellsFits own settings.notation source (excess_in found) fits
+    × Appends old new (told_of name (lines_of_file source) found fits) × (answer ≡ seen_of (Saw source found fits))
 Tells own settings name source (Err WriteFault) old new =
-    (found : Findings) × AreFindings own settings source found × AppendsPrefix old new (report name (lines_of_file source) found)
+    (found : Findings) × (fits : Bool) × AreFindings own settings source found × TellsFits own settings.notation source (excess_in found) fits
+    × AppendsPrefix old new (told_of name (lines_of_file source) found fits)
 Tells own settings name source (Err NoMemory) old new = new ≡ old
 Tells own settings name source (Err e) old new = ⊥
 

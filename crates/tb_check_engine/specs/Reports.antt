@@ -1,5 +1,5 @@
 -- What is said of a file.
-use Rattle.std.specs.Prelude.{ℕ, ◌-◌, List, [], ◌++◌, codes, flat_map, map, unwrap_or, Option, Some, None}
+use Rattle.std.specs.Prelude.{ℕ, ◌-◌, Bool, true, false, List, [], ◌++◌, codes, flat_map, map, unwrap_or, Option, Some, None}
 use Rattle.std.specs.List.{slice_get}
 use Rattle.std.specs.Fmt.{decimal}
 use Rattle.tb_parser.specs.declared.errors.SourceError.{SourceError}
@@ -67,9 +67,18 @@ abbrev pub too_large_row : List ℕ → Option ℕ → List ℕ
 too_large_row name None = []
 too_large_row name (Some cost) = file_row name (too_large_text cost)
 
+-- that the memory holds a program which costs too much, if that is so
+abbrev pub fits_row : List ℕ → Bool → List ℕ
+fits_row name true = name ++ codes ": note: --fit compiles it\n"
+fits_row name false = []
+
 -- ── all that is said ──
 abbrev pub report : List ℕ → List (List ℕ) → Findings → List ℕ
 report name lines (BadLines bad) = flat_map (bad_line_rows name lines) bad.items
 report name lines Empty = file_row name (source_text NothingLeft)
 report name lines (Refused deep too_large) = flat_map (deep_rows name lines) deep.items ++ too_large_row name too_large
 report name lines (Accepted warnings) = flat_map (warning_rows name lines) warnings.items
+
+-- what is said of a source: of what is found, and whether the memory holds it
+abbrev pub told_of : List ℕ → List (List ℕ) → Findings → Bool → List ℕ
+told_of name lines found fits = report name lines found ++ fits_row name fits

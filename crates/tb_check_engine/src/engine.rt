@@ -4,11 +4,11 @@ ghost use Rattle.tb_streams.specs.Failures.{failures_of};
 ghost use Rattle.tb_check_engine.specs.Checks.{Checks, ChecksNext, Tells, WriteFaults, is_refused, ending, marked, outcome_of};
 
 use crate::outcome::{CheckOutcome, Checked};
-use crate::reports::{Source, push_report};
+use crate::reports::{Source, push_fits, push_report};
 use crate::sources::Sources;
 use std::alloc::Global;
 use std::io::Write;
-use tb_check::{CheckSettings, Findings, examine};
+use tb_check::{CheckSettings, Findings, examine, fits_memory};
 use tb_compiled::Compile;
 use tb_streams::{InputError, Tracked, write_output};
 
@@ -84,12 +84,14 @@ fn tell<K: Compile, W: Write>(
     ensures faults { WriteFaults (outcome_of result) (failures_of writer.old) (failures_of writer.new) }
 {
     let seen = examine(compiler, alloc, source, settings)?;
+    let fits = fits_memory(compiler, alloc, source, settings.notation, &seen.findings)?;
     let shown = Source {
         name,
         lines: seen.lines.as_slice(),
     };
     let mut text = Vec::new(alloc);
     push_report(alloc, &mut text, &shown, &seen.findings)?;
+    push_fits(&mut text, name, fits)?;
     match write_output(writer, text.as_slice()) {
         Err(_) => Err(CheckOutcome::WriteFault),
         Ok(()) if is_refused(&seen.findings) => Ok(Seen::Refused),

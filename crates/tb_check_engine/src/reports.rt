@@ -4,7 +4,7 @@ ghost use Rattle.std.specs.Fmt.{decimal};
 ghost use Rattle.tb_words.specs.Texts.{AppendsBytes};
 ghost use Rattle.tb_engines.specs.Texts.{too_deep_text};
 ghost use Rattle.tb_check_engine.specs.Reports.{bad_line_rows, deep_rows, error_row, file_row, line_at, lines_in};
-ghost use Rattle.tb_check_engine.specs.Reports.{note_row, place_rows, report, too_large_row, warning_rows};
+ghost use Rattle.tb_check_engine.specs.Reports.{fits_row, note_row, place_rows, report, too_large_row, warning_rows};
 ghost use Rattle.tb_check_engine.specs.Rows.{line_row};
 
 use crate::rows::{push_caret, push_line};
@@ -55,6 +55,18 @@ pub fn push_report(
             push_too_large(alloc, text, source, *too_large)
         }
         Findings::Accepted(warnings) => push_warnings(alloc, text, source, warnings),
+    }
+}
+
+/// Appends that the memory holds a program which costs too much, if that is so.
+pub fn push_fits(text: &mut Vec<u8>, name: &str, fits: bool) -> Result<(), AllocError>
+    ensures { AppendsBytes result text.old text.new (fits_row name.now fits) }
+{
+    if fits {
+        text.extend_from_slice(name.as_bytes())?;
+        push_row(text, ": note: --fit compiles it\n")
+    } else {
+        Ok(())
     }
 }
 

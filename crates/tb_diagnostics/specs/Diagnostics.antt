@@ -100,3 +100,17 @@ diagnostics_of uri lines (BadLines bad) = map (on_bad_line lines) bad.items
 diagnostics_of uri lines Empty = on_whole (error_code NothingLeft) (source_text NothingLeft) ∷ []
 diagnostics_of uri lines (Refused deep too_large) = on_program lines deep.items too_large
 diagnostics_of uri lines (Accepted warnings) = map (on_warning uri lines) warnings.items
+
+-- that a program costs too much for a command without `--fit`
+abbrev pub on_cost : ℕ → Data
+on_cost cost = plain (codes "program-too-large") (too_large_text cost ++ codes " without --fit") whole_span 3
+
+-- that a program costs too much, if it does; of one that the memory doesn't hold nothing more is said
+abbrev pub on_costs : Option ℕ → Findings → List Data
+on_costs None f = []
+on_costs (Some cost) (Refused deep (Some bytes)) = []
+on_costs (Some cost) f = on_cost cost ∷ []
+
+-- the diagnostics of findings of a text that may take the memory, by what its program costs if that is too much
+abbrev pub fitted_of : List ℕ → List (List ℕ) → Option ℕ → Findings → List Data
+fitted_of uri lines cost f = diagnostics_of uri lines f ++ on_costs cost f

@@ -6,11 +6,10 @@ use Rattle.serde_json.specs.View.{items_of}
 use Rattle.tb_streams.specs.Streams.{most_input}
 use Rattle.tb_text.specs.Lines.{lines_of_file}
 use Rattle.tb_text.specs.declared.notation.Notation.{Notation}
-use Rattle.tb_check.specs.Settings.{by_cost}
-use Rattle.tb_check.specs.Findings.{AreFindings}
+use Rattle.tb_check.specs.Fitted.{AreFitted}
 use Rattle.tb_check.specs.declared.examination.Findings.{Findings}
 use Rattle.tb_messages.specs.Messages.{Says}
-use Rattle.tb_diagnostics.specs.Diagnostics.{diagnostics_of, too_long}
+use Rattle.tb_diagnostics.specs.Diagnostics.{fitted_of, too_long}
 use Rattle.tb_compiled.specs.Promise.{Own}
 
 -- the params of what is published, with the version of the text if that is known
@@ -25,11 +24,11 @@ published_of uri version found =
     object (member (codes "jsonrpc") (string (codes "2.0")) (member (codes "method") (string (codes "textDocument/publishDiagnostics"))
     (member (codes "params") (params_of uri version found) no_members)))
 
--- diagnostics of a source: those of its findings, which are what `check` says of it in a notation; or that it has too
--- many bytes
+-- diagnostics of a source: those of its findings, which are what `check` says of it in a notation, where it may take the
+-- memory; or that it has too many bytes
 abbrev pub Diagnoses : Own → Notation → List ℕ → List ℕ → List Data → Type 0
 Diagnoses own notation uri source found =
-    (length source ≤ most_input → (f : Findings) × AreFindings own (by_cost notation) source f × (found ≡ diagnostics_of uri (lines_of_file source) f))
+    (length source ≤ most_input → (cost : Option ℕ) × (f : Findings) × AreFitted own notation source cost f × (found ≡ fitted_of uri (lines_of_file source) cost f))
     × (most_input < length source → found ≡ too_long ∷ [])
 
 -- a content that publishes diagnostics of a source

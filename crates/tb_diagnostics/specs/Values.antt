@@ -4,13 +4,14 @@ use Rattle.serde_json.specs.Data.{Data, array, item, member, no_items, no_member
 use Rattle.tb_places.specs.declared.spans.Span.{Span}
 use Rattle.tb_place_values.specs.Ranges.{location_of, range_of}
 use Rattle.tb_diagnostics.specs.declared.values.Severity.{Severity}
-use Rattle.tb_diagnostics.specs.declared.values.Severity.TheVariants.{Error, Warning}
+use Rattle.tb_diagnostics.specs.declared.values.Severity.TheVariants.{Error, Warning, Information}
 use Rattle.tb_diagnostics.specs.declared.values.TheConstants.{BY_THIS_LINE}
 
 -- the number of a severity
 abbrev pub severity_number : Severity → ℕ
 severity_number Error = 1
 severity_number Warning = 2
+severity_number Information = 3
 
 -- a diagnostic
 abbrev pub plain : List ℕ → List ℕ → Span → ℕ → Data

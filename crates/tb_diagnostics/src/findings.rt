@@ -7,7 +7,7 @@ use crate::codes::{error_code, warning_code};
 use crate::values::{Said, Severity, plain, superseded};
 use serde_json::Value;
 use std::alloc::{AllocError, Global};
-use tb_check::{BadLine, Findings, LineWarning, SourceErrorKind, Warning};
+use tb_check::{BadLine, Findings, Fitted, LineWarning, SourceErrorKind, Warning};
 use tb_check_engine::{NoteText, WarningText};
 use tb_engines::{TOO_DEEP, TooLarge, source_text};
 use tb_places::{Span, line_span, place_span, whole_span};
@@ -270,8 +270,61 @@ pub fn too_long(alloc: Global) -> Result<Vec<Value>, AllocError>
     only(alloc, diagnostic)
 }
 
-/// The diagnostics of findings, in their order.
-pub fn diagnostics(
+// That a program costs too much for a command without `--fit`.
+fn on_cost(alloc: Global, cost: u32) -> Result<Value, AllocError>
+    ensures { IfOk result (λ v. view v ≡ spec.on_cost cost) }
+{
+    let fault = TooLarge(cost);
+    let message = format!(in alloc; "{fault} without --fit")?;
+    plain(
+        alloc,
+        Said {
+            span: whole_span(),
+            severity: Severity::Information,
+            code: "program-too-large",
+            message: message.as_str(),
+        },
+    )
+}
+
+// Appends that a program costs too much, if it does, and the memory holds it.
+fn push_cost(
+    alloc: Global,
+    cost: Option<u32>,
+    findings: &Findings,
+    found: &mut Vec<Value>,
+) -> Result<(), AllocError>
+    ensures { OnOk result (map view found.new.items ≡ map view found.old.items ++ spec.on_costs cost findings.now) }
+{
+    match (cost, findings) {
+        (None, _)
+        | (
+            Some(_),
+            Findings::Refused {
+                too_large: Some(_),
+                ..
+            },
+        ) => Ok(()),
+        (Some(cost), _) => {
+            found.push(on_cost(alloc, cost)?)?;
+            Ok(())
+        }
+    }
+}
+
+/// The diagnostics of a source that may take the memory: those of its findings, and what its cost asks for.
+pub fn fitted(alloc: Global, text: &Lines<'_>, seen: &Fitted<'_>) -> Result<Vec<Value>, AllocError>
+    ensures { IfOk result (λ found. map view found.items
+        ≡ spec.fitted_of text.now.uri.now (spec.texts_of text.now) seen.now.cost seen.now.examined.findings) }
+{
+    let findings = &seen.examined.findings;
+    let mut found = diagnostics(alloc, text, findings)?;
+    push_cost(alloc, seen.cost, findings, &mut found)?;
+    Ok(found)
+}
+
+// The diagnostics of findings, in their order.
+fn diagnostics(
     alloc: Global,
     text: &Lines<'_>,
     findings: &Findings,

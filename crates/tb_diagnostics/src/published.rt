@@ -4,11 +4,11 @@ ghost use Rattle.serde_json.specs.View.{view};
 ghost use Rattle.tb_messages.specs.Messages.{Says};
 ghost use Rattle.tb_diagnostics.specs.Published.{Diagnoses, Publishes, published_of};
 
-use crate::findings::{Lines, diagnostics, too_long};
+use crate::findings::{Lines, fitted, too_long};
 use serde_json::{Value, json};
 use std::alloc::{AllocError, Global};
-use tb_check::{CheckSettings, examine};
-use tb_compiled::{Compile, Notation, SizeLimit};
+use tb_check::examine_to_fit;
+use tb_compiled::{Compile, Notation};
 use tb_streams::MOST_INPUT;
 
 /// The diagnostics of a source that is read in a notation.
@@ -24,16 +24,12 @@ pub fn diagnose<K: Compile>(
     if source.len() > MOST_INPUT {
         return too_long(alloc);
     }
-    let settings = CheckSettings {
-        size: SizeLimit::Cost,
-        notation,
-    };
-    let examined = examine(compiler, alloc, source, settings)?;
+    let seen = examine_to_fit(compiler, alloc, source, notation)?;
     let text = Lines {
         uri,
-        lines: examined.lines.as_slice(),
+        lines: seen.examined.lines.as_slice(),
     };
-    diagnostics(alloc, &text, &examined.findings)
+    fitted(alloc, &text, &seen)
 }
 
 // The message that publishes diagnostics of a text.

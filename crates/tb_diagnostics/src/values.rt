@@ -16,6 +16,7 @@ const BY_THIS_LINE: &str = "by this line";
 pub enum Severity {
     Error,
     Warning,
+    Information,
 }
 
 impl Severity {
@@ -26,6 +27,7 @@ impl Severity {
         match self {
             Severity::Error => 1,
             Severity::Warning => 2,
+            Severity::Information => 3,
         }
     }
 }

@@ -10,7 +10,7 @@ use Rattle.tb_compile_errors.specs.declared.refusals.CompileError.{CompileError}
 use Rattle.tb_compiled.specs.Compiled.{prg_of}
 use Rattle.tb_compiled.specs.declared.compiled.Compiled.{Compiled}
 use Rattle.tb_compiled.specs.declared.settings.CompileSettings.{CompileSettings}
-use Rattle.tb_compiled.specs.declared.settings.SizeLimit.TheVariants.{Cost}
+use Rattle.tb_compiled.specs.declared.settings.SizeLimit.TheVariants.{Memory}
 use Rattle.tb_text.specs.declared.notation.Notation.{Notation}
 use Rattle.tb_engines.specs.Assembly.{Assembles}
 use Rattle.tb_engines.specs.Outcomes as engine
@@ -96,9 +96,9 @@ ChecksTidy notation name source (Ok made) =
     (text : List ℕ) × IsTidyText notation false source text × (made ≡ tidiness name (bytes_eq text source))
 ChecksTidy notation name source (Err never) = ⊥
 
--- how a source is compiled before it is renumbered: refused by the cost; a first state of RND changes nothing of that
+-- how a source is compiled before it is renumbered: it may take the memory; a first state of RND changes nothing of that
 abbrev pub settings_of : Notation → CompileSettings
-settings_of notation = record { seed = 1; size = Cost; notation = notation }
+settings_of notation = record { seed = 1; size = Memory; notation = notation }
 
 -- renumbering makes the text of a source with other line numbers; or the compiler refuses the source, or it is not renumbered
 abbrev pub MakesRenumbered : Notation → (first step : ℕ) → List ℕ → Product AllDone RenumberRefusal → Type 0

@@ -85,13 +85,13 @@ fn of_refusal(refusal: Refusal) -> Failure<RenumberRefusal>
 // A seed changes nothing of what is refused.
 const ANY_SEED: u16 = 1;
 
-// How a source is compiled: refused by the cost.
+// How a source is compiled: it may take the memory.
 fn settings_of(notation: Notation) -> CompileSettings
     ensures { result ≡ settings_of notation }
 {
     CompileSettings {
         seed: ANY_SEED,
-        size: SizeLimit::Cost,
+        size: SizeLimit::Memory,
         notation,
     }
 }

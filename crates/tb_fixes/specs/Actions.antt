@@ -4,8 +4,7 @@ use Rattle.serde_json.specs.Data.{Data, array, boolean, item, member, no_items, 
 use Rattle.serde_json.specs.View.{items_of}
 use Rattle.tb_text.specs.Lines.{lines_of_file}
 use Rattle.tb_text.specs.declared.notation.Notation.{Notation}
-use Rattle.tb_check.specs.Settings.{by_cost}
-use Rattle.tb_check.specs.Findings.{AreFindings}
+use Rattle.tb_check.specs.Fitted.{AreFitted}
 use Rattle.tb_check.specs.declared.examination.BadLine.{BadLine}
 use Rattle.tb_check.specs.declared.examination.Findings.{Findings}
 use Rattle.tb_check.specs.declared.examination.Findings.TheVariants.{BadLines, Empty, Refused, Accepted}
@@ -66,8 +65,8 @@ is_end (Some b) = (b == 10) || (b == 13)
 abbrev pub ends_its_line : List ℕ → Bool
 ends_its_line source = is_end (slice_get source (length source - 1))
 
--- the fixes of the findings of a source, which are what `check` says of it in a notation
+-- the fixes of the findings of a source that may take the memory, which are what `check` says of it in a notation
 abbrev pub AreActions : Own → Notation → List ℕ → List ℕ → LineRange → Data → Type 0
 AreActions own notation uri source range v =
-    (f : Findings) × (all : List SourceLine) × AreFindings own (by_cost notation) source f × AreLinesOf notation source all
+    (cost : Option ℕ) × (f : Findings) × (all : List SourceLine) × AreFitted own notation source cost f × AreLinesOf notation source all
     × (v ≡ array (items_of (of_findings uri (lines_of_file source) all (ends_its_line source) range f)))

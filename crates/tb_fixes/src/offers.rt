@@ -8,8 +8,8 @@ ghost use Rattle.tb_fixes.specs.Actions as spec;
 use crate::fixes::{Fix, fix_of_bad_line, fix_of_warning};
 use serde_json::{Value, json};
 use std::alloc::{AllocError, Global};
-use tb_check::{BadLine, CheckSettings, Findings, LineWarning, examine};
-use tb_compiled::{Compile, Notation, SizeLimit};
+use tb_check::{BadLine, Findings, LineWarning, examine_to_fit};
+use tb_compiled::{Compile, Notation};
 use tb_diagnostics::{Lines, on_bad_line, on_warning};
 use tb_edit_values::changes_value;
 use tb_source_names::{Source, read_source};
@@ -184,11 +184,7 @@ pub fn actions<K: Compile>(
 ) -> Result<Value, AllocError>
     ensures { IfOk result (λ v. spec.AreActions K.own notation uri.now source.now range (view v)) }
 {
-    let settings = CheckSettings {
-        size: SizeLimit::Cost,
-        notation,
-    };
-    let examined = examine(compiler, alloc, source, settings)?;
+    let examined = examine_to_fit(compiler, alloc, source, notation)?.examined;
     let text = Lines {
         uri,
         lines: examined.lines.as_slice(),

@@ -9,7 +9,7 @@ use Rattle.tb_compiled.specs.Answers.{HasOutcome, SourceMakes}
 use Rattle.tb_compiled.specs.Compiled.{starts_of, table_of}
 use Rattle.tb_compiled.specs.declared.compiled.Compiled.{Compiled}
 use Rattle.tb_compiled.specs.declared.settings.CompileSettings.{CompileSettings}
-use Rattle.tb_compiled.specs.declared.settings.SizeLimit.TheVariants.{Cost}
+use Rattle.tb_compiled.specs.declared.settings.SizeLimit.TheVariants.{Memory}
 use Rattle.tb_compiled.specs.Parts.{Part, first_part}
 use Rattle.tb_hover.specs.declared.numbers.LineNumbers.{LineNumbers}
 use Rattle.tb_compiled.specs.Promise.{Own}
@@ -29,9 +29,9 @@ part_of n starts table [] = None
 part_of n starts table (line ∷ lines) =
     if line.number == n then first_numbers starts table (36 + statement_cost line.content) else part_of n (drop 1 starts) table lines
 
--- how a source is compiled whose numbers are asked for
+-- how a source is compiled whose numbers are asked for: it may take the memory
 abbrev pub settings_in : Notation → CompileSettings
-settings_in notation = record { seed = 0; size = Cost; notation = notation }
+settings_in notation = record { seed = 0; size = Memory; notation = notation }
 
 -- the source is compiled in a notation, and these are the numbers of its line n
 abbrev pub NumbersOf : Own → Notation → List ℕ → ℕ → Option LineNumbers → Type 0

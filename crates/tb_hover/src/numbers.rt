@@ -76,7 +76,7 @@ pub fn line_numbers<K: Compile>(
 {
     let settings = CompileSettings {
         seed: 0,
-        size: SizeLimit::Cost,
+        size: SizeLimit::Memory,
         notation,
     };
     let compiled = match compiler.compile(alloc, source, settings) {

@@ -246,8 +246,8 @@ async function debugging() {
   await new Promise(resolve => adapter.on('close', resolve))
   assert.match(said, /"supportsStepBack":true/)
   const started = host.resolve(undefined, {}, token)
-  assert.deepEqual(started, { fit: false, type: 'tbc', request: 'launch', name: 'Tiny BASIC', program: '${file}', stopOnEntry: true })
-  assert.equal(host.resolve(undefined, { type: 'tbc', fit: true }, token).fit, true)
+  assert.deepEqual(started, { type: 'tbc', request: 'launch', name: 'Tiny BASIC', program: '${file}', stopOnEntry: true })
+  assert.equal(host.resolve(undefined, { type: 'tbc', fit: false }, token).fit, false)
 }
 
 // Each snippet is a program that `check` has nothing to say of.

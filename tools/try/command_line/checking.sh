@@ -31,7 +31,7 @@ row 0 '' '' check hello.bas
 row 0 '' "$(<dice.said)" check dice.bas hello.bas
 row 1 '' "$(<slips.said)" check slips.bas
 row 1 '' "$(cat dice.said slips.said dice.said)" check dice.bas hello.bas slips.bas dice.bas
-row 1 '' 'large.bas: error: program too large (37889 bytes)' check large.bas
+row 1 '' $'large.bas: error: program too large (37889 bytes)\nlarge.bas: note: --fit compiles it' check large.bas
 row 0 '' '' check --fit large.bas
 row 0 '' '' check full.bas --fit
 row 1 '' 'over.bas: error: program too large (37889 bytes)' check --fit over.bas hello.bas

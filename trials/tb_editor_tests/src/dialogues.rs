@@ -373,6 +373,31 @@ fn all_answers_are_prefixes_where_the_writer_fails(rt: HostRuntime) -> Result<()
     Ok(())
 }
 
+// A program that is too large by its cost alone is no error, and says so.
+#[test]
+fn a_text_may_cost_more_than_its_code_takes(rt: HostRuntime) -> Result<(), Fail> {
+    let alloc = rt.alloc();
+    let mut text = String::from_str(alloc, "1 PRINT \\\"A\\\"\\n2 GOTO 3000\\n")?;
+    for number in 3..1050 {
+        let line = format!(in alloc; "{number} END\\n")?;
+        text.push_str(line.as_str())?;
+    }
+    let open = format!(in alloc;
+        "{{\"jsonrpc\":\"2.0\",\"method\":\"textDocument/didOpen\",\"params\":{{\"textDocument\":{{\"uri\":\"u\",\"text\":\"{text}\"}}}}}}"
+    )?;
+    let messages = frames_and(alloc, &MESSAGES[..1], open.as_str())?;
+    let answers = served(alloc, messages.as_slice(), usize::MAX).1;
+    let answers = str::from_utf8(answers.as_slice()).unwrap_or("no UTF-8");
+    for told in [
+        "\"diagnostics\":[{\"code\":\"no-line\",\"message\":\"no line 3000\"",
+        "{\"code\":\"program-too-large\",\"message\":\"program too large (37949 bytes) without --fit\"",
+        "\"severity\":3",
+    ] {
+        assert!(rt; answers.contains(told), "{told} in {answers}");
+    }
+    Ok(())
+}
+
 // A text of the largest size, and one that has a byte more.
 #[test]
 fn a_text_may_have_1048576_bytes(rt: HostRuntime) -> Result<(), Fail> {
