@@ -4,7 +4,7 @@ use lib.Pointwise.{pointwise}
 use Rattle.std.specs.List.{find, starts_with}
 use Rattle.tb_check.specs.declared.foreign_words.ForeignWord.{ForeignWord}
 use Rattle.tb_check.specs.declared.foreign_words.ForeignWord.TheVariants.{For, Next, Step, Poke, Peek, Dim, Get, On, Read, Data}
-use Rattle.tb_check.specs.declared.foreign_words.ForeignWord.TheVariants.{Def, Else, And, Or, Not, Stop, Cls, Abs, Tab, Chr, Mod, Int, Sgn, While, Sys}
+use Rattle.tb_check.specs.declared.foreign_words.ForeignWord.TheVariants.{Def, Else, And, Or, Not, Stop, Cls, Abs, Tab, Chr, Mod, Int, Sgn, While, Sys, New}
 
 -- how a word is written
 abbrev pub name_of : ForeignWord → List ℕ
@@ -33,12 +33,13 @@ name_of Int = codes "INT"
 name_of Sgn = codes "SGN"
 name_of While = codes "WHILE"
 name_of Sys = codes "SYS"
+name_of New = codes "NEW"
 
 -- all of them
 abbrev pub foreign_words : List ForeignWord
 foreign_words =
     For ∷ Next ∷ Step ∷ Poke ∷ Peek ∷ Dim ∷ Get ∷ On ∷ Read ∷ Data ∷ Def ∷ Else ∷ And ∷ Or ∷ Not ∷ Stop ∷ Cls ∷ Abs ∷ Tab ∷ Chr
-    ∷ Mod ∷ Int ∷ Sgn ∷ While ∷ Sys ∷ []
+    ∷ Mod ∷ Int ∷ Sgn ∷ While ∷ Sys ∷ New ∷ []
 
 -- whether a name follows a word, which may come right after its letters
 abbrev pub takes_name : ForeignWord → Bool

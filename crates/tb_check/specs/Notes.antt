@@ -1,19 +1,21 @@
 -- The note on the first fault of a bad line, by the bytes of the line.
-use Rattle.std.specs.Prelude.{ℕ, ◌+◌, ◌-◌, nat_eq, nat_lt, Bool, false, not, ◌&&◌, ◌||◌, ◌==◌, if◌then◌else◌, Option, Some, None, option_map}
+use Rattle.std.specs.Prelude.{ℕ, ◌+◌, ◌-◌, nat_eq, nat_lt, nat_le, is_some, Bool, false, not, ◌&&◌, ◌||◌, ◌==◌, if◌then◌else◌, Option, Some, None, option_map}
 use Rattle.std.specs.Prelude.{List, [], ◌∷◌, length, map, reverse, take, drop, codes}
 use Rattle.std.specs.Option.{option_and_then, option_map_or, option_or}
-use Rattle.std.specs.Char.{is_ascii_digit, is_ascii_uppercase, to_ascii_uppercase}
-use Rattle.std.specs.List.{slice_get, starts_with, ends_with}
+use Rattle.std.specs.Char.{is_ascii_digit, is_ascii_hexdigit, is_ascii_uppercase, to_ascii_uppercase}
+use Rattle.std.specs.List.{list_any, slice_get, starts_with, ends_with}
+use lib.Pointwise.{pointwise}
 use Rattle.tb_parser.specs.declared.errors.SourceError.{SourceError}
 use Rattle.tb_parser.specs.declared.errors.SourceErrorKind.{SourceErrorKind}
-use Rattle.tb_parser.specs.declared.errors.SourceErrorKind.TheVariants.{BadByte, NotCompiled, Syntax}
+use Rattle.tb_parser.specs.declared.errors.SourceErrorKind.TheVariants.{BadByte, NotCompiled, Syntax, Unnumbered}
 use Rattle.tb_text.specs.declared.notation.Notation.{Notation}
 use Rattle.tb_text.specs.declared.notation.Notation.TheVariants.{Plain, Signs}
 use Rattle.tb_signs.specs.Names.{byte_named}
-use Rattle.tb_signs.specs.Near.{near_name}
+use Rattle.tb_signs.specs.Near.{after_count, after_digits, near_name, written_name}
 use Rattle.tb_check.specs.declared.notes.Note.{Note}
-use Rattle.tb_check.specs.declared.notes.Note.TheVariants.{ForeignWord, QuestionMark, Colon, LongName, TextName, ThenNumber, OpenText, Tab}
-use Rattle.tb_check.specs.declared.notes.Note.TheVariants.{ByteOrderMark, Near, NearSign, SignInText, UnknownSign, Power, Array}
+use Rattle.tb_check.specs.declared.notes.Note.TheVariants.{ForeignWord, QuestionMark, Apostrophe, LongName, TextName, Hexadecimal, ThenNumber, OpenText, Tab}
+use Rattle.tb_check.specs.declared.notes.Note.TheVariants.{ByteOrderMark, WideMark, NoNumber, MachineCode, NoInterpreter, CurlyQuote, Near, NearSign, SignInText, BraceInText}
+use Rattle.tb_check.specs.declared.notes.Note.TheVariants.{UnknownSign, CountWithoutSpace, BadCount, Power, Array}
 use Rattle.tb_check.specs.declared.notes.Word.{Word as RustWord}
 use Rattle.tb_check.specs.ForeignWords.{foreign_word}
 use Rattle.tb_check.specs.NearWords.{near_word}
@@ -29,6 +31,16 @@ note_if b note = if b then Some note else None
 abbrev pub is_at_mark : List ℕ → SourceError → Bool
 is_at_mark line e = (e.line == 1) && ((e.column == 1) && starts_with nat_eq line (239 ∷ 187 ∷ 191 ∷ []))
 
+-- whether a fault is at a mark of UTF-16 (FF FE or FE FF) with which the file begins
+abbrev pub is_at_wide_mark : List ℕ → SourceError → Bool
+is_at_wide_mark line e =
+    (e.line == 1) && ((e.column == 1) && (starts_with nat_eq line (255 ∷ 254 ∷ []) || starts_with nat_eq line (254 ∷ 255 ∷ [])))
+
+-- whether a text begins with a curly quote: E2 80 98 to E2 80 9F
+abbrev pub is_curly_quote : List ℕ → Bool
+is_curly_quote (a ∷ b ∷ c ∷ text) = (a == 226) && ((b == 128) && (nat_le 152 c && nat_le c 159))
+is_curly_quote _ = false
+
 -- outside a text, at a byte that other BASICs have: ^ [ _
 abbrev pub note_on_foreign_byte : ℕ → Option Note
 note_on_foreign_byte b =
@@ -37,9 +49,12 @@ note_on_foreign_byte b =
     else if b == 95 then Some LongName
     else None
 
--- at such a byte, in a text or outside
-abbrev pub note_on_bad_byte : Bool → ℕ → Option Note
-note_on_bad_byte is_in_text b = if b == 9 then Some Tab else if is_in_text then Some SignInText else note_on_foreign_byte b
+-- outside a text, at a byte with which a text begins
+abbrev pub note_outside : List ℕ → ℕ → Option Note
+note_outside text b =
+    if b == 9 then Some Tab
+    else if is_curly_quote text then Some CurlyQuote
+    else note_on_foreign_byte b
 
 -- whether a text has no second quote: the number of quotes is odd
 abbrev pub is_open : List ℕ → Bool
@@ -50,26 +65,52 @@ is_open (b ∷ bs) = if b == 34 then not (is_open bs) else is_open bs
 abbrev pub note_on_near_sign : Option ℕ → Note
 note_on_near_sign near = option_map_or (λ byte. NearSign byte) near UnknownSign
 
+-- whether a text begins with a digit
+abbrev pub begins_with_digit : List ℕ → Bool
+begins_with_digit [] = false
+begins_with_digit (b ∷ text) = is_ascii_digit b
+
+-- whether a text begins with the name of a sign and }
+abbrev pub is_named : List ℕ → Bool
+is_named text = is_some (byte_named (written_name text)) && option_map_or (λ b. b == 125) (slice_get text (length (written_name text))) false
+
+-- at a brace before a count, of a sign that is right but for that
+abbrev pub note_on_count : List ℕ → Option Note
+note_on_count inside =
+    if not (begins_with_digit inside) then None
+    else if is_named (after_digits inside) then Some CountWithoutSpace
+    else if is_named (after_count inside) then Some BadCount
+    else None
+
 -- at such a brace, by what follows it
 abbrev pub note_on_sign : List ℕ → Note
-note_on_sign inside = note_on_near_sign (option_and_then byte_named (near_name inside))
+note_on_sign inside = option_map_or (λ note. note) (note_on_count inside) (note_on_near_sign (option_and_then byte_named (near_name inside)))
 
--- whether a byte of a text is meant to begin a sign: {, where there are signs
-abbrev pub begins_sign : Notation → ℕ → Bool
-begins_sign Plain b = false
-begins_sign Signs b = b == 123
+-- at a brace of a text, by what follows it
+abbrev pub note_on_brace : Notation → List ℕ → Note
+note_on_brace Plain inside = BraceInText
+note_on_brace Signs inside = note_on_sign inside
+
+-- at a byte of a text, by what follows it
+abbrev pub note_in_text : Notation → ℕ → List ℕ → Note
+note_in_text notation b inside =
+    if b == 9 then Tab
+    else if b == 123 then note_on_brace notation inside
+    else SignInText
 
 -- at a byte that is at a place, if there is one
 abbrev pub note_on_bad_place : Notation → List ℕ → ℕ → Option ℕ → Option Note
 note_on_bad_place notation line place (Some b) =
-    if is_open (take place line) && begins_sign notation b then Some (note_on_sign (drop (place + 1) line))
-    else note_on_bad_byte (is_open (take place line)) b
+    if is_open (take place line) then Some (note_in_text notation b (drop (place + 1) line))
+    else note_outside (drop place line) b
 note_on_bad_place notation line place None = None
 
 -- at a byte that no line may have
 abbrev pub note_on_byte : Notation → List ℕ → SourceError → Option Note
 note_on_byte notation line e =
-    if is_at_mark line e then Some ByteOrderMark else note_on_bad_place notation line (e.column - 1) (slice_get line (e.column - 1))
+    if is_at_mark line e then Some ByteOrderMark
+    else if is_at_wide_mark line e then Some WideMark
+    else note_on_bad_place notation line (e.column - 1) (slice_get line (e.column - 1))
 
 -- ── runs of bytes ──
 -- how many letters a text in upper case begins with
@@ -145,12 +186,37 @@ note_on_word w = option_or (option_map (λ f. ForeignWord f) (foreign_word w.let
 abbrev pub note_on_number : List ℕ → Option Note
 note_on_number before = note_if (ends_with nat_eq (before_spaces before) (codes "THEN")) ThenNumber
 
+-- whether a text, the first byte last, ends with a digit
+abbrev pub digit_last : List ℕ → Bool
+digit_last [] = false
+digit_last (b ∷ bs) = is_ascii_digit b
+
+-- the same with the number 0
+abbrev pub zero_last : List ℕ → Bool
+zero_last [] = false
+zero_last (b ∷ bs) = (b == 48) && not (digit_last bs)
+
+-- whether a text ends with a digit
+abbrev pub ends_with_digit : List ℕ → Bool
+ends_with_digit text = digit_last (reverse text)
+
+-- whether a text ends with the number 0
+abbrev pub ends_with_zero : List ℕ → Bool
+ends_with_zero text = zero_last (reverse text)
+
+-- whether a number in hexadecimal is before and behind a place: $, after no letter, or 0 and X; then a digit
+abbrev pub is_hexadecimal : (before behind : List ℕ) → Bool
+is_hexadecimal before (b ∷ c ∷ text) =
+    ((b == 36) && ((letters_at_end before == 0) && is_ascii_hexdigit c)) || ((b == 88) && (ends_with_zero before && is_ascii_hexdigit c))
+is_hexadecimal before _ = false
+
 -- at a byte
 abbrev pub note_at : List ℕ → ℕ → ℕ → Option Note
 note_at line place b =
     if b == 63 then Some QuestionMark
-    else if b == 58 then Some Colon
+    else if b == 39 then Some Apostrophe
     else if is_ascii_digit b then note_on_number (take place line)
+    else if is_hexadecimal (take place line) (drop place line) then Some Hexadecimal
     else if is_ascii_uppercase b || (b == 36) then note_on_word (word_at line place)
     else None
 
@@ -164,14 +230,22 @@ abbrev pub note_on_syntax : List ℕ → ℕ → Option Note
 note_on_syntax line place = option_or (note_on_place line place (slice_get line place)) (note_by_rules (code_around line place))
 
 -- ── a place at which a word that is left out begins ──
--- at a place of a line in upper case, from 0: the word around it may be one of a statement that is misspelled
+-- at a word that is left out, or that has such a word inside: it may be one of a statement that is misspelled
+abbrev pub note_on_word_left_out : List ℕ → Option Note
+note_on_word_left_out letters =
+    if pointwise nat_eq letters (codes "USR") then Some MachineCode
+    else if list_any (pointwise nat_eq letters) (codes "LIST" ∷ codes "RUN" ∷ codes "CLEAR" ∷ []) then Some NoInterpreter
+    else option_map (λ w. Near w) (near_word letters)
+
+-- at a place of a line in upper case, from 0, by the word around it
 abbrev pub note_on_left_out : List ℕ → ℕ → Option Note
-note_on_left_out line place = if nat_lt place (length line) then option_map (λ w. Near w) (near_word (word_at line place).letters) else None
+note_on_left_out line place = if nat_lt place (length line) then note_on_word_left_out (word_at line place).letters else None
 
 -- ── all notes ──
 -- by the kind of the fault
 abbrev pub note_by : SourceErrorKind → Notation → List ℕ → SourceError → Option Note
 note_by BadByte notation line e = note_on_byte notation line e
+note_by Unnumbered notation line e = Some NoNumber
 note_by NotCompiled notation line e = note_on_left_out (map to_ascii_uppercase line) (e.column - 1)
 note_by Syntax notation line e = note_on_syntax (map to_ascii_uppercase line) (e.column - 1)
 note_by _ notation line e = None

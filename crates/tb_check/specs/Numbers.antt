@@ -10,6 +10,11 @@ HIGHEST_NUMBER = 32767
 abbrev pub LARGEST_BOUND : ℕ
 LARGEST_BOUND = 15000
 
+-- the number that is the lowest one behind a minus sign
+abbrev pub LOWEST_NEGATED : ℕ
+LOWEST_NEGATED = 32768
+
 -- the constants of the code are these numbers
 abbrev pub ConstantsAreNumbers : Type 0
-ConstantsAreNumbers = (code.HIGHEST_NUMBER ≡ HIGHEST_NUMBER) × (code.LARGEST_BOUND ≡ LARGEST_BOUND)
+ConstantsAreNumbers =
+    (code.HIGHEST_NUMBER ≡ HIGHEST_NUMBER) × (code.LARGEST_BOUND ≡ LARGEST_BOUND) × (code.LOWEST_NEGATED ≡ LOWEST_NEGATED)

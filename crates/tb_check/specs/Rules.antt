@@ -3,7 +3,7 @@ use Rattle.std.specs.Prelude.{ℕ, Bool, ◌&&◌, if◌then◌else◌, List, []
 use Rattle.tb_check.specs.declared.notes.Note.{Note}
 use Rattle.tb_check.specs.declared.notes.Note.TheVariants as note
 use Rattle.tb_check.specs.declared.surroundings.Situation.{Situation}
-use Rattle.tb_check.specs.declared.surroundings.Situation.TheVariants.{Anywhere, InPrint, AtItem, WithoutRelation, Closed, ClosedLater, NeverClosed}
+use Rattle.tb_check.specs.declared.surroundings.Situation.TheVariants.{Anywhere, InPrint, AtItem, LastInPrint, WithoutRelation, Closed, ClosedLater, NeverClosed}
 use Rattle.tb_check.specs.Patterns.{fits_end, fits_front}
 use Rattle.tb_check.specs.Surroundings.{Surroundings, holds}
 
@@ -30,6 +30,8 @@ rule situation before behind note = record { situation = situation; before = bef
 -- all rules
 abbrev pub rules : List Rule
 rules =
+    rule LastInPrint (codes "") (codes ":") note.ColonAtEnd ∷
+    rule Anywhere (codes "") (codes ":") note.Colon ∷
     rule Anywhere (codes "INPUT") (codes "\"") note.TextInInput ∷
     rule Anywhere (codes "*") (codes "*") note.Power ∷
     rule Anywhere (codes "o") (codes "s") note.SignedOperand ∷

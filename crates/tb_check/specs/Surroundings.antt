@@ -1,10 +1,10 @@
 -- The code around a place of a line, and what is asked of it.
 use Rattle.std.specs.Prelude.{ℕ, ◌+◌, ◌-◌, nat_eq, nat_lt, nat_le, Bool, true, false, not, ◌&&◌, ◌||◌, ◌==◌, if◌then◌else◌}
-use Rattle.std.specs.Prelude.{List, [], ◌∷◌, reverse, take, drop, codes}
+use Rattle.std.specs.Prelude.{List, [], ◌∷◌, length, reverse, take, drop, codes}
 use Rattle.std.specs.Char.{is_ascii_uppercase}
 use Rattle.std.specs.List.{starts_with}
 use Rattle.tb_check.specs.declared.surroundings.Situation.{Situation}
-use Rattle.tb_check.specs.declared.surroundings.Situation.TheVariants.{Anywhere, InPrint, AtItem, WithoutRelation, Closed, ClosedLater, NeverClosed}
+use Rattle.tb_check.specs.declared.surroundings.Situation.TheVariants.{Anywhere, InPrint, AtItem, LastInPrint, WithoutRelation, Closed, ClosedLater, NeverClosed}
 use Rattle.tb_check.specs.declared.surroundings.Surroundings.{Surroundings as RustSurroundings}
 use Rattle.tb_check.specs.Patterns.{is_in}
 
@@ -72,6 +72,7 @@ abbrev pub holds : Situation → Surroundings → Bool
 holds Anywhere s = true
 holds InPrint s = is_in_print s.before
 holds AtItem s = is_in_print s.before && s.begins_word
+holds LastInPrint s = is_in_print s.before && (length s.behind == 1)
 holds WithoutRelation s = lacks_relation s.before && s.begins_word
 holds Closed s = opened s.before == 0
 holds ClosedLater s = nat_lt 0 (opened s.before) && nat_le (opened s.before) (closed s.behind)

@@ -15,8 +15,8 @@ use Rattle.tb_check.specs.declared.lines.NumberedLine.{NumberedLine}
 use Rattle.tb_check.specs.declared.warnings.LineWarning.{LineWarning}
 use Rattle.tb_check.specs.declared.warnings.Warning.{Warning}
 use Rattle.tb_check.specs.declared.warnings.Warning.TheVariants.{NoLine, HighTarget, Replaced, TakenOut, RunsPast, EvenBound}
-use Rattle.tb_check.specs.declared.warnings.Warning.TheVariants.{BoundOfOne, BadBound, ZeroDivisor}
-use Rattle.tb_check.specs.Numbers.{HIGHEST_NUMBER, LARGEST_BOUND}
+use Rattle.tb_check.specs.declared.warnings.Warning.TheVariants.{BoundOfOne, BadBound, ZeroDivisor, HighNumber}
+use Rattle.tb_check.specs.Numbers.{HIGHEST_NUMBER, LARGEST_BOUND, LOWEST_NEGATED}
 use Rattle.tb_check.specs.Entries.{is_one_of}
 
 -- ── a later line ──
@@ -162,12 +162,53 @@ statement_divides_by_zero Remark = false
 abbrev pub zero_divisors : Statement → List Warning
 zero_divisors c = if statement_divides_by_zero c then ZeroDivisor ∷ [] else []
 
+-- ── numbers that are read as negative ones ──
+-- on a number
+abbrev pub on_number : ℕ → List Warning
+on_number n = if nat_lt HIGHEST_NUMBER n then HighNumber n ∷ [] else []
+
+-- whether an expression is a number alone: of such a target, and of such a bound of RND, there is another warning
+abbrev pub is_number : Expression → Bool
+is_number (Number n) = true
+is_number _ = false
+
+-- whether it is 32768, which is the lowest number behind a minus sign
+abbrev pub is_lowest : Expression → Bool
+is_lowest (Number n) = n == LOWEST_NEGATED
+is_lowest _ = false
+
+-- on the numbers of an expression, from left to right
+abbrev pub expression_highs : Expression → List Warning
+expression_highs (Number n) = on_number n
+expression_highs (Variable x) = []
+expression_highs (Negate e) = if is_lowest e then [] else expression_highs e
+expression_highs (Binary op l r) = expression_highs l ++ expression_highs r
+expression_highs (Random e) = if is_number e then [] else expression_highs e
+
+-- on those of an item of PRINT
+abbrev pub item_highs : Item → List Warning
+item_highs (Text t) = []
+item_highs (Value e) = expression_highs e
+item_highs Zone = []
+
+-- on those of a statement
+abbrev pub statement_highs : Statement → List Warning
+statement_highs (Let x e) = expression_highs e
+statement_highs (Print items ends) = flat_map item_highs items
+statement_highs (Input xs) = []
+statement_highs (If l rel r c) = expression_highs l ++ (expression_highs r ++ statement_highs c)
+statement_highs (Goto e) = if is_number e then [] else expression_highs e
+statement_highs (Gosub e) = if is_number e then [] else expression_highs e
+statement_highs Return = []
+statement_highs End = []
+statement_highs Remark = []
+
 -- ── all warnings ──
 -- on line n of the program, in their order
 abbrev pub on_statement : Program → ℕ → Option Statement → List Warning
 on_statement p n None = []
 on_statement p n (Some c) =
-    no_lines p n ++ (high_targets c ++ (runs_past p n c ++ (on_bounds (statement_bounds c) ++ zero_divisors c)))
+    no_lines p n ++ (high_targets c ++ (runs_past p n c ++ (on_bounds (statement_bounds c) ++ (zero_divisors c ++ statement_highs c))))
 
 -- on a line that is not bare, by the later line that has its number; if there is none, it is the program's
 abbrev pub on_stated : Program → ℕ → Option NumberedLine → List Warning

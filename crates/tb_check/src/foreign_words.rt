@@ -31,9 +31,10 @@ pub enum ForeignWord {
     Sgn,
     While,
     Sys,
+    New,
 }
 
-const FOREIGN_WORDS: [ForeignWord; 25] = [
+const FOREIGN_WORDS: [ForeignWord; 26] = [
     ForeignWord::For,
     ForeignWord::Next,
     ForeignWord::Step,
@@ -59,6 +60,7 @@ const FOREIGN_WORDS: [ForeignWord; 25] = [
     ForeignWord::Sgn,
     ForeignWord::While,
     ForeignWord::Sys,
+    ForeignWord::New,
 ];
 
 impl ForeignWord {
@@ -95,6 +97,7 @@ impl ForeignWord {
             ForeignWord::Sgn => "SGN",
             ForeignWord::While => "WHILE",
             ForeignWord::Sys => "SYS",
+            ForeignWord::New => "NEW",
         }
     }
 

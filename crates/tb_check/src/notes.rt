@@ -3,6 +3,7 @@ ghost use Rattle.std.specs.Prelude.{◌≡◌, ◌<◌, ◌≤◌, IfOk, length,
 ghost use Rattle.std.specs.List.{slice_get};
 ghost use Rattle.tb_check.specs.declared.notes.Note.TheVariants.{Near, NearSign, UnknownSign};
 ghost use Rattle.tb_check.specs.Notes as spec;
+ghost use Rattle.tb_signs.specs.Near as signs;
 
 use crate::foreign_words::{ForeignWord, foreign_word};
 use crate::near_words::{StatementWord, near_word};
@@ -11,11 +12,16 @@ use crate::surroundings::code_around;
 use std::alloc::{AllocError, Global};
 use tb_grammar::THEN;
 use tb_parser::{SourceError, SourceErrorKind};
-use tb_signs::{byte_named, near_name};
+use tb_signs::{after_count, byte_named, near_name, written_name};
 use tb_text::Notation;
 
 /// The bytes with which some editors begin a file.
 const BYTE_ORDER_MARK: &[u8] = &[0xef, 0xbb, 0xbf];
+
+/// The bytes with which a file in UTF-16 begins, by the order of each two.
+const LOW_FIRST: &[u8] = &[0xff, 0xfe];
+
+const HIGH_FIRST: &[u8] = &[0xfe, 0xff];
 
 /// What may help with a bad line.
 #[derive(Clone, Copy, Drop)]
@@ -24,12 +30,18 @@ pub enum Note {
     ForeignWord(ForeignWord),
     /// `?` in place of PRINT.
     QuestionMark,
+    /// `'` in place of REM.
+    Apostrophe,
     /// A colon between statements.
     Colon,
+    /// A colon at the end of PRINT.
+    ColonAtEnd,
     /// A name of more than one letter.
     LongName,
     /// A name with `$`.
     TextName,
+    /// A number with `$` or `0x`.
+    Hexadecimal,
     /// A line's number after THEN.
     ThenNumber,
     /// A text without its second quote.
@@ -37,14 +49,30 @@ pub enum Note {
     Tab,
     /// The file begins with a byte order mark.
     ByteOrderMark,
+    /// The file begins with a mark of UTF-16.
+    WideMark,
+    /// A line without a number.
+    NoNumber,
+    /// USR.
+    MachineCode,
+    /// LIST, RUN or CLEAR.
+    NoInterpreter,
+    /// A curly quote outside of texts.
+    CurlyQuote,
     /// A word one letter away from that of a statement, or with two letters swapped.
     Near(StatementWord),
     /// A byte that no text may have, in a text.
     SignInText,
+    /// A brace in a text, where texts have no signs.
+    BraceInText,
     /// A sign whose name is near to that of a control character, which is this byte.
     NearSign(u8),
     /// A brace in a text that begins no sign, nor nearly one.
     UnknownSign,
+    /// A count right before the name of a sign.
+    CountWithoutSpace,
+    /// A count of a sign that is 0 or above 255.
+    BadCount,
     /// A text after INPUT.
     TextInInput,
     /// `**` or `^`.
@@ -99,6 +127,7 @@ pub fn note_of(
 {
     match error.kind {
         SourceErrorKind::BadByte => note_on_byte(alloc, notation, line, error),
+        SourceErrorKind::Unnumbered => Ok(Some(Note::NoNumber)),
         SourceErrorKind::NotCompiled => {
             let line = line.to_ascii_uppercase(alloc)?;
             Ok(note_on_left_out(&line, error.column.saturating_sub(1)))
@@ -122,6 +151,9 @@ fn note_on_byte(
     if is_at_mark(line, error) {
         return Ok(Some(Note::ByteOrderMark));
     }
+    if is_at_wide_mark(line, error) {
+        return Ok(Some(Note::WideMark));
+    }
     note_on_bad_place(alloc, notation, line, error.column.saturating_sub(1))
 }
 
@@ -135,25 +167,40 @@ fn note_on_bad_place(
     ensures { IfOk result (λ note. note ≡ spec.note_on_bad_place notation line.now place (slice_get line.now place)) }
 {
     match line.get(place) {
-        Some(byte) => {
-            let is_in_text = is_open(&line[..place]);
-            if is_in_text && begins_sign(notation, *byte) {
-                Ok(Some(note_on_sign(alloc, &line[place + 1..])?))
-            } else {
-                Ok(note_on_bad_byte(is_in_text, *byte))
-            }
-        }
+        Some(byte) if is_open(&line[..place]) => Ok(Some(note_in_text(
+            alloc,
+            notation,
+            *byte,
+            &line[place + 1..],
+        )?)),
+        Some(byte) => Ok(note_outside(&line[place..], *byte)),
         None => Ok(None),
     }
 }
 
-// Whether a byte of a text is meant to begin a sign.
-fn begins_sign(notation: Notation, byte: u8) -> bool
-    ensures { result ≡ spec.begins_sign notation byte }
+// The note on a byte of a text, by what follows it.
+fn note_in_text(
+    alloc: Global,
+    notation: Notation,
+    byte: u8,
+    inside: &[u8],
+) -> Result<Note, AllocError>
+    ensures { IfOk result (λ note. note ≡ spec.note_in_text notation byte inside.now) }
+{
+    match byte {
+        b'\t' => Ok(Note::Tab),
+        b'{' => note_on_brace(alloc, notation, inside),
+        _ => Ok(Note::SignInText),
+    }
+}
+
+// The note on a brace of a text, by what follows it.
+fn note_on_brace(alloc: Global, notation: Notation, inside: &[u8]) -> Result<Note, AllocError>
+    ensures { IfOk result (λ note. note ≡ spec.note_on_brace notation inside.now) }
 {
     match notation {
-        Notation::Plain => false,
-        Notation::Signs => byte == b'{',
+        Notation::Plain => Ok(Note::BraceInText),
+        Notation::Signs => note_on_sign(alloc, inside),
     }
 }
 
@@ -161,10 +208,55 @@ fn begins_sign(notation: Notation, byte: u8) -> bool
 fn note_on_sign(alloc: Global, inside: &[u8]) -> Result<Note, AllocError>
     ensures { IfOk result (λ note. note ≡ spec.note_on_sign inside.now) }
 {
+    if let Some(note) = note_on_count(inside) {
+        return Ok(note);
+    }
     match near_name(alloc, inside)? {
         Some(name) => Ok(note_on_near_sign(byte_named(name))),
         None => Ok(Note::UnknownSign),
     }
+}
+
+// The note on the count of a sign that is right but for that.
+fn note_on_count(inside: &[u8]) -> Option<Note>
+    ensures { result ≡ spec.note_on_count inside.now }
+{
+    if !begins_with_digit(inside) {
+        None
+    } else if is_named(after_digits(inside)) {
+        Some(Note::CountWithoutSpace)
+    } else if is_named(after_count(inside)) {
+        Some(Note::BadCount)
+    } else {
+        None
+    }
+}
+
+fn begins_with_digit(text: &[u8]) -> bool
+    ensures { result ≡ spec.begins_with_digit text.now }
+{
+    match text {
+        [first, ..] => first.is_ascii_digit(),
+        [] => false,
+    }
+}
+
+// What follows the digits at the front.
+fn after_digits(text: &[u8]) -> &[u8]
+    ensures { result.now ≡ signs.after_digits text.now }
+{
+    match text {
+        [first, rest @ ..] if first.is_ascii_digit() => after_digits(rest),
+        _ => text,
+    }
+}
+
+// Whether a text begins with the name of a sign and a brace.
+fn is_named(text: &[u8]) -> bool
+    ensures { result ≡ spec.is_named text.now }
+{
+    let name = written_name(text);
+    byte_named(name).is_some() && text.get(name.len()) == Some(&b'}')
 }
 
 fn note_on_near_sign(near: Option<u8>) -> Note
@@ -183,16 +275,38 @@ fn is_at_mark(line: &[u8], error: SourceError) -> bool
     error.line == 1 && error.column == 1 && line.starts_with(BYTE_ORDER_MARK)
 }
 
-fn note_on_bad_byte(is_in_text: bool, byte: u8) -> Option<Note>
-    ensures { result ≡ spec.note_on_bad_byte is_in_text byte }
+// Whether a fault is at a mark of UTF-16 with which the file begins.
+fn is_at_wide_mark(line: &[u8], error: SourceError) -> bool
+    ensures { result ≡ spec.is_at_wide_mark line.now error }
+{
+    error.line == 1
+        && error.column == 1
+        && (line.starts_with(LOW_FIRST) || line.starts_with(HIGH_FIRST))
+}
+
+// The note on a byte outside of texts, with which a text begins.
+fn note_outside(text: &[u8], byte: u8) -> Option<Note>
+    ensures { result ≡ spec.note_outside text.now byte }
 {
     match byte {
         b'\t' => Some(Note::Tab),
-        _ if is_in_text => Some(Note::SignInText),
+        _ if is_curly_quote(text) => Some(Note::CurlyQuote),
         b'^' => Some(Note::Power),
         b'[' => Some(Note::Array),
         b'_' => Some(Note::LongName),
         _ => None,
+    }
+}
+
+// Whether a text begins with a curly quote.
+fn is_curly_quote(text: &[u8]) -> bool
+    ensures { result ≡ spec.is_curly_quote text.now }
+{
+    match text {
+        [first, second, third, ..] => {
+            *first == 0xe2 && *second == 0x80 && 0x98 <= *third && *third <= 0x9f
+        }
+        _ => false,
     }
 }
 
@@ -201,9 +315,20 @@ fn note_on_left_out(line: &[u8], place: usize) -> Option<Note>
     ensures { result ≡ spec.note_on_left_out line.now place }
 {
     if place < line.len() {
-        note_on_near(near_word(word_at(line, place).letters))
+        note_on_word_left_out(word_at(line, place).letters)
     } else {
         None
+    }
+}
+
+// The note on a word that is left out, or has such a word inside.
+fn note_on_word_left_out(letters: &[u8]) -> Option<Note>
+    ensures { result ≡ spec.note_on_word_left_out letters.now }
+{
+    match letters {
+        b"USR" => Some(Note::MachineCode),
+        b"LIST" | b"RUN" | b"CLEAR" => Some(Note::NoInterpreter),
+        _ => note_on_near(near_word(letters)),
     }
 }
 
@@ -244,14 +369,46 @@ fn note_at(line: &[u8], place: usize, byte: u8) -> Option<Note>
 {
     if byte == b'?' {
         Some(Note::QuestionMark)
-    } else if byte == b':' {
-        Some(Note::Colon)
+    } else if byte == b'\'' {
+        Some(Note::Apostrophe)
     } else if byte.is_ascii_digit() {
         note_on_number(&line[..place])
+    } else if is_hexadecimal(&line[..place], &line[place..]) {
+        Some(Note::Hexadecimal)
     } else if byte.is_ascii_uppercase() || byte == b'$' {
         note_on_word(&word_at(line, place))
     } else {
         None
+    }
+}
+
+// Whether a number in hexadecimal is before and behind a place: `$` or `0x` and a digit.
+fn is_hexadecimal(before: &[u8], behind: &[u8]) -> bool
+    ensures { result ≡ spec.is_hexadecimal before.now behind.now }
+{
+    match behind {
+        [b'$', digit, ..] => letters_at_end(before) == 0 && digit.is_ascii_hexdigit(),
+        [b'X', digit, ..] => ends_with_zero(before) && digit.is_ascii_hexdigit(),
+        _ => false,
+    }
+}
+
+// Whether a text ends with the number 0.
+fn ends_with_zero(text: &[u8]) -> bool
+    ensures { result ≡ spec.ends_with_zero text.now }
+{
+    match text {
+        [front @ .., last] => *last == b'0' && !ends_with_digit(front),
+        [] => false,
+    }
+}
+
+fn ends_with_digit(text: &[u8]) -> bool
+    ensures { result ≡ spec.ends_with_digit text.now }
+{
+    match text {
+        [.., last] => last.is_ascii_digit(),
+        [] => false,
     }
 }
 

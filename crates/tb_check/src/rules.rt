@@ -11,7 +11,9 @@ use crate::surroundings::{Situation, Surroundings};
 type Rule = (Situation, &'static str, &'static str, Note);
 
 // The first one that fits is taken.
-const RULES: [Rule; 49] = [
+const RULES: [Rule; 51] = [
+    (Situation::LastInPrint, "", ":", Note::ColonAtEnd),
+    (Situation::Anywhere, "", ":", Note::Colon),
     (Situation::Anywhere, "INPUT", "\"", Note::TextInInput),
     // Operators and relations.
     (Situation::Anywhere, "*", "*", Note::Power),

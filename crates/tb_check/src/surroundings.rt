@@ -22,6 +22,8 @@ pub enum Situation {
     InPrint,
     /// PRINT was there, and no letter is right before the place.
     AtItem,
+    /// PRINT was there, and one byte is left.
+    LastInPrint,
     /// An IF has no relation behind it, and no letter is right before the place.
     WithoutRelation,
     /// No parenthesis is open.
@@ -95,6 +97,7 @@ impl Situation {
             Situation::Anywhere => true,
             Situation::InPrint => is_in_print(&around.before),
             Situation::AtItem => is_in_print(&around.before) && around.begins_word,
+            Situation::LastInPrint => is_in_print(&around.before) && around.behind.len() == 1,
             Situation::WithoutRelation => lacks_relation(&around.before) && around.begins_word,
             Situation::Closed => opened(&around.before) == 0,
             Situation::ClosedLater => {

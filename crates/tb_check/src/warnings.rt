@@ -21,6 +21,9 @@ const LARGEST_BOUND: u16 = 15_000;
 /// The largest number of a variable.
 const HIGHEST_NUMBER: u16 = 32_767;
 
+/// The number that is the lowest one behind a minus sign.
+const LOWEST_NEGATED: u16 = 32_768;
+
 /// What there is to warn of.
 #[derive(Clone, Copy, Drop)]
 pub enum Warning {
@@ -42,6 +45,8 @@ pub enum Warning {
     BadBound(i16),
     /// A divisor is 0.
     ZeroDivisor,
+    /// This number is read as a negative one.
+    HighNumber(u16),
 }
 
 /// A warning at its line of the file, from 1.
@@ -174,7 +179,7 @@ fn warn_of_statement(
     if statement_divides_by_zero(statement) {
         push(found, line.line, Warning::ZeroDivisor)?;
     }
-    Ok(())
+    warn_of_numbers(line.line, statement, found)
 }
 
 // Appends the warnings on the missing targets of a line.
@@ -367,4 +372,85 @@ fn is_zero_division(operator: Operator, divisor: Option<u16>) -> bool
     ensures { result ≡ spec.is_zero_division operator divisor }
 {
     matches!((operator, divisor), (Operator::Divide, Some(0)))
+}
+
+// Appends a warning of each number of a statement that is read as a negative one. Of a target that is a number alone, and
+// of such a bound of RND, there is another warning.
+fn warn_of_numbers(
+    line: usize,
+    statement: &Statement,
+    found: &mut Vec<LineWarning>,
+) -> Result<(), AllocError>
+    ensures { OnOk result (found.new.items ≡ found.old.items ++ spec.at line (spec.statement_highs (statement_of statement.now))) }
+{
+    match statement {
+        Statement::Let(_, e) => warn_of_highs(line, e, found),
+        Statement::Goto(e) | Statement::Gosub(e) if is_number(e) => Ok(()),
+        Statement::Goto(e) | Statement::Gosub(e) => warn_of_highs(line, e, found),
+        Statement::Print(items, _) => warn_of_items(line, items, found),
+        Statement::If(left, _, right, statement) => {
+            warn_of_highs(line, left, found)?;
+            warn_of_highs(line, right, found)?;
+            warn_of_numbers(line, statement, found)
+        }
+        Statement::Input(_) | Statement::Return | Statement::End | Statement::Remark => Ok(()),
+    }
+}
+
+fn warn_of_items(
+    line: usize,
+    items: &[PrintItem],
+    found: &mut Vec<LineWarning>,
+) -> Result<(), AllocError>
+    ensures { OnOk result (found.new.items ≡ found.old.items ++ spec.at line (flat_map spec.item_highs (map item_of items.now))) }
+{
+    for item in items {
+        if let PrintItem::Value(e) = item {
+            warn_of_highs(line, e, found)?;
+        }
+    }
+    Ok(())
+}
+
+fn warn_of_highs(line: usize, e: &Expr, found: &mut Vec<LineWarning>) -> Result<(), AllocError>
+    ensures { OnOk result (found.new.items ≡ found.old.items ++ spec.at line (spec.expression_highs (expression_of e.now))) }
+{
+    match e {
+        Expr::Number(number) => warn_of_high(line, *number, found),
+        Expr::Variable(_) => Ok(()),
+        Expr::Negate(e) if is_lowest(e) => Ok(()),
+        Expr::Random(e) if is_number(e) => Ok(()),
+        Expr::Negate(e) | Expr::Random(e) => warn_of_highs(line, e, found),
+        Expr::Binary(_, left, right) => {
+            warn_of_highs(line, left, found)?;
+            warn_of_highs(line, right, found)
+        }
+    }
+}
+
+// Whether an expression is a number alone.
+fn is_number(e: &Expr) -> bool
+    ensures { result ≡ spec.is_number (expression_of e.now) }
+{
+    matches!(e, Expr::Number(_))
+}
+
+// Whether an expression is the number that is the lowest one behind a minus sign.
+fn is_lowest(e: &Expr) -> bool
+    ensures { result ≡ spec.is_lowest (expression_of e.now) }
+{
+    match e {
+        Expr::Number(number) => *number == LOWEST_NEGATED,
+        _ => false,
+    }
+}
+
+fn warn_of_high(line: usize, number: u16, found: &mut Vec<LineWarning>) -> Result<(), AllocError>
+    ensures { OnOk result (found.new.items ≡ found.old.items ++ spec.at line (spec.on_number number)) }
+{
+    if HIGHEST_NUMBER < number {
+        push(found, line, Warning::HighNumber(number))
+    } else {
+        Ok(())
+    }
 }

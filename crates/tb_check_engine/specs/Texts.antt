@@ -2,6 +2,7 @@
 use Rattle.std.specs.Prelude.{ℕ, ◌*◌, ◌/◌, ◌==◌, if◌then◌else◌, List, [], ◌++◌, codes}
 use Rattle.std.specs.Option.{option_map_or}
 use Rattle.std.specs.Fmt.{decimal, signed_decimal}
+use Rattle.tb_words.specs.Words.{signed}
 use Rattle.tb_check.specs.ForeignWords.{name_of}
 use Rattle.tb_check.specs.NearWords.{spelling_of}
 use Rattle.tb_signs.specs.Names as signs
@@ -11,13 +12,15 @@ use Rattle.tb_check.specs.declared.notes.Note.{Note}
 use Rattle.tb_check.specs.declared.notes.Note.TheVariants as note
 use Rattle.tb_check.specs.declared.warnings.Warning.{Warning}
 use Rattle.tb_check.specs.declared.warnings.Warning.TheVariants as warning
-use Rattle.tb_check_engine.specs.declared.texts.TheConstants.{ABS_ADVICE, AND_ADVICE, AT_LEAST, AT_MOST, BOUND_OF_ONE, BYTE_ORDER_MARK, CHR_ADVICE, CLS_ADVICE}
-use Rattle.tb_check_engine.specs.declared.texts.TheConstants.{COLON, DEF_ADVICE, ELSE_ADVICE, EXTRA_PARENTHESIS, FOR_ADVICE, FRACTION, GET_ADVICE, INT_ADVICE}
-use Rattle.tb_check_engine.specs.declared.texts.TheConstants.{LINE_NAME, LONG_NAME, MOD_ADVICE, NOTHING_BEHIND, NOT_ADVICE, NOT_CLOSED, NO_ARRAYS, NO_ITEM}
-use Rattle.tb_check_engine.specs.declared.texts.TheConstants.{NO_RELATION, NO_SEPARATOR, ONE_EQUAL_SIGN, ON_ADVICE, OPEN_TEXT, OR_ADVICE, POKE_ADVICE, POWER}
-use Rattle.tb_check_engine.specs.declared.texts.TheConstants.{QUESTION_MARK, READ_ADVICE, RELATION_AS_VALUE, REMAINDER, REMARK_BEHIND, RUNS_PAST, SGN_ADVICE}
-use Rattle.tb_check_engine.specs.declared.texts.TheConstants.{SHORTHAND, SIGNED_OPERAND, SIGN_IN_TEXT, STOP_ADVICE, SYS_ADVICE, TAB, TAB_ADVICE, TEXT_IN_INPUT}
-use Rattle.tb_check_engine.specs.declared.texts.TheConstants.{TEXT_NAME, THEN_NUMBER, UNEQUAL, WHILE_ADVICE, WHOLE_NAME, ZERO_DIVISOR}
+use Rattle.tb_check_engine.specs.declared.texts.TheConstants.{ABS_ADVICE, AND_ADVICE, APOSTROPHE, AT_LEAST, AT_MOST, BAD_COUNT, BOUND_OF_ONE, BRACE_IN_TEXT}
+use Rattle.tb_check_engine.specs.declared.texts.TheConstants.{BYTE_ORDER_MARK, CHR_ADVICE, CLS_ADVICE, COLON, COLON_AT_END, COUNT_WITHOUT_SPACE, CURLY_QUOTE}
+use Rattle.tb_check_engine.specs.declared.texts.TheConstants.{DEF_ADVICE, ELSE_ADVICE, EXTRA_PARENTHESIS, FOR_ADVICE, FRACTION, GET_ADVICE, HEXADECIMAL}
+use Rattle.tb_check_engine.specs.declared.texts.TheConstants.{INT_ADVICE, LINE_NAME, LONG_NAME, MOD_ADVICE, NEW_ADVICE, NOTHING_BEHIND, NOT_ADVICE, NOT_CLOSED}
+use Rattle.tb_check_engine.specs.declared.texts.TheConstants.{NO_ARRAYS, NO_INTERPRETER, NO_ITEM, NO_NUMBER, NO_RELATION, NO_SEPARATOR, ONE_EQUAL_SIGN}
+use Rattle.tb_check_engine.specs.declared.texts.TheConstants.{ON_ADVICE, OPEN_TEXT, OR_ADVICE, POKE_ADVICE, POWER, QUESTION_MARK, READ_ADVICE}
+use Rattle.tb_check_engine.specs.declared.texts.TheConstants.{RELATION_AS_VALUE, REMAINDER, REMARK_BEHIND, RUNS_PAST, SGN_ADVICE, SHORTHAND, SIGNED_OPERAND}
+use Rattle.tb_check_engine.specs.declared.texts.TheConstants.{SIGN_IN_TEXT, STOP_ADVICE, SYS_ADVICE, TAB, TAB_ADVICE, TEXT_IN_INPUT, TEXT_NAME, THEN_NUMBER}
+use Rattle.tb_check_engine.specs.declared.texts.TheConstants.{UNEQUAL, WHILE_ADVICE, WHOLE_NAME, WIDE_MARK, ZERO_DIVISOR}
 
 -- what helps in place of a word of other BASICs
 abbrev pub advice : ForeignWord → List ℕ
@@ -46,20 +49,32 @@ advice foreign.Int = INT_ADVICE.now
 advice foreign.Sgn = SGN_ADVICE.now
 advice foreign.While = WHILE_ADVICE.now
 advice foreign.Sys = SYS_ADVICE.now
+advice foreign.New = NEW_ADVICE.now
 
 -- the text of a note
 abbrev pub note_text : Note → List ℕ
 note_text (note.ForeignWord m) = codes "Tiny BASIC has no " ++ (name_of m ++ (codes "; " ++ advice m))
 note_text note.QuestionMark = QUESTION_MARK.now
+note_text note.Apostrophe = APOSTROPHE.now
 note_text note.Colon = COLON.now
+note_text note.ColonAtEnd = COLON_AT_END.now
 note_text note.LongName = LONG_NAME.now
 note_text note.TextName = TEXT_NAME.now
+note_text note.Hexadecimal = HEXADECIMAL.now
 note_text note.ThenNumber = THEN_NUMBER.now
 note_text note.OpenText = OPEN_TEXT.now
 note_text note.Tab = TAB.now
 note_text note.ByteOrderMark = BYTE_ORDER_MARK.now
+note_text note.WideMark = WIDE_MARK.now
+note_text note.NoNumber = NO_NUMBER.now
+note_text note.MachineCode = SYS_ADVICE.now
+note_text note.NoInterpreter = NO_INTERPRETER.now
+note_text note.CurlyQuote = CURLY_QUOTE.now
 note_text (note.Near word) = codes "did you mean " ++ spelling_of word
 note_text note.SignInText = SIGN_IN_TEXT.now
+note_text note.BraceInText = BRACE_IN_TEXT.now
+note_text note.CountWithoutSpace = COUNT_WITHOUT_SPACE.now
+note_text note.BadCount = BAD_COUNT.now
 note_text (note.NearSign byte) = codes "did you mean {" ++ (option_map_or (λ name. name) (signs.name_of byte) [] ++ codes "}")
 note_text note.UnknownSign = codes "a sign in a text is a name, as {clr} and {3 down}, or two hexadecimal digits, as {C1}"
 note_text note.TextInInput = TEXT_IN_INPUT.now
@@ -105,3 +120,4 @@ warning_text (warning.HighTarget target) = decimal target ++ codes " is read as 
 warning_text warning.BoundOfOne = BOUND_OF_ONE.now
 warning_text (warning.BadBound bound) = codes "fault 3: the bound of RND is " ++ signed_decimal bound
 warning_text warning.ZeroDivisor = ZERO_DIVISOR.now
+warning_text (warning.HighNumber number) = decimal number ++ (codes " is read as " ++ (signed_decimal (signed number) ++ codes "; numbers end at 32767"))

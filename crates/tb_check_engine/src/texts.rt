@@ -49,13 +49,21 @@ const WHILE_ADVICE: &str = "go back with IF and GOTO";
 
 const SYS_ADVICE: &str = "a program calls no machine code";
 
+const NEW_ADVICE: &str = "a compiled program stays as it is";
+
 const QUESTION_MARK: &str = "Tiny BASIC has no ? for PRINT; write PRINT or PR";
 
+const APOSTROPHE: &str = "write REM for ', on a line of its own";
+
 const COLON: &str = "a line has one statement; give the next one a line of its own";
+
+const COLON_AT_END: &str = "a ; at the end of PRINT keeps the cursor on its line";
 
 const LONG_NAME: &str = "a variable's name is one letter, A to Z";
 
 const TEXT_NAME: &str = "variables hold numbers alone; texts stand in PRINT";
+
+const HEXADECIMAL: &str = "numbers are decimal; there is no hexadecimal";
 
 const THEN_NUMBER: &str = "a statement follows THEN; write THEN GOTO";
 
@@ -66,7 +74,24 @@ const TAB: &str = "this is a tab; write spaces";
 const BYTE_ORDER_MARK: &str =
     "the file begins with a byte order mark (EF BB BF); save it without one";
 
+const WIDE_MARK: &str =
+    "the file begins with a mark of UTF-16 (FF FE or FE FF); save it as UTF-8, without one";
+
+const NO_NUMBER: &str = "each line begins with its number, and none goes on in the next";
+
+const NO_INTERPRETER: &str =
+    "LIST, RUN and CLEAR are for an interpreter, and a compiled program has none";
+
+const CURLY_QUOTE: &str = "a text begins and ends with a straight quote, \"";
+
 const SIGN_IN_TEXT: &str = "a text holds letters, digits, spaces and the signs from ! to @";
+
+const BRACE_IN_TEXT: &str =
+    "with --petscii a name in braces is a sign, as {clr}; without it no text has a brace";
+
+const COUNT_WITHOUT_SPACE: &str = "a space stands behind a count, as in {3 down}";
+
+const BAD_COUNT: &str = "a count is 1 to 255, as in {3 down}";
 
 const TEXT_IN_INPUT: &str = "INPUT takes variables alone; PRINT the text on the line before";
 
@@ -152,6 +177,7 @@ fn advice(word: ForeignWord) -> &'static str
         ForeignWord::Sgn => SGN_ADVICE,
         ForeignWord::While => WHILE_ADVICE,
         ForeignWord::Sys => SYS_ADVICE,
+        ForeignWord::New => NEW_ADVICE,
     }
 }
 
@@ -164,15 +190,26 @@ impl fmt::Display for NoteText {
                 write!(f, "Tiny BASIC has no {}; {}", word.name(), advice(word))
             }
             Note::QuestionMark => f.write_str(QUESTION_MARK),
+            Note::Apostrophe => f.write_str(APOSTROPHE),
             Note::Colon => { f.write_str(COLON) }
+            Note::ColonAtEnd => f.write_str(COLON_AT_END),
             Note::LongName => f.write_str(LONG_NAME),
             Note::TextName => f.write_str(TEXT_NAME),
+            Note::Hexadecimal => f.write_str(HEXADECIMAL),
             Note::ThenNumber => f.write_str(THEN_NUMBER),
             Note::OpenText => f.write_str(OPEN_TEXT),
             Note::Tab => f.write_str(TAB),
             Note::ByteOrderMark => f.write_str(BYTE_ORDER_MARK),
+            Note::WideMark => f.write_str(WIDE_MARK),
+            Note::NoNumber => f.write_str(NO_NUMBER),
+            Note::MachineCode => f.write_str(SYS_ADVICE),
+            Note::NoInterpreter => f.write_str(NO_INTERPRETER),
+            Note::CurlyQuote => f.write_str(CURLY_QUOTE),
             Note::Near(word) => write!(f, "did you mean {}", word.spelling()),
             Note::SignInText => f.write_str(SIGN_IN_TEXT),
+            Note::BraceInText => f.write_str(BRACE_IN_TEXT),
+            Note::CountWithoutSpace => f.write_str(COUNT_WITHOUT_SPACE),
+            Note::BadCount => f.write_str(BAD_COUNT),
             Note::NearSign(byte) => {
                 let name = name_of(byte).unwrap_or("");
                 write!(f, "did you mean {{{name}}}")
@@ -245,6 +282,11 @@ impl fmt::Display for WarningText {
             Warning::BoundOfOne => f.write_str(BOUND_OF_ONE),
             Warning::BadBound(bound) => write!(f, "fault 3: the bound of RND is {bound}"),
             Warning::ZeroDivisor => f.write_str(ZERO_DIVISOR),
+            Warning::HighNumber(number) => write!(
+                f,
+                "{number} is read as {}; numbers end at 32767",
+                number.cast_signed()
+            ),
         }
     }
 }

@@ -35,5 +35,6 @@ pub fn warning_code(warning: Warning) -> &'static str
         Warning::BoundOfOne => "bound-of-one",
         Warning::BadBound(_) => "bad-bound",
         Warning::ZeroDivisor => "zero-divisor",
+        Warning::HighNumber(_) => "high-number",
     }
 }

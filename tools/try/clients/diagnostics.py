@@ -15,6 +15,7 @@ STATEMENTS = (
     "LET A=A+1", "B=RND(6)", "PRINT A;B", "PRIMT A", "GOTO #", "GOSUB #", "IF A<9 THEN GOTO #", "IF A=1 THEN 20", "?A",
     'PRINT "OPEN', "FOR I=1 TO 9", "REM a remark", "RETURN", "END", "A=1/0", "PRINT RND(1)", "LET A=70000", "A=(1", "\tA=1",
     "INPUT A,B", "PRINT CHR$(65)", "A=B%C", "STOP", "", "A=1:B=2", "PRINT \"é\"", "GOTO 40000", "A=RND(2+4)*RND(1000)",
+    'PRINT "A":', "A=$C0", "A=0X2F", "' REMARK", "RUN", "A=USR(1)", "NEW", "A=-40000", "PRINT 32768",
 )
 
 

@@ -58,11 +58,11 @@ cat >signs.said <<'END'
 signs.bas:1:11: error: bad byte
     1 | 10 PRINT "{clr}{3 Down}\[A\]{c1}b"
       |           ^
-signs.bas:1:11: note: a text holds letters, digits, spaces and the signs from ! to @
+signs.bas:1:11: note: with --petscii a name in braces is a sign, as {clr}; without it no text has a brace
 signs.bas:2:11: error: bad byte
     2 | 20 PRINT "{rvon}",7;
       |           ^
-signs.bas:2:11: note: a text holds letters, digits, spaces and the signs from ! to @
+signs.bas:2:11: note: with --petscii a name in braces is a sign, as {clr}; without it no text has a brace
 END
 row 1 '' "$(<signs.said)" check signs.bas
 for words in 'build signs.bas out.prg' 'run signs.bas' 'play signs.bas' 'debug signs.bas' 'profile signs.bas' 'step signs.bas'; do
@@ -71,7 +71,7 @@ for words in 'build signs.bas out.prg' 'run signs.bas' 'play signs.bas' 'debug s
 done
 
 # A name that is none is told at its brace, with the nearest one
-file near.bas '10 PRINT "{cls}"\n20 PRINT "A{3 dwon}"\n30 PRINT "{22}"\n40 PRINT "{clr"\n50 PRINT "{256 up}"\n60 PRINT {clr}\n70 PRINT "}"\n'
+file near.bas '10 PRINT "{cls}"\n20 PRINT "A{3 dwon}"\n30 PRINT "{22}"\n40 PRINT "{clr"\n50 PRINT "{256 up}"\n60 PRINT {clr}\n70 PRINT "}"\n80 PRINT "A{3down}"\n90 PRINT "{0 Down}"\n100 PRINT "{3dwn}"\n110 PRINT "{0 up"\n'
 cat >near.said <<'END'
 near.bas:1:11: error: bad byte
     1 | 10 PRINT "{cls}"
@@ -92,7 +92,7 @@ near.bas:4:11: note: did you mean {clr}
 near.bas:5:11: error: bad byte
     5 | 50 PRINT "{256 up}"
       |           ^
-near.bas:5:11: note: did you mean {up}
+near.bas:5:11: note: a count is 1 to 255, as in {3 down}
 near.bas:6:10: error: bad byte
     6 | 60 PRINT {clr}
       |          ^
@@ -100,6 +100,22 @@ near.bas:7:11: error: bad byte
     7 | 70 PRINT "}"
       |           ^
 near.bas:7:11: note: a text holds letters, digits, spaces and the signs from ! to @
+near.bas:8:12: error: bad byte
+    8 | 80 PRINT "A{3down}"
+      |            ^
+near.bas:8:12: note: a space stands behind a count, as in {3 down}
+near.bas:9:11: error: bad byte
+    9 | 90 PRINT "{0 Down}"
+      |           ^
+near.bas:9:11: note: a count is 1 to 255, as in {3 down}
+near.bas:10:12: error: bad byte
+   10 | 100 PRINT "{3dwn}"
+      |            ^
+near.bas:10:12: note: did you mean {down}
+near.bas:11:12: error: bad byte
+   11 | 110 PRINT "{0 up"
+      |            ^
+near.bas:11:12: note: did you mean {up}
 END
 row 1 '' "$(<near.said)" check --petscii near.bas
 row 1 'tbc: 1:11: bad byte' '' build near.bas out.prg --petscii
