@@ -24,7 +24,7 @@ OTHERS = {"fn run_job<": "return Ok(None)", "fn other_job<": "Err(Failure::NoMem
 AT_A_TERMINAL = {"hinting", "noting"}  # modules of what is said to a person
 PARTS = ("tb_run_commands", "tb_text_commands", "tb_file_engine")  # the crates of the program's commands, from above
 # What takes the place of the function that makes a job of words, where they are `run FILE`.
-RUN_FILE = """fn job_of_words<R: Env + AllocGlobal>(rt: &R) -> Result<Job, Failure> {
+RUN_FILE = """fn job_of_words<R: Env + AllocGlobal>(rt: &R) -> Result<Asked, Failure> {
     let mut words = words(rt)?;
     let source = match words.pop() {
         Some(word) => word,
@@ -38,11 +38,16 @@ RUN_FILE = """fn job_of_words<R: Env + AllocGlobal>(rt: &R) -> Result<Job, Failu
         answers: String::new(rt.alloc()),
         limit: Limit::default_limit(),
     };
-    Ok(Job::Run {
+    let job = Job::Run {
         what: Runnable::Source(source),
         settings,
         rude: None,
         labels: None,
+        strict: false,
+    };
+    Ok(Asked {
+        job,
+        is_by_clock: false,
     })
 }
 """
@@ -200,7 +205,7 @@ def is_plain(words):
 
 def without_reader(files, main):
     """The files of the program without the reader of the command line, for the words `run FILE`."""
-    moved = {"use tb_command_line::{Failure, Job, job};": "use tb_jobs::{Failure, Job};", "use tb_command_line::": "use tb_jobs::"}
+    moved = {"use tb_command_line::{Asked, Failure, job};": "use tb_jobs::{Asked, Failure, Job};", "use tb_command_line::": "use tb_jobs::"}
     for old, new in moved.items():
         files = {file: [(above, it.replace(old, new)) for above, it in items] for file, items in files.items()}
     files[main] = [("", RUN_FILE) if it.startswith("fn job_of_words<") else (above, it) for above, it in files[main]]

@@ -24,8 +24,8 @@ def rows(text, head):
 def option_of(words, text):
     names = re.findall(r"--?[\w-]+", words)
     value = re.search(r"<(.*?)>", words)
-    choices = re.search(r"\[possible values: (.*?)\]", text or "")
-    return Option(names, value[1] if value else None, text, choices[1].split(", ") if choices else [])
+    choices = re.search(r"\[possible values: (.*?)\]|; (time) is", text or "")
+    return Option(names, value[1] if value else None, text, (choices[1] or choices[2]).split(", ") if choices else [])
 
 
 def read():

@@ -14,7 +14,7 @@ EXAMPLES = [
 ]
 
 STATUSES = [
-    (0, "done; of a program that ran: it returned, by END or by a fault"),
+    (0, "done; of a program that ran: it returned, by END or, without --strict, by a fault"),
     (1, "a source or another input was refused"),
     (2, "the command line was wrong"),
     (3, "a file could not be read or written"),
@@ -22,6 +22,7 @@ STATUSES = [
     (5, "the program had not ended at the limit"),
     (6, "the program waits for a key that it was not given"),
     (7, "the machine went wrong"),
+    (8, "with --strict: a fault ended the program"),
 ]
 
 

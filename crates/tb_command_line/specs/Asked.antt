@@ -5,15 +5,15 @@ use Rattle.clap.specs.declared.parser.matches.ArgMatches.{ArgMatches}
 use Rattle.clap.specs.declared.parser.matches.Found.{Found}
 use Rattle.tb_files.specs.Names.{IsUsualOut}
 use Rattle.tb_engines.specs.Numbers.{MOST_EVENTS}
-use Rattle.tb_compiled.specs.Numbers.{USUAL_SEED}
 use Rattle.tb_jobs.specs.Numbers.{USUAL_STEP}
 use Rattle.tb_jobs.specs.declared.jobs.Job.{Job}
 use Rattle.tb_jobs.specs.declared.jobs.Job.TheVariants as job
 use Rattle.tb_command_line.specs.Table.{name_of}
-use Rattle.tb_command_line.specs.Values.{AreExtras, AreSettings, IsFlag, IsLimit, IsNotation, IsNumber, IsOptional, IsOptionalNumber, IsRunnable, IsTarget, IsText, dialect_in, or_else, text_in, texts_in}
+use Rattle.tb_command_line.specs.Values.{AreExtras, AreSettings, IsFlag, IsLimit, IsNotation, IsNumber, IsOptional, IsOptionalNumber, IsRunnable, IsSeed, IsTarget, IsText, dialect_in, is_by_clock, or_else, text_in, texts_in}
 use Rattle.tb_command_line.specs.declared.commands.CommandName.{CommandName}
 use Rattle.tb_command_line.specs.declared.commands.CommandName.TheVariants.{Build, Run, Play, Asm, Assemble, Dis, Step, Debug, Profile, Disk, Check, Format, Renumber, Lsp, Dap, Version}
 use Rattle.tb_command_line.specs.declared.parser.TheConstants.{VERSION}
+use Rattle.tb_jobs.specs.declared.jobs.Asked.{Asked}
 
 -- the file that is written: by `-o`, and else by its place
 abbrev pub out_in : Found → Option (List ℕ)
@@ -39,36 +39,39 @@ AreOfDisk found out files =
     ((out ≡ text_in found (codes "OUT")) × (files ≡ texts_in found (codes "FILE")))
     (λ named. (out ≡ named) × (files ≡ text_in found (codes "OUT") ∷ texts_in found (codes "FILE")))
 
--- the job of a command, part by part, from what the parser found of its arguments; it is of no other kind
-abbrev pub IsJob : CommandName → Found → Job → Type 0
-IsJob Build found (job.Build source out seed fit notation beside force) =
+-- the job of a command, part by part, from what the parser found of its arguments and the seed of the clock; it is of no
+-- other kind
+abbrev pub IsJob : Option ℕ → CommandName → Found → Job → Type 0
+IsJob clock Build found (job.Build source out seed fit notation beside force) =
     IsText found (codes "SOURCE") source
     × IsOut (out_in found) (string_bytes source) (string_bytes out)
-    × IsNumber found (codes "seed") USUAL_SEED seed
+    × IsSeed clock found seed
     × IsFlag found (codes "fit") fit
     × IsNotation found notation
     × AreExtras found beside
     × IsFlag found (codes "force") force
-IsJob Run found (job.Run what settings rude labels) =
+IsJob clock Run found (job.Run what settings rude labels strict) =
     IsRunnable found what
-    × AreSettings found settings
+    × AreSettings clock found settings
     × IsOptionalNumber found (codes "rude") rude
     × IsOptional found (codes "labels") labels
-IsJob Play found (job.Play what seed fit notation limit made screen force) =
+    × IsFlag found (codes "strict") strict
+IsJob clock Play found (job.Play what seed fit notation limit made screen force strict) =
     IsRunnable found what
-    × IsNumber found (codes "seed") USUAL_SEED seed
+    × IsSeed clock found seed
     × IsFlag found (codes "fit") fit
     × IsNotation found notation
     × IsLimit found (codes "limit") MOST_EVENTS limit
     × IsOptional found (codes "record") made
     × IsFlag found (codes "screen") screen
     × IsFlag found (codes "force") force
-IsJob Asm found (job.Asm text out at force) =
+    × IsFlag found (codes "strict") strict
+IsJob clock Asm found (job.Asm text out at force) =
     IsText found (codes "IN") text
     × (string_bytes out ≡ unwrap_or (out_in found) [])
     × IsText found (codes "at") at
     × IsFlag found (codes "force") force
-IsJob Assemble found (job.Assemble text out at long labels listing force) =
+IsJob clock Assemble found (job.Assemble text out at long labels listing force) =
     IsText found (codes "IN") text
     × IsAssemblyOut (out_in found) (string_bytes text) (string_bytes out)
     × IsOptional found (codes "at") at
@@ -76,45 +79,47 @@ IsJob Assemble found (job.Assemble text out at long labels listing force) =
     × IsOptional found (codes "labels") labels
     × IsOptional found (codes "list") listing
     × IsFlag found (codes "force") force
-IsJob Dis found (job.Dis prg dialect) = IsText found (codes "FILE") prg × (dialect ≡ dialect_in found)
-IsJob Step found (job.Step what settings) = IsRunnable found what × AreSettings found settings
-IsJob Debug found (job.Debug what settings rude labels) =
+IsJob clock Dis found (job.Dis prg dialect) = IsText found (codes "FILE") prg × (dialect ≡ dialect_in found)
+IsJob clock Step found (job.Step what settings) = IsRunnable found what × AreSettings clock found settings
+IsJob clock Debug found (job.Debug what settings rude labels) =
     IsRunnable found what
-    × AreSettings found settings
+    × AreSettings clock found settings
     × IsOptionalNumber found (codes "rude") rude
     × IsOptional found (codes "labels") labels
-IsJob Profile found (job.Profile what settings rude html force) =
+IsJob clock Profile found (job.Profile what settings rude html force) =
     IsRunnable found what
-    × AreSettings found settings
+    × AreSettings clock found settings
     × IsOptionalNumber found (codes "rude") rude
     × IsOptional found (codes "html") html
     × IsFlag found (codes "force") force
-IsJob Disk found (job.Disk out files force) =
+IsJob clock Disk found (job.Disk out files force) =
     AreOfDisk found (string_bytes out) (map string_bytes files.items)
     × IsFlag found (codes "force") force
-IsJob Check found (job.Check sources fit notation) =
+IsJob clock Check found (job.Check sources fit notation) =
     (map string_bytes sources.items ≡ texts_in found (codes "SOURCE"))
     × IsFlag found (codes "fit") fit
     × IsNotation found notation
-IsJob Format found (job.Format source notation target) =
+IsJob clock Format found (job.Format source notation target) =
     IsText found (codes "SOURCE") source
     × IsNotation found notation
     × IsTarget found target
-IsJob Renumber found (job.Renumber source notation first step in_place) =
+IsJob clock Renumber found (job.Renumber source notation first step in_place) =
     IsText found (codes "SOURCE") source
     × IsNotation found notation
     × IsNumber found (codes "from") USUAL_STEP first
     × IsNumber found (codes "step") USUAL_STEP step
     × IsFlag found (codes "in-place") in_place
-IsJob Lsp found (job.Lsp notation) = IsNotation found notation
-IsJob Dap found (job.Dap notation) = IsNotation found notation
-IsJob Version found (job.Show text) = string_bytes text ≡ codes "tbc " ++ (VERSION.now ++ 10 ∷ [])
-IsJob _ found _ = ⊥
+IsJob clock Lsp found (job.Lsp notation) = IsNotation found notation
+IsJob clock Dap found (job.Dap notation) = IsNotation found notation
+IsJob clock Version found (job.Show text) = string_bytes text ≡ codes "tbc " ++ (VERSION.now ++ 10 ∷ [])
+IsJob clock _ found _ = ⊥
 
--- the job of the command that the words name, by the arguments that the parser found for it
-abbrev pub IsAsked : ArgMatches → Job → Type 0
-IsAsked matches asked =
+-- the job of the command that the words name, by the arguments that the parser found for it, and whether its seed is the
+-- clock's
+abbrev pub IsAsked : Option ℕ → ArgMatches → Asked → Type 0
+IsAsked clock matches asked =
     (command : CommandName) × (found : Found)
     × (subcommand_name_of matches ≡ Some (name_of command))
     × (option_map (λ pair. pair.1) (subcommand_rows_of matches) ≡ Some (rows_of found))
-    × IsJob command found asked
+    × IsJob clock command found asked.job
+    × (asked.is_by_clock ≡ is_by_clock found)

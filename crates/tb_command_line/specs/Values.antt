@@ -1,5 +1,5 @@
 -- What is read of the arguments that the parser found, by their names.
-use Rattle.std.specs.Prelude.{◌≡◌, ℕ, ◌&&◌, Bool, true, false, nat_le, List, [], codes, string_bytes, Option, Some, None, Ok, Err, option_map, option_and_then, unwrap_or, if◌then◌else◌}
+use Rattle.std.specs.Prelude.{◌≡◌, ℕ, ◌&&◌, Bool, true, false, nat_le, List, [], codes, string_bytes, Option, Some, None, Result, Ok, Err, option_map, option_and_then, unwrap_or, if◌then◌else◌}
 use Rattle.std.specs.Option.{option_map_or}
 use Rattle.std.specs.Str.{bytes_eq}
 use Rattle.std.specs.Str.Parse.{ParsesUnsigned}
@@ -14,6 +14,8 @@ use Rattle.tb_engines.specs.Numbers.{MOST_EVENTS, USUAL_EVENTS}
 use Rattle.tb_compiled.specs.Numbers.{USUAL_SEED}
 use Rattle.tb_jobs.specs.declared.jobs.BuildExtras.{BuildExtras}
 use Rattle.tb_jobs.specs.declared.jobs.FormatTarget.{FormatTarget}
+use Rattle.tb_jobs.specs.declared.jobs.JobError.{JobError}
+use Rattle.tb_jobs.specs.declared.jobs.JobError.TheVariants.{Words, NoClock, NoMemory}
 use Rattle.tb_jobs.specs.declared.jobs.FormatTarget.TheVariants.{Output, InPlace, Check}
 use Rattle.tb_jobs.specs.declared.jobs.Limit.{Limit}
 use Rattle.tb_jobs.specs.declared.jobs.Runnable.{Runnable}
@@ -77,6 +79,38 @@ Says (Some text) is = (text ≡ codes "true" → is ≡ true) × (text ≡ codes
 abbrev pub IsFlag : Found → List ℕ → Bool → Type 0
 IsFlag found name is = Says (one_text found name) is
 
+-- ── seeds ──
+-- whether a text asks for the clock's seed
+abbrev pub is_time : List ℕ → Bool
+is_time text = bytes_eq text (codes "time")
+
+-- whether the option asks for it
+abbrev pub is_by_clock : Found → Bool
+is_by_clock found = option_map_or is_time (first_value found (codes "seed")) false
+
+-- why there is no seed where a text is none: the words are none, or memory is short
+abbrev pub IsBadSeed : JobError → Type 0
+IsBadSeed (Words text) = Unit {0}
+IsBadSeed NoMemory = Unit {0}
+IsBadSeed NoClock = ⊥
+
+-- what is read of a text that asks for the clock's seed, or else is to spell a number below 65536
+abbrev pub ReadsSeedBy : Bool → Option ℕ → List ℕ → Result ℕ JobError → Type 0
+ReadsSeedBy true clock text (Ok seed) = clock ≡ Some seed
+ReadsSeedBy true clock text (Err why) = (clock ≡ None) × (why ≡ NoClock)
+ReadsSeedBy false clock text (Ok seed) = ParsesUnsigned {E = Unit {0}} 16 10 text (Ok seed)
+ReadsSeedBy false clock text (Err why) = ParsesUnsigned {E = Unit {0}} 16 10 text (Err tt) × IsBadSeed why
+
+-- what is read of the option's text, and the usual seed where it is missing
+abbrev pub ReadsSeed : Option ℕ → Option (List ℕ) → Result ℕ JobError → Type 0
+ReadsSeed clock None read = read ≡ Ok USUAL_SEED
+ReadsSeed clock (Some text) read = ReadsSeedBy (is_time text) clock text read
+
+-- this seed is the one that the option asks for, and else the usual one
+abbrev pub IsSeed : Option ℕ → Found → ℕ → Type 0
+IsSeed clock found seed = ReadsSeed clock (first_value found (codes "seed")) (Ok seed)
+
+-- ── notations and targets ──
 -- the notation with signs in texts, or without
 abbrev pub notation_by : Bool → Notation
 notation_by true = Signs
@@ -127,8 +161,8 @@ IsTyped found (Digits digits) =
     (first_value found (codes "type") ≡ None) × (first_value found (codes "keys-file") ≡ None) × IsText found (codes "keys") digits
 
 -- how a program is run, each part by its option
-pub record AreSettings (found : Found) (settings : Settings) : Type 0 where
-  pub seed : IsNumber found (codes "seed") USUAL_SEED settings.seed
+pub record AreSettings (clock : Option ℕ) (found : Found) (settings : Settings) : Type 0 where
+  pub seed : IsSeed clock found settings.seed
   pub fit : IsFlag found (codes "fit") settings.fit
   pub notation : IsNotation found settings.notation
   pub keys : IsTyped found settings.keys

@@ -22,8 +22,8 @@ pub enum Form {
     FileUnless(&'static str),
     /// An option without a value.
     Flag,
-    /// An option without a value that excludes the argument of this name.
-    FlagInPlaceOf(&'static str),
+    /// An option without a value that excludes the arguments of these names.
+    FlagInPlaceOf(&'static [&'static str]),
     /// A file that is named by its place, if it is named at all.
     FileIfNamed,
     /// The option `-o`, which names what is written.
@@ -52,8 +52,8 @@ pub enum Form {
     AddressIfNamed,
     /// An option of a number, 0 to 65535.
     Number,
-    /// An option of a number, 0 to 65535, and this one if it is missing.
-    NumberOr(&'static str),
+    /// An option of a number, 0 to 65535, or `time`, and this one if it is missing.
+    SeedOr(&'static str),
     /// An option of a line number, 1 to `HIGHEST_LINE`, and this one if it is missing.
     LineNumberOr(&'static str),
     /// An option of a number of events, 1 to `MOST_EVENTS`, and this one if it is missing.
@@ -92,6 +92,15 @@ const IN_PLACE_NAME: &str = "in-place";
 const LIST_NAME: &str = "list";
 
 const FOR_NAME: &str = "for";
+
+const SCREEN_NAME: &str = "screen";
+
+const STRICT_NAME: &str = "strict";
+
+const STRICT_HELP: &str = "End with status 8 if a fault ends the program";
+
+/// The seed that is made of the clock.
+pub const TIME: &str = "time";
 
 /// The assemblers that listings are made for.
 pub const ASSEMBLERS: [&str; 4] = ["64tass", "ca65", "acme", "xa"];
@@ -176,8 +185,8 @@ pub const PRG: Argument = Argument {
 
 pub const SEED: Argument = Argument {
     name: "seed",
-    help: "The first state of RND, 0 to 65535",
-    form: Form::NumberOr(USUAL_SEED_TEXT),
+    help: "The first state of RND, 0 to 65535; time is one by the clock",
+    form: Form::SeedOr(USUAL_SEED_TEXT),
 };
 
 pub const FIT: Argument = Argument {
@@ -301,9 +310,21 @@ pub const RECORD: Argument = Argument {
 };
 
 pub const SCREEN: Argument = Argument {
-    name: "screen",
+    name: SCREEN_NAME,
     help: "Show the machine's screen, at a terminal of at least 40 by 25",
     form: Form::Flag,
+};
+
+pub const STRICT: Argument = Argument {
+    name: STRICT_NAME,
+    help: STRICT_HELP,
+    form: Form::FlagInPlaceOf(&[PRG_NAME]),
+};
+
+pub const PLAY_STRICT: Argument = Argument {
+    name: STRICT_NAME,
+    help: STRICT_HELP,
+    form: Form::FlagInPlaceOf(&[PRG_NAME, SCREEN_NAME]),
 };
 
 pub const FORCE: Argument = Argument {
@@ -321,7 +342,7 @@ pub const IN_PLACE: Argument = Argument {
 pub const ONLY_CHECK: Argument = Argument {
     name: "check",
     help: "Write only the file's name, if it is not tidy, and end with status 1 then",
-    form: Form::FlagInPlaceOf(IN_PLACE_NAME),
+    form: Form::FlagInPlaceOf(&[IN_PLACE_NAME]),
 };
 
 pub const FIRST_LINE: Argument = Argument {

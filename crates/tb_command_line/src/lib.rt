@@ -4,7 +4,8 @@
 //!   that `Limit` allows (`proofs/Numbers`).
 //! - Which job a command gives is a table, by cases (`IsJob` of `specs/Asked`). Each part of a job is the value of an
 //!   argument that is named there, or else the usual one, in what the library clap found in the words (`job_of`,
-//!   `with_matches`). A run has exactly one of SOURCE and PRG, by its type.
+//!   `with_matches`). A run has exactly one of SOURCE and PRG, by its type. For `--seed time` the seed is the one that the
+//!   caller has of the clock (`ReadsSeed`).
 //! - That clap finds in the words what they say is not said here: its clauses speak of parsers no value of which may
 //!   begin with a hyphen, as one of `--type` may. So `job`, which is given the words alone, promises no more than the
 //!   limit. The rest only tests show.
@@ -19,7 +20,7 @@ mod words;
 
 pub use parser::VERSION;
 pub use tb_jobs::{
-    BuildExtras, Dialect, Failure, FormatTarget, Job, JobError, Limit, Notation, Runnable,
+    Asked, BuildExtras, Dialect, Failure, FormatTarget, Job, JobError, Limit, Notation, Runnable,
     Settings, Typed, USUAL_SEED, room_for_screen, typed_keys,
 };
 pub use words::job;

@@ -91,7 +91,7 @@ fn clap_argument<'a>(alloc: Global, argument: &Argument) -> Result<Arg<'a>, Allo
             plain
                 .long(argument.name)
                 .action(ArgAction::SetTrue)
-                .conflicts_with(excluded)
+                .conflicts_with_all(excluded)
         }
         Form::FileIfNamed => Ok(plain),
         Form::FilesUnless(option) => plain.num_args(1..).required_unless_present(option),
@@ -112,7 +112,7 @@ fn clap_argument<'a>(alloc: Global, argument: &Argument) -> Result<Arg<'a>, Allo
         Form::Address => Ok(option(plain, argument, "HEX").required(true)),
         Form::AddressIfNamed => Ok(option(plain, argument, "HEX")),
         Form::Number => Ok(number_option(plain, argument)),
-        Form::NumberOr(usual) => Ok(number_option(plain, argument).default_value(usual)),
+        Form::SeedOr(usual) => Ok(option(plain, argument, "N").default_value(usual)),
         Form::LineNumberOr(usual) => {
             Ok(line_number_option(plain, argument).default_value(usual))
         }

@@ -2,8 +2,9 @@
 use crate::arguments::{
     ANSWERS, ASSEMBLY_OUT, AT, Argument, BUILD_OUT, DISK_OUT, DISK_OUTPUT, FIRST_LINE, FIT, FOR,
     FORCE, IN_PLACE, KEY_FILE, KEYS, LABELS, LIMIT, LINE_STEP, LIST, LIST_FOR, LONG, MAP,
-    ONLY_CHECK, ORIGIN, OUT, OUTPUT, PAGE, PETSCII, PLAY_LIMIT, PRG, PRG_FILE, PRG_FILES,
-    PRG_LABELS, RECORD, RUDE, SCREEN, SEED, SOURCE, SOURCE_OR_PRG, SOURCES, TEXT, TYPE, WATCH,
+    ONLY_CHECK, ORIGIN, OUT, OUTPUT, PAGE, PETSCII, PLAY_LIMIT, PLAY_STRICT, PRG, PRG_FILE,
+    PRG_FILES, PRG_LABELS, RECORD, RUDE, SCREEN, SEED, SOURCE, SOURCE_OR_PRG, SOURCES, STRICT,
+    TEXT, TYPE, WATCH,
 };
 use crate::commands::CommandName;
 
@@ -11,7 +12,23 @@ static BUILD_ARGUMENTS: [Argument; 12] = [
     SOURCE, BUILD_OUT, OUTPUT, SEED, FIT, PETSCII, LABELS, LIST, LIST_FOR, MAP, WATCH, FORCE,
 ];
 
-static RUN_OR_DEBUG_ARGUMENTS: [Argument; 12] = [
+static RUN_ARGUMENTS: [Argument; 13] = [
+    SOURCE_OR_PRG,
+    PRG,
+    SEED,
+    FIT,
+    PETSCII,
+    KEYS,
+    KEY_FILE,
+    TYPE,
+    ANSWERS,
+    LIMIT,
+    RUDE,
+    PRG_LABELS,
+    STRICT,
+];
+
+static DEBUG_ARGUMENTS: [Argument; 12] = [
     SOURCE_OR_PRG,
     PRG,
     SEED,
@@ -26,7 +43,7 @@ static RUN_OR_DEBUG_ARGUMENTS: [Argument; 12] = [
     PRG_LABELS,
 ];
 
-static PLAY_ARGUMENTS: [Argument; 9] = [
+static PLAY_ARGUMENTS: [Argument; 10] = [
     SOURCE_OR_PRG,
     PRG,
     SEED,
@@ -36,6 +53,7 @@ static PLAY_ARGUMENTS: [Argument; 9] = [
     RECORD,
     SCREEN,
     FORCE,
+    PLAY_STRICT,
 ];
 
 static ASM_ARGUMENTS: [Argument; 5] = [TEXT, OUT, OUTPUT, AT, FORCE];
@@ -96,12 +114,13 @@ static SERVE_ARGUMENTS: [Argument; 1] = [PETSCII];
 pub fn arguments_of(command: CommandName) -> &'static [Argument] {
     match command {
         CommandName::Build => &BUILD_ARGUMENTS,
-        CommandName::Run | CommandName::Debug => &RUN_OR_DEBUG_ARGUMENTS,
+        CommandName::Run => &RUN_ARGUMENTS,
         CommandName::Play => &PLAY_ARGUMENTS,
         CommandName::Asm => &ASM_ARGUMENTS,
         CommandName::Assemble => &ASSEMBLE_ARGUMENTS,
         CommandName::Dis => &DIS_ARGUMENTS,
         CommandName::Step => &STEP_ARGUMENTS,
+        CommandName::Debug => &DEBUG_ARGUMENTS,
         CommandName::Profile => &PROFILE_ARGUMENTS,
         CommandName::Disk => &DISK_ARGUMENTS,
         CommandName::Check => &CHECK_ARGUMENTS,

@@ -1,19 +1,18 @@
 //! The values of arguments that the parser found.
 ghost use Rattle.std.specs.Prelude.{◌≡◌, codes, map, option_map, string_bytes, IfOk};
 ghost use Rattle.clap.specs.Words.{first_value, found_of};
-ghost use Rattle.tb_compiled.specs.Numbers.{USUAL_SEED};
 ghost use Rattle.tb_jobs.specs.Numbers.{USUAL_STEP};
 ghost use Rattle.tb_command_line.specs.Values as spec;
 
 use crate::arguments::{
     ANSWERS, Argument, FIT, FOR, FORCE, IN_PLACE, KEY_FILE, KEYS, LABELS, LIMIT, LIST, LONG, MAP,
-    ONLY_CHECK, PETSCII, PRG, RUDE, SCREEN, SEED, SOURCE_OR_PRG, TYPE, WATCH,
+    ONLY_CHECK, PETSCII, PRG, RUDE, SCREEN, SEED, SOURCE_OR_PRG, STRICT, TIME, TYPE, WATCH,
 };
 use clap::ArgMatches;
 use std::alloc::{AllocError, Global};
 use tb_jobs::{
-    BuildExtras, Dialect, FormatTarget, Limit, Notation, Runnable, Settings, Typed, USUAL_SEED,
-    USUAL_STEP,
+    BuildExtras, Dialect, FormatTarget, JobError, Limit, Notation, Runnable, Settings, Typed,
+    USUAL_SEED, USUAL_STEP,
 };
 
 /// A copy of the text of an argument, or an empty one if the parser let it be missing.
@@ -72,12 +71,39 @@ pub fn texts(
     Ok(texts)
 }
 
-/// The first state of RND.
-#[tactic(auto, using(crate::proofs::Found::number_read))]
-pub fn seed_of(found: &ArgMatches<'_>) -> u16
-    ensures { spec.IsNumber (found_of found.now) (codes "seed") USUAL_SEED result }
+/// The first state of RND: the number that the words say, or for `time` that of the clock, if there is one.
+pub fn seed_of(alloc: Global, found: &ArgMatches<'_>, clock: Option<u16>) -> Result<u16, JobError>
+    ensures { spec.ReadsSeed clock (first_value (found_of found.now) (codes "seed")) result }
 {
-    found.get_one::<u16>(SEED.name).unwrap_or(USUAL_SEED)
+    let Some(text) = found.get_str(SEED.name) else {
+        return Ok(USUAL_SEED);
+    };
+    if text == TIME {
+        return clock.ok_or(JobError::NoClock);
+    }
+    match text.parse::<u16>() {
+        Ok(seed) => Ok(seed),
+        Err(_) => Err(bad_seed(alloc, text)),
+    }
+}
+
+// What is said of a text that is no seed, in the parser's form.
+fn bad_seed(alloc: Global, text: &str) -> JobError
+    ensures { spec.IsBadSeed result }
+{
+    match format!(in alloc;
+        "error: invalid value '{text}' for '--seed <N>': not 0 to 65535, and not time\n\nFor more information, try '--help'.\n"
+    ) {
+        Ok(text) => JobError::Words(text),
+        Err(_) => JobError::NoMemory,
+    }
+}
+
+/// Whether the words ask for the clock's seed.
+pub fn is_by_clock(found: &ArgMatches<'_>) -> bool
+    ensures { result ≡ spec.is_by_clock (found_of found.now) }
+{
+    found.get_str(SEED.name) == Some(TIME)
 }
 
 /// Whether a source is refused as too large only if it doesn't fit the memory.
@@ -165,6 +191,14 @@ pub fn force_of(found: &ArgMatches<'_>) -> bool
     found.get_flag(FORCE.name)
 }
 
+/// Whether a fault of the program has a status of its own.
+#[tactic(auto, using(crate::proofs::Found::flag_said))]
+pub fn strict_of(found: &ArgMatches<'_>) -> bool
+    ensures { spec.IsFlag (found_of found.now) (codes "strict") result }
+{
+    found.get_flag(STRICT.name)
+}
+
 /// Whether the machine's screen is shown.
 #[tactic(auto, using(crate::proofs::Found::flag_said))]
 pub fn screen_of(found: &ArgMatches<'_>) -> bool
@@ -185,11 +219,15 @@ pub fn limit_of(found: &ArgMatches<'_>, argument: &Argument, usual: Limit) -> Li
 }
 
 /// How a program is run.
-pub fn settings_of(alloc: Global, found: &ArgMatches<'_>) -> Result<Settings, AllocError>
-    ensures { IfOk result (spec.AreSettings (found_of found.now)) }
+pub fn settings_of(
+    alloc: Global,
+    found: &ArgMatches<'_>,
+    clock: Option<u16>,
+) -> Result<Settings, JobError>
+    ensures { IfOk result (spec.AreSettings clock (found_of found.now)) }
 {
     Ok(Settings {
-        seed: seed_of(found),
+        seed: seed_of(alloc, found, clock)?,
         fit: fit_of(found),
         notation: notation_of(found),
         keys: typed_of(alloc, found)?,

@@ -1,5 +1,5 @@
 //! The words of the command line, read with `clap`: they become a job.
-ghost use Rattle.std.specs.Prelude.{IfOk};
+ghost use Rattle.std.specs.Prelude.{ℕ, IfOk, Option};
 ghost use Rattle.clap.specs.Words.{found_of};
 ghost use Rattle.tb_jobs.specs.Limits.{IsWithinLimit};
 ghost use Rattle.tb_command_line.specs.Asked.{IsAsked, IsJob, IsStem};
@@ -14,31 +14,35 @@ use crate::arguments::{
 use crate::commands::{CommandName, command_named, rows};
 use crate::parser::{VERSION, parser};
 use crate::values::{
-    dialect_of, extras_of, first_text, fit_of, force_of, in_place_of, limit_of, line_number_of,
-    long_of, notation_of, optional_text, rude_of, runnable_of, screen_of, seed_of, settings_of,
-    target_of, text, texts,
+    dialect_of, extras_of, first_text, fit_of, force_of, in_place_of, is_by_clock, limit_of,
+    line_number_of, long_of, notation_of, optional_text, rude_of, runnable_of, screen_of, seed_of,
+    settings_of, strict_of, target_of, text, texts,
 };
 use clap::ArgMatches;
 use clap::error::ErrorKind;
-use std::alloc::{AllocError, Global};
+use std::alloc::Global;
 use std::convert::AsStr;
 use tb_files::usual_out;
-use tb_jobs::{Job, JobError, Limit};
+use tb_jobs::{Asked, Job, JobError, Limit};
 
-/// Reads the words after the program's own name.
-pub fn job<S: AsStr>(alloc: Global, words: &[S]) -> Result<Job, JobError>
-    ensures { IfOk result IsWithinLimit }
+/// Reads the words after the program's own name. The clock's seed is the one that `time` stands for.
+pub fn job<S: AsStr>(alloc: Global, words: &[S], clock: Option<u16>) -> Result<Asked, JobError>
+    ensures { IfOk result (λ asked. IsWithinLimit asked.job) }
 {
     match parser(alloc, words)?.try_get_matches_from(words) {
-        Ok(matches) => with_matches(alloc, &matches),
+        Ok(matches) => with_matches(alloc, &matches, clock),
         Err(error) => without_matches(alloc, &error),
     }
 }
 
 // A name that is in no row of the table is a fault of the words.
-fn with_matches(alloc: Global, matches: &ArgMatches<'_>) -> Result<Job, JobError>
-    ensures limit { IfOk result IsWithinLimit }
-    ensures asked { IfOk result (IsAsked matches.now) }
+fn with_matches(
+    alloc: Global,
+    matches: &ArgMatches<'_>,
+    clock: Option<u16>,
+) -> Result<Asked, JobError>
+    ensures limit { IfOk result (λ asked. IsWithinLimit asked.job) }
+    ensures asked { IfOk result (IsAsked clock matches.now) }
 {
     let Some((name, found)) = matches.subcommand() else {
         return Err(JobError::Words(String::new(alloc)));
@@ -46,12 +50,15 @@ fn with_matches(alloc: Global, matches: &ArgMatches<'_>) -> Result<Job, JobError
     let Some(command) = command_named(rows(), name) else {
         return Err(JobError::Words(String::new(alloc)));
     };
-    Ok(job_of(alloc, command, found)?)
+    Ok(Asked {
+        job: job_of(alloc, command, found, clock)?,
+        is_by_clock: is_by_clock(found),
+    })
 }
 
 // A help text is asked for; anything else is a fault.
-fn without_matches(alloc: Global, error: &clap::Error) -> Result<Job, JobError>
-    ensures { IfOk result IsWithinLimit }
+fn without_matches(alloc: Global, error: &clap::Error) -> Result<Asked, JobError>
+    ensures { IfOk result (λ asked. IsWithinLimit asked.job) }
 {
     if error.kind() == ErrorKind::OutOfMemory {
         return Err(JobError::NoMemory);
@@ -63,24 +70,32 @@ fn without_matches(alloc: Global, error: &clap::Error) -> Result<Job, JobError>
     if error.use_stderr() {
         Err(JobError::Words(text))
     } else {
-        Ok(Job::Show { text })
+        Ok(Asked {
+            job: Job::Show { text },
+            is_by_clock: false,
+        })
     }
 }
 
-fn job_of(alloc: Global, command: CommandName, found: &ArgMatches<'_>) -> Result<Job, AllocError>
+fn job_of(
+    alloc: Global,
+    command: CommandName,
+    found: &ArgMatches<'_>,
+    clock: Option<u16>,
+) -> Result<Job, JobError>
     ensures limit { IfOk result IsWithinLimit }
-    ensures asked { IfOk result (IsJob command (found_of found.now)) }
+    ensures asked { IfOk result (IsJob clock command (found_of found.now)) }
 {
     match command {
-        CommandName::Build => build_job(alloc, found),
-        CommandName::Run => run_job(alloc, found),
-        CommandName::Play => play_job(alloc, found),
+        CommandName::Build => build_job(alloc, found, clock),
+        CommandName::Run => run_job(alloc, found, clock),
+        CommandName::Play => play_job(alloc, found, clock),
         CommandName::Asm => asm_job(alloc, found),
         CommandName::Assemble => assemble_job(alloc, found),
         CommandName::Dis => dis_job(alloc, found),
-        CommandName::Step => step_job(alloc, found),
-        CommandName::Debug => debug_job(alloc, found),
-        CommandName::Profile => profile_job(alloc, found),
+        CommandName::Step => step_job(alloc, found, clock),
+        CommandName::Debug => debug_job(alloc, found, clock),
+        CommandName::Profile => profile_job(alloc, found, clock),
         CommandName::Disk => disk_job(alloc, found),
         CommandName::Check => check_job(alloc, found),
         CommandName::Format => format_job(alloc, found),
@@ -95,9 +110,9 @@ fn job_of(alloc: Global, command: CommandName, found: &ArgMatches<'_>) -> Result
     }
 }
 
-fn build_job(alloc: Global, found: &ArgMatches<'_>) -> Result<Job, AllocError>
+fn build_job(alloc: Global, found: &ArgMatches<'_>, clock: Option<u16>) -> Result<Job, JobError>
     ensures limit { IfOk result IsWithinLimit }
-    ensures asked { IfOk result (IsJob command.Build (found_of found.now)) }
+    ensures asked { IfOk result (IsJob clock command.Build (found_of found.now)) }
 {
     let source = text(alloc, found, &SOURCE)?;
     let out = match first_text(alloc, found, &OUTPUT, &BUILD_OUT)? {
@@ -107,7 +122,7 @@ fn build_job(alloc: Global, found: &ArgMatches<'_>) -> Result<Job, AllocError>
     Ok(Job::Build {
         source,
         out,
-        seed: seed_of(found),
+        seed: seed_of(alloc, found, clock)?,
         fit: fit_of(found),
         notation: notation_of(found),
         beside: extras_of(alloc, found)?,
@@ -115,37 +130,39 @@ fn build_job(alloc: Global, found: &ArgMatches<'_>) -> Result<Job, AllocError>
     })
 }
 
-fn run_job(alloc: Global, found: &ArgMatches<'_>) -> Result<Job, AllocError>
+fn run_job(alloc: Global, found: &ArgMatches<'_>, clock: Option<u16>) -> Result<Job, JobError>
     ensures limit { IfOk result IsWithinLimit }
-    ensures asked { IfOk result (IsJob command.Run (found_of found.now)) }
+    ensures asked { IfOk result (IsJob clock command.Run (found_of found.now)) }
 {
     Ok(Job::Run {
         what: runnable_of(alloc, found)?,
-        settings: settings_of(alloc, found)?,
+        settings: settings_of(alloc, found, clock)?,
         rude: rude_of(found),
         labels: optional_text(alloc, found, &PRG_LABELS)?,
+        strict: strict_of(found),
     })
 }
 
-fn play_job(alloc: Global, found: &ArgMatches<'_>) -> Result<Job, AllocError>
+fn play_job(alloc: Global, found: &ArgMatches<'_>, clock: Option<u16>) -> Result<Job, JobError>
     ensures limit { IfOk result IsWithinLimit }
-    ensures asked { IfOk result (IsJob command.Play (found_of found.now)) }
+    ensures asked { IfOk result (IsJob clock command.Play (found_of found.now)) }
 {
     Ok(Job::Play {
         what: runnable_of(alloc, found)?,
-        seed: seed_of(found),
+        seed: seed_of(alloc, found, clock)?,
         fit: fit_of(found),
         notation: notation_of(found),
         limit: limit_of(found, &PLAY_LIMIT, Limit::most()),
         record: optional_text(alloc, found, &RECORD)?,
         screen: screen_of(found),
         force: force_of(found),
+        strict: strict_of(found),
     })
 }
 
-fn asm_job(alloc: Global, found: &ArgMatches<'_>) -> Result<Job, AllocError>
+fn asm_job(alloc: Global, found: &ArgMatches<'_>) -> Result<Job, JobError>
     ensures limit { IfOk result IsWithinLimit }
-    ensures asked { IfOk result (IsJob command.Asm (found_of found.now)) }
+    ensures asked { (clock : Option ℕ) → IfOk result (IsJob clock command.Asm (found_of found.now)) }
 {
     Ok(Job::Asm {
         text: text(alloc, found, &TEXT)?,
@@ -162,9 +179,9 @@ fn stem_of(text: &str) -> &str
     text.strip_suffix(".asm").unwrap_or(text)
 }
 
-fn assemble_job(alloc: Global, found: &ArgMatches<'_>) -> Result<Job, AllocError>
+fn assemble_job(alloc: Global, found: &ArgMatches<'_>) -> Result<Job, JobError>
     ensures limit { IfOk result IsWithinLimit }
-    ensures asked { IfOk result (IsJob command.Assemble (found_of found.now)) }
+    ensures asked { (clock : Option ℕ) → IfOk result (IsJob clock command.Assemble (found_of found.now)) }
 {
     let text = text(alloc, found, &TEXT)?;
     let out = match first_text(alloc, found, &OUTPUT, &ASSEMBLY_OUT)? {
@@ -182,9 +199,9 @@ fn assemble_job(alloc: Global, found: &ArgMatches<'_>) -> Result<Job, AllocError
     })
 }
 
-fn dis_job(alloc: Global, found: &ArgMatches<'_>) -> Result<Job, AllocError>
+fn dis_job(alloc: Global, found: &ArgMatches<'_>) -> Result<Job, JobError>
     ensures limit { IfOk result IsWithinLimit }
-    ensures asked { IfOk result (IsJob command.Dis (found_of found.now)) }
+    ensures asked { (clock : Option ℕ) → IfOk result (IsJob clock command.Dis (found_of found.now)) }
 {
     Ok(Job::Dis {
         prg: text(alloc, found, &PRG_FILE)?,
@@ -192,44 +209,44 @@ fn dis_job(alloc: Global, found: &ArgMatches<'_>) -> Result<Job, AllocError>
     })
 }
 
-fn step_job(alloc: Global, found: &ArgMatches<'_>) -> Result<Job, AllocError>
+fn step_job(alloc: Global, found: &ArgMatches<'_>, clock: Option<u16>) -> Result<Job, JobError>
     ensures limit { IfOk result IsWithinLimit }
-    ensures asked { IfOk result (IsJob command.Step (found_of found.now)) }
+    ensures asked { IfOk result (IsJob clock command.Step (found_of found.now)) }
 {
     Ok(Job::Step {
         what: runnable_of(alloc, found)?,
-        settings: settings_of(alloc, found)?,
+        settings: settings_of(alloc, found, clock)?,
     })
 }
 
-fn debug_job(alloc: Global, found: &ArgMatches<'_>) -> Result<Job, AllocError>
+fn debug_job(alloc: Global, found: &ArgMatches<'_>, clock: Option<u16>) -> Result<Job, JobError>
     ensures limit { IfOk result IsWithinLimit }
-    ensures asked { IfOk result (IsJob command.Debug (found_of found.now)) }
+    ensures asked { IfOk result (IsJob clock command.Debug (found_of found.now)) }
 {
     Ok(Job::Debug {
         what: runnable_of(alloc, found)?,
-        settings: settings_of(alloc, found)?,
+        settings: settings_of(alloc, found, clock)?,
         rude: rude_of(found),
         labels: optional_text(alloc, found, &PRG_LABELS)?,
     })
 }
 
-fn profile_job(alloc: Global, found: &ArgMatches<'_>) -> Result<Job, AllocError>
+fn profile_job(alloc: Global, found: &ArgMatches<'_>, clock: Option<u16>) -> Result<Job, JobError>
     ensures limit { IfOk result IsWithinLimit }
-    ensures asked { IfOk result (IsJob command.Profile (found_of found.now)) }
+    ensures asked { IfOk result (IsJob clock command.Profile (found_of found.now)) }
 {
     Ok(Job::Profile {
         what: runnable_of(alloc, found)?,
-        settings: settings_of(alloc, found)?,
+        settings: settings_of(alloc, found, clock)?,
         rude: rude_of(found),
         html: optional_text(alloc, found, &PAGE)?,
         force: force_of(found),
     })
 }
 
-fn disk_job(alloc: Global, found: &ArgMatches<'_>) -> Result<Job, AllocError>
+fn disk_job(alloc: Global, found: &ArgMatches<'_>) -> Result<Job, JobError>
     ensures limit { IfOk result IsWithinLimit }
-    ensures asked { IfOk result (IsJob command.Disk (found_of found.now)) }
+    ensures asked { (clock : Option ℕ) → IfOk result (IsJob clock command.Disk (found_of found.now)) }
 {
     let first = text(alloc, found, &DISK_OUT)?;
     let mut others = texts(alloc, found, &PRG_FILES)?;
@@ -249,9 +266,9 @@ fn disk_job(alloc: Global, found: &ArgMatches<'_>) -> Result<Job, AllocError>
     }
 }
 
-fn check_job(alloc: Global, found: &ArgMatches<'_>) -> Result<Job, AllocError>
+fn check_job(alloc: Global, found: &ArgMatches<'_>) -> Result<Job, JobError>
     ensures limit { IfOk result IsWithinLimit }
-    ensures asked { IfOk result (IsJob command.Check (found_of found.now)) }
+    ensures asked { (clock : Option ℕ) → IfOk result (IsJob clock command.Check (found_of found.now)) }
 {
     Ok(Job::Check {
         sources: texts(alloc, found, &SOURCES)?,
@@ -260,9 +277,9 @@ fn check_job(alloc: Global, found: &ArgMatches<'_>) -> Result<Job, AllocError>
     })
 }
 
-fn format_job(alloc: Global, found: &ArgMatches<'_>) -> Result<Job, AllocError>
+fn format_job(alloc: Global, found: &ArgMatches<'_>) -> Result<Job, JobError>
     ensures limit { IfOk result IsWithinLimit }
-    ensures asked { IfOk result (IsJob command.Format (found_of found.now)) }
+    ensures asked { (clock : Option ℕ) → IfOk result (IsJob clock command.Format (found_of found.now)) }
 {
     Ok(Job::Format {
         source: text(alloc, found, &SOURCE)?,
@@ -271,9 +288,9 @@ fn format_job(alloc: Global, found: &ArgMatches<'_>) -> Result<Job, AllocError>
     })
 }
 
-fn renumber_job(alloc: Global, found: &ArgMatches<'_>) -> Result<Job, AllocError>
+fn renumber_job(alloc: Global, found: &ArgMatches<'_>) -> Result<Job, JobError>
     ensures limit { IfOk result IsWithinLimit }
-    ensures asked { IfOk result (IsJob command.Renumber (found_of found.now)) }
+    ensures asked { (clock : Option ℕ) → IfOk result (IsJob clock command.Renumber (found_of found.now)) }
 {
     Ok(Job::Renumber {
         source: text(alloc, found, &SOURCE)?,
@@ -284,9 +301,9 @@ fn renumber_job(alloc: Global, found: &ArgMatches<'_>) -> Result<Job, AllocError
     })
 }
 
-fn version_job(alloc: Global) -> Result<Job, AllocError>
+fn version_job(alloc: Global) -> Result<Job, JobError>
     ensures limit { IfOk result IsWithinLimit }
-    ensures asked { (found : Found) → IfOk result (IsJob command.Version found) }
+    ensures asked { (clock : Option ℕ) (found : Found) → IfOk result (IsJob clock command.Version found) }
 {
     let mut text = String::from_str(alloc, "tbc ")?;
     text.push_str(VERSION)?;

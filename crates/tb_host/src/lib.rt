@@ -1,5 +1,5 @@
 //! What the program runs on: the files of the system, and what a person is told of a long run. And what is read from
-//! there: sources, keys and labels.
+//! there: sources, keys, labels and the clock.
 //!
 //! All is safe and total. No clause says which file a call opens or what it does to it; only tests show that.
 //! `system.rt` is trusted, with what `host.rt` and `putting.rt` make of it: std's clauses say nothing of these calls,
@@ -11,6 +11,7 @@ mod keys;
 mod labels;
 mod putting;
 mod reading;
+mod seeds;
 mod system;
 mod waiting;
 
@@ -18,5 +19,6 @@ pub use host::{Asked, Host};
 pub use keys::keyboard;
 pub use labels::{labels_in, named_place};
 pub use reading::{read_warned, settings_of, size_limit};
+pub use seeds::drawn_seed;
 pub use system::Source;
 pub use waiting::Progress;

@@ -8,6 +8,7 @@ use std::io::{ErrorKind, Read, Write};
 use std::os::unix::fs::MetadataExt;
 use std::path::{Path, PathBuf};
 use std::rt::Files;
+use std::time::Clock;
 use std::{fs, io};
 use tb_files::{Folder, Look, MOST_LOOK, Node, Place, STANDARD};
 
@@ -112,6 +113,14 @@ fn beginning_of<R: Files>(rt: &R, alloc: Global, path: &str) -> Result<Vec<u8>, 
         beginning.extend_from_slice(&chunk[..count])?;
     }
     Ok(beginning)
+}
+
+/// How many milliseconds have passed since 1970, if the clock can be read.
+pub fn milliseconds<R: Clock>(rt: &R) -> Option<u128> {
+    match rt.since_1970() {
+        Ok(time) => Some(time.as_millis()),
+        Err(_) => None,
+    }
 }
 
 /// A file that is opened for reading, or standard input.

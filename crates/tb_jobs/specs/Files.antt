@@ -60,12 +60,12 @@ path_of (Prg program) = string_bytes program
 -- what a job that writes files reads, and the standard streams that it uses
 abbrev pub kept_of : Job → List (List ℕ)
 kept_of (Build source out seed fit notation beside force) = input_path (string_bytes source) ∷ []
-kept_of (Play what seed fit notation limit made screen force) = input_path (path_of what) ∷ standard_input ∷ standard_output ∷ []
+kept_of (Play what seed fit notation limit made screen force strict) = input_path (path_of what) ∷ standard_input ∷ standard_output ∷ []
 kept_of (Asm text out at force) = input_path (string_bytes text) ∷ []
 kept_of (Assemble text out at long labels listing force) = input_path (string_bytes text) ∷ []
 kept_of (Profile what settings rude html force) = input_path (path_of what) ∷ standard_output ∷ keys_of settings.keys
 kept_of (Disk out files force) = map (λ f. input_path (string_bytes f)) files.items
-kept_of (Run what settings rude labels) = []
+kept_of (Run what settings rude labels strict) = []
 kept_of (Dis prg dialect) = []
 kept_of (Step what settings) = []
 kept_of (Debug what settings rude labels) = []
@@ -80,14 +80,14 @@ kept_of (Show text) = []
 -- these: its new text takes its own place.
 abbrev pub Writes : Job → List (List ℕ × Kind) → Type 0
 Writes (Build source out seed fit notation beside force) puts = puts ≡ (output_path (string_bytes out), Program) ∷ wanted_beside beside
-Writes (Play what seed fit notation limit made screen force) puts = puts ≡ wanted Keys made
+Writes (Play what seed fit notation limit made screen force strict) puts = puts ≡ wanted Keys made
 Writes (Asm text out at force) puts =
     (address : Option ℕ) × IsAddress (string_bytes at) address × (puts ≡ (output_path (string_bytes out), code_kind (string_bytes out) address) ∷ [])
 Writes (Assemble text out at long labels listing force) puts =
     puts ≡ (output_path (string_bytes out), Code None) ∷ wanted Labels labels ++ wanted Listing listing
 Writes (Profile what settings rude html force) puts = puts ≡ wanted Page html
 Writes (Disk out files force) puts = puts ≡ (output_path (string_bytes out), Image) ∷ []
-Writes (Run what settings rude labels) puts = puts ≡ []
+Writes (Run what settings rude labels strict) puts = puts ≡ []
 Writes (Dis prg dialect) puts = puts ≡ []
 Writes (Step what settings) puts = puts ≡ []
 Writes (Debug what settings rude labels) puts = puts ≡ []
@@ -101,12 +101,12 @@ Writes (Show text) puts = puts ≡ []
 -- whether a job replaces a file that looks like something else
 abbrev pub is_forced : Job → Bool
 is_forced (Build source out seed fit notation beside force) = force
-is_forced (Play what seed fit notation limit made screen force) = force
+is_forced (Play what seed fit notation limit made screen force strict) = force
 is_forced (Asm text out at force) = force
 is_forced (Assemble text out at long labels listing force) = force
 is_forced (Profile what settings rude html force) = force
 is_forced (Disk out files force) = force
-is_forced (Run what settings rude labels) = false
+is_forced (Run what settings rude labels strict) = false
 is_forced (Dis prg dialect) = false
 is_forced (Step what settings) = false
 is_forced (Debug what settings rude labels) = false

@@ -12,8 +12,8 @@ IsWithin limit = (1 ≤ limit.events) × (limit.events ≤ MOST_EVENTS)
 -- a run takes 1 to MOST_EVENTS events
 abbrev pub IsWithinLimit : Job → Type 0
 IsWithinLimit (Build source out seed fit notation beside force) = ⊤
-IsWithinLimit (Run what settings rude labels) = IsWithin settings.limit
-IsWithinLimit (Play what seed fit notation limit made screen force) = IsWithin limit
+IsWithinLimit (Run what settings rude labels strict) = IsWithin settings.limit
+IsWithinLimit (Play what seed fit notation limit made screen force strict) = IsWithin limit
 IsWithinLimit (Asm text out at force) = ⊤
 IsWithinLimit (Assemble text out at long labels listing force) = ⊤
 IsWithinLimit (Dis prg dialect) = ⊤

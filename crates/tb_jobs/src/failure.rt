@@ -33,6 +33,8 @@ pub enum Failure {
     SmallTerminal,
     /// A key file or a label file can't be read.
     ReadFault,
+    /// A seed is wanted that is made of the clock, and no clock can be read.
+    NoClock,
     /// A growth was refused.
     NoMemory,
 }
@@ -53,7 +55,7 @@ impl Failure {
             | Failure::NoTerminal
             | Failure::SmallTerminal => status::BAD_WORDS,
             Failure::BadLabels(_) => status::REFUSED,
-            Failure::ReadFault => status::FAULT,
+            Failure::ReadFault | Failure::NoClock => status::FAULT,
             Failure::NoMemory => status::NO_MEMORY,
         }
     }
@@ -95,6 +97,7 @@ impl fmt::Display for Failure {
             Failure::NoTerminal => f.write_str("tbc: not a terminal\n"),
             Failure::SmallTerminal => f.write_str("tbc: terminal smaller than 40 by 25\n"),
             Failure::ReadFault => f.write_str("tbc: read fault\n"),
+            Failure::NoClock => f.write_str("tbc: no clock\n"),
             Failure::NoMemory => f.write_str("tbc: out of memory\n"),
         }
     }
@@ -118,6 +121,7 @@ impl From<JobError> for Failure {
     fn from(error: JobError) -> Failure {
         match error {
             JobError::Words(text) => Failure::Words(text),
+            JobError::NoClock => Failure::NoClock,
             JobError::NoMemory => Failure::NoMemory,
         }
     }

@@ -137,6 +137,8 @@ pub enum Job {
         rude: Option<u16>,
         /// The label file that names addresses of a PRG file, if there is one.
         labels: Option<String>,
+        /// Whether a fault of the program has a status of its own.
+        strict: bool,
     },
     /// Plays a program: standard input is its keyboard.
     Play {
@@ -155,6 +157,8 @@ pub enum Job {
         screen: bool,
         /// Whether a file is replaced that looks like something else.
         force: bool,
+        /// Whether a fault of the program has a status of its own.
+        strict: bool,
     },
     /// Assembles a text, and writes a PRG file.
     Asm {
@@ -263,11 +267,21 @@ pub enum Job {
     },
 }
 
+/// What the words ask for.
+#[derive(Debug, Drop)]
+pub struct Asked {
+    pub job: Job,
+    /// Whether its seed is the clock's.
+    pub is_by_clock: bool,
+}
+
 /// Why there is no job.
 #[derive(Debug, Drop)]
 pub enum JobError {
     /// What the parser says of the words.
     Words(String),
+    /// The words ask for a seed that is made of the clock, and no clock can be read.
+    NoClock,
     /// A growth was refused.
     NoMemory,
 }

@@ -7,7 +7,7 @@ use Rattle.tb_engines.specs.Programs.{StartsContent, StartsPrg}
 use Rattle.tb_engines.specs.declared.delivery.NoText.{NoText}
 use Rattle.tb_engines.specs.declared.delivery.NoText.TheVariants.{Refused, NoMemory}
 use Rattle.tb_engines.specs.declared.outcome.Refusal.TheVariants.{Prg}
-use Rattle.tb_play.specs.Plays.{IsStart, IsStarted}
+use Rattle.tb_play.specs.Plays.{IsStarted}
 
 with_nothing : (file : List ℕ) (content : Result (ℕ × List ℕ) PrgError) (result : Result Content NoText) → content_of file ≡ content
     → StartsContent [] [] content result → IsStarted file result

@@ -16,7 +16,7 @@ use Rattle.tb_streams.specs.Streams.{AppendsPrefix}
 use Rattle.tb_streams.specs.Uses.{Use}
 use Rattle.tb_streams.specs.Lines.{TakesLine, TakesNothing, TakesPart}
 use Rattle.tb_play.specs.Lines.{most_typed, keys_of, typed_of, TakesLines, TakesSome}
-use Rattle.tb_play.specs.Talks.{Stretch, Talked, IsAfterLines, Comes, Stops, Plays, Writes, WritesBeforeReading, GoesOn, Hears, is_waiting, sent_since}
+use Rattle.tb_play.specs.Talks.{Stretch, Talked, IsAfterLines, Comes, Stops, Plays, Leaves, WritesBeforeReading, GoesOn, Hears, is_waiting, sent_since}
 use Rattle.tb_play.proofs.Sending.{stretch_sends}
 
 -- a stream's use
@@ -118,6 +118,26 @@ heard_wrong limit m w n lines NoMemory first read read' typed typed' had mid lef
 heard_wrong limit m w n lines (Ended end) first read read' typed typed' had mid left writer came written same sound h = absurd h
 heard_wrong limit m w n lines (Refused e) first read read' typed typed' had mid left writer came written same sound h = absurd h
 heard_wrong limit m w n lines WriteFault first read read' typed typed' had mid left writer came written same sound h = absurd h
+
+-- ---- the machine that is left
+
+-- nothing is said of it where the machine could not run on, or what it sent was not written whole
+pub left_running : (limit : ℕ) (m n w x : Content) (outcome : Outcome) (typed : List ℕ) (writer : Use)
+    → GoesOn limit n (Err outcome) w writer → Leaves limit m outcome typed x
+left_running limit m n w x WriteFault typed writer h = tt
+left_running limit m n w x NoMemory typed writer h = tt
+left_running limit m n w x (Ended end) typed writer h = absurd h
+left_running limit m n w x (Refused e) typed writer h = absurd h
+left_running limit m n w x ReadFault typed writer h = absurd h
+
+-- and where a line could not be read
+pub left_hearing : (limit : ℕ) (m n w x : Content) (outcome : Outcome) (before after typed : List ℕ) (keys : Use)
+    → Hears n before (Err outcome) w after keys → Leaves limit m outcome typed x
+left_hearing limit m n w x ReadFault before after typed keys h = tt
+left_hearing limit m n w x NoMemory before after typed keys h = tt
+left_hearing limit m n w x (Ended end) before after typed keys h = absurd h
+left_hearing limit m n w x (Refused e) before after typed keys h = absurd h
+left_hearing limit m n w x WriteFault before after typed keys h = absurd h
 
 -- ---- written before the next line is read
 

@@ -17,7 +17,7 @@ use Rattle.tb_engines.specs.declared.delivery.NoText.TheVariants.{Refused as NoT
 use Rattle.tb_engines.specs.declared.outcome.End.{End}
 use Rattle.tb_engines.specs.declared.outcome.End.TheVariants.{WaitsForKey}
 use Rattle.tb_streams.specs.declared.outcome.Outcome.TheVariants.{Ended, Refused, ReadFault, WriteFault, NoMemory}
-use Rattle.tb_play.specs.Talks.{gives_quiet, Plays, WritesBeforeReading}
+use Rattle.tb_play.specs.Talks.{gives_quiet, Leaves, Plays, WritesBeforeReading}
 use Rattle.tb_opcodes.specs.Bytes.{AreBytes}
 
 -- the settings of a run with a quiet ROM
@@ -59,6 +59,15 @@ PlaysFile limit file WriteFault typed keys writer =
 abbrev pub WritesFileBeforeReading : ℕ → List ℕ → Use → Use → Type 0
 WritesFileBeforeReading limit file keys writer =
     (keys.new ≡ keys.old) ⊎ ((m : Content) × IsStart file m × WritesBeforeReading limit m keys writer)
+
+-- the machine that is left where playing a PRG file ended: that to which its start machine came
+abbrev pub LeavesOfFile : ℕ → List ℕ → Outcome → List ℕ → Option Content → Type 0
+LeavesOfFile limit file (Ended end) typed (Some n) = (m : Content) × IsStart file m × Leaves limit m (Ended end) typed n
+LeavesOfFile limit file (Ended end) typed None = ⊥
+LeavesOfFile limit file (Refused e) typed left = Unit {0}
+LeavesOfFile limit file ReadFault typed left = Unit {0}
+LeavesOfFile limit file WriteFault typed left = Unit {0}
+LeavesOfFile limit file NoMemory typed left = Unit {0}
 
 -- ---- one run on all that was typed
 

@@ -78,6 +78,16 @@ Plays limit m NoMemory typed keys writer =
     ⊎ ((lines : List (List ℕ)) × (n : Content) × (mid : Option (List ℕ)) × (line : List ℕ)
     × Comes limit m lines Waits n keys.old mid × TakesPart mid line keys.new × Appends writer.old writer.new (host_form_of n.sent))
 
+-- the machine that playing leaves, where it ended: what was typed leads to it, and as it stands, so playing ended
+abbrev pub Leaves : ℕ → Content → Outcome → List ℕ → Content → Type 0
+Leaves limit m (Ended end) typed n =
+    (lines : List (List ℕ)) × (t : Status) × (had : Option (List ℕ)) × (left : Option (List ℕ))
+    × Comes limit m lines t n had left × (typed ≡ typed_of lines) × (end ≡ end_of t n.regs.pc)
+Leaves limit m (Refused e) typed n = ⊥
+Leaves limit m ReadFault typed n = Unit {0}
+Leaves limit m WriteFault typed n = Unit {0}
+Leaves limit m NoMemory typed n = Unit {0}
+
 -- a text was written, and perhaps more after it
 abbrev pub Writes : Use → List ℕ → Type 0
 Writes writer text = (more : List ℕ) × Appends writer.old writer.new (text ++ more)

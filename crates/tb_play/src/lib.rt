@@ -9,6 +9,7 @@
 //!   (`written_first`).
 //! - What was written is the host form of one run from the start whose keyboard text is all that was typed (`whole`).
 //!   So the output clause of `run_prg` holds of it.
+//! - `play_to_end` is the same, and leaves the machine: where playing ended, that to which what was typed led (`left`).
 //! - At most 1,048,576 bytes are handed over (`within`). A read fault comes only if the reader failed or a line was
 //!   read that hands over too many.
 //! - `play` is the same for a machine.
@@ -18,6 +19,6 @@ mod files;
 mod lines;
 mod talk;
 
-pub use files::play_file;
+pub use files::{PlayedFile, play_file, play_to_end};
 pub use lines::{MOST_TYPED, keys_of_text};
 pub use talk::{Played, play};

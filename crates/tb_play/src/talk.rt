@@ -1,7 +1,7 @@
 //! A machine that is talked to.
 ghost use Rattle.std.specs.Prelude.{◌≡◌, ◌≤◌, [], IfOk, drop, length, vec_len};
 ghost use Rattle.tb_streams.specs.Uses.{use_of};
-ghost use Rattle.tb_play.specs.Talks.{is_waiting, GoesOn, Hears, Plays, WritesBeforeReading};
+ghost use Rattle.tb_play.specs.Talks.{is_waiting, GoesOn, Hears, Leaves, Plays, WritesBeforeReading};
 ghost use Rattle.tb_play.specs.Plays.{PlayFaults, Records};
 ghost use Rattle.tb_play.specs.Lines.{most_typed};
 
@@ -101,6 +101,7 @@ fn talk<R: Read, W: Write>(
         (use_of R.remaining keys.old keys.new) (use_of W.contents writer.old writer.new) }
     ensures written_first { WritesBeforeReading limit machine.old
         (use_of R.remaining keys.old keys.new) (use_of W.contents writer.old writer.new) }
+    ensures left { Leaves limit machine.old result typed.new.items machine.new }
     ensures within { vec_len typed.new ≤ most_typed }
     ensures faults { PlayFaults result (use_of R.remaining keys.old keys.new) (use_of W.contents writer.old writer.new) }
 {
@@ -138,6 +139,7 @@ pub fn play<R: Read, W: Write>(
         (use_of R.remaining keys.old keys.new) (use_of W.contents writer.old writer.new) }
     ensures written_first { WritesBeforeReading limit machine.old
         (use_of R.remaining keys.old keys.new) (use_of W.contents writer.old writer.new) }
+    ensures left { Leaves limit machine.old result.outcome result.typed.items machine.new }
     ensures within { vec_len result.typed ≤ most_typed }
     ensures faults { PlayFaults result.outcome (use_of R.remaining keys.old keys.new) (use_of W.contents writer.old writer.new) }
 {

@@ -1,8 +1,8 @@
 //! The commands that run, play, step through, profile and debug a program, over the files of the system and the
 //! standard streams.
 //!
-//! All is safe and total. Which file is opened and which engine is called only tests show
-//! (`tools/try/command_line.sh`).
+//! All is safe and total. `Ran::status` is that of a run's outcome, but of a strict run that of a fault, if one is told
+//! (`specs/Statuses`). Which file is opened and which engine is called only tests show (`tools/try/command_line.sh`).
 #![tactic(auto)]
 
 mod debugging;

@@ -1,15 +1,17 @@
 //! Playing: standard input is the keyboard, and standard output shows what the program sends.
+use crate::running::Ran;
+use std::alloc::AllocError;
 use std::env::VarError;
 use std::rt::{Env, Files};
 use std::{env, io};
 use tb_compiled::CompileSettings;
-use tb_engines::Outcome;
+use tb_engines::{Outcome, Report};
 use tb_file_engine::{opened, save};
 use tb_host::{Host, read_warned};
 use tb_jobs::{Failure, Runnable, room_for_screen};
 use tb_play::{Played, play_file};
 use tb_screen_play::play_file_on_screen;
-use tb_sources::play_compiled;
+use tb_sources::{EndNote, NotedPlay, NotedRun, play_noted};
 use tb_streams::{Tracked, read_input};
 
 /// How a program is played.
@@ -22,6 +24,8 @@ pub struct Playing<'a> {
     pub record: Option<&'a str>,
     /// Whether the machine's screen is shown, in place of the host form of what is sent.
     pub screen: bool,
+    /// Whether a fault has a status of its own.
+    pub is_strict: bool,
 }
 
 /// Plays a source or a PRG file, and records what was typed in a key file, where that is wanted.
@@ -29,19 +33,50 @@ pub fn play<R: Files + Env + Print + Eprint + Input + AllocGlobal>(
     host: &mut Host<'_, R>,
     what: &Runnable,
     playing: Playing<'_>,
-) -> Result<Outcome, Failure> {
+) -> Result<Ran, Failure> {
     if playing.screen {
         look_at_terminal(host)?;
     }
     let played = match what {
         Runnable::Source(source) => play_source(host, source.as_str(), playing),
-        Runnable::Prg(prg) => play_prg(host, prg.as_str(), playing),
+        Runnable::Prg(prg) => play_prg(host, prg.as_str(), playing).map(unnoted),
     };
-    Ok(match (played, playing.record) {
-        (Err(outcome), _) => outcome,
-        (Ok(played), Some(path)) => write_record(host, path, &played),
-        (Ok(played), None) => played.outcome,
-    })
+    let (outcome, note) = match played {
+        Ok(NotedPlay { played, note }) => {
+            let outcome = match playing.record {
+                Some(path) => write_record(host, path, &played),
+                None => played.outcome,
+            };
+            ended(outcome, note, playing.is_strict)
+        }
+        Err(outcome) => (outcome, None),
+    };
+    Ok(Ran::Source(NotedRun {
+        report: Report::new(host.rt.alloc(), outcome),
+        note,
+    }))
+}
+
+// Of a machine that was played without a source nothing is told.
+fn unnoted(played: Played) -> NotedPlay {
+    NotedPlay {
+        played,
+        note: Ok(None),
+    }
+}
+
+// How playing ended, and by which fault. A player needs no other note. If nobody knows whether there was a fault, a strict
+// run is out of memory.
+fn ended(
+    outcome: Outcome,
+    note: Result<Option<EndNote>, AllocError>,
+    is_strict: bool,
+) -> (Outcome, Option<EndNote>) {
+    match (outcome, note) {
+        (Outcome::Ended(_), Ok(Some(note @ EndNote::Fault(_)))) => (outcome, Some(note)),
+        (Outcome::Ended(_), Err(_)) if is_strict => (Outcome::NoMemory, None),
+        _ => (outcome, None),
+    }
 }
 
 // Whether the machine's screen can be shown. The size of the terminal is what the environment tells of it.
@@ -65,16 +100,15 @@ fn play_source<R: Files + Print + Eprint + Input + AllocGlobal>(
     host: &mut Host<'_, R>,
     path: &str,
     playing: Playing<'_>,
-) -> Result<Played, Outcome> {
+) -> Result<NotedPlay, Outcome> {
     let rt = host.rt;
-    let source = read_warned(host, path, playing.settings)?;
-    let file = source.program.prg();
+    let program = read_warned(host, path, playing.settings)?.program;
     if playing.screen {
-        return Ok(shown(rt, file, playing.limit));
+        return Ok(unnoted(shown(rt, program.prg(), playing.limit)));
     }
     let mut keys = Tracked::new(rt.reader());
     let mut writer = Tracked::new(io::writer(rt));
-    Ok(play_compiled(rt.alloc(), file, &mut keys, &mut writer, playing.limit))
+    Ok(play_noted(rt.alloc(), &program, &mut keys, &mut writer, playing.limit))
 }
 
 fn play_prg<R: Files + Print + Input + AllocGlobal>(

@@ -1,4 +1,7 @@
 //! Running and stepping: standard output shows what a program sends, or answers the commands of standard input.
+ghost use Rattle.std.specs.Prelude.{◌≡◌};
+ghost use Rattle.tb_run_commands.specs.Statuses.{status_of_ran};
+
 use std::io;
 use std::rt::Files;
 use std::time::Clock;
@@ -9,16 +12,29 @@ use tb_host::{Host, Progress, keyboard, labels_in, named_place, settings_of};
 use tb_jobs::{Failure, Runnable, Settings};
 use tb_kernal::{Keyboard, Outside, Quiet, Rude};
 use tb_labels::Label;
-use tb_sources::{NotedRun, run_noted, step_prg, step_within};
+use tb_sources::{NotedRun, run_noted, step_prg, step_within, strict_status};
 use tb_streams::Tracked;
 
 /// How a run ended.
 #[derive(Debug, Drop)]
 pub enum Ran {
-    /// Of a source, with what its machine told at the end.
+    /// Of a source that was run or played, with what its machine told at the end.
     Source(NotedRun),
     /// Of a PRG file, and the name of the place where it stopped, if it has one; or of what could not be opened.
     Plain(Outcome, Option<String>),
+}
+
+impl Ran {
+    /// The exit status of the program. In a strict run a fault has its own.
+    pub fn status(&self, is_strict: bool) -> u8
+        ensures { result ≡ status_of_ran is_strict self.now }
+    {
+        match self {
+            Ran::Source(run) if is_strict => strict_status(run.report.outcome, run.note),
+            Ran::Source(run) => run.report.status(),
+            Ran::Plain(outcome, _) => outcome.status(),
+        }
+    }
 }
 
 /// Runs a source, or a PRG file with a label file, beside a rude ROM if one is asked for.

@@ -1,5 +1,5 @@
 -- What is told of the run of a source.
-use Rattle.std.proofs.Common.{◌≡◌, List, Option, Some, None, Result, Ok, Err, IfOk, option_map, refl, subst, sym}
+use Rattle.std.proofs.Common.{◌≡◌, List, Option, Some, None, Result, Ok, Err, IfOk, ◌⊎◌, inl, inr, option_map, refl, subst, sym}
 use Rattle.tb_kernal.specs.Machine.{Content, state_of, status}
 use Rattle.tb_watch.specs.Hearing.{Hearing}
 use Rattle.tb_compiled.specs.Compiled.{prg_of}
@@ -12,6 +12,7 @@ use Rattle.tb_engines.specs.Ends.{ByOutcome, ByText, RunsTo}
 use Rattle.tb_engines.specs.Outcomes.{Failure}
 use Rattle.tb_engines.specs.Programs.{Settings, StartsPrg}
 use Rattle.tb_engines.specs.declared.delivery.NoText.{NoText}
+use Rattle.tb_engines.specs.declared.delivery.NoText.TheVariants.{NoMemory as NoTextNoMemory}
 use Rattle.tb_engines.specs.declared.delivery.Text.{Text}
 use Rattle.tb_engines.specs.declared.report.Report.{Report}
 use Rattle.tb_engines.proofs.Ran.{by_text}
@@ -29,10 +30,16 @@ pub untold_fault : (f : Option FaultOfRun) → IsTold (option_map Fault f) None
 untold_fault None = refl
 untold_fault (Some f) = tt
 
+-- what holds of what was made, and where memory is short, holds of that or of want of memory
+pub kept_or_lost : (P : Result Text NoText → Type 0) (made left : Result Text NoText) → P (Err NoTextNoMemory)
+    → (left ≡ made) ⊎ (left ≡ Err NoTextNoMemory) → P made → P left
+kept_or_lost P made left none (inl same) h = subst P (sym same) h
+kept_or_lost P made left none (inr lost) h = subst P (sym lost) none
+
 -- what the machine tells after its run is told of the run
 pub notes_end : {O W : Type 0} (s : Settings O) (watch : Hearing W) (program : Compiled) (m n : Content) (made : Result Text NoText) (note : Option EndNote)
     → StartsPrg s.text s.answers (prg_of program) (Ok m) → IfOk made (λ text. RunsTo s.gives s.outside s.limit watch m text.end n)
-    → ByText (λ end told. IsTold (end_note program (status (state_of n)) n) told) made note → ByText (TellsEnd s watch program) made note
+    → ByText (λ end told. told ≡ end_note program (status (state_of n)) n) made note → ByText (TellsEnd s watch program) made note
 notes_end s watch program m n (Ok text) said started ran told = (n, (m, started, ran), told)
 notes_end s watch program m n (Err stop) said started ran none = none
 

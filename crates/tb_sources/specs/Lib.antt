@@ -13,3 +13,7 @@ pub mod Faults
 pub mod Notes
 -- a run with what its machine tells
 pub mod Runs
+-- what is told of a program that is played
+pub mod Playing
+-- the exit status of a strict run
+pub mod Strictness

@@ -16,12 +16,14 @@
 //!   what the compiler answers.
 //! - `run_noted`, of which `run_within` is an instance, also tells how the run ended: the line that was running, the line
 //!   that called the running routine, or the fault that was sent last (`TellsSource`, `end_note`). It is told wherever
-//!   the run's text was written; only a fault's note may be lacking, for want of memory (`IsTold`).
+//!   the run's text was written.
 //! - `step_within` writes the answers to its commands over the history that begins with that PRG's start machine. It
 //!   reads the commands to their end, even if the source is refused. `step_prg` does so for any PRG file that lies in
 //!   RAM, with no source, and refuses any other (`StepsPrg`).
 //! - `play_compiled` plays the program that `read_source` answers. What was written is the source's output on what was
-//!   typed (`output`): all of it if the program returned or waits, and a prefix at the limit.
+//!   typed (`output`): all of it if the program returned or waits, and a prefix at the limit. `play_noted` also tells how
+//!   the program ended, as `run_noted` does (`TellsPlay`), but for want of memory.
+//! - `strict_status` is the exit status 8 where a fault is told, and else that of the outcome (`specs/Strictness`).
 //! - `bytes_to_fit` answers how many bytes a source takes that compiles where the memory is the limit (`FitsWith`).
 #![tactic(auto)]
 
@@ -35,13 +37,15 @@ mod runs;
 mod sources;
 mod starting;
 mod stepping;
+mod strictness;
 
 pub use faults::Fault;
 pub use fitting::bytes_to_fit;
 pub use notes::{EndNote, end_note};
-pub use playing::play_compiled;
+pub use playing::{NotedPlay, play_compiled, play_noted};
 pub use reading::{CompiledSource, compile_source, read_source, refusals_are_answers, stop_of};
 pub use runs::{NotedRun, run_noted, run_within};
 pub use sources::{are_bytes, build_within};
 pub use starting::start_program;
 pub use stepping::{step_prg, step_within};
+pub use strictness::{FAULTED, faulted_is_number, strict_status};

@@ -1,5 +1,5 @@
 //! Running a source, with what the machine tells at the end.
-ghost use Rattle.std.specs.Prelude.{ℕ, List};
+ghost use Rattle.std.specs.Prelude.{ℕ, ◌≡◌, ◌⊎◌, Err, List};
 ghost use Rattle.tb_kernal.specs.Machine.{state_of, status};
 ghost use Rattle.tb_watch.specs.Hearing.{hearing_of};
 ghost use Rattle.tb_streams.specs.Uses.{use_of, TakesInput};
@@ -11,7 +11,8 @@ ghost use Rattle.tb_compiled.specs.Compiled.{prg_of};
 ghost use Rattle.tb_compiled.specs.declared.settings.CompileSettings.{CompileSettings};
 ghost use Rattle.tb_sources.specs.Sources.{RunsText, WarnsOfRead};
 ghost use Rattle.tb_sources.specs.Output.{KeepsSource, RunsKept, RunsSource};
-ghost use Rattle.tb_sources.specs.Notes.{IsTold, end_note};
+ghost use Rattle.tb_sources.specs.Notes.{end_note};
+ghost use Rattle.tb_engines.specs.declared.delivery.NoText.TheVariants.{NoMemory};
 ghost use Rattle.tb_sources.specs.Runs.{TellsEnd, TellsSource};
 
 use crate::notes::{EndNote, end_note};
@@ -60,22 +61,36 @@ fn run_program<O: Outside, W: Watch>(
         },
     };
     let made = run_machine(alloc, &mut machine, limit, outside, watch);
-    let note = note_after(alloc, &made, &machine, program);
-    Ran { made, note }
+    with_note(alloc, made, &machine, program)
 }
 
-// What a machine tells after its run, unless memory ran out.
-fn note_after(
+// What was made, with what the machine tells after its run. Nothing was made if it can't be told for want of memory: so
+// no fault goes untold.
+fn with_note(
     alloc: Global,
-    made: &Result<Text, NoText>,
+    made: Result<Text, NoText>,
     machine: &Machine,
     program: &Compiled,
-) -> Option<EndNote>
-    ensures { ByText (λ _ note. IsTold (end_note program.now (status (state_of machine.now)) machine.now) note) made.now result }
+) -> Ran
+    ensures made { (result.made ≡ made) ⊎ (result.made ≡ Err NoMemory) }
+    ensures note { ByText (λ _ note. note ≡ end_note program.now (status (state_of machine.now)) machine.now) result.made result.note }
 {
-    match made {
-        Ok(_) => end_note(alloc, machine, program).unwrap_or(None),
-        Err(_) => None,
+    let text = match made {
+        Ok(text) => text,
+        Err(stop) => return Ran {
+            made: Err(stop),
+            note: None,
+        },
+    };
+    match end_note(alloc, machine, program) {
+        Ok(note) => Ran {
+            made: Ok(text),
+            note,
+        },
+        Err(_) => Ran {
+            made: Err(NoText::NoMemory),
+            note: None,
+        },
     }
 }
 

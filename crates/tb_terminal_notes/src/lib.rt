@@ -9,8 +9,10 @@ mod labels;
 mod outcomes;
 mod refusals;
 mod saying;
+mod seeds;
 
 pub use files::{clash, file_note, noted_sources};
 pub use labels::{note_labels, note_place};
 pub use outcomes::{note_disk, note_outcome};
 pub use saying::say;
+pub use seeds::note_seed;

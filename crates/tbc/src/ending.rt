@@ -34,13 +34,11 @@ pub enum Ending {
 }
 
 impl Ending {
-    /// The exit status of the program.
-    pub fn status(&self) -> u8 {
+    /// The exit status of the program. In a strict run a fault has its own.
+    pub fn status(&self, is_strict: bool) -> u8 {
         match self {
-            Ending::Report(report) | Ending::Run(Ran::Source(NotedRun { report, .. })) => {
-                report.status()
-            }
-            Ending::Run(Ran::Plain(outcome, _)) => outcome.status(),
+            Ending::Report(report) => report.status(),
+            Ending::Run(ran) => ran.status(is_strict),
             Ending::Disk(outcome) => outcome.status(),
             Ending::Check(outcome) => outcome.status(),
             Ending::Format(outcome) => outcome.status(),

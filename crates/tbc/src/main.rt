@@ -12,14 +12,14 @@ mod tasks;
 
 use ending::Ending;
 use hinting::hint;
-use noting::note;
+use noting::{note, note_after, note_before};
 use std::io::IsTerminal;
 use std::process::ExitCode;
 use std::rt::{Env, Files};
 use std::time::Clock;
 use std::{env, io};
-use tb_command_line::{Failure, Job, job};
-use tb_host::Host;
+use tb_command_line::{Asked, Failure, job};
+use tb_host::{Host, drawn_seed};
 
 // The words after the program's own name.
 pub fn words<R: Env + AllocGlobal>(rt: &R) -> Result<Vec<String>, Failure> {
@@ -30,8 +30,9 @@ pub fn words<R: Env + AllocGlobal>(rt: &R) -> Result<Vec<String>, Failure> {
     }
 }
 
-fn job_of_words<R: Env + AllocGlobal>(rt: &R) -> Result<Job, Failure> {
-    Ok(job(rt.alloc(), words(rt)?.as_slice())?)
+fn job_of_words<R: Env + Clock + AllocGlobal>(rt: &R) -> Result<Asked, Failure> {
+    let words = words(rt)?;
+    Ok(job(rt.alloc(), words.as_slice(), drawn_seed(rt))?)
 }
 
 // Which of the standard streams are terminals.
@@ -48,15 +49,20 @@ fn start<R: Files + Env + Clock + Print + Eprint + Input + AllocGlobal>(
     terminals: Terminals,
 ) -> u8 {
     let notes = terminals.errors;
-    let job = match job_of_words(rt) {
-        Ok(job) => job,
+    let asked = match job_of_words(rt) {
+        Ok(asked) => asked,
         Err(failure) => return refused(rt, failure, notes),
     };
+    let job = &asked.job;
     let mut host = Host::new(rt, notes, terminals.output);
-    let done = tasks::perform(&mut host, &job, terminals.input && terminals.output);
-    let status = told(rt, &done);
     if notes {
-        note(&mut host, &job, &done);
+        note_before(rt, &asked);
+    }
+    let done = tasks::perform(&mut host, job, terminals.input && terminals.output);
+    let status = told(rt, &done, job.is_strict());
+    if notes {
+        note(&mut host, job, &done);
+        note_after(rt, &asked);
     }
     status
 }
@@ -71,11 +77,11 @@ fn refused<R: Env + Eprint + AllocGlobal>(rt: &R, failure: Failure, notes: bool)
 }
 
 // Says how a job ended. Nobody can be told that standard error fails.
-fn told<R: Eprint>(rt: &R, done: &Result<Ending, Failure>) -> u8 {
+fn told<R: Eprint>(rt: &R, done: &Result<Ending, Failure>, is_strict: bool) -> u8 {
     match done {
         Ok(ending) => {
             let _ = eprint!(rt; "{ending}");
-            ending.status()
+            ending.status(is_strict)
         }
         Err(failure) => {
             let _ = eprint!(rt; "{failure}");

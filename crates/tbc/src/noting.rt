@@ -3,14 +3,34 @@ use crate::ending::Ending;
 use std::rt::Files;
 use tb_assembly_engine::TextOutcome;
 use tb_check_engine::CheckOutcome;
-use tb_command_line::{Failure, Job};
+use tb_command_line::{Asked, Failure, Job};
 use tb_engines::Outcome;
 use tb_file_engine::{FormatOutcome, RenumberOutcome, RenumberRefusal};
 use tb_host::Host;
 use tb_run_commands::Ran;
 use tb_terminal_notes::{
-    clash, file_note, note_disk, note_labels, note_outcome, note_place, noted_sources, say,
+    clash, file_note, note_disk, note_labels, note_outcome, note_place, note_seed, noted_sources,
+    say,
 };
+
+/// Says by which seed a job is done, if that is the clock's, before it is done. What `play --screen` shows is drawn over
+/// that.
+pub fn note_before<R: Eprint>(rt: &R, asked: &Asked) {
+    if asked.is_by_clock && !is_on_screen(&asked.job) {
+        note_seed(rt, &asked.job);
+    }
+}
+
+/// Says by which seed a game was played on the screen, if that was the clock's.
+pub fn note_after<R: Eprint>(rt: &R, asked: &Asked) {
+    if asked.is_by_clock && is_on_screen(&asked.job) {
+        note_seed(rt, &asked.job);
+    }
+}
+
+fn is_on_screen(job: &Job) -> bool {
+    matches!(job, Job::Play { screen: true, .. })
+}
 
 /// Says what helps with how a job ended.
 pub fn note<R: Files + Print + Eprint + Input + AllocGlobal>(

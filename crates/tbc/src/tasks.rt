@@ -43,6 +43,7 @@ fn run_job<R: Files + Env + Clock + Print + Eprint + Input + AllocGlobal>(
             settings,
             rude,
             labels,
+            ..
         } => Ending::Run(run(host, what, settings, *rude, name_of(labels))?),
         Job::Play {
             what,
@@ -52,6 +53,7 @@ fn run_job<R: Files + Env + Clock + Print + Eprint + Input + AllocGlobal>(
             limit,
             record,
             screen,
+            strict,
             ..
         } => {
             let playing = Playing {
@@ -59,9 +61,9 @@ fn run_job<R: Files + Env + Clock + Print + Eprint + Input + AllocGlobal>(
                 limit: u64::from(limit.events),
                 record: name_of(record),
                 screen: *screen,
+                is_strict: *strict,
             };
-            let outcome = play(host, what, playing)?;
-            plain_ending(host.rt, outcome)
+            Ending::Run(play(host, what, playing)?)
         }
         Job::Profile {
             what,

@@ -148,6 +148,18 @@ file part.bas '10 A=0\n20 PRINT 1/A\n'
 row 0 '' $'\n!2 AT 20\ntbc: note: fault 2 at line 20: a divisor is 0' run part.bas
 file alike.bas '10 PRINT "!2 AT 10"\n20 END\n'
 row 0 '' '!2 AT 10' run alike.bas
+row 0 '' '!2 AT 10' play alike.bas
+row 0 '' $'\n!2 AT 20\ntbc: note: fault 2 at line 20: a divisor is 0' play part.bas
+row 8 '' $'\n!2 AT 20\ntbc: note: fault 2 at line 20: a divisor is 0' play part.bas --strict
+row 8 '' $'\n!2 AT 20\ntbc: note: fault 2 at line 20: a divisor is 0' run part.bas --strict
+row 0 '' $'tbc: note: the seed is *; --seed * gives the same again\nHELLO' play hello.bas --seed time
+row 0 '' H run --prg routine.prg --seed time
+row 0 '' HELLO run hello.bas --seed 4711
+# The seed that is told gives the same again
+file drawn.bas '10 PRINT RND(32766)\n20 END\n'
+row 0 '' $'tbc: note: the seed is *' run drawn.bas --seed time
+seed=$(sed -n 's/.*the seed is \([0-9]*\);.*/\1/p' shown)
+row 0 '' "$(tail -n 1 shown)" run drawn.bas --seed "$seed"
 operands='operands are $05, $1234, NAME (with ,X or ,Y), #$05, #<NAME, #>NAME, ($05,X), ($05),Y and ($1234)'
 asm_noted() { # ERROR PLACE TEXT LINE COLUMN CONTENTS: a text that is not assembled; COLUMN is empty where no place is shown
     local number=${2%%:*} block

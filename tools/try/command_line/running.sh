@@ -79,6 +79,44 @@ rest 'A\n? \n14\n\n!7 AT 30\n8\n9' '7\n8\n9' wait.bas
 rest 'Qrest\n' 'q\r\nrest\n' --prg once.prg
 rest 'HELLO\nall\n' 'all\n' hello.bas
 
+# Strict runs: a fault has a status of its own, and nothing else is another one
+file slip.bas '10 FOR I=1 TO 10\n'
+strict_runs() { # WORD..: rows of `run` and `play`, strict
+    row 0 '' HELLO "$@" hello.bas
+    row 8 '' $'\n!2 AT 20' "$@" part.bas
+    row 0 '' '!2 AT 10' "$@" alike.bas
+    row 5 'tbc: step limit' A "$@" forever.bas --limit 5000
+    row 6 'tbc: waits for a key' $'A\n\\? ' "$@" wait.bas
+    row 8 'tbc: warning: line 20: no line 30' $'A\n\n!1 AT 20' "$@" warn.bas
+    row 3 'tbc: read fault' '' "$@" nowhere.bas
+    row 1 'tbc: 1:4: syntax' '' "$@" slip.bas
+    row 2 'error: *' '' "$@" --prg routine.prg
+    to=/dev/full
+    row 3 'tbc: write fault' '' "$@" part.bas
+    to=shown
+}
+strict_runs run --strict
+strict_runs play --strict
+row 8 '' $'A\n? \n42\n\n!7 AT 30' run --strict wait.bas --type '21\n'
+row 8 '' $'\n!0 AT 10' run --strict hello.bas --answers 03
+row 8 '' $'\n!2 AT 20' run --strict part.bas --rude 7
+file typed 'x\ny\n'
+from=typed
+row 8 '' $'\\? \n!6 AT 10' play --strict double.bas --record out.keys
+holds out.keys '580d\n'
+row 3 'tbc: write fault' $'\\? \n!6 AT 10' play --strict double.bas --record folder
+from=/dev/null
+row 2 'error: *' '' play --strict --screen hello.bas
+for word in build step debug profile check; do row 2 'error: *' '' $word hello.bas --strict; done
+
+# A seed by the clock; without a terminal nothing is said of it
+row 0 '' 'FAR*' run far.bas --seed time
+row 0 '' 'FAR*' play far.bas --seed=time
+row 0 '' '' build hello.bas out.prg --seed time
+row 0 '' H run --prg routine.prg --seed time
+row 2 "error: invalid value 'noon' for '--seed <N>': not 0 to 65535, and not time*" '' run hello.bas --seed noon
+row 2 "error: invalid value '65536' for '--seed <N>': not 0 to 65535, and not time*" '' play hello.bas --seed 65536
+
 # The machine's screen is shown at a terminal alone (tools/try/screen_play.py); no file is opened before that is known
 row 2 'tbc: not a terminal' '' play --screen hello.bas
 row 2 'tbc: not a terminal' '' play nowhere.bas --screen --record nowhere/out.keys

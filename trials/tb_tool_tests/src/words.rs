@@ -3,6 +3,9 @@ use std::alloc::Global;
 use std::test::Fail;
 use tb_command_line::{Failure, job, room_for_screen};
 
+/// The seed that the clock gives.
+const CLOCK: u16 = 4711;
+
 /// Words, and the job that they become.
 static JOBS: [(&[&str], &str); 28] = [
     (
@@ -49,7 +52,7 @@ static JOBS: [(&[&str], &str); 28] = [
     ),
     (
         &["run", "a"],
-        "Ok(Run { what: Source(\"a\"), settings: Settings { seed: 1, fit: false, notation: Plain, keys: Digits(\"\"), answers: \"\", limit: Limit { events: 10000000 } }, rude: None, labels: None })",
+        "Ok(Run { what: Source(\"a\"), settings: Settings { seed: 1, fit: false, notation: Plain, keys: Digits(\"\"), answers: \"\", limit: Limit { events: 10000000 } }, rude: None, labels: None, strict: false })",
     ),
     (
         &[
@@ -63,37 +66,37 @@ static JOBS: [(&[&str], &str); 28] = [
             "--rude",
             "65535",
         ],
-        "Ok(Run { what: Source(\"a\"), settings: Settings { seed: 1, fit: false, notation: Plain, keys: Digits(\"330d\"), answers: \"00\", limit: Limit { events: 1000000000 } }, rude: Some(65535), labels: None })",
+        "Ok(Run { what: Source(\"a\"), settings: Settings { seed: 1, fit: false, notation: Plain, keys: Digits(\"330d\"), answers: \"00\", limit: Limit { events: 1000000000 } }, rude: Some(65535), labels: None, strict: false })",
     ),
     (
         &["run", "--prg", "p", "--seed", "0", "--limit", "1"],
-        "Ok(Run { what: Prg(\"p\"), settings: Settings { seed: 0, fit: false, notation: Plain, keys: Digits(\"\"), answers: \"\", limit: Limit { events: 1 } }, rude: None, labels: None })",
+        "Ok(Run { what: Prg(\"p\"), settings: Settings { seed: 0, fit: false, notation: Plain, keys: Digits(\"\"), answers: \"\", limit: Limit { events: 1 } }, rude: None, labels: None, strict: false })",
     ),
     (
         &["run", "--prg", "p", "--labels", "v"],
-        "Ok(Run { what: Prg(\"p\"), settings: Settings { seed: 1, fit: false, notation: Plain, keys: Digits(\"\"), answers: \"\", limit: Limit { events: 10000000 } }, rude: None, labels: Some(\"v\") })",
+        "Ok(Run { what: Prg(\"p\"), settings: Settings { seed: 1, fit: false, notation: Plain, keys: Digits(\"\"), answers: \"\", limit: Limit { events: 10000000 } }, rude: None, labels: Some(\"v\"), strict: false })",
     ),
     (
         &["run", "a", "--keys-file", "k", "--answers", "03"],
-        "Ok(Run { what: Source(\"a\"), settings: Settings { seed: 1, fit: false, notation: Plain, keys: File(\"k\"), answers: \"03\", limit: Limit { events: 10000000 } }, rude: None, labels: None })",
+        "Ok(Run { what: Source(\"a\"), settings: Settings { seed: 1, fit: false, notation: Plain, keys: File(\"k\"), answers: \"03\", limit: Limit { events: 10000000 } }, rude: None, labels: None, strict: false })",
     ),
     (
         &["play", "a"],
-        "Ok(Play { what: Source(\"a\"), seed: 1, fit: false, notation: Plain, limit: Limit { events: 1000000000 }, record: None, screen: false, force: false })",
+        "Ok(Play { what: Source(\"a\"), seed: 1, fit: false, notation: Plain, limit: Limit { events: 1000000000 }, record: None, screen: false, force: false, strict: false })",
     ),
     (
         &[
             "play", "--prg=p", "--seed", "9", "--limit", "5", "--record", "r",
         ],
-        "Ok(Play { what: Prg(\"p\"), seed: 9, fit: false, notation: Plain, limit: Limit { events: 5 }, record: Some(\"r\"), screen: false, force: false })",
+        "Ok(Play { what: Prg(\"p\"), seed: 9, fit: false, notation: Plain, limit: Limit { events: 5 }, record: Some(\"r\"), screen: false, force: false, strict: false })",
     ),
     (
         &["play", "a", "--fit"],
-        "Ok(Play { what: Source(\"a\"), seed: 1, fit: true, notation: Plain, limit: Limit { events: 1000000000 }, record: None, screen: false, force: false })",
+        "Ok(Play { what: Source(\"a\"), seed: 1, fit: true, notation: Plain, limit: Limit { events: 1000000000 }, record: None, screen: false, force: false, strict: false })",
     ),
     (
         &["play", "--screen", "a"],
-        "Ok(Play { what: Source(\"a\"), seed: 1, fit: false, notation: Plain, limit: Limit { events: 1000000000 }, record: None, screen: true, force: false })",
+        "Ok(Play { what: Source(\"a\"), seed: 1, fit: false, notation: Plain, limit: Limit { events: 1000000000 }, record: None, screen: true, force: false, strict: false })",
     ),
     (
         &["asm", "a", "b", "--at", "c00"],
@@ -125,11 +128,11 @@ static JOBS: [(&[&str], &str); 28] = [
     ),
     (
         &["run", "a", "--petscii", "--fit"],
-        "Ok(Run { what: Source(\"a\"), settings: Settings { seed: 1, fit: true, notation: Signs, keys: Digits(\"\"), answers: \"\", limit: Limit { events: 10000000 } }, rude: None, labels: None })",
+        "Ok(Run { what: Source(\"a\"), settings: Settings { seed: 1, fit: true, notation: Signs, keys: Digits(\"\"), answers: \"\", limit: Limit { events: 10000000 } }, rude: None, labels: None, strict: false })",
     ),
     (
         &["play", "a", "--petscii", "--screen"],
-        "Ok(Play { what: Source(\"a\"), seed: 1, fit: false, notation: Signs, limit: Limit { events: 1000000000 }, record: None, screen: true, force: false })",
+        "Ok(Play { what: Source(\"a\"), seed: 1, fit: false, notation: Signs, limit: Limit { events: 1000000000 }, record: None, screen: true, force: false, strict: false })",
     ),
 ];
 
@@ -316,8 +319,41 @@ static TOOL_JOBS: [(&[&str], &str); 39] = [
     ),
 ];
 
+/// Words of scripts: the clock's seed, and runs that tell of faults.
+static SCRIPT_JOBS: [(&[&str], &str); 5] = [
+    (
+        &["run", "a", "--seed", "time"],
+        "Ok(Run { what: Source(\"a\"), settings: Settings { seed: 4711, fit: false, notation: Plain, keys: Digits(\"\"), answers: \"\", limit: Limit { events: 10000000 } }, rude: None, labels: None, strict: false })",
+    ),
+    (
+        &["build", "a", "b", "--seed=time"],
+        "Ok(Build { source: \"a\", out: \"b\", seed: 4711, fit: false, notation: Plain, beside: BuildExtras { labels: None, listing: None, dialect: None, map: None, watch: None }, force: false })",
+    ),
+    (
+        &["step", "a", "--seed", "time"],
+        "Ok(Step { what: Source(\"a\"), settings: Settings { seed: 4711, fit: false, notation: Plain, keys: Digits(\"\"), answers: \"\", limit: Limit { events: 10000000 } } })",
+    ),
+    (
+        &["run", "--strict", "a", "--seed", "0"],
+        "Ok(Run { what: Source(\"a\"), settings: Settings { seed: 0, fit: false, notation: Plain, keys: Digits(\"\"), answers: \"\", limit: Limit { events: 10000000 } }, rude: None, labels: None, strict: true })",
+    ),
+    (
+        &["play", "a", "--strict", "--seed", "time"],
+        "Ok(Play { what: Source(\"a\"), seed: 4711, fit: false, notation: Plain, limit: Limit { events: 1000000000 }, record: None, screen: false, force: false, strict: true })",
+    ),
+];
+
 /// Words that are refused.
-static REFUSED: [&[&str]; 55] = [
+static REFUSED: [&[&str]; 64] = [
+    &["run", "a", "--seed", "noon"],
+    &["run", "a", "--seed", "TIME"],
+    &["run", "a", "--seed", ""],
+    &["play", "a", "--rude", "time"],
+    &["run", "--prg", "p", "--strict"],
+    &["play", "--prg", "p", "--strict"],
+    &["play", "a", "--strict", "--screen"],
+    &["run", "a", "--strict=yes"],
+    &["debug", "a", "--strict"],
     &["run", "a", "--petscii=yes"],
     &["dis", "a", "--petscii"],
     &["renumber", "a", "--from", "0"],
@@ -396,8 +432,16 @@ static TEXTS: [(&[&str], &str); 6] = [
 
 // What becomes of words, as a text.
 fn shown(alloc: Global, words: &[&str]) -> Result<String, Fail> {
-    let job = job(alloc, words);
+    let job = job(alloc, words, Some(CLOCK)).map(|asked| asked.job);
     Ok(format!(in alloc; "{job:?}")?)
+}
+
+// Whether words ask for the clock's seed.
+fn is_by_clock(alloc: Global, words: &[&str]) -> Result<bool, Fail> {
+    match job(alloc, words, Some(CLOCK)) {
+        Ok(asked) => Ok(asked.is_by_clock),
+        Err(_) => Ok(false),
+    }
 }
 
 fn becomes(alloc: Global, words: &[&str], wanted: &str) -> Result<bool, Fail> {
@@ -429,6 +473,32 @@ fn words_of_tools_become_jobs(rt: HostRuntime) -> Result<(), Fail> {
 }
 
 #[test]
+fn words_of_scripts_become_jobs(rt: HostRuntime) -> Result<(), Fail> {
+    for &(words, wanted) in &SCRIPT_JOBS {
+        assert!(rt; becomes(rt.alloc(), words, wanted)?, "{words:?}");
+    }
+    Ok(())
+}
+
+#[test]
+fn the_clock_gives_a_seed_that_is_asked_for(rt: HostRuntime) -> Result<(), Fail> {
+    let rows: [(&[&str], bool); 5] = [
+        (&["play", "a", "--seed", "time"], true),
+        (&["run", "--prg", "p", "--seed=time"], true),
+        (&["play", "a", "--seed", "4711"], false),
+        (&["play", "time"], false),
+        (&["run", "a", "--type", "time"], false),
+    ];
+    for (words, wanted) in rows {
+        assert_eq!(rt; is_by_clock(rt.alloc(), words)?, wanted);
+    }
+    let unread = job(rt.alloc(), &["run", "a", "--seed", "time"], None);
+    assert_eq!(rt; format!(in rt.alloc(); "{unread:?}")?.as_str(), "Err(NoClock)");
+    assert!(rt; job(rt.alloc(), &["run", "a", "--seed", "9"], None).is_ok());
+    Ok(())
+}
+
+#[test]
 fn words_that_are_refused(rt: HostRuntime) -> Result<(), Fail> {
     for &words in &REFUSED {
         assert!(rt;
@@ -451,7 +521,7 @@ fn help_is_shown(rt: HostRuntime) -> Result<(), Fail> {
 fn failures_have_their_texts(rt: HostRuntime) -> Result<(), Fail> {
     let text = String::from_str(rt.alloc(), "error: no\n")?;
     let path = String::from_str(rt.alloc(), "b.bas")?;
-    let rows: [(Failure, u8, &[u8]); 11] = [
+    let rows: [(Failure, u8, &[u8]); 12] = [
         (Failure::Words(text), 2, b"error: no\n"),
         (Failure::NotUtf8, 2, b"tbc: an argument is not UTF-8\n"),
         (Failure::BadKeys, 2, b"tbc: bad key list\n"),
@@ -466,6 +536,7 @@ fn failures_have_their_texts(rt: HostRuntime) -> Result<(), Fail> {
             b"tbc: terminal smaller than 40 by 25\n",
         ),
         (Failure::ReadFault, 3, b"tbc: read fault\n"),
+        (Failure::NoClock, 3, b"tbc: no clock\n"),
         (Failure::NoMemory, 4, b"tbc: out of memory\n"),
     ];
     for (failure, status, said) in rows {

@@ -9,7 +9,7 @@ use tb_compiled::CompileSettings;
 use tb_driver::Tracked;
 use tb_meaning::{RunEnd, SourceRun};
 use tb_play::Played;
-use tb_sources::{play_compiled, read_source};
+use tb_sources::{EndNote, NotedPlay, play_noted, read_source};
 
 /// How many programs are played.
 const PROGRAMS: usize = 200;
@@ -67,7 +67,14 @@ fn limit_of(run: &SourceRun, lines: &[u8]) -> u64 {
     }
 }
 
-// Whether a program that is played sends what its source sends, and takes no more lines than were typed.
+// Whether a fault is told exactly if the source ended by one.
+fn tells_of_fault(run: &SourceRun, note: &Result<Option<EndNote>, AllocError>) -> bool {
+    let is_told = matches!(note, Ok(Some(EndNote::Fault(_))));
+    is_told == matches!(run.end, RunEnd::Faulted)
+}
+
+// Whether a program that is played sends what its source sends, tells of its fault, and takes no more lines than were
+// typed.
 fn plays_as_its_source(alloc: Global, case: &Case) -> Result<bool, Fail> {
     let run = run_of(alloc, case)?;
     let mut reader = Tracked::new(case.source.as_slice());
@@ -79,13 +86,14 @@ fn plays_as_its_source(alloc: Global, case: &Case) -> Result<bool, Fail> {
     let mut keyboard = Tracked::new(lines.as_slice());
     let mut screen = Tracked::new(Vec::new(alloc));
     let limit = limit_of(&run, &lines);
-    let Played { outcome, typed } = play_compiled(
+    let NotedPlay { played, note } = play_noted(
         alloc,
-        source.program.prg(),
+        &source.program,
         &mut keyboard,
         &mut screen,
         limit,
     );
+    let Played { outcome, typed } = played;
     let ran = Ran {
         outcome,
         shown: screen.stream,
@@ -96,7 +104,10 @@ fn plays_as_its_source(alloc: Global, case: &Case) -> Result<bool, Fail> {
     } else {
         typed.len() == lines.len().saturating_sub(left)
     };
-    Ok(agrees(alloc, &run, &ran)? && case.keys.starts_with(&typed) && is_all_handed)
+    Ok(agrees(alloc, &run, &ran)?
+        && tells_of_fault(&run, &note)
+        && case.keys.starts_with(&typed)
+        && is_all_handed)
 }
 
 // The first program that sends something else. Notes how many were played.

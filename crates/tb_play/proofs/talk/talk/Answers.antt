@@ -3,9 +3,10 @@ use Rattle.std.proofs.Common.{rules, refl, sym, subst, [], ◌∷◌, ◌++◌, 
 use Rattle.std.proofs.KnownBytes.{Appends-nil}
 use Rattle.std.specs.Io.KnownBytes.{Appends}
 use Rattle.tb_streams.specs.HostForm.{host_form_of}
+use Rattle.tb_kernal.specs.declared.status.Status.TheVariants.{Waits}
 use Rattle.tb_play.specs.Talks.{Stretch}
 use Rattle.tb_play.specs.Lines.{keys_of}
-use Rattle.tb_play.proofs.Talking.{comes, stops, waits, went_wrong, heard_wrong, written_more, after_more, typed_more}
+use Rattle.tb_play.proofs.Talking.{comes, stops, waits, went_wrong, heard_wrong, left_running, left_hearing, written_more, after_more, typed_more}
 use Rattle.tb_play.proofs.Talking.{reads_after, still_written, still_written_wrong, part_of_line, part_of_nothing, part_of_wrong}
 use Rattle.tb_play.proofs.talk.talk.Goals as goal
 
@@ -119,3 +120,24 @@ returns-in-Err-hear-clause-written_first g c =
     let (line, took) = part_of_wrong c.go_on.new.machine c.hear.new.machine _ _ _ _ c.in-Err-hear.ensures in
     reads_after _ _ c.go_on.new.machine lines line _ _ _ _ _ (comes _ _ lines _ _ _ _ _ after here)
     took (written_more _ _ _ _ _ _ _ here after.written since)
+
+pub returns-then-not-is_waiting-clause-left : goal.returns-then-not-is_waiting-clause-left
+returns-then-not-is_waiting-clause-left g c =
+    let (lines, after, first, typed, within, keys, wrote) = c.talking.invariant in
+    let (ran, since, same) = c.in-Ok.ensures in
+    (lines, c.in-Ok.status, _, _, comes _ _ lines _ _ _ _ _ after ran, typed, search rules)
+
+pub returns-in-Err-clause-left : goal.returns-in-Err-clause-left
+returns-in-Err-clause-left g c = left_running _ _ _ _ _ _ _ _ c.in-Err.ensures
+
+pub returns-in-Ok-false-clause-left : goal.returns-in-Ok-false-clause-left
+returns-in-Ok-false-clause-left g c =
+    let (lines, after, first, typed, within, keys, wrote) = c.talking.invariant in
+    let (ran, since, same) = c.in-Ok.ensures in
+    let waiting = waits c.in-Ok.status (search rules) in
+    let (nothing, still, typed', read_same) = rw c.in-Ok-false.field-0-test at c.in-Ok-false.ensures in
+    let here = subst (λ t. Stretch c.args.limit c.talking.machine t c.go_on.new.machine) waiting ran in
+    rw still (lines, Waits, _, _, comes _ _ lines _ _ _ _ _ after here, typed' ∙ typed, refl)
+
+pub returns-in-Err-hear-clause-left : goal.returns-in-Err-hear-clause-left
+returns-in-Err-hear-clause-left g c = left_hearing _ _ c.go_on.new.machine c.hear.new.machine _ _ _ _ _ _ c.in-Err-hear.ensures

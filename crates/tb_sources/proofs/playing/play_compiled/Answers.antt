@@ -5,4 +5,4 @@ use Rattle.tb_sources.proofs.playing.play_compiled.Goals as goal
 
 pub returns-clause-output : goal.returns-clause-output
 returns-clause-output g c =
-    shows_source c.args.file.now (all_bytes c.args.file.now (λ k. (c.type_inv.file k).fits)) _ _ _ c.play_file.ensures.whole
+    shows_source c.args.file.now (all_bytes c.args.file.now (λ k. (c.type_inv.file k).fits)) _ _ _ c.play_to_end.ensures.whole

@@ -1,0 +1,2 @@
+-- worked rows
+mod Rows

@@ -1,0 +1,35 @@
+-- The first states of RND that jobs have, and those that the clock gives.
+use Rattle.std.specs.Prelude.{ℕ, ◌+◌, ◌%◌, Option, Some, None}
+use Rattle.tb_jobs.specs.Numbers.{CLOCK_SEEDS}
+use Rattle.tb_jobs.specs.declared.jobs.Runnable.{Runnable}
+use Rattle.tb_jobs.specs.declared.jobs.Runnable.TheVariants.{Source, Prg}
+use Rattle.tb_jobs.specs.declared.jobs.Job.{Job}
+use Rattle.tb_jobs.specs.declared.jobs.Job.TheVariants.{Build, Run, Play, Asm, Assemble, Dis, Step, Debug, Profile, Disk, Check, Format, Renumber, Lsp, Dap, Show}
+
+-- the seed that is made of a time in milliseconds: one of 1 to CLOCK_SEEDS, and the next one a millisecond later
+abbrev pub clock_seed : ℕ → ℕ
+clock_seed milliseconds = milliseconds % CLOCK_SEEDS + 1
+
+-- the seed of a program that is run: only a source has one
+abbrev pub seed_for : Runnable → ℕ → Option ℕ
+seed_for (Source program) seed = Some seed
+seed_for (Prg program) seed = None
+
+-- the seed by which a job compiles a source, if it does
+abbrev pub seed_of : Job → Option ℕ
+seed_of (Build source out seed fit notation beside force) = Some seed
+seed_of (Run what settings rude labels strict) = seed_for what settings.seed
+seed_of (Play what seed fit notation limit made screen force strict) = seed_for what seed
+seed_of (Step what settings) = seed_for what settings.seed
+seed_of (Debug what settings rude labels) = seed_for what settings.seed
+seed_of (Profile what settings rude html force) = seed_for what settings.seed
+seed_of (Asm text out at force) = None
+seed_of (Assemble text out at long labels listing force) = None
+seed_of (Dis prg dialect) = None
+seed_of (Disk out files force) = None
+seed_of (Check sources fit notation) = None
+seed_of (Format source notation target) = None
+seed_of (Renumber source notation first step in_place) = None
+seed_of (Lsp notation) = None
+seed_of (Dap notation) = None
+seed_of (Show text) = None

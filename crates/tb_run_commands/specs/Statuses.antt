@@ -1,0 +1,12 @@
+-- The exit status of a run.
+use Rattle.std.specs.Prelude.{ℕ, Bool, true, false}
+use Rattle.tb_engines.specs.Outcomes.{status_of}
+use Rattle.tb_sources.specs.Strictness.{strict_status}
+use Rattle.tb_run_commands.specs.declared.running.Ran.{Ran}
+use Rattle.tb_run_commands.specs.declared.running.Ran.TheVariants.{Source, Plain}
+
+-- the status of a run, strict or not: only that of a source tells of a fault
+abbrev pub status_of_ran : Bool → Ran → ℕ
+status_of_ran true (Source run) = strict_status run.report.outcome run.note
+status_of_ran false (Source run) = status_of run.report.outcome
+status_of_ran is_strict (Plain outcome place) = status_of outcome
