@@ -62,11 +62,11 @@ def screen():
     for byte in ran.stdout.replace("\n", "\r").encode():
         shown.printed(byte)
     parts = [text(16, 30 + 19 * at, line, ' class="listing" xml:space="preserve"') for at, line in enumerate(source.read_text().splitlines())]
-    parts += [box(330, 8, 370, 276, "#6c5eb5", ' rx="4"'), box(345, 20, 340, 252, "#352879")]
+    parts += [box(330, 8, 370, 366, "#6c5eb5", ' rx="4"'), box(348, 26, 334, 330, "#352879")]
     rows = ["".join(screen_model.SIGNS[code & 127] for code in row).rstrip() for row in shown.codes]
-    parts += [text(351, 31 + 10 * at, row, ' class="screen" xml:space="preserve"') for at, row in enumerate(rows) if row]
+    parts += [text(353, 38 + 13 * at, row, ' class="screen" xml:space="preserve"') for at, row in enumerate(rows) if row]
     style = ".listing,.screen{font-family:monospace;white-space:pre} .screen{font-size:13.5px;fill:#a59ae8 !important} "
-    return svg(710, 292, "A listing in Tiny BASIC, and the Commodore 64's screen after its run", parts, style)
+    return svg(710, 382, "A listing in Tiny BASIC, and the Commodore 64's screen after its run", parts, style)
 
 
 def debugger():

@@ -103,7 +103,7 @@ row 2 'error:*' '' assemble a.asm b.prg c.prg
 # long branches
 zeros=$(printf '\\x00%.0s' {1..130})
 file far.asm ' bne far\n .fill 130\nfar rts\n'
-row 1 '' $'far.asm:1:6: error: a branch reaches from -128 to 127 bytes\n    1 |  bne far\n      |      ^\nfar.asm:1:6: note: branch the other way, over a JMP' assemble far.asm
+row 1 '' $'far.asm:1:6: error: a branch reaches from -128 to 127 bytes\n    1 |  bne far\n      |      ^\nfar.asm:1:6: note: branch the other way, over a JMP, as --long does' assemble far.asm
 is_absent far.prg
 row 0 '' '' assemble far.asm --long --labels far.lab --list far.lst
 holds far.prg '\x00\xc0\xf0\x03\x4c\x87\xc0'"$zeros"'\x60'

@@ -115,6 +115,8 @@ check run hello.bas
 check run there.bas
 check run astray.bas
 check run below.bas
+check run below.bas --strict
+check play below.bas --strict
 check run warned.bas
 check run large.bas --fit
 check run all.bas --keys 332c350d --rude 1

@@ -7,6 +7,10 @@ use Rattle.tb_assembly_report.specs.declared.near.TheConstants as code_near
 abbrev pub NOTED : ℕ
 NOTED = 20
 
+-- how many letters an instruction has
+abbrev pub LETTERS : ℕ
+LETTERS = 3
+
 -- the most letters of names that are compared
 abbrev pub LONGEST : ℕ
 LONGEST = 31
@@ -17,4 +21,5 @@ LONG = 5
 
 -- the constants of the code are these numbers
 abbrev pub ConstantsAreNumbers : Type 0
-ConstantsAreNumbers = (code_notes.NOTED ≡ NOTED) × (code_near.LONGEST ≡ LONGEST) × (code_near.LONG ≡ LONG)
+ConstantsAreNumbers =
+    (code_notes.NOTED ≡ NOTED) × (code_notes.LETTERS ≡ LETTERS) × (code_near.LONGEST ≡ LONGEST) × (code_near.LONG ≡ LONG)

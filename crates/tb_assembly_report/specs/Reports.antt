@@ -11,7 +11,6 @@ use Rattle.tb_assembly_report.specs.Numbers.{NOTED}
 use Rattle.tb_assembly_report.specs.declared.reports.FileLines.{FileLines}
 use Rattle.tb_assembly_report.specs.Causes.{cause_text}
 use Rattle.tb_assembly_report.specs.Notes.{note_if}
-use Rattle.tb_assembly_report.specs.Words.{word_at}
 
 -- the lines of a text, none of one that could not be read
 abbrev pub lines_in : Option (List ℕ) → List (List ℕ)
@@ -45,7 +44,7 @@ abbrev pub rows : List ℕ → List ℕ → List (List ℕ) → Bool → Finding
 rows path line names wanted f =
     row_at path f.place f.column (codes ": error: ") (cause_text f.cause)
     ++ (line_row (decimal f.place.line) line ++ caret_row (decimal f.place.line) f.column)
-    ++ note_row path f.place f.column (note_if wanted names (word_at line f.column) f.cause)
+    ++ note_row path f.place f.column (note_if wanted names line f.column f.cause)
 
 -- all that is wrong, of which this is the i-th; the first ones have notes
 abbrev pub rows_from : ℕ → List Source → List (List ℕ) → List Finding → List ℕ

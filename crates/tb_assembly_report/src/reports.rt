@@ -10,7 +10,6 @@ ghost use Rattle.tb_assembly_report.specs.Reports.{all_lines, line_at, lines_in,
 
 use crate::causes::{Finding, cause_text};
 use crate::notes::{NOTED, note};
-use crate::words::word_at;
 use std::alloc::{AllocError, Global};
 use tb_assembly_files::{Place, SourceFile, path_at};
 use tb_check_engine::{push_caret, push_line};
@@ -135,13 +134,7 @@ fn push_finding(
     ensures { AppendsBytes result text.old text.new (rows path.now line.now (map (λ n. n.now) names.now) is_noted finding.now) }
 {
     let said = cause_text(finding.cause);
-    let note = note(
-        alloc,
-        is_noted,
-        names,
-        word_at(line, finding.column),
-        finding.cause,
-    )?;
+    let note = note(alloc, is_noted, names, line, finding.column, finding.cause)?;
     push_row(alloc, text, path, finding, b": error: ", said.as_bytes())?;
     push_place(alloc, text, line, finding.place.line, finding.column)?;
     push_note(alloc, text, path, finding, &note)

@@ -1,5 +1,5 @@
 //! The words of the command line, read with `clap`: they become a job.
-ghost use Rattle.std.specs.Prelude.{ℕ, IfOk, Option};
+ghost use Rattle.std.specs.Prelude.{ℕ, ◌≡◌, ◌∷◌, IfOk, Option};
 ghost use Rattle.clap.specs.Words.{found_of};
 ghost use Rattle.tb_jobs.specs.Limits.{IsWithinLimit};
 ghost use Rattle.tb_command_line.specs.Asked.{IsAsked, IsJob, IsStem};
@@ -20,7 +20,7 @@ use crate::values::{
 };
 use clap::ArgMatches;
 use clap::error::ErrorKind;
-use std::alloc::Global;
+use std::alloc::{AllocError, Global};
 use std::convert::AsStr;
 use tb_files::usual_out;
 use tb_jobs::{Asked, Job, JobError, Limit};
@@ -244,18 +244,30 @@ fn profile_job(alloc: Global, found: &ArgMatches<'_>, clock: Option<u16>) -> Res
     })
 }
 
+// Files, and one before them.
+fn with_first(
+    alloc: Global,
+    first: String,
+    mut others: Vec<String>,
+) -> Result<Vec<String>, AllocError>
+    ensures { IfOk result (λ files. files.items ≡ first ∷ others.items) }
+{
+    let mut files = Vec::new(alloc);
+    files.push(first)?;
+    files.append(&mut others)?;
+    Ok(files)
+}
+
 fn disk_job(alloc: Global, found: &ArgMatches<'_>) -> Result<Job, JobError>
     ensures limit { IfOk result IsWithinLimit }
     ensures asked { (clock : Option ℕ) → IfOk result (IsJob clock command.Disk (found_of found.now)) }
 {
     let first = text(alloc, found, &DISK_OUT)?;
-    let mut others = texts(alloc, found, &PRG_FILES)?;
+    let others = texts(alloc, found, &PRG_FILES)?;
     let force = force_of(found);
     match optional_text(alloc, found, &DISK_OUTPUT)? {
         Some(out) => {
-            let mut files = Vec::new(alloc);
-            files.push(first)?;
-            files.append(&mut others)?;
+            let files = with_first(alloc, first, others)?;
             Ok(Job::Disk { out, files, force })
         }
         None => Ok(Job::Disk {

@@ -6,7 +6,7 @@ use Rattle.tb_text.specs.declared.notation.Notation.{Notation}
 use Rattle.tb_parser.specs.declared.errors.SourceErrorKind.TheVariants.{Syntax}
 use Rattle.tb_parser.specs.declared.lexer.TokenKind.{TokenKind}
 use Rattle.tb_completion.specs.Candidates.{spelled}
-use Rattle.tb_completion.specs.Typed.{is_behind_number, is_closed}
+use Rattle.tb_completion.specs.Typed.{is_closed, is_jump}
 use Rattle.tb_completion.specs.declared.candidates.Candidate.{Candidate}
 use Rattle.tb_completion.specs.declared.candidates.Candidate.TheVariants as candidate
 use Rattle.tb_completion.specs.declared.candidates.Word.{Word}
@@ -51,14 +51,14 @@ abbrev pub Fits : Notation → List ℕ → Candidate → Bool → Type 0
 Fits notation line c true = BeginsLine notation line true ⊎ GoesOn notation line c true
 Fits notation line c false = BeginsLine notation line false × GoesOn notation line c false
 
--- whether a candidate goes on with a number before it
-abbrev pub joins : Option TokenKind → Candidate → Bool
-joins before (candidate.Word w) = false
-joins before (candidate.Number n) = is_behind_number before
+-- whether a candidate is the number of a line, and none is meant: that is so but behind GOTO and GOSUB
+abbrev pub is_misplaced : Option TokenKind → Candidate → Bool
+is_misplaced before (candidate.Word w) = false
+is_misplaced before (candidate.Number n) = not (is_jump before)
 
 -- whether a candidate is not asked for
 abbrev pub is_excluded : Typed → Candidate → Bool
-is_excluded t c = is_closed t.before || (joins t.before c || not (begins (spelled c) t.part.now))
+is_excluded t c = is_closed t.before || (is_misplaced t.before c || not (begins (spelled c) t.part.now))
 
 -- whether a candidate is offered, by that
 abbrev pub IsOfferedBy : Bool → Notation → Typed → Candidate → Bool → Type 0

@@ -37,11 +37,6 @@ is_closed (Some kind.Remark) = true
 is_closed (Some kind.Stray) = true
 is_closed _ = false
 
--- a number
-abbrev pub is_behind_number : Option TokenKind → Bool
-is_behind_number (Some kind.Number) = true
-is_behind_number _ = false
-
 -- the kind of the last token of a text
 abbrev pub IsKindBefore : List ℕ → Option TokenKind → Type 0
 IsKindBefore text k = (ts : List Token) × AreTokens text ts × (k ≡ last_kind ts)

@@ -65,13 +65,13 @@ fn fits(
     goes_on(alloc, notation, line.as_slice(), candidate)
 }
 
-// Whether a candidate goes on with a number that stands before it.
-fn joins(typed: Typed<'_>, candidate: Candidate) -> bool
-    ensures { result ≡ spec.joins typed.entry.before candidate }
+// Whether a candidate is the number of a line, and none is meant.
+fn is_misplaced(typed: Typed<'_>, candidate: Candidate) -> bool
+    ensures { result ≡ spec.is_misplaced typed.entry.before candidate }
 {
     match candidate {
         Candidate::Word(_) => false,
-        Candidate::Number(_) => typed.is_behind_number(),
+        Candidate::Number(_) => !typed.is_behind_jump(),
     }
 }
 
@@ -86,7 +86,7 @@ fn is_offered(
 {
     let text = spelled(alloc, candidate)?;
     let text = text.as_str().as_bytes();
-    if typed.is_closed() || joins(typed, candidate) || !begins(text, typed.part) {
+    if typed.is_closed() || is_misplaced(typed, candidate) || !begins(text, typed.part) {
         return Ok(false);
     }
     fits(alloc, notation, typed.base, text, candidate)

@@ -117,10 +117,10 @@ impl Typed<'_> {
         )
     }
 
-    /// Whether a number would go on with another one.
-    pub fn is_behind_number(&self) -> bool
-        ensures { result ≡ spec.is_behind_number self.now.before }
+    /// Whether the number of a line is meant: behind GOTO and GOSUB.
+    pub fn is_behind_jump(&self) -> bool
+        ensures { result ≡ spec.is_jump self.now.before }
     {
-        matches!(self.before, Some(TokenKind::Number))
+        is_jump(self.before)
     }
 }

@@ -18,7 +18,7 @@ use Rattle.tb_debug.specs.declared.answer.Location.{Location}
 use Rattle.tb_debug.specs.declared.answer.Location.TheVariants as location
 use Rattle.tb_debug.specs.declared.answer.Stand.{Stand}
 use Rattle.tb_debug_engine.specs.Lists.{list_text, written}
-use Rattle.tb_debug_engine.specs.declared.texts.TheConstants.{GOES_THROUGH_FAULTS, NO_SOURCE, STOPS_AT_FAULTS, WHAT}
+use Rattle.tb_debug_engine.specs.declared.texts.TheConstants.{GOES_THROUGH_FAULTS, NO_SOURCE, STOPS_AT_FAULTS, UNKNOWN}
 
 -- a text in a line of its own
 abbrev pub line : List ℕ → List ℕ
@@ -136,7 +136,7 @@ help_text =
 
 -- the answer to a line that is no command, and to a text that is no expression: with what helps, or without
 abbrev pub what_text : (hints : Bool) → List ℕ
-what_text true = WHAT.now
+what_text true = UNKNOWN.now
 what_text false = what
 
 -- whether faults stop `c` then

@@ -31,7 +31,7 @@ const STOPS_AT_FAULTS: &[u8] = b"stops at faults";
 
 const GOES_THROUGH_FAULTS: &[u8] = b"goes through faults";
 
-const WHAT: &[u8] = b"what? (h lists the commands)";
+const UNKNOWN: &[u8] = b"what? (h lists the commands)";
 
 const NO_SOURCE: &[u8] = b"no source";
 
@@ -403,7 +403,7 @@ fn push_what(text: &mut Vec<u8>, hints: bool) -> Result<(), AllocError>
     ensures { AppendsBytes result text.old text.new (texts.line (what_text hints)) }
 {
     if hints {
-        push_line(text, WHAT)
+        push_line(text, UNKNOWN)
     } else {
         push_line(text, WHAT)
     }

@@ -1,8 +1,8 @@
 //! What `check` finds of a source, as a language server publishes it: ranges, severities, codes and texts.
 //!
 //! `diagnose`: the diagnostics of a source are those of findings that are the source's by the clause of
-//! `examine_to_fit` (`AreFitted`): one that is too large by its cost alone is none, and an information says so. There
-//! is one for each bad line, line that is too deep, or warning, in their order, with range, severity, code, text and
+//! `examine_to_fit` (`AreFitted`). A program that is too large by its cost alone is no fault, and an information says so.
+//! There is one for each bad line, line that is too deep, or warning, in their order, with range, severity, code, text and
 //! note. Or it says that the source has more than 1,048,576 bytes (`Diagnoses`). `publish` and `publish_none`: the
 //! content reads as the message with just these (`Publishes`).
 #![tactic(auto)]

@@ -3,7 +3,7 @@ use Rattle.std.specs.Prelude.{ℕ, List, ◌++◌, codes}
 use Rattle.tb_file_reasons.specs.declared.reasons.FileReason.{FileReason}
 use Rattle.tb_file_reasons.specs.declared.reasons.FileReason.TheVariants as reason
 use Rattle.tb_file_reasons.specs.declared.reasons.TheConstants.{DISK_FULL, DISK_NAME_TWICE, IS_FOLDER, KEPT, KEYS_TOO_LONG, NOT_RAM, NO_DISK_NAME, NO_IMAGE_NAME}
-use Rattle.tb_file_reasons.specs.declared.reasons.TheConstants.{NO_PERMISSION, NO_SUCH_FILE, NO_SUCH_FOLDER, RUNS_PAST, TEXT, TOO_LONG, TOO_SHORT}
+use Rattle.tb_file_reasons.specs.declared.reasons.TheConstants.{NO_PERMISSION, NO_SUCH_FILE, NO_SUCH_FOLDER, PROGRAM, RUNS_PAST, TEXT, TOO_LONG, TOO_SHORT}
 
 -- what is said of a reason
 abbrev pub reason_text : FileReason → List ℕ
@@ -23,6 +23,7 @@ reason_text reason.TooShort = TOO_SHORT.now
 reason_text reason.RunsPast = RUNS_PAST.now
 reason_text reason.Text = TEXT.now
 reason_text reason.NotRam = NOT_RAM.now
+reason_text reason.Program = PROGRAM.now
 
 -- what is said of a file
 abbrev pub file_note_text : List ℕ → FileReason → List ℕ

@@ -35,6 +35,8 @@ const TEXT: &str = "this is a text";
 
 const NOT_RAM: &str = "a byte of it would lie outside of RAM";
 
+const PROGRAM: &str = "a PRG file is run with --prg";
+
 /// What is wrong with a file.
 #[derive(Clone, Copy, PartialEq, Eq, Debug, Drop)]
 pub enum FileReason {
@@ -66,6 +68,8 @@ pub enum FileReason {
     Text,
     /// A byte would not lie in RAM.
     NotRam,
+    /// It is a PRG file in place of a source.
+    Program,
 }
 
 impl FileReason {
@@ -89,6 +93,7 @@ impl FileReason {
             FileReason::RunsPast => RUNS_PAST,
             FileReason::Text => TEXT,
             FileReason::NotRam => NOT_RAM,
+            FileReason::Program => PROGRAM,
         }
     }
 }

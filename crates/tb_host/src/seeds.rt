@@ -5,5 +5,6 @@ use tb_jobs::clock_seed;
 
 /// The clock's seed, if the clock can be read.
 pub fn drawn_seed<R: Clock>(rt: &R) -> Option<u16> {
-    milliseconds(rt).map(clock_seed)
+    let now = milliseconds(rt)?;
+    Some(clock_seed(now))
 }

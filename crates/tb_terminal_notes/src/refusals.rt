@@ -9,6 +9,7 @@ use tb_codegen::TinyBasic;
 use tb_compiled::{CompileError, CompileSettings, SizeLimit};
 use tb_engines::Refusal;
 use tb_file_engine::opened;
+use tb_file_reasons::{FileNote, FileReason};
 use tb_files::{FileSystem, Place};
 use tb_host::{Host, Source, settings_of};
 use tb_jobs::{Job, Runnable, Settings, USUAL_SEED};
@@ -46,6 +47,18 @@ pub fn note_source<R: Files + Print + Eprint + Input + AllocGlobal>(
                 error,
             ),
         );
+    }
+    if let (CompileError::Source(_), Some(path)) = (error, run_by(job)) {
+        note_program(host, path);
+    }
+}
+
+// That a PRG file is run with an option, if one is given as a source.
+fn note_program<R: Eprint>(host: &Host<'_, R>, path: &str) {
+    let name = path.as_bytes();
+    if name.ends_with(b".prg") || name.ends_with(b".PRG") {
+        let reason = FileReason::Program;
+        say(host.rt, FileNote { path, reason });
     }
 }
 
@@ -123,6 +136,33 @@ fn opened_again<R: Files + Print + Input + AllocGlobal>(
     match host.place(host.rt.alloc(), path) {
         Ok(Place::File(_, _)) => opened(host, path).ok(),
         Ok(Place::Missing(_, _) | Place::Elsewhere) | Err(AllocError) => None,
+    }
+}
+
+// The source that a job runs, if it does.
+fn run_by(job: &Job) -> Option<&str> {
+    match job {
+        Job::Run {
+            what: Runnable::Source(source),
+            ..
+        }
+        | Job::Play {
+            what: Runnable::Source(source),
+            ..
+        }
+        | Job::Step {
+            what: Runnable::Source(source),
+            ..
+        }
+        | Job::Debug {
+            what: Runnable::Source(source),
+            ..
+        }
+        | Job::Profile {
+            what: Runnable::Source(source),
+            ..
+        } => Some(source.as_str()),
+        _ => None,
     }
 }
 

@@ -85,7 +85,8 @@ def memory(tbc):
         longest = "".join(f"{n} PRINT A,B;\"VALUE\"\n" for n in range(1, 800))
         grown = []
         for version in range(CHANGES):
-            text = longest if version < SETTLED else longest[:choices.randrange(len(longest))]
+            # (one that the memory holds takes more to look at than a larger one)
+            text = longest if version < SETTLED // 2 else longest[:choices.randrange(len(longest))]
             say(method="textDocument/didChange", params={
                 "textDocument": {"uri": "a", "version": version}, "contentChanges": [{"text": text}]})
             read_frame(process.stdout)

@@ -148,12 +148,12 @@ class Walk:
         need(self.client.refused("threads") == "not launched", "threads before launch")
         need(self.client.refused("launch", program=str(self.source) + ".no") == "read fault", "no file")
         need(self.client.refused("launch", program=str(self.source), keys="3") == "bad key list", "bad keys")
-        answer, report = self.client.launch(program=str(self.source), limit=LIMIT, stopOnEntry=True)
+        answer, report = self.client.launch(program=str(self.source), limit=LIMIT, stopOnEntry=True, fit=False)
         if not answer["success"]:
             need(answer["message"].startswith("program too large"), "launch", answer)
-            need(report == f"{self.source}: error: {answer['message']}\n", "report", report)
+            need(report == f"{self.source}: error: {answer['message']}\n{self.source}: note: --fit compiles it\n", "report", report)
             self.fit = ["--fit"]
-            answer, report = self.client.launch(program=str(self.source), limit=LIMIT, stopOnEntry=True, fit=True)
+            answer, report = self.client.launch(program=str(self.source), limit=LIMIT, stopOnEntry=True)
         need(answer["success"] and report is None, "launch", answer, report)
         while (message := self.client.read())["event"] == "output":
             need(message["body"]["category"] == "console", "warning", message)

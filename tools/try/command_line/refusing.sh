@@ -88,6 +88,10 @@ for words in 'build bad.bas out.prg' 'run bad.bas' 'play bad.bas' 'debug bad.bas
 done
 file nested.bas '20 END\n10 A=1+(1+(1+(1+(1+(1+(1+(1+(1+(1+(1+(1+(1+(1+(1+(1+(1+B))))))))))))))))\n'
 row 1 '' $'tbc: line 10: expression too deep\nnested.bas:2: error: expression too deep\n    2 | 10 A=1+*B))))))))))))))))' run nested.bas
+for words in 'run routine.prg' 'play routine.prg' 'debug routine.prg' 'profile routine.prg'; do
+    row 1 '' $'tbc: 1:1: bad byte\nroutine.prg:1:1: error: bad byte\n*\ntbc: note: routine.prg: a PRG file is run with --prg' $words
+done
+row 1 '' $'tbc: 1:1: bad byte\nroutine.prg:1:1: error: bad byte\n*      | ^' build routine.prg out.prg
 mkfifo pipe.bas # what it gave is gone
 cat bad.bas >pipe.bas &
 row 1 '' 'tbc: 3:4: syntax' run pipe.bas

@@ -7,7 +7,7 @@ at_terminal() { by=(python3 "$root/tools/try/at_a_terminal.py" "$@" --); }
 at_terminal '? ' 7 '? ' 21 '? ' ''
 row 6 '' $'\\? 7\n\n14\n\\? 21\n\n42\n\\? tbc: waits for a key' play double.bas
 at_terminal $'30\r\n? ' 5
-row 0 '' $'tbc: warning: line 20: no line 30\n\\? 5\n\n\n!1 AT 20' play ask.bas
+row 0 '' $'tbc: warning: line 20: no line 30\n\\? 5\n\n\n!1 AT 20\ntbc: note: fault 1 at line 20: no line 30' play ask.bas
 by=()
 
 steps() { # SHOWN COMMANDS WORD..

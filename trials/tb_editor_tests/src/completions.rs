@@ -3,7 +3,7 @@ use crate::requests::{asked_of_text, wanted_answer};
 use std::test::Fail;
 
 /// Texts, as JSON has them, a line and a character, and the items.
-const ROWS: [(&str, u32, u32, &str); 12] = [
+const ROWS: [(&str, u32, u32, &str); 14] = [
     // A word is completed in either case, with a space behind it.
     (
         "10 pri",
@@ -51,10 +51,18 @@ const ROWS: [(&str, u32, u32, &str); 12] = [
     ),
     ("10 LET A=5", 0, 10, ""),
     (
-        r#"10 GOTO 20\n"#,
-        1,
+        "10 GOSUB 1",
         0,
-        r#"{"kind":18,"label":"10","sortText":"00010","textEdit":{"newText":"10","range":{"end":{"character":0,"line":1},"start":{"character":0,"line":1}}}}"#,
+        10,
+        r#"{"kind":18,"label":"10","sortText":"00010","textEdit":{"newText":"10","range":{"end":{"character":10,"line":0},"start":{"character":9,"line":0}}}}"#,
+    ),
+    // Elsewhere the number of a line is no more fitting than others.
+    (r#"10 GOTO 20\n"#, 1, 0, ""),
+    (
+        "10 PRINT 1;",
+        0,
+        11,
+        r#"{"kind":14,"label":"RND","textEdit":{"newText":"RND(","range":{"end":{"character":11,"line":0},"start":{"character":11,"line":0}}}}"#,
     ),
     // Nothing is offered in remarks and texts.
     ("10 REM P", 0, 8, ""),

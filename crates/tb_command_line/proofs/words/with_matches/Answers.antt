@@ -16,4 +16,5 @@ returns-clause-asked c =
       name ∙ ap (λ n. Some n) (found_name c.rows.result.now c.in-Some.name.now command c.rows.ensures.named is),
       rows,
       c.in_ok-job_of.ensures.asked,
+      search rules,
     )
