@@ -1,11 +1,11 @@
 10 REM STAR TREK: drive the raiders out of a galaxy of 6 by 6 quadrants, each of 8 by 8 sectors.
-11 REM There are no arrays, so numbers are packed, and what never changes follows from where it is:
-12 REM A to F: the rows of the galaxy. The six digits of a row in base 4 count the raiders of its quadrants.
-13 REM H: the number of the galaxy, from which its stars and bases follow. K: how many raiders are left.
-14 REM Q: the ship's quadrant, 0 to 35, row by row. S: its sector there, 0 to 63, row by row.
-15 REM U, V, W: the raiders in this quadrant, 500*sector+strength each, or 0.
-16 REM G: energy. Z: shields. P: torpedoes. T: days left.
-17 REM O: the days that each device takes to repair, five digits in base 6.
+11 REM TBC: --fit
+12 REM There are no arrays, so numbers are packed, and what never changes follows from where it is:
+13 REM A to F: the rows of the galaxy. The six digits of a row in base 4 count the raiders of its quadrants.
+14 REM H: the number of the galaxy, from which its stars and bases follow. K: how many raiders are left.
+15 REM Q: the ship's quadrant, 0 to 35, row by row. S: its sector there, 0 to 63, row by row.
+16 REM U, V, W: the raiders in this quadrant, 500*sector+strength each, or 0. G: energy. Z: shields.
+17 REM P: torpedoes. T: days left. O: the days that each device takes to repair, five digits in base 6.
 18 REM N and I: what a routine is given. R and M: what it answers. J, L, X, Y: what it works with.
 
 100 REM The briefing.

@@ -334,9 +334,10 @@ class Run:
         return "goes on"
 
 
-def host_form(sent):
-    """What was sent, as a terminal shows it."""
-    shown = lambda byte: "\n" if byte == 13 else chr(byte) if 32 <= byte <= 90 else f"{{{byte:02X}}}"
+def host_form(sent, has_signs):
+    """What was sent, as a terminal shows it: with signs by their names, and `[` and `]` as themselves."""
+    names = {byte: f"{{{name}}}" for name, byte in CONTROLS.items()} | {91: "[", 93: "]"} if has_signs else {}
+    shown = lambda byte: "\n" if byte == 13 else chr(byte) if 32 <= byte <= 90 else names.get(byte, f"{{{byte:02X}}}")
     return "".join(map(shown, sent))
 
 
@@ -344,7 +345,7 @@ def ran(path, keys=b"", answers=b"", seed=1, lines=1_000_000, has_signs=False):
     """How a source's run ends, and what it shows."""
     run = Run(program_of(path.read_text("latin-1"), has_signs), seed, keys, answers)
     ending = run.run(lines)
-    return ending, host_form(run.sent)
+    return ending, host_form(run.sent, has_signs)
 
 
 # What a program costs.

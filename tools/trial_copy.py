@@ -31,7 +31,7 @@ RUN_FILE = """fn job_of_words<R: Env + AllocGlobal>(rt: &R) -> Result<Asked, Fai
         None => return Err(Failure::NotUtf8),
     };
     let settings = Settings {
-        seed: USUAL_SEED,
+        seed: None,
         fit: false,
         notation: Notation::Plain,
         keys: Typed::Digits(String::new(rt.alloc())),
@@ -209,7 +209,7 @@ def without_reader(files, main):
     for old, new in moved.items():
         files = {file: [(above, it.replace(old, new)) for above, it in items] for file, items in files.items()}
     files[main] = [("", RUN_FILE) if it.startswith("fn job_of_words<") else (above, it) for above, it in files[main]]
-    files[main].insert(1, ("", "use tb_jobs::{Limit, Notation, Runnable, Settings, Typed, USUAL_SEED};\n"))
+    files[main].insert(1, ("", "use tb_jobs::{Limit, Notation, Runnable, Settings, Typed};\n"))
     return files
 
 

@@ -1,4 +1,5 @@
-10 REM Guess a number from 1 to 100, in colours: tbc play --petscii
+10 REM Guess a number from 1 to 100, in colours.
+15 REM TBC: --petscii
 20 N=RND(100)+1
 30 C=0
 40 PRINT "{clr}{yel}{rvon} GUESS A NUMBER FROM 1 TO 100 {rvof}{lblu}"

@@ -1,4 +1,5 @@
-10 REM The times table up to 9 by 9, its squares in reverse: tbc run --petscii
+10 REM The times table up to 9 by 9, its squares in reverse.
+15 REM TBC: --petscii
 20 PRINT "{clr}{wht}";
 30 LET R=1
 40 LET C=1

@@ -1,12 +1,12 @@
 #!/usr/bin/env python3
-"""Draws what tools/measure/generated.sh prints, as bars: for each program the cycles of cc65, tbc and the floor, as shares of
-cc65's.
+"""Draws what tools/measure/generated.sh prints, as bars: for each program of the first half the cycles of cc65, tbc and the
+floor, as shares of cc65's.
 
     tools/measure/generated.sh | tools/measure/speed_bars.py >docs/pictures/speed.svg"""
 import re
 import sys
 
-ROW = re.compile(r"(\w+): .* (\d+) cycles, cc65 (\d+), floor (\d+)")
+ROW = re.compile(r"^(\w+): .* (\d+) cycles, cc65 (\d+), floor (\d+)", re.M)  # a program of the second half has a folder
 COLOURS = {"cc65": "#9aa5b1", "tbc": "#2f6f9f", "floor": "#8fbf6f"}
 WIDTH, LEFT, BAR, GAP = 720, 90, 11, 14
 FULL = 360  # the width of cc65's bar

@@ -49,7 +49,7 @@ RULES = {
     "setting": {"type!": str, "default": object, "scope": str, "description": str, "enum": [str]},
     "task": {"type!": str, "required": [str], "properties": {"": "property"}},
     "property": {
-        "type!": str, "description": str, "default": object, "minimum": int, "maximum": int, "enum": [str],
+        "type!": object, "description": str, "default": object, "minimum": int, "maximum": int, "enum": [str], "pattern": str,
     },
     "breakpoint": {"language!": str},
     "debugger": {
@@ -92,11 +92,12 @@ def of_object(value, members, where):
 
 
 def fits(setting):
-    """Whether a setting or a property has a value of its type by default, among those that it may have."""
-    kind, default = TYPES.get(setting["type"]), setting.get("default")
-    if kind is None or default is None:
-        return kind is not None
-    return isinstance(default, kind) and isinstance(default, bool) == (kind is bool) and default in setting.get("enum", [default])
+    """Whether a setting or a property has a value of one of its types by default, among those that it may have."""
+    kinds = [TYPES.get(it) for it in ([setting["type"]] if isinstance(setting["type"], str) else setting["type"])]
+    default = setting.get("default")
+    if None in kinds or default is None:
+        return None not in kinds
+    return type(default) in kinds and default in setting.get("enum", [default])
 
 
 def meanings(manifest):

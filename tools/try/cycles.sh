@@ -1,9 +1,10 @@
 #!/usr/bin/env bash
 # Compares the cycles and times of `tbc profile` with what sim65 (of cc65) counts, exactly: for the examples that come
-# to an end, with keys, for the programs of tools/measure/bench, and for random programs with loops (foreign/looping_programs.py).
+# to an end, with keys, for the first half of the programs in tools/measure/bench, and for random programs with loops
+# (foreign/looping_programs.py).
 #
 # In sim65 CHROUT is an RTS, as `profile` counts it. GETIN takes 2 cycles more, and is called once a line, so the sum of
-# times is compared too; CHRIN takes 13 more, and its calls are the exit status. What comes before and after the program
+# times is compared too; CHRIN takes 17 more, and its calls are the exit status. What comes before and after the program
 # is taken from a PRG that is an RTS alone.
 #
 # sim65 (of cc65 2.19) judges a branch that is taken by the page of its own first byte, and not by that of the next
@@ -14,32 +15,7 @@
 needs_program
 needs python3
 installs sim65 cc65
-
-zeros() { head -c "$1" /dev/zero; }
-
-# A program for sim65: its mark, version 2, a 6502, stack pointer at 0, load address $0801, start $A000.
-# $A000: JSR $080D, LDA $A011, JMP to sim65's exit. $A010: LDA $A100, INC $A011, RTS. $A100: the keys.
-# At $FFCF JMP $A010; at $FFD2 RTS; at $FFE4 LDA #0, RTS.
-image() { # PRG KEYS
-    printf 'sim65\002\000\000\001\010\000\240'
-    tail -c +3 "$1"
-    zeros $((0xa000 - 0x0801 - $(wc -c <"$1") + 2))
-    printf '\040\015\010\255\021\240\114\371\377'
-    zeros $((0xa010 - 0xa009))
-    printf '\255\000\241\356\021\240\140'
-    zeros $((0xa100 - 0xa017))
-    printf "$2"
-    zeros $((0xffcf - 0xa100 - $(printf "$2" | wc -c)))
-    printf '\114\020\240\140'
-    zeros $((0xffe4 - 0xffd3))
-    printf '\251\000\140'
-}
-
-counts() { # IMAGE: its cycles and its exit status
-    local keys=0
-    sim65 -c "$1" >counted 2>&1 || keys=$?
-    echo "$(awk '/cycles/ { print $1 }' counted) $keys"
-}
+. "$root/tools/sim65.sh"
 
 # The whole of the runs around a program, which is 6 cycles of its own: no key is read.
 printf '\001\010' >empty.prg
@@ -79,7 +55,7 @@ agrees() { # NAME KEYS TIMES CYCLES: sim65 counts as many for NAME.prg as `profi
     local there keys wanted
     image "$1.prg" "$2" >"$1.sim"
     read -r there keys < <(counts "$1.sim")
-    wanted=$(($4 + around + 2 * $3 + 13 * keys))
+    wanted=$(($4 + around + 2 * $3 + 17 * keys))
     echo "$1: sim65 counts $there, profile $4 and $3 times, so that sim65 should count $wanted" >said
     [ "$there" = "$wanted" ]
 }

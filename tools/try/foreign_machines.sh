@@ -1,8 +1,9 @@
 #!/usr/bin/env bash
 # Runs compiled programs, and random ones, on machines that are not this project's:
 #
-#   every example and every program of tools/measure/bench, with keys, in sim65 (of cc65): each sends byte for byte what `tbc run`
-#     shows, and ends the same way; each service spoils every register and bytes of the ROM's memory (tools/try/foreign/sim65.asm);
+#   every example, with keys, and every program of the first half in tools/measure/bench, in sim65 (of cc65): each sends
+#     byte for byte what `tbc run` shows, and ends the same way; each service spoils every register and bytes of the ROM's
+#     memory (tools/try/foreign/sim65.asm);
 #   the same programs on the Commodore 64 of VICE, with a ROM of our own (tools/try/foreign/kernal.asm), and again with their watch
 #     files, which never stop. If x64sc is not there, it is unpacked (get_vice.sh); if it can't be had, these runs are left
 #     out, and that is said;

@@ -9,7 +9,7 @@
 needs_program
 needs rt python3
 clocked=${1-}
-largest=27000 # lines of Rust that the trial run of a command may compile
+largest=28000 # lines of Rust that the trial run of a command may compile
 
 rows=0
 failed=0
@@ -186,7 +186,18 @@ done
 row 2 '' "*unrecognized subcommand 'game.bas'*tbc: note: to run a source: tbc run game.bas"* at_terminal unbuilt/tbc game.bas
 row 2 '' "*unrecognized subcommand 'game.bas'*tbc: note: to run a source: tbc run game.bas"* at_terminal built/tbc game.bas
 row 2 '' "*unrecognized subcommand 'game.prg'*try '--help'."* at_terminal unbuilt/tbc game.prg
-command -v rt >/dev/null || row 3 'tbc: the proved program is not built yet, and the command rt *' '' unbuilt/tbc run hello.bas
+command -v rt >/dev/null || row 3 'tbc: the proved program is not built yet, and the command rt *; a package of tbc needs none' '' unbuilt/tbc run hello.bas
+
+# And so are words that can't be right: an option that a command doesn't have, a file that is wanting, or that isn't there
+printf 'RTS\n' >hello.s
+for words in play run build dis disk check 'renumber --from 20' 'profile --html page.html'; do
+    row 2 $'error: the following required arguments were not provided:\n  <*>*\n\nUsage: tbc '"${words%% *}"' *' '' unbuilt/tbc $words
+done
+row 2 "error: unexpected argument '--fitt' found"$'\n\nUsage: tbc run *' '' unbuilt/tbc run hello.bas --fitt
+row 2 "error: unexpected argument '--seed' found"$'\n\nUsage: tbc dis *' '' unbuilt/tbc dis --seed=1 game.prg
+for words in 'run nowhere.bas' 'play nowhere.bas --limit 9' 'build nowhere.bas out.prg' 'dis nowhere.prg' 'asm --at c000 nowhere.s'; do
+    row 3 'tbc: read fault' '' unbuilt/tbc $words
+done
 
 # Trial runs: what the toolchain says of itself does not show, and files are found from its own folder
 PATH=$work/stub:$real_path

@@ -3,13 +3,13 @@ use Rattle.std.proofs.Common.{◌≡◌, ◌⊎◌, inl, inr, ℕ, List, [], ◌
 use Rattle.tb_check.specs.Findings.{AreFindings}
 use Rattle.tb_check_engine.specs.Checks.{Checks, IsLook, Look, Looks, Missed, Saw, Told, Turn, said}
 use Rattle.tb_check.specs.Fitted.{TellsFits, excess_in}
+use Rattle.tb_check_engine.specs.Options.{settings_for}
 use Rattle.tb_check_engine.specs.Reports.{told_of}
 use Rattle.tb_check_engine.specs.Outcomes.{CheckOutcome}
 use Rattle.tb_check_engine.specs.declared.outcome.Checked.{Checked}
 use Rattle.tb_streams.specs.declared.outcome.NoRefusal.{NoRefusal}
 use Rattle.tb_streams.specs.declared.outcome.Outcome.TheVariants as outcome
 use Rattle.tb_check.specs.declared.settings.CheckSettings.{CheckSettings}
-use Rattle.tb_text.specs.Lines.{lines_of_file}
 use Rattle.tb_streams.specs.declared.stream.InputError.{InputError}
 use Rattle.tb_streams.specs.declared.stream.InputError.TheVariants.{Fault, NoMemory}
 use Rattle.tb_adapter_requests.specs.Loading.{IsHeld, IsReport}
@@ -23,9 +23,9 @@ module _ {S : Type 0} (own : Own) (reads : S → List ℕ → Result (List ℕ) 
       let is : source ≡ text = held name (Ok source) t given in (
         found,
         fits,
-        subst (λ x. AreFindings own settings x found) is are,
-        subst (λ x. TellsFits own settings.notation x (excess_in found) fits) is tells,
-        ap (λ n. told_of n (lines_of_file source) found fits) named ∙ ap (λ x. told_of path (lines_of_file x) found fits) is,
+        subst (λ x. AreFindings own (settings_for settings x) x found) is are,
+        subst (λ x. TellsFits own (settings_for settings x).notation x (excess_in found) fits) is tells,
+        ap (λ n. told_of n source found fits) named ∙ ap (λ x. told_of path x found fits) is,
       )
   one_said name Missed t named given = let never : Fault ≡ NoMemory = held name (Err Fault) t given in absurd (cc)
 

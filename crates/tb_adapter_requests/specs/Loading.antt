@@ -1,6 +1,7 @@
 -- Programs that are loaded as they are launched.
-use Rattle.std.specs.Prelude.{ℕ, ◌≡◌, ◌⊎◌, nat_lt, Bool, true, false, is_err, List, [], ◌∷◌, ◌++◌, codes, map, string_bytes, Option, Some, None, Result, Ok, Err, if◌then◌else◌}
+use Rattle.std.specs.Prelude.{ℕ, ◌≡◌, ◌⊎◌, nat_lt, Bool, true, false, is_err, unwrap_or, List, [], ◌∷◌, ◌++◌, codes, map, string_bytes, Option, Some, None, Result, Ok, Err, if◌then◌else◌}
 use Rattle.std.specs.Fmt.{decimal}
+use Rattle.std.specs.Option.{option_or}
 use Rattle.std.specs.declared.alloc.Global.{Global}
 use Rattle.std.specs.declared.vec.Vec.{Vec}
 use Rattle.hex.specs.Hex.{decode_of}
@@ -10,8 +11,13 @@ use Rattle.tb_adapter_messages.specs.declared.refusals.Refusal.TheVariants.{BadK
 use Rattle.tb_check.specs.Findings.{AreFindings}
 use Rattle.tb_check.specs.declared.examination.Findings.{Findings}
 use Rattle.tb_check.specs.Fitted.{TellsFits, excess_in}
+use Rattle.tb_check_engine.specs.Options.{settings_for}
 use Rattle.tb_check_engine.specs.Reports.{told_of}
 use Rattle.tb_compiled.specs.Compiled.{prg_of}
+use Rattle.tb_compiled.specs.Numbers.{USUAL_SEED}
+use Rattle.tb_compiled.specs.declared.settings.SizeLimit.TheVariants.{Memory}
+use Rattle.tb_source_options.specs.Options.{notation_by, notation_for, options_of}
+use Rattle.tb_source_options.specs.declared.options.OwnOptions.{OwnOptions}
 use Rattle.tb_compiled.specs.declared.settings.CompileSettings.{CompileSettings}
 use Rattle.tb_check.specs.declared.settings.CheckSettings.{CheckSettings}
 use Rattle.tb_compile_errors.specs.declared.refusals.CompileError.{CompileError}
@@ -25,11 +31,11 @@ use Rattle.tb_engines.specs.declared.outcome.Refusal.{Refusal as StartRefusal}
 use Rattle.tb_kernal.specs.declared.machine.Keyboard.{Keyboard}
 use Rattle.tb_meaning.specs.declared.needs.LowerError.TheVariants.{TooDeep, NoMemory as NoLowerMemory}
 use Rattle.tb_navigation.specs.Remarks.{shown}
-use Rattle.tb_text.specs.Lines.{lines_of_file}
 use Rattle.tb_parser.specs.declared.errors.SourceError.{SourceError}
 use Rattle.tb_streams.specs.declared.stream.InputError.{InputError}
 use Rattle.tb_streams.specs.declared.stream.InputError.TheVariants as input_error
 use Rattle.tb_adapter_requests.specs.Launching.{Asked}
+use Rattle.tb_adapter_requests.specs.declared.launching.Manner.{Manner}
 use Rattle.tb_adapter_requests.specs.Said.{Saying, output_of, refused, seen}
 use Rattle.tb_adapter_requests.specs.declared.loading.Compiling.{Compiling}
 use Rattle.tb_adapter_requests.specs.declared.loading.Compiling.TheVariants.{Fit, Unfit}
@@ -64,6 +70,18 @@ error_text (compile_error.Lower NoLowerMemory) = OUT_OF_MEMORY.now
 error_text (compile_error.TooLarge cost) = texts.too_large_text cost
 error_text compile_error.NoMemory = OUT_OF_MEMORY.now
 
+-- how a source is compiled, by what is asked for and by its options: a seed that is asked for goes before its own
+abbrev pub settings_by : Manner → OwnOptions → CompileSettings
+settings_by m o = record {
+  seed = unwrap_or (option_or m.seed o.seed) USUAL_SEED;
+  size = if o.fit then Memory else m.size;
+  notation = notation_by m.notation o;
+}
+
+-- the same by the source
+abbrev pub compile_settings : Manner → List ℕ → CompileSettings
+compile_settings m source = settings_by m (options_of source)
+
 -- how a source is checked that is compiled like this
 abbrev pub check_settings : CompileSettings → CheckSettings
 check_settings settings = record { size = settings.size; notation = settings.notation }
@@ -71,8 +89,9 @@ check_settings settings = record { size = settings.size; notation = settings.not
 -- what `check` says of a source under its path: of all that is found in it, and whether the memory holds it
 abbrev pub IsReport : Own → CheckSettings → (path text said : List ℕ) → Type 0
 IsReport own settings path text said =
-    (found : Findings) × (fits : Bool) × AreFindings own settings text found × TellsFits own settings.notation text (excess_in found) fits
-    × (said ≡ told_of path (lines_of_file text) found fits)
+    (found : Findings) × (fits : Bool) × AreFindings own (settings_for settings text) text found
+    × TellsFits own (settings_for settings text).notation text (excess_in found) fits
+    × (said ≡ told_of path text found fits)
 
 -- what `check` says of a source, and then the refusal
 abbrev pub IsUnfit : Own → CheckSettings → (path text : List ℕ) → CompileError → List Saying → Type 0
@@ -100,7 +119,7 @@ IsRefused refusal (loading.Loaded l) = ⊥
 pub record IsLoaded (a : Asked) (text answers : List ℕ) (s : CompiledSource) (l : Loaded) : Type 0 where
   pub path : string_bytes l.path ≡ a.path
   pub source : l.source ≡ s
-  pub notation : l.notation ≡ a.settings.notation
+  pub notation : l.notation ≡ notation_for a.manner.notation s.text.items
   pub machine : StartsPrg text answers (prg_of s.program) (Ok l.machine)
   pub rom : l.rom ≡ a.rom
   pub plan : l.plan ≡ a.plan
@@ -114,8 +133,8 @@ Starts a text answers s (loading.Unloaded told) =
 -- what comes of a source that was read
 abbrev pub Compiled : Own → Asked → (text answers source : List ℕ) → Loading → Type 0
 Compiled own a text answers source l =
-    ((s : CompiledSource) × CompilesTo own a.settings a.path source (Fit s) × Starts a text answers s l)
-    ⊎ ((told : Vec _ Global) × CompilesTo own a.settings a.path source (Unfit told) × (l ≡ loading.Unloaded told))
+    ((s : CompiledSource) × CompilesTo own (compile_settings a.manner source) a.path source (Fit s) × Starts a text answers s l)
+    ⊎ ((told : Vec _ Global) × CompilesTo own (compile_settings a.manner source) a.path source (Unfit told) × (l ≡ loading.Unloaded told))
 
 -- what comes of reading one
 abbrev pub ReadsTo : Own → Asked → (text answers : List ℕ) → Result (List ℕ) InputError → Loading → Type 0

@@ -5,12 +5,21 @@ ghost use Rattle.tb_adapter_requests.specs.Launching as spec;
 
 use serde_json::Value;
 use tb_adapter_values::{flag_in, number_in, optional_text, text_in};
-use tb_compiled::{CompileSettings, Notation, SizeLimit, USUAL_SEED};
+use tb_compiled::{Notation, SizeLimit};
 use tb_debug::Rom;
 use tb_engines::{MOST_EVENTS, USUAL_EVENTS};
 
 /// The most that a seed is.
 const MOST_SEED: u64 = 65_535;
+
+/// What a launch has that asks for nothing else, and what the adapter has for it.
+#[derive(Clone, Copy, Debug, PartialEq, Eq, Drop)]
+pub struct Usual {
+    /// How texts are read.
+    pub notation: Notation,
+    /// The clock's seed, if a clock can be read.
+    pub clock: Option<u16>,
+}
 
 /// How a run is debugged.
 #[derive(Clone, Copy, Debug, PartialEq, Eq, Drop)]
@@ -21,13 +30,24 @@ pub struct Plan {
     pub stops_on_entry: bool,
     /// Whether breakpoints and watches stop nothing.
     pub is_plain: bool,
+    /// The clock's seed, if that was asked for.
+    pub drawn: Option<u16>,
+}
+
+/// How the program is to be compiled. Its own words may ask for more.
+#[derive(Clone, Copy, Debug, PartialEq, Eq, Drop)]
+pub struct Manner {
+    /// The first state of RND, if it is given.
+    pub seed: Option<u16>,
+    pub size: SizeLimit,
+    pub notation: Notation,
 }
 
 /// What is launched.
 #[derive(Clone, Copy, Debug, Drop)]
 pub struct Launch<'a> {
     pub path: &'a str,
-    pub settings: CompileSettings,
+    pub manner: Manner,
     pub rom: Rom,
     /// What the keyboard gives, in hexadecimal digits.
     pub keys: &'a str,
@@ -46,11 +66,31 @@ fn seed_by(number: u64) -> Option<u16>
     }
 }
 
-// The first state of RND.
-fn seed_in(arguments: &Value) -> Option<u16>
-    ensures { result ≡ spec.seed_in (view arguments.now) }
+// Whether the seed is to be the clock's.
+fn is_by_clock(arguments: &Value) -> bool
+    ensures { result ≡ spec.is_by_clock (view arguments.now) }
 {
-    seed_by(number_in(arguments, "seed", u64::from(USUAL_SEED))?)
+    matches!(text_in(arguments, "seed"), Some("time"))
+}
+
+// The clock's seed, if that is asked for.
+fn drawn_in(arguments: &Value, clock: Option<u16>) -> Option<u16>
+    ensures { result ≡ spec.drawn_in clock (view arguments.now) }
+{
+    if is_by_clock(arguments) { clock } else { None }
+}
+
+// The first state of RND, if it is given. Without a clock there is no seed by it.
+fn seed_in(arguments: &Value, clock: Option<u16>) -> Option<Option<u16>>
+    ensures { result ≡ spec.seed_in clock (view arguments.now) }
+{
+    if is_by_clock(arguments) {
+        return Some(Some(clock?));
+    }
+    match arguments.get("seed") {
+        Some(seed) => Some(Some(seed_by(seed.as_u64()?)?)),
+        None => Some(None),
+    }
 }
 
 // When a program is too large: by what it costs, or only if it doesn't fit the memory.
@@ -85,14 +125,14 @@ fn has_signs(notation: Notation) -> bool
     }
 }
 
-// How the program is compiled: in the usual notation, if nothing else is asked for.
-fn settings_in(arguments: &Value, usual: Notation) -> Option<CompileSettings>
-    ensures { result ≡ spec.settings_in usual (view arguments.now) }
+// How the program is to be compiled: in the usual notation, if nothing else is asked for.
+fn manner_in(arguments: &Value, usual: Usual) -> Option<Manner>
+    ensures { result ≡ spec.manner_in usual (view arguments.now) }
 {
-    let seed = seed_in(arguments)?;
+    let seed = seed_in(arguments, usual.clock)?;
     let fit = flag_in(arguments, "fit", true)?;
-    let petscii = flag_in(arguments, "petscii", has_signs(usual))?;
-    Some(CompileSettings {
+    let petscii = flag_in(arguments, "petscii", has_signs(usual.notation))?;
+    Some(Manner {
         seed,
         size: size_by(fit),
         notation: notation_by(petscii),
@@ -138,8 +178,8 @@ fn limit_in(arguments: &Value) -> Option<u64>
 }
 
 // How the run is debugged.
-fn plan_in(arguments: &Value) -> Option<Plan>
-    ensures { result ≡ spec.plan_in (view arguments.now) }
+fn plan_in(arguments: &Value, clock: Option<u16>) -> Option<Plan>
+    ensures { result ≡ spec.plan_in clock (view arguments.now) }
 {
     let limit = limit_in(arguments)?;
     let stops_on_entry = flag_in(arguments, "stopOnEntry", false)?;
@@ -148,6 +188,7 @@ fn plan_in(arguments: &Value) -> Option<Plan>
         limit,
         stops_on_entry,
         is_plain,
+        drawn: drawn_in(arguments, clock),
     })
 }
 
@@ -173,18 +214,18 @@ fn path_in(arguments: &Value) -> Option<&str>
 }
 
 /// What is launched; none where the arguments have another form.
-pub fn launch_in(arguments: &Value, usual: Notation) -> Option<Launch<'_>>
+pub fn launch_in(arguments: &Value, usual: Usual) -> Option<Launch<'_>>
     ensures { option_map spec.asked_of result ≡ spec.launch_in usual (view arguments.now) }
 {
     let path = path_in(arguments)?;
-    let settings = settings_in(arguments, usual)?;
+    let manner = manner_in(arguments, usual)?;
     let rom = rom_in(arguments)?;
     let keys = digits_in(arguments, "keys")?;
     let answers = digits_in(arguments, "answers")?;
-    let plan = plan_in(arguments)?;
+    let plan = plan_in(arguments, usual.clock)?;
     Some(Launch {
         path,
-        settings,
+        manner,
         rom,
         keys,
         answers,

@@ -6,19 +6,20 @@ ghost use Rattle.tb_adapter_requests.specs.Loading as spec;
 ghost use Rattle.tb_adapter_requests.specs.Loading.{CompilesTo, IsHeld, IsKeyboard, IsReport, IsUnfit, Loads, Reads, Starts};
 ghost use Rattle.tb_adapter_requests.specs.Said.{seen};
 
-use crate::launching::{Launch, Plan};
+use crate::launching::{Launch, Manner, Plan};
 use crate::said::{Said, output};
 use std::alloc::{AllocError, Global};
 use tb_adapter_messages::Refusal;
 use tb_check::CheckSettings;
 use tb_check_engine::{CheckOutcome, Sources, check_sources};
-use tb_compiled::{Compile, CompileError, CompileSettings, Notation};
+use tb_compiled::{Compile, CompileError, CompileSettings, Notation, SizeLimit, USUAL_SEED};
 use tb_debug::Rom;
 use tb_engines::{NoText, TOO_DEEP, TooLarge, source_text};
 use tb_kernal::{Keyboard, Machine};
 use tb_meaning::LowerError;
 use tb_navigation::shown;
 use tb_parser::SourceError;
+use tb_source_options::{OwnOptions, notation_for, own_options};
 use tb_sources::{CompiledSource, start_program};
 use tb_streams::{InputError, KeyError, OUT_OF_MEMORY, Tracked, key_list};
 
@@ -148,6 +149,28 @@ fn unfit<K: Compile>(
     Ok(said)
 }
 
+// How a source is compiled, by what is asked for and by its own words. A seed that is asked for goes before its own.
+fn settings_by(manner: Manner, own: OwnOptions) -> CompileSettings
+    ensures { result ≡ spec.settings_by manner own }
+{
+    CompileSettings {
+        seed: manner.seed.or(own.seed).unwrap_or(USUAL_SEED),
+        size: if own.fit {
+            SizeLimit::Memory
+        } else {
+            manner.size
+        },
+        notation: own.notation(manner.notation),
+    }
+}
+
+// The same by the source.
+fn settings_for(manner: Manner, source: &[u8]) -> CompileSettings
+    ensures { result ≡ spec.compile_settings manner source.now }
+{
+    settings_by(manner, own_options(source))
+}
+
 // What comes of compiling a source.
 fn compiled<K: Compile>(
     compiler: &K,
@@ -206,11 +229,12 @@ fn started(
     ensures { IfOk result (Starts (asked_of launch.now) keyboard.text.items keyboard.answers.items source) }
 {
     let path = String::from_str(alloc, launch.path)?;
+    let notation = notation_for(launch.manner.notation, &source.text);
     match start_program(alloc, &source.program, keyboard) {
         Ok(machine) => Ok(Loading::Loaded(Loaded {
             path,
             source,
-            notation: launch.settings.notation,
+            notation,
             machine,
             rom: launch.rom,
             plan: launch.plan,
@@ -230,7 +254,8 @@ fn compiled_and_started<K: Compile>(
 ) -> Result<Loading, AllocError>
     ensures { IfOk result (spec.Compiled K.own (asked_of launch.now) keyboard.text.items keyboard.answers.items text.items) }
 {
-    match compiled(compiler, alloc, launch.path, text, launch.settings)? {
+    let settings = settings_for(launch.manner, &text);
+    match compiled(compiler, alloc, launch.path, text, settings)? {
         Compiling::Fit(source) => {
             let loading = started(alloc, launch, keyboard, source)?;
             Ok(loading)

@@ -5,6 +5,7 @@ use Rattle.serde_json.specs.View.{view}
 use Rattle.serde_json.specs.declared.value.Value.{Value}
 use Rattle.tb_streams.specs.Streams.{most_input}
 use Rattle.tb_text.specs.declared.notation.Notation.{Notation}
+use Rattle.tb_source_options.specs.Options.{notation_for}
 use Rattle.tb_source_names.specs.Sources.{AreLinesOf}
 use Rattle.tb_source_names.specs.declared.lines.Line.{Line as SourceLine}
 use Rattle.tb_navigation.specs.Places.{definition, highlights, references}
@@ -76,6 +77,6 @@ abbrev pub AnswersBy : Own → Notation → Option Asked → List ℕ → List �
 AnswersBy own notation (Some a) uri text r = AnswersAsked own notation a uri (readable text) r
 AnswersBy own notation None uri text r = r ≡ Err BadParams
 
--- what is answered to a request on a text that is read in a notation
+-- what is answered to a request on a text that is read in a notation, or as its own words ask for
 abbrev pub Answers : Own → Notation → Method → List ℕ → List ℕ → Data → Result Value Refusal → Type 0
-Answers own notation m uri text params r = AnswersBy own notation (asked_of m params) uri text r
+Answers own notation m uri text params r = AnswersBy own (notation_for notation text) (asked_of m params) uri text r

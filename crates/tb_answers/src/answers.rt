@@ -19,6 +19,7 @@ use tb_outline::{folds, semantic_tokens};
 use tb_place_values::Place;
 use tb_rename::{prepare, rename};
 use tb_source_names::{Source, read_source};
+use tb_source_options::notation_for;
 use tb_streams::MOST_INPUT;
 use tb_text::Notation;
 
@@ -157,8 +158,8 @@ fn answer_if_asked<K: Compile>(
     Ok(answer)
 }
 
-/// What is answered to a request on a text that is read in a notation, or why it is refused. Fails only if memory runs
-/// out.
+/// What is answered to a request on a text that is read in a notation, or as its own words ask for; or why it is
+/// refused. Fails only if memory runs out.
 pub fn answer<K: Compile>(
     compiler: &K,
     alloc: Global,
@@ -173,7 +174,7 @@ pub fn answer<K: Compile>(
     answer_if_asked(
         compiler,
         alloc,
-        notation,
+        notation_for(notation, text),
         uri,
         text,
         asked_of(method, params),

@@ -14,7 +14,15 @@ LARGEST_BOUND = 15000
 abbrev pub LOWEST_NEGATED : ℕ
 LOWEST_NEGATED = 32768
 
+-- the bytes of `{F1}` and `{F8}` in a text
+abbrev pub FIRST_KEY : ℕ
+FIRST_KEY = 241
+
+abbrev pub LAST_KEY : ℕ
+LAST_KEY = 248
+
 -- the constants of the code are these numbers
 abbrev pub ConstantsAreNumbers : Type 0
 ConstantsAreNumbers =
     (code.HIGHEST_NUMBER ≡ HIGHEST_NUMBER) × (code.LARGEST_BOUND ≡ LARGEST_BOUND) × (code.LOWEST_NEGATED ≡ LOWEST_NEGATED)
+    × (code.FIRST_KEY ≡ FIRST_KEY) × (code.LAST_KEY ≡ LAST_KEY)

@@ -1,5 +1,5 @@
 -- The warnings on a source that is compiled.
-use Rattle.std.specs.Prelude.{ℕ, ◌%◌, nat_le, nat_lt, Bool, true, false, ◌&&◌, ◌||◌, ◌==◌, if◌then◌else◌, List, [], ◌∷◌, ◌++◌, flat_map, map}
+use Rattle.std.specs.Prelude.{ℕ, ◌+◌, ◌-◌, ◌%◌, nat_le, nat_lt, Bool, true, false, ◌&&◌, ◌||◌, ◌==◌, if◌then◌else◌, List, [], ◌∷◌, ◌++◌, flat_map, map}
 use Rattle.std.specs.Prelude.{Option, Some, None}
 use Rattle.std.specs.Option.{option_or}
 use Rattle.std.specs.List.{list_any}
@@ -15,8 +15,8 @@ use Rattle.tb_check.specs.declared.lines.NumberedLine.{NumberedLine}
 use Rattle.tb_check.specs.declared.warnings.LineWarning.{LineWarning}
 use Rattle.tb_check.specs.declared.warnings.Warning.{Warning}
 use Rattle.tb_check.specs.declared.warnings.Warning.TheVariants.{NoLine, HighTarget, Replaced, TakenOut, RunsPast, EvenBound}
-use Rattle.tb_check.specs.declared.warnings.Warning.TheVariants.{BoundOfOne, BadBound, ZeroDivisor, HighNumber}
-use Rattle.tb_check.specs.Numbers.{HIGHEST_NUMBER, LARGEST_BOUND, LOWEST_NEGATED}
+use Rattle.tb_check.specs.declared.warnings.Warning.TheVariants.{BoundOfOne, BadBound, ZeroDivisor, HighNumber, KeyCharacter}
+use Rattle.tb_check.specs.Numbers.{FIRST_KEY, HIGHEST_NUMBER, LARGEST_BOUND, LAST_KEY, LOWEST_NEGATED}
 use Rattle.tb_check.specs.Entries.{is_one_of}
 
 -- ── a later line ──
@@ -203,12 +203,30 @@ statement_highs Return = []
 statement_highs End = []
 statement_highs Remark = []
 
+-- ── characters whose signs are names of function keys ──
+-- on a byte of a text
+abbrev pub on_byte : ℕ → List Warning
+on_byte b = if nat_le FIRST_KEY b && nat_le b LAST_KEY then KeyCharacter (b - FIRST_KEY + 1) ∷ [] else []
+
+-- on the text of an item of PRINT
+abbrev pub item_keys : Item → List Warning
+item_keys (Text t) = flat_map on_byte t
+item_keys (Value e) = []
+item_keys Zone = []
+
+-- on those of a statement
+abbrev pub statement_keys : Statement → List Warning
+statement_keys (Print items ends) = flat_map item_keys items
+statement_keys (If l rel r c) = statement_keys c
+statement_keys _ = []
+
 -- ── all warnings ──
 -- on line n of the program, in their order
 abbrev pub on_statement : Program → ℕ → Option Statement → List Warning
 on_statement p n None = []
 on_statement p n (Some c) =
-    no_lines p n ++ (high_targets c ++ (runs_past p n c ++ (on_bounds (statement_bounds c) ++ (zero_divisors c ++ statement_highs c))))
+    no_lines p n ++ (high_targets c ++ (runs_past p n c ++ (on_bounds (statement_bounds c)
+    ++ (zero_divisors c ++ (statement_highs c ++ statement_keys c)))))
 
 -- on a line that is not bare, by the later line that has its number; if there is none, it is the program's
 abbrev pub on_stated : Program → ℕ → Option NumberedLine → List Warning

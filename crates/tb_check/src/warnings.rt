@@ -24,6 +24,12 @@ const HIGHEST_NUMBER: u16 = 32_767;
 /// The number that is the lowest one behind a minus sign.
 const LOWEST_NEGATED: u16 = 32_768;
 
+/// The byte that `{F1}` stands for in a text, as which a source may mean the first function key.
+const FIRST_KEY: u8 = 241;
+
+/// The byte of `{F8}`.
+const LAST_KEY: u8 = 248;
+
 /// What there is to warn of.
 #[derive(Clone, Copy, Drop)]
 pub enum Warning {
@@ -47,6 +53,8 @@ pub enum Warning {
     ZeroDivisor,
     /// This number is read as a negative one.
     HighNumber(u16),
+    /// A text has the character that `{F1}` stands for, or another one with the name of this function key, from 1 to 8.
+    KeyCharacter(u8),
 }
 
 /// A warning at its line of the file, from 1.
@@ -179,7 +187,8 @@ fn warn_of_statement(
     if statement_divides_by_zero(statement) {
         push(found, line.line, Warning::ZeroDivisor)?;
     }
-    warn_of_numbers(line.line, statement, found)
+    warn_of_numbers(line.line, statement, found)?;
+    warn_of_keys(line.line, statement, found)
 }
 
 // Appends the warnings on the missing targets of a line.
@@ -453,4 +462,45 @@ fn warn_of_high(line: usize, number: u16, found: &mut Vec<LineWarning>) -> Resul
     } else {
         Ok(())
     }
+}
+
+// Appends a warning for each character of a statement's texts whose sign is the name of a function key.
+fn warn_of_keys(
+    line: usize,
+    statement: &Statement,
+    found: &mut Vec<LineWarning>,
+) -> Result<(), AllocError>
+    ensures { OnOk result (found.new.items ≡ found.old.items ++ spec.at line (spec.statement_keys (statement_of statement.now))) }
+{
+    match statement {
+        Statement::Print(items, _) => warn_of_texts(line, items, found),
+        Statement::If(_, _, _, statement) => warn_of_keys(line, statement, found),
+        _ => Ok(()),
+    }
+}
+
+fn warn_of_texts(
+    line: usize,
+    items: &[PrintItem],
+    found: &mut Vec<LineWarning>,
+) -> Result<(), AllocError>
+    ensures { OnOk result (found.new.items ≡ found.old.items ++ spec.at line (flat_map spec.item_keys (map item_of items.now))) }
+{
+    for item in items {
+        if let PrintItem::Text(text) = item {
+            warn_of_text(line, text.as_slice(), found)?;
+        }
+    }
+    Ok(())
+}
+
+fn warn_of_text(line: usize, text: &[u8], found: &mut Vec<LineWarning>) -> Result<(), AllocError>
+    ensures { OnOk result (found.new.items ≡ found.old.items ++ spec.at line (flat_map spec.on_byte text.now)) }
+{
+    for byte in text {
+        if FIRST_KEY <= *byte && *byte <= LAST_KEY {
+            push(found, line, Warning::KeyCharacter(*byte - FIRST_KEY + 1))?;
+        }
+    }
+    Ok(())
 }

@@ -9,7 +9,7 @@ use Rattle.std.proofs.lemmas.List.Folds.{list_any-append}
 use Rattle.std.proofs.lemmas.Grind.{flat_map-append}
 use Rattle.tb_streams.specs.declared.stream.InputError.{InputError}
 use Rattle.tb_check.specs.declared.settings.CheckSettings.{CheckSettings}
-use Rattle.tb_check_engine.specs.Checks.{Look, Saw, Missed, Turn, Looks, IsLook, Told, said, said_of, is_refusal, is_miss, is_refused, marks_of, marked, seen_of, ending, Tells, ChecksNext, Checks}
+use Rattle.tb_check_engine.specs.Checks.{Look, Saw, Missed, Turn, Looks, IsLook, Told, said, said_of, is_refusal, is_miss, marks_of, marked, seen_of, ending, Tells, ChecksNext, Checks}
 use Rattle.tb_streams.specs.Streams.{AppendsPrefix}
 use Rattle.tb_check_engine.specs.declared.engine.Marks.{Marks}
 use Rattle.tb_check_engine.specs.declared.engine.Seen.{Seen}
@@ -105,9 +105,10 @@ marks_more : (turns : List Turn) (name : List ℕ) (look : Look) → marked (mar
 marks_more turns name (Saw source found fits) =
     let refused = list_any (λ t. is_refusal t.look) turns in
     let unread = list_any (λ t. is_miss t.look) turns in
-    let turn = turn_of name (Saw source found fits) in
-    seen_more refused unread (is_refused found)
-    ∙ ap (λ b. marks b unread) (ap (λ b. refused || b) (sym (or_false (is_refused found))) ∙ sym (list_any-append (λ t. is_refusal t.look) turns (turn ∷ [])))
+    let look = Saw source found fits in
+    let turn = turn_of name look in
+    seen_more refused unread (is_refusal look)
+    ∙ ap (λ b. marks b unread) (ap (λ b. refused || b) (sym (or_false (is_refusal look))) ∙ sym (list_any-append (λ t. is_refusal t.look) turns (turn ∷ [])))
     ∙ ap (λ b. marks (list_any (λ t. is_refusal t.look) (turns ++ turn ∷ [])) b) (sym (or_false unread) ∙ sym (list_any-append (λ t. is_miss t.look) turns (turn ∷ [])))
 marks_more turns name Missed =
     let refused = list_any (λ t. is_refusal t.look) turns in

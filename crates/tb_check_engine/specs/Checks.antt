@@ -1,5 +1,5 @@
 -- What comes of checking sources, one after the other.
-use Rattle.std.specs.Prelude.{ℕ, ◌≡◌, ◌≢◌, Bool, true, false, List, [], ◌∷◌, map, flat_map, take, slice_index_or, Option, Result, Ok, Err, if◌then◌else◌}
+use Rattle.std.specs.Prelude.{ℕ, ◌≡◌, ◌≢◌, ◌||◌, Bool, true, false, List, [], ◌∷◌, map, flat_map, take, slice_index_or, is_some, Option, Result, Ok, Err, if◌then◌else◌}
 use Rattle.std.specs.List.{list_any}
 use Rattle.std.specs.Io.KnownBytes.{Appends}
 use Rattle.std.specs.declared.alloc.Global.{Global}
@@ -8,11 +8,13 @@ use Rattle.tb_streams.specs.Streams.{AppendsPrefix}
 use Rattle.tb_streams.specs.declared.stream.InputError.{InputError}
 use Rattle.tb_streams.specs.declared.stream.InputError.TheVariants.{Fault}
 use Rattle.tb_check.specs.declared.settings.CheckSettings.{CheckSettings}
-use Rattle.tb_text.specs.Lines.{lines_of_file}
 use Rattle.tb_check.specs.Findings.{AreFindings}
 use Rattle.tb_check.specs.Fitted.{TellsFits, excess_in}
 use Rattle.tb_check.specs.declared.examination.Findings.{Findings}
 use Rattle.tb_check.specs.declared.examination.Findings.TheVariants as findings
+use Rattle.tb_source_options.specs.Options.{options_of}
+use Rattle.tb_source_options.specs.declared.options.BadWord.{BadWord}
+use Rattle.tb_check_engine.specs.Options.{settings_for}
 use Rattle.tb_check_engine.specs.Reports.{told_of}
 use Rattle.tb_check_engine.specs.declared.engine.Marks.{Marks}
 use Rattle.tb_check_engine.specs.declared.engine.Seen.{Seen}
@@ -34,6 +36,10 @@ is_refused findings.Empty = true
 is_refused (findings.Refused deep too_large) = true
 is_refused (findings.Accepted warnings) = false
 
+-- a source is not compiled, or one of its own words is no option
+abbrev pub is_faulty : Option BadWord → Findings → Bool
+is_faulty bad found = is_some bad || is_refused found
+
 -- ---- one source
 
 -- what came of a source: it was read, and this was found, and whether the memory holds it, if it is refused for its size;
@@ -49,16 +55,16 @@ pub record Turn : Type 0 where
 
 -- what is said of a source under a name
 abbrev pub said_of : List ℕ → Look → List ℕ
-said_of name (Saw source found fits) = told_of name (lines_of_file source) found fits
+said_of name (Saw source found fits) = told_of name source found fits
 said_of name Missed = []
 
 -- the same of a source whose turn has come
 abbrev pub said : Turn → List ℕ
 said turn = said_of turn.name turn.look
 
--- a source that is not compiled
+-- a source that is not compiled, or has a word that is no option
 abbrev pub is_refusal : Look → Bool
-is_refusal (Saw source found fits) = is_refused found
+is_refusal (Saw source found fits) = is_faulty (options_of source).bad found
 is_refusal Missed = false
 
 -- a source that could not be read
@@ -69,7 +75,8 @@ is_miss Missed = true
 -- a source was read by its name, and this is what is found in it; or reading it failed
 abbrev pub IsLook : {S : Type 0} → Own → (S → List ℕ → Result (List ℕ) InputError → S → Type 0) → CheckSettings → S → List ℕ → Look → S → Type 0
 IsLook own reads settings s name (Saw source found fits) t =
-    reads s name (Ok source) t × AreFindings own settings source found × TellsFits own settings.notation source (excess_in found) fits
+    reads s name (Ok source) t × AreFindings own (settings_for settings source) source found
+    × TellsFits own (settings_for settings source).notation source (excess_in found) fits
 IsLook own reads settings s name Missed t = reads s name (Err Fault) t
 
 -- ---- all sources
@@ -121,9 +128,13 @@ WriteFaults NoMemory old new = new ≡ old
 
 -- ---- steps of the engine
 
+-- what came of a source that was read, by its word that is no option and what is found
+abbrev pub seen_by : Option BadWord → Findings → Seen
+seen_by bad found = if is_faulty bad found then seen.Refused else seen.Accepted
+
 -- what came of a source
 abbrev pub seen_of : Look → Seen
-seen_of (Saw source found fits) = if is_refused found then seen.Refused else seen.Accepted
+seen_of (Saw source found fits) = seen_by (options_of source).bad found
 seen_of Missed = seen.Unread
 
 -- with what came of one more source
@@ -140,11 +151,13 @@ outcome_of (Err outcome) = outcome
 -- a source was looked at, and told of as far as its writer took it
 abbrev pub Tells : Own → CheckSettings → List ℕ → List ℕ → Result Seen CheckOutcome → Option (List ℕ) → Option (List ℕ) → Type 0
 Tells own settings name source (Ok answer) old new =
-    (found : Findings) × (fits : Bool) × AreFindings own settings source found × TellsFits own settings.notation source (excess_in found) fits
-    × Appends old new (told_of name (lines_of_file source) found fits) × (answer ≡ seen_of (Saw source found fits))
+    (found : Findings) × (fits : Bool) × AreFindings own (settings_for settings source) source found
+    × TellsFits own (settings_for settings source).notation source (excess_in found) fits
+    × Appends old new (told_of name source found fits) × (answer ≡ seen_of (Saw source found fits))
 Tells own settings name source (Err WriteFault) old new =
-    (found : Findings) × (fits : Bool) × AreFindings own settings source found × TellsFits own settings.notation source (excess_in found) fits
-    × AppendsPrefix old new (told_of name (lines_of_file source) found fits)
+    (found : Findings) × (fits : Bool) × AreFindings own (settings_for settings source) source found
+    × TellsFits own (settings_for settings source).notation source (excess_in found) fits
+    × AppendsPrefix old new (told_of name source found fits)
 Tells own settings name source (Err NoMemory) old new = new ≡ old
 Tells own settings name source (Err e) old new = ⊥
 

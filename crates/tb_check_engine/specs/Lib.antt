@@ -4,3 +4,4 @@ pub mod Refusals
 pub mod Reports
 pub mod Rows
 pub mod Texts
+pub mod Options

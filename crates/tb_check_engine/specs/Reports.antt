@@ -10,7 +10,11 @@ use Rattle.tb_check.specs.declared.examination.BadLine.{BadLine}
 use Rattle.tb_check.specs.declared.examination.Findings.{Findings}
 use Rattle.tb_check.specs.declared.examination.Findings.TheVariants.{BadLines, Empty, Refused, Accepted}
 use Rattle.tb_check.specs.declared.notes.Note.{Note}
+use Rattle.tb_text.specs.Lines.{lines_of_file}
+use Rattle.tb_source_options.specs.Options.{options_of}
+use Rattle.tb_source_options.specs.declared.options.BadWord.{BadWord}
 use Rattle.tb_check_engine.specs.declared.reports.Source.{Source}
+use Rattle.tb_check_engine.specs.declared.texts.TheConstants.{NO_OPTION}
 use Rattle.tb_check_engine.specs.Rows.{caret_row, line_row}
 use Rattle.tb_check_engine.specs.Texts.{note_text, warning_text}
 
@@ -79,6 +83,17 @@ report name lines Empty = file_row name (source_text NothingLeft)
 report name lines (Refused deep too_large) = flat_map (deep_rows name lines) deep.items ++ too_large_row name too_large
 report name lines (Accepted warnings) = flat_map (warning_rows name lines) warnings.items
 
--- what is said of a source: of what is found, and whether the memory holds it
-abbrev pub told_of : List ℕ → List (List ℕ) → Findings → Bool → List ℕ
-told_of name lines found fits = report name lines found ++ fits_row name fits
+-- a word that is no option: its place, the line, and a caret under its column
+abbrev pub bad_word_rows : List ℕ → List (List ℕ) → Option BadWord → List ℕ
+bad_word_rows name lines None = []
+bad_word_rows name lines (Some bad) =
+    name ++ (codes ":" ++ (decimal bad.line ++ (codes ":" ++ (decimal bad.column ++ (codes ": error: " ++ (NO_OPTION.now ++ codes "\n"))))))
+    ++ line_row (decimal bad.line) (line_at lines bad.line) ++ caret_row (decimal bad.line) bad.column
+
+-- the same of what is found, after its word that is no option, and whether the memory holds it
+abbrev pub told_in : List ℕ → List (List ℕ) → Option BadWord → Findings → Bool → List ℕ
+told_in name lines bad found fits = bad_word_rows name lines bad ++ report name lines found ++ fits_row name fits
+
+-- what is said of a source: of its own words, of what is found, and whether the memory holds it
+abbrev pub told_of : List ℕ → List ℕ → Findings → Bool → List ℕ
+told_of name source found fits = told_in name (lines_of_file source) (options_of source).bad found fits

@@ -121,3 +121,5 @@ warning_text warning.BoundOfOne = BOUND_OF_ONE.now
 warning_text (warning.BadBound bound) = codes "fault 3: the bound of RND is " ++ signed_decimal bound
 warning_text warning.ZeroDivisor = ZERO_DIVISOR.now
 warning_text (warning.HighNumber number) = decimal number ++ (codes " is read as " ++ (signed_decimal (signed number) ++ codes "; numbers end at 32767"))
+warning_text (warning.KeyCharacter number) =
+    codes "{F" ++ (decimal number ++ (codes "} is the character {B" ++ (decimal number ++ codes "}, and no function key")))

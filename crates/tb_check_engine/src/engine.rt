@@ -1,15 +1,17 @@
 //! Checking sources, one after the other.
 ghost use Rattle.std.specs.Prelude.{◌≡◌, map, string_bytes};
 ghost use Rattle.tb_streams.specs.Failures.{failures_of};
-ghost use Rattle.tb_check_engine.specs.Checks.{Checks, ChecksNext, Tells, WriteFaults, is_refused, ending, marked, outcome_of};
+ghost use Rattle.tb_check_engine.specs.Options as spec;
+ghost use Rattle.tb_check_engine.specs.Checks.{Checks, ChecksNext, Tells, WriteFaults, is_refused, ending, marked, outcome_of, seen_by};
 
 use crate::outcome::{CheckOutcome, Checked};
-use crate::reports::{Source, push_fits, push_report};
+use crate::reports::{Source, report_of};
 use crate::sources::Sources;
 use std::alloc::Global;
 use std::io::Write;
 use tb_check::{CheckSettings, Findings, examine, fits_memory};
-use tb_compiled::Compile;
+use tb_compiled::{Compile, SizeLimit};
+use tb_source_options::{BadWord, OwnOptions, own_options};
 use tb_streams::{InputError, Tracked, write_output};
 
 /// What came of a source.
@@ -17,7 +19,7 @@ use tb_streams::{InputError, Tracked, write_output};
 enum Seen {
     /// It is compiled.
     Accepted,
-    /// It is not compiled.
+    /// It is not compiled, or has a word that is no option.
     Refused,
     /// It could not be read.
     Unread,
@@ -71,6 +73,31 @@ fn is_refused(findings: &Findings) -> bool
     !matches!(findings, Findings::Accepted(_))
 }
 
+// What came of a source that was read: one with a word of its own that is no option counts as refused, too.
+fn seen_by(bad: Option<BadWord>, findings: &Findings) -> Seen
+    ensures { result ≡ seen_by bad findings.now }
+{
+    if bad.is_some() || is_refused(findings) {
+        Seen::Refused
+    } else {
+        Seen::Accepted
+    }
+}
+
+// How a source is checked, by what is asked for and by its own words.
+fn settings_by(settings: CheckSettings, own: OwnOptions) -> CheckSettings
+    ensures { result ≡ spec.settings_by settings own }
+{
+    CheckSettings {
+        size: if own.fit {
+            SizeLimit::Memory
+        } else {
+            settings.size
+        },
+        notation: own.notation(settings.notation),
+    }
+}
+
 // Looks at a source under a name, and writes what there is to say of it.
 fn tell<K: Compile, W: Write>(
     compiler: &K,
@@ -83,19 +110,19 @@ fn tell<K: Compile, W: Write>(
     ensures tells { Tells K.own settings name.now source.now result (W.contents writer.old.stream) (W.contents writer.new.stream) }
     ensures faults { WriteFaults (outcome_of result) (failures_of writer.old) (failures_of writer.new) }
 {
+    let own = own_options(source);
+    let settings = settings_by(settings, own);
     let seen = examine(compiler, alloc, source, settings)?;
     let fits = fits_memory(compiler, alloc, source, settings.notation, &seen.findings)?;
     let shown = Source {
         name,
         lines: seen.lines.as_slice(),
     };
-    let mut text = Vec::new(alloc);
-    push_report(alloc, &mut text, &shown, &seen.findings)?;
-    push_fits(&mut text, name, fits)?;
+    let answer = seen_by(own.bad, &seen.findings);
+    let text = report_of(alloc, &shown, own.bad, &seen.findings, fits)?;
     match write_output(writer, text.as_slice()) {
         Err(_) => Err(CheckOutcome::WriteFault),
-        Ok(()) if is_refused(&seen.findings) => Ok(Seen::Refused),
-        Ok(()) => Ok(Seen::Accepted),
+        Ok(()) => Ok(answer),
     }
 }
 

@@ -8,6 +8,7 @@
 //!   counts as refused exactly if it has a fault, and is passed over exactly if reading it failed.
 //! - At a write fault the texts of the first n were written whole, and a prefix of the next one's. It comes only if
 //!   the writer failed in that call (`faults`). If memory ran out at one source, nothing of it was told.
+//! - Each source is checked as its own words ask for, too (`specs/Options`). A word that is no option counts as a fault.
 //! - The text for what is found is a definition (`report` of `specs/Reports`). So are the texts of notes and warnings
 //!   (`specs/Texts`) and the rows that show a line and a caret (`specs/Rows`). `refusal_text` is that of a refused
 //!   line (`TellsRefusal`). `Checked` has its statuses (`exit_status`).
@@ -27,4 +28,4 @@ pub use refusals::refusal_text;
 pub use rows::{push_caret, push_line};
 pub use sources::Sources;
 pub use tb_check::CheckSettings;
-pub use texts::{NoteText, WarningText, times_of};
+pub use texts::{NO_OPTION, NoteText, WarningText, times_of};

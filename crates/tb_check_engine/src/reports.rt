@@ -1,17 +1,18 @@
 //! What there is to say of a file, as a text.
-ghost use Rattle.std.specs.Prelude.{◌≡◌, flat_map};
+ghost use Rattle.std.specs.Prelude.{◌≡◌, flat_map, IfOk};
 ghost use Rattle.std.specs.Fmt.{decimal};
 ghost use Rattle.tb_words.specs.Texts.{AppendsBytes};
 ghost use Rattle.tb_engines.specs.Texts.{too_deep_text};
-ghost use Rattle.tb_check_engine.specs.Reports.{bad_line_rows, deep_rows, error_row, file_row, line_at, lines_in};
-ghost use Rattle.tb_check_engine.specs.Reports.{fits_row, note_row, place_rows, report, too_large_row, warning_rows};
+ghost use Rattle.tb_check_engine.specs.Reports.{bad_line_rows, bad_word_rows, deep_rows, error_row, file_row, line_at, lines_in};
+ghost use Rattle.tb_check_engine.specs.Reports.{fits_row, note_row, place_rows, report, told_in, too_large_row, warning_rows};
 ghost use Rattle.tb_check_engine.specs.Rows.{line_row};
 
 use crate::rows::{push_caret, push_line};
-use crate::texts::{NoteText, WarningText};
+use crate::texts::{NO_OPTION, NoteText, WarningText};
 use std::alloc::{AllocError, Global};
 use tb_check::{BadLine, Findings, LineWarning, Note, SourceError, SourceErrorKind};
 use tb_engines::{TOO_DEEP, TooLarge, source_text};
+use tb_source_options::BadWord;
 
 /// A file of which something is said.
 #[derive(Clone, Copy, Drop)]
@@ -33,8 +34,25 @@ impl Source<'_> {
     }
 }
 
-/// Appends what there is to say of a file.
-pub fn push_report(
+/// All that there is to say of a file.
+pub fn report_of(
+    alloc: Global,
+    source: &Source<'_>,
+    bad: Option<BadWord>,
+    findings: &Findings,
+    fits: bool,
+) -> Result<Vec<u8>, AllocError>
+    ensures { IfOk result (λ text. text.items ≡ told_in source.now.name.now (lines_in source.now) bad findings.now fits) }
+{
+    let mut text = Vec::new(alloc);
+    push_bad_word(alloc, &mut text, source, bad)?;
+    push_report(alloc, &mut text, source, findings)?;
+    push_fits(&mut text, source.name, fits)?;
+    Ok(text)
+}
+
+// Appends what was found in a file.
+fn push_report(
     alloc: Global,
     text: &mut Vec<u8>,
     source: &Source<'_>,
@@ -58,8 +76,31 @@ pub fn push_report(
     }
 }
 
-/// Appends that the memory holds a program which costs too much, if that is so.
-pub fn push_fits(text: &mut Vec<u8>, name: &str, fits: bool) -> Result<(), AllocError>
+// Appends the place of a word that is no option, if there is one.
+fn push_bad_word(
+    alloc: Global,
+    text: &mut Vec<u8>,
+    source: &Source<'_>,
+    bad: Option<BadWord>,
+) -> Result<(), AllocError>
+    ensures { AppendsBytes result text.old text.new (bad_word_rows source.now.name.now (lines_in source.now) bad) }
+{
+    let Some(BadWord { line, column }) = bad else {
+        return Ok(());
+    };
+    let name = source.name;
+    let fault = NO_OPTION;
+    push_row(
+        text,
+        &format!(in alloc; "{name}:{line}:{column}: error: {fault}\n")?,
+    )?;
+    let number = format!(in alloc; "{line}")?;
+    push_line(text, number.as_bytes(), source.line(line))?;
+    push_caret(text, number.as_bytes(), column)
+}
+
+// Appends that the memory holds a program which costs too much, if that is so.
+fn push_fits(text: &mut Vec<u8>, name: &str, fits: bool) -> Result<(), AllocError>
     ensures { AppendsBytes result text.old text.new (fits_row name.now fits) }
 {
     if fits {

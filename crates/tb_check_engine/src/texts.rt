@@ -6,6 +6,9 @@ use std::fmt;
 use tb_check::{ForeignWord, Note, Warning};
 use tb_signs::name_of;
 
+/// What is said of a word behind `REM TBC:` that is no option, or no seed.
+pub const NO_OPTION: &str = "not --fit, --petscii or --seed with a number";
+
 // What is said, text by text.
 const FOR_ADVICE: &str = "count with LET, IF and GOTO";
 
@@ -286,6 +289,10 @@ impl fmt::Display for WarningText {
                 f,
                 "{number} is read as {}; numbers end at 32767",
                 number.cast_signed()
+            ),
+            Warning::KeyCharacter(number) => write!(
+                f,
+                "{{F{number}}} is the character {{B{number}}}, and no function key"
             ),
         }
     }

@@ -4,10 +4,10 @@ use Rattle.std.specs.Fmt.{decimal, digits}
 use Rattle.tb_engines.specs.Numbers.{MOST_EVENTS, USUAL_EVENTS}
 use Rattle.tb_compiled.specs.Numbers.{USUAL_SEED}
 use Rattle.tb_jobs.specs.Numbers.{USUAL_STEP}
-use Rattle.tb_command_line.specs.declared.arguments.TheConstants.{LIMIT_HELP, PLAY_LIMIT_HELP, MOST_EVENTS_TEXT, USUAL_EVENTS_TEXT, USUAL_SEED_TEXT, USUAL_STEP_TEXT}
+use Rattle.tb_command_line.specs.declared.arguments.TheConstants.{LIMIT_HELP, PLAY_LIMIT_HELP, MOST_EVENTS_TEXT, SEED_HELP, USUAL_EVENTS_TEXT, USUAL_STEP_TEXT}
 
--- the usual seed
-pub seed_said : USUAL_SEED_TEXT.now ≡ decimal USUAL_SEED
+-- the help of a seed ends with the usual one
+pub seed_said : SEED_HELP.now ≡ (codes "The first state of RND, 0 to 65535; time is one by the clock [default: " ++ (decimal USUAL_SEED ++ codes "]"))
 unfolding digits
 seed_said = refl
 

@@ -4,3 +4,5 @@ pub mod Table
 pub mod Values
 -- the job of each command
 pub mod Asked
+-- words that are a name but for two neighbours that changed places
+pub mod Swaps

@@ -11,7 +11,6 @@ use Rattle.tb_dialects.specs.declared.dialect.Dialect.TheVariants.{Tass64, Ca65,
 use Rattle.tb_text.specs.declared.notation.Notation.{Notation}
 use Rattle.tb_text.specs.declared.notation.Notation.TheVariants.{Plain, Signs}
 use Rattle.tb_engines.specs.Numbers.{MOST_EVENTS, USUAL_EVENTS}
-use Rattle.tb_compiled.specs.Numbers.{USUAL_SEED}
 use Rattle.tb_jobs.specs.declared.jobs.BuildExtras.{BuildExtras}
 use Rattle.tb_jobs.specs.declared.jobs.FormatTarget.{FormatTarget}
 use Rattle.tb_jobs.specs.declared.jobs.JobError.{JobError}
@@ -101,13 +100,15 @@ ReadsSeedBy true clock text (Err why) = (clock ≡ None) × (why ≡ NoClock)
 ReadsSeedBy false clock text (Ok seed) = ParsesUnsigned {E = Unit {0}} 16 10 text (Ok seed)
 ReadsSeedBy false clock text (Err why) = ParsesUnsigned {E = Unit {0}} 16 10 text (Err tt) × IsBadSeed why
 
--- what is read of the option's text, and the usual seed where it is missing
-abbrev pub ReadsSeed : Option ℕ → Option (List ℕ) → Result ℕ JobError → Type 0
-ReadsSeed clock None read = read ≡ Ok USUAL_SEED
-ReadsSeed clock (Some text) read = ReadsSeedBy (is_time text) clock text read
+-- what is read of the option's text, and no seed where it is missing
+abbrev pub ReadsSeed : Option ℕ → Option (List ℕ) → Result (Option ℕ) JobError → Type 0
+ReadsSeed clock None read = read ≡ Ok None
+ReadsSeed clock (Some text) (Ok (Some seed)) = ReadsSeedBy (is_time text) clock text (Ok seed)
+ReadsSeed clock (Some text) (Ok None) = ⊥
+ReadsSeed clock (Some text) (Err why) = ReadsSeedBy (is_time text) clock text (Err why)
 
--- this seed is the one that the option asks for, and else the usual one
-abbrev pub IsSeed : Option ℕ → Found → ℕ → Type 0
+-- this seed is the one that the option asks for, or there is none
+abbrev pub IsSeed : Option ℕ → Found → Option ℕ → Type 0
 IsSeed clock found seed = ReadsSeed clock (first_value found (codes "seed")) (Ok seed)
 
 -- ── notations and targets ──

@@ -52,8 +52,8 @@ pub enum Form {
     AddressIfNamed,
     /// An option of a number, 0 to 65535.
     Number,
-    /// An option of a number, 0 to 65535, or `time`, and this one if it is missing.
-    SeedOr(&'static str),
+    /// An option of a number, 0 to 65535, or `time`.
+    Seed,
     /// An option of a line number, 1 to `HIGHEST_LINE`, and this one if it is missing.
     LineNumberOr(&'static str),
     /// An option of a number of events, 1 to `MOST_EVENTS`, and this one if it is missing.
@@ -61,13 +61,14 @@ pub enum Form {
 }
 
 // The numbers of tb_jobs as texts. That they agree is proved in proofs/Numbers.
-const USUAL_SEED_TEXT: &str = "1";
-
 const USUAL_STEP_TEXT: &str = "10";
 
 const USUAL_EVENTS_TEXT: &str = "10000000";
 
 const MOST_EVENTS_TEXT: &str = "1000000000";
+
+// The library can't tell a usual seed from one that is given.
+const SEED_HELP: &str = "The first state of RND, 0 to 65535; time is one by the clock [default: 1]";
 
 const LIMIT_HELP: &str = "The most events, 1 to 1000000000";
 
@@ -185,8 +186,8 @@ pub const PRG: Argument = Argument {
 
 pub const SEED: Argument = Argument {
     name: "seed",
-    help: "The first state of RND, 0 to 65535; time is one by the clock",
-    form: Form::SeedOr(USUAL_SEED_TEXT),
+    help: SEED_HELP,
+    form: Form::Seed,
 };
 
 pub const FIT: Argument = Argument {

@@ -6,6 +6,8 @@
 //!   argument that is named there, or else the usual one, in what the library clap found in the words (`job_of`,
 //!   `with_matches`). A run has exactly one of SOURCE and PRG, by its type. For `--seed time` the seed is the one that the
 //!   caller has of the clock (`ReadsSeed`).
+//! - A first word that is the name of a command but for two neighbours that changed places has that name for a tip
+//!   (`swapped_command`); of others clap says what is near.
 //! - That clap finds in the words what they say is not said here: its clauses speak of parsers no value of which may
 //!   begin with a hyphen, as one of `--type` may. So `job`, which is given the words alone, promises no more than the
 //!   limit. The rest only tests show.
@@ -14,6 +16,7 @@
 mod arguments;
 mod commands;
 mod parser;
+mod swaps;
 mod taken;
 mod values;
 mod words;

@@ -112,7 +112,7 @@ fn clap_argument<'a>(alloc: Global, argument: &Argument) -> Result<Arg<'a>, Allo
         Form::Address => Ok(option(plain, argument, "HEX").required(true)),
         Form::AddressIfNamed => Ok(option(plain, argument, "HEX")),
         Form::Number => Ok(number_option(plain, argument)),
-        Form::SeedOr(usual) => Ok(option(plain, argument, "N").default_value(usual)),
+        Form::Seed => Ok(option(plain, argument, "N")),
         Form::LineNumberOr(usual) => {
             Ok(line_number_option(plain, argument).default_value(usual))
         }

@@ -12,7 +12,7 @@ use clap::ArgMatches;
 use std::alloc::{AllocError, Global};
 use tb_jobs::{
     BuildExtras, Dialect, FormatTarget, JobError, Limit, Notation, Runnable, Settings, Typed,
-    USUAL_SEED, USUAL_STEP,
+    USUAL_STEP,
 };
 
 /// A copy of the text of an argument, or an empty one if the parser let it be missing.
@@ -72,12 +72,23 @@ pub fn texts(
 }
 
 /// The first state of RND: the number that the words say, or for `time` that of the clock, if there is one.
-pub fn seed_of(alloc: Global, found: &ArgMatches<'_>, clock: Option<u16>) -> Result<u16, JobError>
+pub fn seed_of(
+    alloc: Global,
+    found: &ArgMatches<'_>,
+    clock: Option<u16>,
+) -> Result<Option<u16>, JobError>
     ensures { spec.ReadsSeed clock (first_value (found_of found.now) (codes "seed")) result }
 {
-    let Some(text) = found.get_str(SEED.name) else {
-        return Ok(USUAL_SEED);
-    };
+    match found.get_str(SEED.name) {
+        Some(text) => Ok(Some(seed_by(alloc, text, clock)?)),
+        None => Ok(None),
+    }
+}
+
+// The seed that a text asks for.
+fn seed_by(alloc: Global, text: &str, clock: Option<u16>) -> Result<u16, JobError>
+    ensures { spec.ReadsSeedBy (spec.is_time text.now) clock text.now result }
+{
     if text == TIME {
         return clock.ok_or(JobError::NoClock);
     }

@@ -13,6 +13,7 @@ use crate::arguments::{
 };
 use crate::commands::{CommandName, command_named, rows};
 use crate::parser::{VERSION, parser};
+use crate::swaps::swap_text;
 use crate::values::{
     dialect_of, extras_of, first_text, fit_of, force_of, in_place_of, is_by_clock, limit_of,
     line_number_of, long_of, notation_of, optional_text, rude_of, runnable_of, screen_of, seed_of,
@@ -31,7 +32,7 @@ pub fn job<S: AsStr>(alloc: Global, words: &[S], clock: Option<u16>) -> Result<A
 {
     match parser(alloc, words)?.try_get_matches_from(words) {
         Ok(matches) => with_matches(alloc, &matches, clock),
-        Err(error) => without_matches(alloc, &error),
+        Err(error) => without_matches(alloc, &error, words),
     }
 }
 
@@ -56,12 +57,29 @@ fn with_matches(
     })
 }
 
+// What is said of a first word that is nearly a command.
+fn tip_for<S: AsStr>(alloc: Global, words: &[S]) -> Result<Option<String>, AllocError> {
+    match words {
+        [word, ..] => swap_text(alloc, word.as_str()),
+        [] => Ok(None),
+    }
+}
+
 // A help text is asked for; anything else is a fault.
-fn without_matches(alloc: Global, error: &clap::Error) -> Result<Asked, JobError>
+fn without_matches<S: AsStr>(
+    alloc: Global,
+    error: &clap::Error,
+    words: &[S],
+) -> Result<Asked, JobError>
     ensures { IfOk result (λ asked. IsWithinLimit asked.job) }
 {
     if error.kind() == ErrorKind::OutOfMemory {
         return Err(JobError::NoMemory);
+    }
+    if error.kind() == ErrorKind::InvalidSubcommand
+        && let Some(text) = tip_for(alloc, words)?
+    {
+        return Err(JobError::Words(text));
     }
     let text = match format!(in alloc; "{error}") {
         Ok(text) => text,

@@ -1,5 +1,5 @@
 -- The events that a ROM gives.
-use Rattle.std.proofs.Common.{◌≡◌, true, [], refl, ap, ◌∙◌}
+use Rattle.std.proofs.Common.{◌≡◌, ℕ, List, true, [], refl, ap, ◌∙◌}
 use Rattle.tb_words.specs.Words.{seed_after}
 use Rattle.tb_cpu.specs.declared.registers.Regs.{Regs}
 use Rattle.tb_kernal.specs.declared.events.Event.{Event}
@@ -32,3 +32,8 @@ event_is_lawful (Rude seed) m = rude_is_lawful (seed_after seed) m
 -- an event that it gives is lawful: the law of `Outside`
 pub given_is_lawful : (b : Rom) (m : Content) (e : Event) → e ≡ event_of b m → is_lawful (state_of m) e ≡ true
 given_is_lawful b m e h = ap (is_lawful (state_of m)) h ∙ event_is_lawful b m
+
+-- what it gives does not depend on what was sent: the other law
+pub event_is_blind : (b : Rom) (m : Content) (sent : List ℕ) → event_of b (record m { sent = sent }) ≡ event_of b m
+event_is_blind Quiet m sent = refl
+event_is_blind (Rude seed) m sent = refl

@@ -13,12 +13,15 @@ pub enum Rom {
 }
 
 impl Outside for Rom {
+    ghost use Rattle.std.proofs.Common.{sym, ◌∙◌};
     ghost use Rattle.std.specs.Prelude.{◌≡◌};
-    ghost use Rattle.tb_debug.specs.Roms.{event_of, after, given_is_lawful};
+    ghost use Rattle.tb_debug.specs.Roms.{event_is_blind, event_of, after, given_is_lawful};
 
     ghost gives = { λ rom m e left. (e ≡ event_of rom m) × (left ≡ after rom) };
 
     ghost gives_lawful = { λ rom m e left h. given_is_lawful rom m e h.0 };
+
+    ghost gives_blindly = { λ rom m e left sent h. (h.0 ∙ sym (event_is_blind rom m sent), h.1) };
 
     fn next(&mut self, machine: &Machine) -> Event {
         match *self {

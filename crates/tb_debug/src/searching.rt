@@ -133,7 +133,7 @@ impl<'a> Debugger<'a> {
         if !self.stops.stops_at_faults() {
             return Ok(false);
         }
-        let faulted = has_faulted(alloc, way, &self.present)?;
+        let faulted = has_faulted(way, &self.present);
         if !faulted {
             return Ok(false);
         }
@@ -332,16 +332,13 @@ impl<'a> Debugger<'a> {
 }
 
 // Whether a way ended where the program returned by a fault.
-fn has_faulted(alloc: Global, way: Reached, moment: &Moment) -> Result<bool, AllocError>
-    ensures { IfOk result (λ faulted. faulted ≡ has_faulted way moment.now) }
+fn has_faulted(way: Reached, moment: &Moment) -> bool
+    ensures { result ≡ has_faulted way moment.now }
 {
     match way {
-        Reached::Ended(Status::Returned) => {
-            let fault = fault_in(alloc, &moment.machine)?;
-            Ok(fault.is_some())
-        }
-        Reached::Ended(Status::Running | Status::Waits | Status::Wrong(_)) => Ok(false),
-        Reached::Line | Reached::Within | Reached::Limit => Ok(false),
+        Reached::Ended(Status::Returned) => fault_in(&moment.machine).is_some(),
+        Reached::Ended(Status::Running | Status::Waits | Status::Wrong(_)) => false,
+        Reached::Line | Reached::Within | Reached::Limit => false,
     }
 }
 

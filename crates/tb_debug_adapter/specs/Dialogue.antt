@@ -37,6 +37,7 @@ use Rattle.tb_debug_adapter.specs.declared.dialogue.Turn.TheVariants as turn
 use Rattle.tb_debug_adapter.specs.declared.greeting.Greeting.{Greeting}
 use Rattle.tb_debug_adapter.specs.declared.greeting.Greeting.TheVariants as greeting
 use Rattle.tb_adapter_requests.specs.declared.launching.Plan.{Plan}
+use Rattle.tb_adapter_requests.specs.declared.launching.Usual.{Usual}
 use Rattle.tb_adapter_requests.specs.declared.loading.Loaded.{Loaded}
 use Rattle.tb_debug_adapter.specs.Outcomes.{AdapterOutcome}
 use Rattle.tb_streams.specs.declared.outcome.Outcome.TheVariants.{Ended, Refused, ReadFault, WriteFault, NoMemory}
@@ -190,36 +191,36 @@ SaysGreeting asked c (greeting.Said told) ends result a b =
     (said : Result (Unit {0}) AdapterOutcome) × Says asked c (map seen told.items) said a b × (result ≡ turned (after ends said))
 SaysGreeting asked c (greeting.Launched l) ends result a b = (result ≡ Ok (turn.Launched (launched l asked))) × (b ≡ a)
 
--- a request is taken before a launch by an adapter that has a notation, and what is said to it is written; or memory ran
+-- a request is taken before a launch by an adapter that has something for a launch, and what is said to it is written; or memory ran
 -- out
-abbrev pub GreetsOrRunsOut : {S : Type 0} → Own → Reading S → Notation → (asked : ℕ) → List ℕ → Data → Bool → S → Result Turn AdapterOutcome → Bool → S → Written
+abbrev pub GreetsOrRunsOut : {S : Type 0} → Own → Reading S → Usual → (asked : ℕ) → List ℕ → Data → Bool → S → Result Turn AdapterOutcome → Bool → S → Written
     → Written → Type 0
 GreetsOrRunsOut own reads usual asked c arguments before s result now t a b =
     ((g : Greeting) × Greets own reads usual (command_of c) arguments before s g now t × SaysGreeting asked c g (is_end (command_of c)) result a b)
     ⊎ RunsOut result a b
 
 -- a message is taken
-abbrev pub GreetsMessage : {S : Type 0} → Own → Reading S → Notation → Asked → Bool → S → Result Turn AdapterOutcome → Bool → S → Written → Written → Type 0
+abbrev pub GreetsMessage : {S : Type 0} → Own → Reading S → Usual → Asked → Bool → S → Result Turn AdapterOutcome → Bool → S → Written → Written → Type 0
 GreetsMessage own reads usual (request seq c arguments) before s result now t a b = GreetsOrRunsOut own reads usual seq c (given arguments) before s result now t a b
 GreetsMessage own reads usual passed before s result now t a b = (result ≡ Ok turn.Goes) × (now ≡ before) × (t ≡ s) × (b ≡ a)
 GreetsMessage own reads usual no_message before s result now t a b =
     ((said : Result (Unit {0}) AdapterOutcome) × Complains refusal.NoMessage said a b × (result ≡ turned said)) × (now ≡ before) × (t ≡ s)
 
 -- what a frame holds is taken
-abbrev pub GreetsHeard : {S : Type 0} → Own → Reading S → Notation → Heard → Bool → S → Result Turn AdapterOutcome → Bool → S → Written → Written → Type 0
+abbrev pub GreetsHeard : {S : Type 0} → Own → Reading S → Usual → Heard → Bool → S → Result Turn AdapterOutcome → Bool → S → Written → Written → Type 0
 GreetsHeard own reads usual (heard.Value v) before s result now t a b = GreetsMessage own reads usual (asked_in (view v)) before s result now t a b
 GreetsHeard own reads usual (heard.Unheard why) before s result now t a b =
     ((said : Result (Unit {0}) AdapterOutcome) × Complains why said a b × (result ≡ turned said)) × (now ≡ before) × (t ≡ s)
 
 -- a frame leads from one moment to another, or the dialogue ends
-abbrev pub GreetsFrame : {S : Type 0} → Own → Reading S → Notation → Early S → Result Turn AdapterOutcome → Early S → Type 0
+abbrev pub GreetsFrame : {S : Type 0} → Own → Reading S → Usual → Early S → Result Turn AdapterOutcome → Early S → Type 0
 GreetsFrame own reads usual a result b =
     ((h : Heard) × Hears (Ok h) a.left b.left a.read b.read × GreetsHeard own reads usual h a.initialized a.sources result b.initialized b.sources a.written b.written)
     ⊎ ((e : AdapterOutcome) × Hears (Err e) a.left b.left a.read b.read × (result ≡ Err e) × (b.initialized ≡ a.initialized)
     × (b.sources ≡ a.sources) × (b.written ≡ a.written))
 
 -- frames lead from one moment to another, each answered before the next one is read
-pub data Greeted {S : Type 0} (own : Own) (reads : S → List ℕ → Result (List ℕ) InputError → S → Type 0) (usual : Notation) : Early S → Early S → Type 0 where
+pub data Greeted {S : Type 0} (own : Own) (reads : S → List ℕ → Result (List ℕ) InputError → S → Type 0) (usual : Usual) : Early S → Early S → Type 0 where
   none : (a : Early S) → Greeted own reads usual a a
   more : (a b c : Early S) → Greeted own reads usual a b → GreetsFrame own reads usual b (Ok turn.Goes) c → Greeted own reads usual a c
 
@@ -229,7 +230,7 @@ as_turn (Ok l) = Ok (turn.Launched l)
 as_turn (Err e) = Err e
 
 -- frames, and one that launches a program or ends the dialogue; or as many as can be counted
-abbrev pub Waits : {S : Type 0} → Own → Reading S → Notation → Early S → Result Launched AdapterOutcome → (Bool → Early S) → Type 0
+abbrev pub Waits : {S : Type 0} → Own → Reading S → Usual → Early S → Result Launched AdapterOutcome → (Bool → Early S) → Type 0
 Waits own reads usual a result z =
     (now : Bool) × (((b : Early _) × Greeted own reads usual a b × GreetsFrame own reads usual b (as_turn result) (z now)) ⊎ (Greeted own reads usual a (z now) × (result ≡ Err (Ended (record {})))))
 
@@ -262,8 +263,8 @@ Debugs l outcome first last =
     ⊎ (Opens l.asked s (Err outcome) (first s).written (last s).written × ((last s).left ≡ (first s).left))))
     ⊎ ((outcome ≡ NoMemory) × ((s : Session) → last s ≡ first s))
 
--- a whole dialogue of an adapter that has a notation: up to a launch, and then with the program
-abbrev pub Serves : {S : Type 0} → Own → Reading S → Notation → Early S → AdapterOutcome → (Bool → ℕ → Early S) → Type 0
+-- a whole dialogue of an adapter that has something for a launch: up to a launch, and then with the program
+abbrev pub Serves : {S : Type 0} → Own → Reading S → Usual → Early S → AdapterOutcome → (Bool → ℕ → Early S) → Type 0
 Serves own reads usual a outcome z =
     ((now : Bool) × (next : ℕ) × Waits own reads usual a (Err outcome) (λ b. z b next))
     ⊎ ((b : Bool → Early _) × (l : Launched) × (next : ℕ) × Waits own reads usual a (Ok l) b

@@ -7,10 +7,10 @@ use Rattle.tb_adapter_messages.specs.declared.refusals.Refusal.TheVariants as re
 use Rattle.tb_adapter_values.specs.Bodies.{capabilities_body}
 use Rattle.tb_adapter_values.specs.declared.requests.Command.{Command}
 use Rattle.tb_adapter_values.specs.declared.requests.Command.TheVariants as command
-use Rattle.tb_text.specs.declared.notation.Notation.{Notation}
 use Rattle.tb_streams.specs.declared.stream.InputError.{InputError}
 use Rattle.tb_adapter_requests.specs.Launching.{Asked, is_understood, launch_in}
 use Rattle.tb_adapter_requests.specs.Loading.{Loads}
+use Rattle.tb_adapter_requests.specs.declared.launching.Usual.{Usual}
 use Rattle.tb_adapter_requests.specs.Said.{Saying, done, refused, seen}
 use Rattle.tb_debug_adapter.specs.declared.greeting.Greeting.{Greeting}
 use Rattle.tb_debug_adapter.specs.declared.greeting.Greeting.TheVariants as greeting
@@ -54,13 +54,13 @@ Launches own reads None s g t = Refuses refusal.BadArguments g × (t ≡ s)
 abbrev pub too_early : Bool → Refusal
 too_early before = if before then refusal.NotLaunched else refusal.NotInitialized
 
--- what comes of `launch`, by whether the adapter was initialized, which has a notation
-abbrev pub LaunchesAfter : {S : Type 0} → Own → (S → List ℕ → Result (List ℕ) InputError → S → Type 0) → Notation → Bool → Data → S → Greeting → S → Type 0
+-- what comes of `launch`, by whether the adapter was initialized, which has this for a launch
+abbrev pub LaunchesAfter : {S : Type 0} → Own → (S → List ℕ → Result (List ℕ) InputError → S → Type 0) → Usual → Bool → Data → S → Greeting → S → Type 0
 LaunchesAfter own reads usual true a s g t = Launches own reads (launch_in usual a) s g t
 LaunchesAfter own reads usual false a s g t = Refuses refusal.NotInitialized g × (t ≡ s)
 
 -- what comes of a request before a program is launched, by whether the adapter was initialized
-abbrev pub Greets : {S : Type 0} → Own → (S → List ℕ → Result (List ℕ) InputError → S → Type 0) → Notation → Option Command → Data → Bool → S → Greeting → Bool → S
+abbrev pub Greets : {S : Type 0} → Own → (S → List ℕ → Result (List ℕ) InputError → S → Type 0) → Usual → Option Command → Data → Bool → S → Greeting → Bool → S
     → Type 0
 Greets own reads usual None a before s g after t = Refuses refusal.UnknownCommand g × (after ≡ before) × (t ≡ s)
 Greets own reads usual (Some command.Disconnect) a before s g after t = IsDone g × (after ≡ before) × (t ≡ s)

@@ -124,9 +124,22 @@ abbrev pub warning_of : Warning → Saying
 warning_of w =
     output_of (codes "console") (codes "warning: line " ++ (decimal w.line ++ (codes ": no line " ++ (signed_decimal w.target ++ 10 ∷ []))))
 
+-- that the clock gave a seed
+abbrev pub seed_said : ℕ → Saying
+seed_said seed = output_of (codes "console") (codes "the seed is " ++ (decimal seed ++ 10 ∷ []))
+
+-- the same, if it was asked
+abbrev pub seed_told : Option ℕ → List Saying
+seed_told None = []
+seed_told (Some seed) = seed_said seed ∷ []
+
+-- the answer to a launch, and which seed the clock gave
+abbrev pub beginning : Option ℕ → List Saying
+beginning drawn = done None ∷ seed_told drawn
+
 -- what is said as a program is launched
 abbrev pub opening : Session → List Saying
-opening s = done None ∷ (map warning_of (warnings_of s.file.program.now) ++ plain_event (codes "initialized") ∷ [])
+opening s = beginning s.plan.drawn ++ (map warning_of (warnings_of s.file.program.now) ++ plain_event (codes "initialized") ∷ [])
 
 -- what is answered to a movement
 abbrev pub movement_answer : Movement → Saying

@@ -14,7 +14,7 @@ use serde_json::Value;
 use std::alloc::{AllocError, Global};
 use std::io::{Read, Write};
 use tb_adapter_messages::{Asker, Message, Refusal, message_of};
-use tb_adapter_requests::{Loaded, Plan, Said, complaint, frames_of};
+use tb_adapter_requests::{Loaded, Plan, Said, Usual, complaint, frames_of};
 use tb_adapter_values::{Command, command_of};
 use tb_adapter_views::SourceFile;
 use tb_check_engine::Sources;
@@ -203,7 +203,7 @@ fn say_greeting<W: Write>(
 fn take_early_request<K: Compile, S: Sources, W: Write>(
     compiler: &K,
     alloc: Global,
-    notation: Notation,
+    usual: Usual,
     next: &mut u64,
     initialized: &mut bool,
     sources: &mut S,
@@ -211,7 +211,7 @@ fn take_early_request<K: Compile, S: Sources, W: Write>(
     arguments: &Value,
     writer: &mut Tracked<W>,
 ) -> Result<Turn, AdapterOutcome>
-    ensures { spec.GreetsOrRunsOut K.own S.reads notation asker.entry.seq asker.entry.command.now (view arguments.now) initialized.old sources.old result
+    ensures { spec.GreetsOrRunsOut K.own S.reads usual asker.entry.seq asker.entry.command.now (view arguments.now) initialized.old sources.old result
         initialized.new sources.new
         (spec.written (W.contents writer.old.stream) (failures_of writer.old) next.old)
         (spec.written (W.contents writer.new.stream) (failures_of writer.new) next.new) }
@@ -220,7 +220,7 @@ fn take_early_request<K: Compile, S: Sources, W: Write>(
     match greet(
         compiler,
         alloc,
-        notation,
+        usual,
         initialized,
         sources,
         command,
@@ -235,14 +235,14 @@ fn take_early_request<K: Compile, S: Sources, W: Write>(
 fn take_early<K: Compile, S: Sources, W: Write>(
     compiler: &K,
     alloc: Global,
-    notation: Notation,
+    usual: Usual,
     next: &mut u64,
     initialized: &mut bool,
     sources: &mut S,
     message: Message<'_>,
     writer: &mut Tracked<W>,
 ) -> Result<Turn, AdapterOutcome>
-    ensures { spec.GreetsMessage K.own S.reads notation (asked_of message.entry) initialized.old sources.old result initialized.new sources.new
+    ensures { spec.GreetsMessage K.own S.reads usual (asked_of message.entry) initialized.old sources.old result initialized.new sources.new
         (spec.written (W.contents writer.old.stream) (failures_of writer.old) next.old)
         (spec.written (W.contents writer.new.stream) (failures_of writer.new) next.new) }
 {
@@ -258,7 +258,7 @@ fn take_early<K: Compile, S: Sources, W: Write>(
             take_early_request(
                 compiler,
                 alloc,
-                notation,
+                usual,
                 next,
                 initialized,
                 sources,
@@ -276,14 +276,14 @@ fn take_early<K: Compile, S: Sources, W: Write>(
 fn take_early_frame<K: Compile, S: Sources, R: Read, W: Write>(
     compiler: &K,
     alloc: Global,
-    notation: Notation,
+    usual: Usual,
     next: &mut u64,
     initialized: &mut bool,
     sources: &mut S,
     reader: &mut Tracked<R>,
     writer: &mut Tracked<W>,
 ) -> Result<Turn, AdapterOutcome>
-    ensures { spec.GreetsFrame K.own S.reads notation
+    ensures { spec.GreetsFrame K.own S.reads usual
         (spec.early initialized.old sources.old (R.remaining reader.old.stream) (failures_of reader.old)
         (spec.written (W.contents writer.old.stream) (failures_of writer.old) next.old))
         result
@@ -294,7 +294,7 @@ fn take_early_frame<K: Compile, S: Sources, R: Read, W: Write>(
         Ok(Heard::Value(value)) => take_early(
             compiler,
             alloc,
-            notation,
+            usual,
             next,
             initialized,
             sources,
@@ -310,13 +310,13 @@ fn take_early_frame<K: Compile, S: Sources, R: Read, W: Write>(
 fn wait<K: Compile, S: Sources, R: Read, W: Write>(
     compiler: &K,
     alloc: Global,
-    notation: Notation,
+    usual: Usual,
     next: &mut u64,
     sources: &mut S,
     reader: &mut Tracked<R>,
     writer: &mut Tracked<W>,
 ) -> Result<Launched, AdapterOutcome>
-    ensures { spec.Waits K.own S.reads notation
+    ensures { spec.Waits K.own S.reads usual
         (spec.early false sources.old (R.remaining reader.old.stream) (failures_of reader.old)
         (spec.written (W.contents writer.old.stream) (failures_of writer.old) next.old))
         result
@@ -328,7 +328,7 @@ fn wait<K: Compile, S: Sources, R: Read, W: Write>(
         match take_early_frame(
             compiler,
             alloc,
-            notation,
+            usual,
             next,
             &mut initialized,
             sources,
@@ -514,17 +514,17 @@ fn debug<R: Read, W: Write>(
     }
 }
 
-/// Reads messages and answers each before the next one is read, up to the end. A launch that doesn't ask for another
-/// notation has this one.
+/// Reads messages and answers each before the next one is read, up to the end. A launch that asks for nothing else has
+/// what is usual.
 pub fn serve<K: Compile, S: Sources, R: Read, W: Write>(
     compiler: &K,
     alloc: Global,
-    notation: Notation,
+    usual: Usual,
     sources: &mut S,
     reader: &mut Tracked<R>,
     writer: &mut Tracked<W>,
 ) -> AdapterOutcome
-    ensures { spec.Serves K.own S.reads notation
+    ensures { spec.Serves K.own S.reads usual
         (spec.early false sources.old (R.remaining reader.old.stream) (failures_of reader.old)
         (spec.written (W.contents writer.old.stream) (failures_of writer.old) 1))
         result
@@ -532,9 +532,7 @@ pub fn serve<K: Compile, S: Sources, R: Read, W: Write>(
         (spec.written (W.contents writer.new.stream) (failures_of writer.new) next)) }
 {
     let mut next = 1;
-    match wait(
-        compiler, alloc, notation, &mut next, sources, reader, writer,
-    ) {
+    match wait(compiler, alloc, usual, &mut next, sources, reader, writer) {
         Ok(launched) => debug(alloc, &mut next, launched, reader, writer),
         Err(outcome) => outcome,
     }

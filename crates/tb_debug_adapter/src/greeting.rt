@@ -9,10 +9,10 @@ use crate::session::{alone, refused};
 use serde_json::Value;
 use std::alloc::{AllocError, Global};
 use tb_adapter_messages::Refusal;
-use tb_adapter_requests::{Launch, Loaded, Loading, Said, is_understood, launch_in, load};
+use tb_adapter_requests::{Launch, Loaded, Loading, Said, Usual, is_understood, launch_in, load};
 use tb_adapter_values::{Command, capabilities_body};
 use tb_check_engine::Sources;
-use tb_compiled::{Compile, Notation};
+use tb_compiled::Compile;
 
 /// What comes of a request before a program is launched.
 #[derive(Drop)]
@@ -99,18 +99,18 @@ fn done(alloc: Global) -> Result<Greeting, AllocError>
     Ok(Greeting::Said(alone(alloc, Said::Done(None))?))
 }
 
-/// What comes of a request before a program is launched, by whether the adapter was initialized. Sources are read in
-/// the notation, if no launch asks for another one.
+/// What comes of a request before a program is launched, by whether the adapter was initialized, and by what it has for
+/// a launch that asks for nothing else.
 pub fn greet<K: Compile, S: Sources>(
     compiler: &K,
     alloc: Global,
-    notation: Notation,
+    usual: Usual,
     initialized: &mut bool,
     sources: &mut S,
     command: Option<Command>,
     arguments: &Value,
 ) -> Result<Greeting, AllocError>
-    ensures { IfOk result (λ greeting. spec.Greets K.own S.reads notation command (view arguments.now) initialized.old sources.old greeting initialized.new sources.new) }
+    ensures { IfOk result (λ greeting. spec.Greets K.own S.reads usual command (view arguments.now) initialized.old sources.old greeting initialized.new sources.new) }
 {
     match command {
         None => unwelcome(alloc, Refusal::UnknownCommand),
@@ -119,7 +119,7 @@ pub fn greet<K: Compile, S: Sources>(
             initialize_once(alloc, initialized, is_understood(arguments))
         }
         Some(Command::Launch) if *initialized => {
-            launch(compiler, alloc, sources, launch_in(arguments, notation))
+            launch(compiler, alloc, sources, launch_in(arguments, usual))
         }
         Some(_) => unwelcome(alloc, too_early(*initialized)),
     }

@@ -21,4 +21,4 @@ mod session;
 pub use dialogue::{Heard, serve};
 pub use outcome::AdapterOutcome;
 pub use session::{Session, Stage};
-pub use tb_adapter_requests::{Plan, Said, Stop};
+pub use tb_adapter_requests::{Plan, Said, Stop, Usual};

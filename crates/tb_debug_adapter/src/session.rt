@@ -163,6 +163,26 @@ fn warning(alloc: Global, warning: Warning) -> Result<Said, AllocError>
     output(alloc, "console", &text)
 }
 
+// That the clock gave a seed.
+fn seed_said(alloc: Global, seed: u16) -> Result<Said, AllocError>
+    ensures { IfOk result (λ s. seen s ≡ spec.seed_said seed) }
+{
+    let text = format!(in alloc; "the seed is {seed}\n")?;
+    output(alloc, "console", &text)
+}
+
+// The answer to a launch, and which seed the clock gave, if it was asked.
+fn beginning(alloc: Global, drawn: Option<u16>) -> Result<Vec<Said>, AllocError>
+    ensures { IfOk result (λ said. map seen said.items ≡ spec.beginning drawn) }
+{
+    let mut said = Vec::new(alloc);
+    said.push(Said::Done(None))?;
+    if let Some(seed) = drawn {
+        said.push(seed_said(alloc, seed)?)?;
+    }
+    Ok(said)
+}
+
 // What is answered to a movement.
 fn movement_answer(alloc: Global, movement: Movement) -> Result<Said, AllocError>
     ensures { IfOk result (λ s. seen s ≡ spec.movement_answer movement) }
@@ -278,12 +298,11 @@ fn valued(value: Evaluated) -> Said
 }
 
 impl<'a> Session<'a> {
-    /// What is said as a program is launched: its warnings, and that breakpoints may be set.
+    /// What is said as a program is launched: the clock's seed, its warnings, and that breakpoints may be set.
     pub fn opening(&self, alloc: Global) -> Result<Vec<Said>, AllocError>
         ensures { IfOk result (λ said. map seen said.items ≡ spec.opening self.now) }
     {
-        let mut said = Vec::new(alloc);
-        said.push(Said::Done(None))?;
+        let mut said = beginning(alloc, self.plan.drawn)?;
         for one in self.file.program.warnings() {
             said.push(warning(alloc, *one)?)?;
         }

@@ -3,7 +3,7 @@ use Rattle.std.specs.Prelude.{ℕ, List, codes}
 use Rattle.tb_parser.specs.declared.errors.SourceErrorKind.{SourceErrorKind}
 use Rattle.tb_parser.specs.declared.errors.SourceErrorKind.TheVariants.{LineTooLong, BadByte, Unnumbered, BadLineNumber, NotCompiled, Syntax, NumberTooLarge, Empty, NoMemory}
 use Rattle.tb_check.specs.declared.warnings.Warning.{Warning}
-use Rattle.tb_check.specs.declared.warnings.Warning.TheVariants.{NoLine, HighTarget, Replaced, TakenOut, RunsPast, EvenBound, BoundOfOne, BadBound, ZeroDivisor, HighNumber}
+use Rattle.tb_check.specs.declared.warnings.Warning.TheVariants.{NoLine, HighTarget, Replaced, TakenOut, RunsPast, EvenBound, BoundOfOne, BadBound, ZeroDivisor, HighNumber, KeyCharacter}
 
 -- the code of a fault of a line, or of a source with no line
 abbrev pub error_code : SourceErrorKind → List ℕ
@@ -29,3 +29,4 @@ warning_code BoundOfOne = codes "bound-of-one"
 warning_code (BadBound bound) = codes "bad-bound"
 warning_code ZeroDivisor = codes "zero-divisor"
 warning_code (HighNumber number) = codes "high-number"
+warning_code (KeyCharacter number) = codes "key-character"

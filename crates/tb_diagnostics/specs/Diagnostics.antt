@@ -13,6 +13,8 @@ use Rattle.tb_check.specs.declared.warnings.LineWarning.{LineWarning}
 use Rattle.tb_check.specs.declared.warnings.Warning.{Warning}
 use Rattle.tb_check.specs.declared.warnings.Warning.TheVariants as warning
 use Rattle.tb_check_engine.specs.Texts.{note_text, warning_text}
+use Rattle.tb_check_engine.specs.declared.texts.TheConstants.{NO_OPTION}
+use Rattle.tb_source_options.specs.declared.options.BadWord.{BadWord}
 use Rattle.tb_places.specs.declared.spans.Span.{Span}
 use Rattle.tb_places.specs.Spans.{line_span, place_span, whole_span}
 use Rattle.tb_diagnostics.specs.declared.findings.Lines.{Lines}
@@ -89,6 +91,19 @@ warned uri lines w (Some by) = superseded uri (warning_code w.warning) (warning_
 -- a warning
 abbrev pub on_warning : List ℕ → List (List ℕ) → LineWarning → Data
 on_warning uri lines w = warned uri lines w (superseding w.warning)
+
+-- what is said of a word that is no option
+abbrev pub no_option : List ℕ
+no_option = NO_OPTION.now
+
+-- such a word: what stands at its place
+abbrev pub on_bad_word : List (List ℕ) → BadWord → Data
+on_bad_word lines bad = plain (codes "no-option") no_option (place_span bad.line (line_at lines bad.line) bad.column) 1
+
+-- the same where there is one
+abbrev pub on_bad_words : List (List ℕ) → Option BadWord → List Data
+on_bad_words lines None = []
+on_bad_words lines (Some bad) = on_bad_word lines bad ∷ []
 
 -- a text that has too many bytes
 abbrev pub too_long : Data

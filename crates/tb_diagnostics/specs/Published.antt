@@ -1,15 +1,16 @@
 -- What is published of a text.
-use Rattle.std.specs.Prelude.{ℕ, ℤ, ◌≡◌, ◌≤◌, ◌<◌, List, [], ◌∷◌, codes, length, Option, Some, None}
+use Rattle.std.specs.Prelude.{ℕ, ℤ, ◌≡◌, ◌≤◌, ◌<◌, Bool, List, [], ◌∷◌, ◌++◌, codes, length, Option, Some, None, if◌then◌else◌}
 use Rattle.serde_json.specs.Data.{Data, array, member, no_members, number, object, string}
 use Rattle.serde_json.specs.Find.{of_integer}
 use Rattle.serde_json.specs.View.{items_of}
 use Rattle.tb_streams.specs.Streams.{most_input}
 use Rattle.tb_text.specs.Lines.{lines_of_file}
 use Rattle.tb_text.specs.declared.notation.Notation.{Notation}
+use Rattle.tb_source_options.specs.Options.{notation_for, options_of}
 use Rattle.tb_check.specs.Fitted.{AreFitted}
 use Rattle.tb_check.specs.declared.examination.Findings.{Findings}
 use Rattle.tb_messages.specs.Messages.{Says}
-use Rattle.tb_diagnostics.specs.Diagnostics.{fitted_of, too_long}
+use Rattle.tb_diagnostics.specs.Diagnostics.{fitted_of, on_bad_words, too_long}
 use Rattle.tb_compiled.specs.Promise.{Own}
 
 -- the params of what is published, with the version of the text if that is known
@@ -24,11 +25,16 @@ published_of uri version found =
     object (member (codes "jsonrpc") (string (codes "2.0")) (member (codes "method") (string (codes "textDocument/publishDiagnostics"))
     (member (codes "params") (params_of uri version found) no_members)))
 
+-- what is told of the cost: nothing if the source asks for `--fit` itself
+abbrev pub told_cost : Bool → Option ℕ → Option ℕ
+told_cost fit cost = if fit then None else cost
+
 -- diagnostics of a source: those of its findings, which are what `check` says of it in a notation, where it may take the
--- memory; or that it has too many bytes
+-- memory, and of its own words; or that it has too many bytes
 abbrev pub Diagnoses : Own → Notation → List ℕ → List ℕ → List Data → Type 0
 Diagnoses own notation uri source found =
-    (length source ≤ most_input → (cost : Option ℕ) × (f : Findings) × AreFitted own notation source cost f × (found ≡ fitted_of uri (lines_of_file source) cost f))
+    (length source ≤ most_input → (cost : Option ℕ) × (f : Findings) × AreFitted own (notation_for notation source) source cost f
+    × (found ≡ fitted_of uri (lines_of_file source) (told_cost (options_of source).fit cost) f ++ on_bad_words (lines_of_file source) (options_of source).bad))
     × (most_input < length source → found ≡ too_long ∷ [])
 
 -- a content that publishes diagnostics of a source

@@ -36,5 +36,6 @@ pub fn warning_code(warning: Warning) -> &'static str
         Warning::BadBound(_) => "bad-bound",
         Warning::ZeroDivisor => "zero-divisor",
         Warning::HighNumber(_) => "high-number",
+        Warning::KeyCharacter(_) => "key-character",
     }
 }

@@ -8,9 +8,10 @@ use crate::values::{Said, Severity, plain, superseded};
 use serde_json::Value;
 use std::alloc::{AllocError, Global};
 use tb_check::{BadLine, Findings, Fitted, LineWarning, SourceErrorKind, Warning};
-use tb_check_engine::{NoteText, WarningText};
+use tb_check_engine::{NO_OPTION, NoteText, WarningText};
 use tb_engines::{TOO_DEEP, TooLarge, source_text};
 use tb_places::{Span, line_span, place_span, whole_span};
+use tb_source_options::BadWord;
 
 // What is said, text by text.
 const TOO_LONG: &str = "more than 1048576 bytes";
@@ -309,6 +310,45 @@ fn push_cost(
             found.push(on_cost(alloc, cost)?)?;
             Ok(())
         }
+    }
+}
+
+// What is said of a word that is no option.
+fn no_option() -> &'static str
+    ensures { result.now ≡ spec.no_option }
+{
+    NO_OPTION
+}
+
+fn on_bad_word(alloc: Global, text: &Lines<'_>, bad: BadWord) -> Result<Value, AllocError>
+    ensures { IfOk result (λ v. view v ≡ spec.on_bad_word (spec.texts_of text.now) bad) }
+{
+    plain(
+        alloc,
+        Said {
+            span: place_span(bad.line, text.line(bad.line), bad.column),
+            severity: Severity::Error,
+            code: "no-option",
+            message: no_option(),
+        },
+    )
+}
+
+/// Appends the place of a word that is no option, if there is one.
+pub fn push_bad_word(
+    alloc: Global,
+    text: &Lines<'_>,
+    bad: Option<BadWord>,
+    found: &mut Vec<Value>,
+) -> Result<(), AllocError>
+    ensures { OnOk result (map view found.new.items ≡ map view found.old.items ++ spec.on_bad_words (spec.texts_of text.now) bad) }
+{
+    match bad {
+        Some(bad) => {
+            found.push(on_bad_word(alloc, text, bad)?)?;
+            Ok(())
+        }
+        None => Ok(()),
     }
 }
 

@@ -2,16 +2,17 @@
 ghost use Rattle.std.specs.Prelude.{◌≡◌, [], IfOk, None, map};
 ghost use Rattle.serde_json.specs.View.{view};
 ghost use Rattle.tb_messages.specs.Messages.{Says};
-ghost use Rattle.tb_diagnostics.specs.Published.{Diagnoses, Publishes, published_of};
+ghost use Rattle.tb_diagnostics.specs.Published.{Diagnoses, Publishes, published_of, told_cost};
 
-use crate::findings::{Lines, fitted, too_long};
+use crate::findings::{Lines, fitted, push_bad_word, too_long};
 use serde_json::{Value, json};
 use std::alloc::{AllocError, Global};
-use tb_check::examine_to_fit;
+use tb_check::{Fitted, examine_to_fit};
 use tb_compiled::{Compile, Notation};
+use tb_source_options::own_options;
 use tb_streams::MOST_INPUT;
 
-/// The diagnostics of a source that is read in a notation.
+/// The diagnostics of a source that is read in a notation, or as its own words ask for.
 pub fn diagnose<K: Compile>(
     compiler: &K,
     alloc: Global,
@@ -24,12 +25,26 @@ pub fn diagnose<K: Compile>(
     if source.len() > MOST_INPUT {
         return too_long(alloc);
     }
-    let seen = examine_to_fit(compiler, alloc, source, notation)?;
+    let own = own_options(source);
+    let seen = examine_to_fit(compiler, alloc, source, own.notation(notation))?;
+    let seen = Fitted {
+        cost: told_cost(own.fit, seen.cost),
+        ..seen
+    };
     let text = Lines {
         uri,
         lines: seen.examined.lines.as_slice(),
     };
-    fitted(alloc, &text, &seen)
+    let mut found = fitted(alloc, &text, &seen)?;
+    push_bad_word(alloc, &text, own.bad, &mut found)?;
+    Ok(found)
+}
+
+// What is told of the cost: nothing if the source asks for `--fit` itself.
+fn told_cost(fit: bool, cost: Option<u32>) -> Option<u32>
+    ensures { result ≡ told_cost fit cost }
+{
+    if fit { None } else { cost }
 }
 
 // The message that publishes diagnostics of a text.

@@ -1,3 +1,4 @@
 pub mod Start
-mod Undelivered
+pub mod Undelivered
 pub mod Ran
+pub mod Stretched

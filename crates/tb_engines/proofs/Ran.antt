@@ -1,66 +1,70 @@
 -- What is told of a run.
-use Rattle.std.proofs.Common.{◌≡◌, ℕ, List, Option, Some, None, Result, Ok, Err, IfOk, ap, refl, subst, sym}
+use Rattle.std.proofs.Common.{◌≡◌, ℕ, List, [], Bool, true, false, Option, Ok, length, drop, refl, ap, sym, subst}
+use Rattle.std.specs.Io.KnownBytes.{Appends}
+use Rattle.tb_kernal.specs.declared.events.Event.{Event}
+use Rattle.tb_kernal.specs.declared.status.Status.{Status}
 use Rattle.tb_kernal.specs.Machine.{Content, state_of, status}
-use Rattle.tb_watch.specs.Hearing.{Hearing}
-use Rattle.tb_streams.specs.Streams.{Reads}
+use Rattle.tb_kernal.specs.Sending.{with_earlier}
+use Rattle.tb_watch.specs.Hearing.{Hearing, Telling, hearing_of}
+use Rattle.tb_text.specs.declared.notation.Notation.{Notation}
+use Rattle.tb_streams.specs.HostForm.{shown_as}
+use Rattle.tb_streams.specs.Streams.{AppendsPrefix, Reads}
 use Rattle.tb_streams.specs.Uses.{Use}
 use Rattle.tb_streams.specs.declared.outcome.Outcome.TheVariants.{Ended, Refused, ReadFault, WriteFault, NoMemory}
-use Rattle.tb_engines.specs.Delivery.{DeliveryFaults, Shows}
-use Rattle.tb_engines.specs.Ends.{ByOutcome, ByText, RunsTo, TellsFile, TellsPlace, end_place}
-use Rattle.tb_engines.specs.Outcomes.{Outcome, Answers}
-use Rattle.tb_engines.specs.Programs.{Settings, StartsPrg}
-use Rattle.tb_engines.specs.declared.delivery.NoText.{NoText}
-use Rattle.tb_engines.specs.declared.delivery.NoText.TheVariants.{Refused as NoTextRefused, NoMemory as NoTextNoMemory}
-use Rattle.tb_engines.specs.declared.delivery.Text.{Text}
+use Rattle.tb_engines.specs.Ends.{ByOutcome, LeavesRun, OfRun, RestsOfRun, TellsFile, end_place}
+use Rattle.tb_engines.specs.Outcomes.{Answers, Outcome, Product}
+use Rattle.tb_engines.specs.Programs.{Settings, RunsOn, StartsPrg, end_of}
+use Rattle.tb_engines.specs.Writing.{IsWritten, RanWriting, sent_since}
 use Rattle.tb_engines.specs.declared.outcome.End.{End}
-use Rattle.tb_engines.specs.declared.outcome.Refusal.{Refusal}
 
-module _ {A : Type 0} where
-  -- what is told of more is told by what was made of it
-  pub by_text : (Tells Of : End → Option A → Type 0) → ((end : End) (told : Option A) → Tells end told → Of end told)
-      → (made : Result Text NoText) (told : Option A) → ByText Tells made told → ByText Of made told
-  by_text Tells Of more (Ok text) told tells = more text.end told tells
-  by_text Tells Of more (Err stop) told none = none
+-- what was written of one kind of product was written of any wider kind
+pub answers_as : (p q : Product → Type 0) → ((x : Product) → p x → q x) → (outcome : Outcome) → (old new : Option (List ℕ))
+    → Answers p outcome old new → Answers q outcome old new
+answers_as p q wider (Ended end) old new (text, made, written) = (text, wider _ made, written)
+answers_as p q wider (Refused e) old new (made, kept) = (wider _ made, kept)
+answers_as p q wider ReadFault old new kept = kept
+answers_as p q wider WriteFault old new (text, end, made, written) = (text, end, wider _ made, written)
+answers_as p q wider NoMemory old new kept = kept
 
-  -- what is told of what was made is told where it is delivered
-  pub delivered : (Tells : End → Option A → Type 0) (made : Result Text NoText) (outcome : Outcome) (told : Option A) (writer : Use)
-      → Answers (Shows made) outcome writer.old writer.new → DeliveryFaults outcome writer → ByText Tells made told → ByOutcome Tells outcome told
-  delivered Tells (Ok text) (Ended end) told writer (bytes, shows, rest) faults tells = subst (λ e. Tells e told) (same_end shows) tells
-    where
-      same_end : ◌≡◌ {A = Result (List ℕ × End) Refusal} (Ok (bytes, end)) (Ok (text.bytes.items, text.end)) → text.end ≡ end
-      same_end e =
-          let inner : ◌≡◌ {A = List ℕ × End} (bytes, end) (text.bytes.items, text.end) = cc in
-          sym (ap (λ p. p.1) inner)
-  delivered Tells (Ok text) WriteFault told writer shown faults tells = (text.end, tells)
-  delivered Tells (Ok text) (Refused e) told writer shown faults tells =
-      let no : ◌≡◌ {A = Result (List ℕ × End) Refusal} (Err e) (Ok (text.bytes.items, text.end)) = shown.0 in absurd (cc)
-  delivered Tells (Ok text) ReadFault told writer shown faults tells = absurd faults
-  delivered Tells (Ok text) NoMemory None writer shown faults tells = tt
-  delivered Tells (Ok text) NoMemory (Some one) writer shown faults tells = (text.end, tells)
-  delivered Tells (Err (NoTextRefused why)) (Ended end) told writer shown faults tells =
-      let no : ◌≡◌ {A = Result (List ℕ × End) Refusal} (Ok (shown.0, end)) (Err why) = shown.1 in absurd (cc)
-  delivered Tells (Err (NoTextRefused why)) WriteFault told writer shown faults tells =
-      let no : ◌≡◌ {A = Result (List ℕ × End) Refusal} (Ok (shown.0, shown.1)) (Err why) = shown.2 in absurd (cc)
-  delivered Tells (Err (NoTextRefused why)) (Refused e) told writer shown faults tells = tells
-  delivered Tells (Err (NoTextRefused why)) ReadFault told writer shown faults tells = tells
-  delivered Tells (Err (NoTextRefused why)) NoMemory None writer shown faults tells = tt
-  delivered Tells (Err (NoTextRefused why)) NoMemory (Some one) writer shown faults tells = absurd (cc)
-  delivered Tells (Err NoTextNoMemory) (Ended end) told writer shown faults tells = absurd shown.1
-  delivered Tells (Err NoTextNoMemory) WriteFault told writer shown faults tells = absurd shown.2
-  delivered Tells (Err NoTextNoMemory) (Refused e) told writer shown faults tells = tells
-  delivered Tells (Err NoTextNoMemory) ReadFault told writer shown faults tells = tells
-  delivered Tells (Err NoTextNoMemory) NoMemory None writer shown faults tells = tt
-  delivered Tells (Err NoTextNoMemory) NoMemory (Some one) writer shown faults tells = absurd (cc)
+-- what a machine sent since it had sent nothing is all that it sent
+all_sent : (m n : Content) → m.sent ≡ [] → sent_since m n ≡ n.sent
+all_sent m n none = ap (λ sent. drop (length sent) n.sent) none
+
+module _ {O W : Type 0} (gives : O → Content → Event → O → Type 0) (hears : W → Telling → W → Type 0) where
+  -- where the writer took all, the run's text is written
+  pub ran_whole : (o : O) (m : Content) (w : W) (limit : ℕ) (t : Status) (p : O) (n : Content) (v : W) (notation : Notation) (is : Bool) (writer : Use)
+      → RanWriting gives hears o m w limit t p n v notation is writer → is ≡ true → m.sent ≡ []
+      → Answers (RunsOn gives o m limit notation) (Ended (end_of t n.regs.pc)) writer.old writer.new
+  ran_whole o m w limit t p n v notation is writer run all none =
+      let whole = with_earlier run.earlier n in
+      let wrote = subst (λ b. IsWritten b writer (shown_as notation (sent_since m whole))) all run.wrote in
+      let shown = subst (λ sent. Appends writer.old writer.new (shown_as notation sent)) (all_sent m whole none) wrote.0 in
+      (shown_as notation whole.sent, (t, p, whole, run.ran.ran, refl), shown)
+
+  -- where it failed, a prefix of it is
+  pub ran_faulted : (o : O) (m : Content) (w : W) (limit : ℕ) (t : Status) (p : O) (n : Content) (v : W) (notation : Notation) (is : Bool) (writer : Use)
+      → RanWriting gives hears o m w limit t p n v notation is writer → is ≡ false → m.sent ≡ []
+      → Answers (RunsOn gives o m limit notation) WriteFault writer.old writer.new
+  ran_faulted o m w limit t p n v notation is writer run failed none =
+      let whole = with_earlier run.earlier n in
+      let wrote = subst (λ b. IsWritten b writer (shown_as notation (sent_since m whole))) failed run.wrote in
+      let shown = subst (λ sent. AppendsPrefix writer.old writer.new (shown_as notation sent)) (all_sent m whole none) wrote.0 in
+      (shown_as notation whole.sent, end_of t n.regs.pc, (t, p, whole, run.ran.ran, refl), shown)
+
+  -- the machine that is left is the one to which the run led
+  pub rests : (o : O) (m : Content) (w : W) (limit : ℕ) (t : Status) (p : O) (n : Content) (v : W) (notation : Notation) (is : Bool) (writer : Use)
+      → RanWriting gives hears o m w limit t p n v notation is writer → RestsOfRun gives o limit (hearing_of hears w v) m (end_of t n.regs.pc) n
+  rests o m w limit t p n v notation is writer run =
+      record { earlier = run.earlier; known = run.known; ran = record { answer = t; left = p; ran = run.ran; how = refl } }
 
 -- where the machine is after the run of a PRG file is where that run ended
-pub places_end : {O W : Type 0} (s : Settings O) (watch : Hearing W) (file : List ℕ) (m n : Content) (made : Result Text NoText) (place : Option ℕ)
-    → StartsPrg s.text s.answers file (Ok m) → IfOk made (λ text. RunsTo s.gives s.outside s.limit watch m text.end n)
-    → ByText (λ end told. told ≡ end_place (status (state_of n)) n.regs.pc) made place → ByText (TellsPlace s watch file) made place
-places_end s watch file m n (Ok text) place started ran told = (n, (m, started, ran), told)
-places_end s watch file m n (Err stop) place started ran none = none
-
--- the same of a file that was read
-pub places_file : {O W : Type 0} (s : Settings O) (watch : Hearing W) (reader : Use) (file : List ℕ) (made : Result Text NoText) (place : Option ℕ)
-    → Reads reader.old file → ByText (TellsPlace s watch file) made place → ByText (TellsFile s watch reader) made place
-places_file s watch reader file made place read told =
-    by_text (TellsPlace s watch file) (TellsFile s watch reader) (λ end at tells. (file, read, tells)) made place told
+pub tells_place : {O W : Type 0} (s : Settings O) (watch : Hearing W) (reader : Use) (file : List ℕ) (m n : Content) (outcome : Outcome) (place : Option ℕ)
+    → Reads reader.old file → StartsPrg s.text s.answers file (Ok m) → LeavesRun s.gives s.outside s.limit watch m outcome n
+    → OfRun outcome (end_place (status (state_of n)) n.regs.pc) place → ByOutcome (TellsFile s watch reader) outcome place
+tells_place s watch reader file m n (Ended end) place read started left told =
+    (file, read, (with_earlier left.earlier n, (m, started, left.ran), told))
+tells_place s watch reader file m n WriteFault place read started (end, left) told =
+    (end, (file, read, (with_earlier left.earlier n, (m, started, left.ran), told)))
+tells_place s watch reader file m n (Refused e) place read started left told = absurd left
+tells_place s watch reader file m n ReadFault place read started left told = absurd left
+tells_place s watch reader file m n NoMemory place read started left told = subst (λ p. ByOutcome (TellsFile s watch reader) NoMemory p) (sym told) tt

@@ -11,13 +11,12 @@ use Rattle.tb_kernal.specs.declared.status.Status.{Status}
 use Rattle.tb_kernal.specs.Machine.{Content, home_of, entry_refusal, entered}
 use Rattle.tb_kernal.specs.Runs.{RanOver}
 use Rattle.tb_engines.specs.declared.outcome.End.{End}
-use Rattle.tb_streams.specs.HostForm.{host_form_of}
 use Rattle.tb_prg.specs.declared.PrgError.{PrgError}
-use Rattle.tb_engines.specs.declared.delivery.Text.{Text}
 use Rattle.tb_engines.specs.declared.delivery.NoText.{NoText}
 use Rattle.tb_engines.specs.declared.delivery.NoText.TheVariants.{Refused, NoMemory}
 use Rattle.tb_engines.specs.declared.outcome.Refusal.TheVariants.{Prg}
 use Rattle.tb_engines.specs.Delivery.{Makes}
+use Rattle.tb_engines.specs.Outcomes.{Product}
 use Rattle.tb_engines.specs.Programs.{start_regs, start_memory, start, end_of, Settings, Runs, RunsOn, RunsContent, StartsContent}
 
 -- what lies at the first two addresses of a load of two bytes
@@ -65,11 +64,6 @@ entered_is_start a bytes m r text answers h same_memory same_regs =
     let home = home_of-start a bytes h in
     rw (same_memory, same_regs, home) refl
 
--- a run of a machine
-pub runs_on : {O : Type 0} (gives : O → Content → Event → O → Type 0) (o p : O) (limit : ℕ) (m n : Content) (t : Status) (shown : List ℕ) (end : End)
-    → RanOver gives o m limit (Ok t) p n → shown ≡ host_form_of n.sent → end ≡ end_of t n.regs.pc → RunsOn gives o m limit (Ok (shown, end))
-runs_on gives o p limit m n t shown end ran same_text same_end = (t, p, n, ran, λ i. (same_text i, same_end i))
-
 -- ---- a PRG file
 
 module _ {O : Type 0} (s : Settings O) where
@@ -85,9 +79,8 @@ module _ {O : Type 0} (s : Settings O) where
   not_started (Err why) NoMemory is = tt
 
   -- what comes of the start machine of a PRG file comes of the file
-  pub runs_content : (content : Result (ℕ × List ℕ) PrgError) (m : Content) (made : Result Text NoText) → StartsContent s.text s.answers content (Ok m)
-      → Makes (RunsOn s.gives s.outside m s.limit) made → Makes (RunsContent s content) made
-  runs_content (Ok p) m (Ok shown) (in_ram, same) ran = (in_ram, subst (λ x. Runs s.gives s.outside x s.limit (shown.bytes.items, shown.end)) same ran)
-  runs_content (Ok p) m (Err (Refused e)) started none = absurd none
-  runs_content (Ok p) m (Err NoMemory) started ran = tt
-  runs_content (Err why) m made none ran = absurd none
+  pub runs_content : (content : Result (ℕ × List ℕ) PrgError) (m : Content) (product : Product) → StartsContent s.text s.answers content (Ok m)
+      → RunsOn s.gives s.outside m s.limit s.notation product → RunsContent s content product
+  runs_content (Ok p) m (Ok shown) (in_ram, same) ran = (in_ram, subst (λ x. Runs s.gives s.outside x s.limit s.notation shown) same ran)
+  runs_content (Ok p) m (Err e) started none = absurd none
+  runs_content (Err why) m product none ran = absurd none

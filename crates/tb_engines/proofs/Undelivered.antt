@@ -2,8 +2,8 @@
 use Rattle.std.proofs.Common.{◌≡◌, ℕ, List, Option, Some, None, Result, Err, refl, sym, subst}
 use Rattle.std.specs.Io.KnownBytes.{Keeps}
 use Rattle.tb_streams.specs.Uses.{Use}
-use Rattle.tb_engines.specs.Outcomes.{Outcome, Answers}
-use Rattle.tb_engines.specs.Delivery.{Shows, DeliveryFaults, outcome_without}
+use Rattle.tb_engines.specs.Outcomes.{Outcome, Answers, Product}
+use Rattle.tb_engines.specs.Delivery.{Makes, Shows, DeliveryFaults, outcome_without}
 use Rattle.tb_engines.specs.declared.delivery.Text.{Text}
 use Rattle.tb_engines.specs.declared.delivery.NoText.{NoText}
 use Rattle.tb_engines.specs.declared.delivery.NoText.TheVariants.{Refused, NoMemory}
@@ -33,3 +33,12 @@ nothing_fails stop outcome bytes failures ends = subst (λ o. DeliveryFaults o u
     by : (stop : NoText) → DeliveryFaults (outcome_without stop) untouched
     by (Refused e) = refl
     by NoMemory = refl
+
+-- where a text is not made for a reason that is known of it, nothing is written
+pub unmade : (makes : Product → Type 0) (stop : NoText) (outcome : Outcome) (bytes : Option (List ℕ)) → outcome ≡ outcome_without stop
+    → Makes makes (Err stop) → Answers makes outcome bytes bytes
+unmade makes stop outcome bytes ends is = subst (λ o. Answers makes o bytes bytes) (sym ends) (by stop is)
+  where
+    by : (stop : NoText) → Makes makes (Err stop) → Answers makes (outcome_without stop) bytes bytes
+    by (Refused e) is = (is, kept bytes)
+    by NoMemory is = kept bytes

@@ -11,7 +11,9 @@ use Rattle.tb_kernal.specs.Machine.{Content}
 use Rattle.tb_kernal.specs.Runs.{RanOver}
 use Rattle.tb_prg.specs.declared.PrgError.{PrgError}
 use Rattle.tb_prg.specs.Prg.{content_of}
-use Rattle.tb_streams.specs.HostForm.{host_form_of}
+use Rattle.tb_text.specs.declared.notation.Notation.{Notation}
+use Rattle.tb_text.specs.declared.notation.Notation.TheVariants.{Plain}
+use Rattle.tb_streams.specs.HostForm.{shown_as}
 use Rattle.tb_engines.specs.Outcomes.{Product}
 use Rattle.tb_engines.specs.declared.outcome.End.{End}
 use Rattle.tb_engines.specs.declared.outcome.End.TheVariants.{Done, StepLimit, WaitsForKey, WentWrong}
@@ -63,31 +65,37 @@ end_of Waits pc = WaitsForKey
 end_of Running pc = StepLimit
 end_of (Wrong w) pc = WentWrong w pc
 
--- the host form of what the machine sent on a run of at most `limit` events that an outside gave it
-abbrev pub Runs : {O : Type 0} → (O → Content → Event → O → Type 0) → O → Content → ℕ
+-- what the machine sent on a run of at most `limit` events that an outside gave it, as a notation shows it
+abbrev pub Runs : {O : Type 0} → (O → Content → Event → O → Type 0) → O → Content → ℕ → Notation
     → List ℕ × End → Type 0
-Runs gives o m limit shown =
+Runs gives o m limit notation shown =
     (t : Status) × (p : _) × (n : Content)
     × RanOver gives o m limit (Ok t) p n
-    × (shown ≡ (host_form_of n.sent, end_of t n.regs.pc))
+    × (shown ≡ (shown_as notation n.sent, end_of t n.regs.pc))
 
--- what a run is given: an outside, and what it gives; a keyboard's text and answers; the most events that it may take
+-- what a run is given: an outside, and what it gives; a keyboard's text and answers; the most events that it may take; how
+-- what it sends is shown
 pub record Settings (O : Type 0) : Type 1 where
   pub gives : O → Content → Event → O → Type 0
   pub outside : O
   pub text : List ℕ
   pub answers : List ℕ
   pub limit : ℕ
+  pub notation : Notation
 
 -- the settings that an engine is called with
-abbrev pub settings_of : {O : Type 0} → (O → Content → Event → O → Type 0) → O → Keyboard → ℕ → Settings O
-settings_of gives outside keyboard limit =
-    record { gives = gives; outside = outside; text = keyboard.text.items; answers = keyboard.answers.items; limit = limit }
+abbrev pub settings_of : {O : Type 0} → (O → Content → Event → O → Type 0) → O → Keyboard → ℕ → Notation → Settings O
+settings_of gives outside keyboard limit notation =
+    record { gives = gives; outside = outside; text = keyboard.text.items; answers = keyboard.answers.items; limit = limit; notation = notation }
+
+-- the same for an engine that shows the host form
+abbrev pub plain_settings_of : {O : Type 0} → (O → Content → Event → O → Type 0) → O → Keyboard → ℕ → Settings O
+plain_settings_of gives outside keyboard limit = settings_of gives outside keyboard limit Plain
 
 -- what comes of a program at an address: a run, if all of it lies in RAM
 abbrev pub RunsAt : {O : Type 0} → Settings O → ℕ → List ℕ → Product → Type 0
 RunsAt s at bytes (Ok shown) =
-    IsOpenRange at (length bytes) × Runs s.gives s.outside (start at bytes s.text s.answers) s.limit shown
+    IsOpenRange at (length bytes) × Runs s.gives s.outside (start at bytes s.text s.answers) s.limit s.notation shown
 RunsAt s at bytes (Err e) = (e ≡ NotRam) × ¬ (IsOpenRange at (length bytes))
 
 -- what comes of the load address and the bytes of a PRG file, or of a file that is no PRG file
@@ -115,6 +123,6 @@ abbrev pub StartsPrg : List ℕ → List ℕ → List ℕ → Result Content NoT
 StartsPrg text answers file result = StartsContent text answers (content_of file) result
 
 -- what comes of a machine that was started: a run
-abbrev pub RunsOn : {O : Type 0} → (O → Content → Event → O → Type 0) → O → Content → ℕ → Product → Type 0
-RunsOn gives o m limit (Ok shown) = Runs gives o m limit shown
-RunsOn gives o m limit (Err e) = ⊥
+abbrev pub RunsOn : {O : Type 0} → (O → Content → Event → O → Type 0) → O → Content → ℕ → Notation → Product → Type 0
+RunsOn gives o m limit notation (Ok shown) = Runs gives o m limit notation shown
+RunsOn gives o m limit notation (Err e) = ⊥

@@ -6,6 +6,10 @@
 //! call or gave too many bytes (`faults`). `End` and `Refusal` have their statuses (`exit_status`). `run_prg_watched`,
 //! of which `run_prg` is one, also tells the program counter at the end of that run, and none if the program returned
 //! (`TellsFile`, `end_place`). It must be told wherever the run's text was written.
+//!
+//! What a run sends is written as it comes. `run_stretch` writes the host form of what was sent in it (`RanStretch`).
+//! `run_writing` goes by stretches of 65,536 events, so at the end of each all that was sent is written. Of that the
+//! machine keeps the last 16 bytes. Memory is asked for before the first event alone.
 #![tactic(auto)]
 
 mod assembly;
@@ -16,6 +20,7 @@ mod outcome;
 mod programs;
 mod report;
 mod texts;
+mod writing;
 
 pub use assembly::{asm_text, assemble_prg, dis_text, list_prg};
 pub use delivery::{NoText, Text, deliver};
@@ -25,3 +30,4 @@ pub use outcome::{End, Failure, Outcome, Refusal};
 pub use programs::{PrgRun, end_of, run_machine, run_prg, run_prg_watched};
 pub use report::{Report, Warnings};
 pub use texts::{TOO_DEEP, TooLarge, source_text};
+pub use writing::{WrittenRun, run_stretch, run_writing};

@@ -38,6 +38,10 @@ meaning_of RanPast = RAN_PAST.now
 abbrev pub fault_text : ℕ → FaultKind → List ℕ
 fault_text line k = 13 ∷ 33 ∷ decimal (number_of k) ++ (codes " AT " ++ (decimal line ++ 13 ∷ []))
 
+-- the bytes of the longest text of a fault
+abbrev pub longest_fault : ℕ
+longest_fault = 13
+
 -- what was sent ends in the text of a fault
 abbrev pub is_fault : List ℕ → ℕ → FaultKind → Bool
 is_fault sent line k = ends_with nat_eq sent (fault_text line k)

@@ -1,13 +1,19 @@
 //! By which fault a program ended.
-ghost use Rattle.std.specs.Prelude.{◌≡◌, ◌+◌, ◌<◌, ◌≤◌, IfOk, string_bytes};
+ghost use Rattle.std.specs.Prelude.{◌≡◌, ◌+◌, ◌<◌, ◌≤◌, ◌++◌, ℕ, List, length};
 ghost use Rattle.std.specs.List.{find};
 ghost use Rattle.tb_memmap.specs.Bytes.{at};
-ghost use Rattle.tb_faults.specs.Faults.{fault_in, fault_text, is_fault, line_in, meaning_of, number_of};
+ghost use Rattle.arrayvec.specs.ArrayVec.{array_vec_len};
+ghost use Rattle.tb_kernal.specs.Sending.{KnowsLast};
+ghost use Rattle.tb_faults.specs.Faults.{fault_in, fault_text, is_fault, line_in, longest_fault, meaning_of, number_of};
 
-use std::alloc::{AllocError, Global};
+use arrayvec::ArrayVec;
 use tb_kept::LINE;
 use tb_kernal::Machine;
 use tb_memmap::Memory;
+use tb_words::decimal_digits;
+
+/// The bytes of the longest text of a fault, `\r!7 AT 65535\r`.
+const LONGEST_FAULT: usize = 13;
 
 // What is said, text by text.
 const STOPPED: &str = "the STOP key was pressed";
@@ -85,28 +91,40 @@ impl FaultKind {
 }
 
 // What a program sends last that ends by a fault.
-fn fault_text(alloc: Global, kind: FaultKind, line: u16) -> Result<String, AllocError>
-    ensures { IfOk result (λ text. string_bytes text ≡ fault_text line kind) }
+fn fault_text(kind: FaultKind, line: u16) -> ArrayVec<u8, LONGEST_FAULT>
+    ensures text { result.items ≡ fault_text line kind }
+    ensures short { length (fault_text line kind) ≤ longest_fault }
 {
-    let number = kind.number();
-    format!(in alloc; "\r!{number} AT {line}\r")
+    let head = [b'\r', b'!', b'0' + kind.number(), b' ', b'A', b'T', b' '];
+    let mut text = ArrayVec::new();
+    append(&mut text, &head);
+    append(&mut text, decimal_digits(line).as_slice());
+    append(&mut text, b"\r");
+    text
+}
+
+// Appends bytes to a text that has room for them.
+fn append(text: &mut ArrayVec<u8, LONGEST_FAULT>, bytes: &[u8])
+    requires room { array_vec_len text.old + length bytes.now ≤ longest_fault }
+    ensures items { text.new.items ≡ text.old.items ++ bytes.now }
+    ensures len { array_vec_len text.new ≡ array_vec_len text.old + length bytes.now }
+{
+    match text.try_extend_from_slice(bytes) {
+        Ok(()) => {}
+        Err(_) => unreachable!(),
+    }
 }
 
 // The first of some faults by whose text what a program sent ends.
-fn first_fault(
-    alloc: Global,
-    kinds: &[FaultKind],
-    sent: &[u8],
-    line: u16,
-) -> Result<Option<FaultKind>, AllocError>
-    ensures { IfOk result (λ found. found ≡ find (is_fault sent.now line) kinds.now) }
+fn first_fault(kinds: &[FaultKind], sent: &[u8], line: u16) -> Option<FaultKind>
+    ensures { result ≡ find (is_fault sent.now line) kinds.now }
 {
     match kinds {
-        [] => Ok(None),
-        [first, rest @ ..] => if sent.ends_with(fault_text(alloc, *first, line)?.as_bytes()) {
-            Ok(Some(*first))
+        [] => None,
+        [first, rest @ ..] => if sent.ends_with(fault_text(*first, line).as_slice()) {
+            Some(*first)
         } else {
-            first_fault(alloc, rest, sent, line)
+            first_fault(rest, sent, line)
         },
     }
 }
@@ -132,11 +150,12 @@ pub fn fault_line(machine: &Machine) -> u16
 }
 
 /// The fault by which a program ended, if it ended by one: its text is what was sent last, with the line that the machine
-/// holds.
-pub fn fault_in(alloc: Global, machine: &Machine) -> Result<Option<FaultKind>, AllocError>
-    ensures { IfOk result (λ fault. fault ≡ fault_in machine.now.sent (at machine.now.memory)) }
+/// holds. The end of what was sent tells it, as far as it is as long as the longest text of a fault.
+pub fn fault_in(machine: &Machine) -> Option<FaultKind>
+    ensures fault { result ≡ fault_in machine.now.sent (at machine.now.memory) }
+    ensures earlier { (earlier : List ℕ) → KnowsLast longest_fault earlier machine.now.sent
+        → result ≡ fault_in (earlier ++ machine.now.sent) (at machine.now.memory) }
 {
     let line = fault_line(machine);
-    let found = first_fault(alloc, &FAULT_KINDS, machine.sent(), line)?;
-    Ok(found)
+    first_fault(&FAULT_KINDS, machine.sent(), line)
 }

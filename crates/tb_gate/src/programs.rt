@@ -8,7 +8,7 @@ ghost use Rattle.tb_compiled.specs.Theorem.{KeepsItsSource, MarksItsLines};
 ghost use Rattle.tb_codegen.specs.Templates.{templates};
 ghost use Rattle.tb_streams.specs.Uses.{use_of, TakesInput};
 ghost use Rattle.tb_engines.specs.Outcomes.{AnswersInput, Faults};
-ghost use Rattle.tb_engines.specs.Programs.{settings_of};
+ghost use Rattle.tb_engines.specs.Programs.{plain_settings_of};
 ghost use Rattle.tb_sources.specs.Output.{RunsSource};
 ghost use Rattle.tb_sources.specs.Sources.{RunsText, WarnsOfRead};
 
@@ -57,7 +57,7 @@ pub fn ran<R: Read, W: Write, O: Outside>(
     limit: u64,
     outside: &mut O,
 ) -> Report
-    ensures answers { AnswersInput (RunsText templates (settings_of O.gives outside.old keyboard limit) (by_cost seed) result.warnings.items)
+    ensures answers { AnswersInput (RunsText templates (plain_settings_of O.gives outside.old keyboard limit) (by_cost seed) result.warnings.items)
         result.outcome (use_of R.remaining reader.old reader.new) (use_of W.contents writer.old writer.new) }
     ensures output { AnswersInput (RunsSource templates (by_cost seed) keyboard.text.items keyboard.answers.items)
         result.outcome (use_of R.remaining reader.old reader.new) (use_of W.contents writer.old writer.new) }

@@ -1,5 +1,6 @@
 //! The files of the system that the program runs on. `-` is standard input or standard output.
-ghost use Rattle.std.specs.Prelude.{⊤};
+ghost use Rattle.std.specs.Prelude.{⊤, ◌≡◌, ◌&&◌, IfOk, not};
+ghost use Rattle.tb_streams.specs.Failures.{failures_of};
 
 use crate::putting::save_at;
 use crate::system::{
@@ -7,11 +8,12 @@ use crate::system::{
 };
 use std::alloc::{AllocError, Global};
 use std::io;
+use std::io::Cursor;
 use std::path::Path;
 use std::rt::Files;
 use tb_file_reasons::Purpose;
 use tb_files::{FileSystem, Look, Place, Trouble, Unput};
-use tb_streams::Tracked;
+use tb_streams::{InputError, Tracked, read_input};
 
 /// The files of the system, and which of them was asked for last.
 #[derive(Drop)]
@@ -25,6 +27,8 @@ pub struct Host<'a, R> {
     pub opened: usize,
     /// None as well if memory didn't suffice for its path.
     pub last: Option<Asked>,
+    // What a file held that was read ahead.
+    ahead: Option<Result<Vec<u8>, InputError>>,
 }
 
 /// A file that was asked for.
@@ -48,11 +52,19 @@ impl<'a, R> Host<'a, R> {
             shows,
             opened: 0,
             last: None,
+            ahead: None,
         }
     }
 }
 
 impl<R> Host<'_, R> {
+    /// Whether a person is told how far a long run is. Where its output is shown, that tells enough.
+    pub fn tells_progress(&self) -> bool
+        ensures { result ≡ self.now.notes && not self.now.shows }
+    {
+        self.notes && !self.shows
+    }
+
     /// The file that was asked for last is one of what is typed.
     pub fn asked_for_keys(&mut self) {
         if let Some(asked) = &mut self.last {
@@ -73,6 +85,32 @@ impl<R: AllocGlobal> Host<'_, R> {
             }),
             Err(_) => None,
         };
+    }
+}
+
+impl<R: Files + Input + Print + AllocGlobal> Host<'_, R> {
+    /// Reads a file that is opened next, and not before: then what was read is there once more, or its fault. Nothing is
+    /// shown of a file that can't be read.
+    pub fn read_ahead(&mut self, path: &str) -> &[u8] {
+        // (a file that can't be opened now is asked for again)
+        if let Ok(mut file) = self.open(path) {
+            self.ahead = Some(read_input(self.rt.alloc(), &mut file));
+        }
+        match &self.ahead {
+            Some(Ok(text)) => text.as_slice(),
+            Some(Err(_)) | None => &[],
+        }
+    }
+}
+
+// What was read ahead, as it is opened.
+fn again<R: Files + Input>(read: Result<Vec<u8>, InputError>) -> Result<Tracked<Source<R>>, Trouble>
+    ensures { IfOk result (λ input. failures_of input ≡ 0) }
+{
+    match read {
+        Ok(text) => Ok(Tracked::new(Source::Ahead(Cursor::new(text)))),
+        Err(InputError::Fault) => Err(Trouble::Fault),
+        Err(InputError::NoMemory) => Err(Trouble::NoMemory),
     }
 }
 
@@ -101,6 +139,9 @@ impl<R: Files + Input + Print + AllocGlobal> FileSystem for Host<'_, R> {
     }
 
     fn open(&mut self, path: &str) -> Result<Tracked<Source<R>>, Trouble> {
+        if let Some(read) = self.ahead.take() {
+            return again(read);
+        }
         match source_at(self.rt, path) {
             Ok(source) => {
                 self.asks(path, Purpose::Input, None);

@@ -3,7 +3,8 @@
 //!
 //! All is safe and total. No clause says which file a call opens or what it does to it; only tests show that.
 //! `system.rt` is trusted, with what `host.rt` and `putting.rt` make of it: std's clauses say nothing of these calls,
-//! so what they promise of files is `⊤`. `Progress` shows nothing of a run that it is not to tell (`Hears`).
+//! so what they promise of files is `⊤`. `Progress` shows nothing of a run that it is not to tell (`Hears`). `settings_of`
+//! says how a source is compiled, by the words of the command line and by its own (`specs/Settings`).
 #![tactic(auto)]
 
 mod host;
@@ -18,7 +19,7 @@ mod waiting;
 pub use host::{Asked, Host};
 pub use keys::keyboard;
 pub use labels::{labels_in, named_place};
-pub use reading::{read_warned, settings_of, size_limit};
+pub use reading::{Wanted, notation_at, read_warned, settings_for, settings_of, size_limit};
 pub use seeds::drawn_seed;
 pub use system::Source;
 pub use waiting::Progress;

@@ -4,7 +4,7 @@ ghost use Rattle.std.specs.Prelude.{⊤};
 
 use std::alloc::{AllocError, Global};
 use std::fs::{File, Metadata};
-use std::io::{ErrorKind, Read, Write};
+use std::io::{Cursor, ErrorKind, Read, Write};
 use std::os::unix::fs::MetadataExt;
 use std::path::{Path, PathBuf};
 use std::rt::Files;
@@ -123,11 +123,12 @@ pub fn milliseconds<R: Clock>(rt: &R) -> Option<u128> {
     }
 }
 
-/// A file that is opened for reading, or standard input.
+/// A file that is opened for reading, standard input, or what was read before.
 #[derive(Drop)]
 pub enum Source<R: Files + Input> {
     File(R::File),
     Standard(R::Reader),
+    Ahead(Cursor<Vec<u8>>),
 }
 
 impl<R: Files + Input> Read for Source<R> {
@@ -135,6 +136,7 @@ impl<R: Files + Input> Read for Source<R> {
         match self {
             Source::File(file) => file.read(buf),
             Source::Standard(reader) => reader.read(buf),
+            Source::Ahead(text) => text.read(buf),
         }
     }
 }

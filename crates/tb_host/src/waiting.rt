@@ -9,6 +9,9 @@ const PATIENCE: u64 = 2;
 
 const MILLION: u64 = 1_000_000;
 
+/// As many events pass before more is told: a tenth of a second, or less.
+const BETWEEN: u64 = 8_388_608;
+
 /// A line of standard error that tells how far a run is, and is taken away again. Nobody can be told that standard error
 /// fails.
 #[derive(Drop)]
@@ -18,6 +21,8 @@ pub struct Progress<'a, R> {
     is_told: bool,
     /// When the run began, if it is told.
     began: Option<Duration>,
+    /// After how many events more is told.
+    next: u64,
     is_shown: bool,
 }
 
@@ -29,6 +34,7 @@ impl<'a, R: Clock> Progress<'a, R> {
             limit,
             is_told,
             began: None,
+            next: 0,
             is_shown: false,
         }
     }
@@ -52,6 +58,7 @@ impl<R: Clock + Eprint> Watch for Progress<'_, R> {
     ghost hears = { Hears };
 
     fn began(&mut self) {
+        self.next = 0;
         self.began = if self.is_told {
             self.rt.monotonic().ok()
         } else {
@@ -60,6 +67,10 @@ impl<R: Clock + Eprint> Watch for Progress<'_, R> {
     }
 
     fn took(&mut self, events: u64) {
+        if events < self.next {
+            return;
+        }
+        self.next = events.saturating_add(BETWEEN);
         if self.is_due() {
             let (done, all) = (events / MILLION, self.limit / MILLION);
             let _ = eprint!(self.rt; "\rtbc: {done} of {all} million events");

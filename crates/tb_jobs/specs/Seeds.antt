@@ -1,5 +1,5 @@
 -- The first states of RND that jobs have, and those that the clock gives.
-use Rattle.std.specs.Prelude.{ℕ, ◌+◌, ◌%◌, Option, Some, None}
+use Rattle.std.specs.Prelude.{ℕ, ◌+◌, ◌%◌, Option, None}
 use Rattle.tb_jobs.specs.Numbers.{CLOCK_SEEDS}
 use Rattle.tb_jobs.specs.declared.jobs.Runnable.{Runnable}
 use Rattle.tb_jobs.specs.declared.jobs.Runnable.TheVariants.{Source, Prg}
@@ -10,14 +10,14 @@ use Rattle.tb_jobs.specs.declared.jobs.Job.TheVariants.{Build, Run, Play, Asm, A
 abbrev pub clock_seed : ℕ → ℕ
 clock_seed milliseconds = milliseconds % CLOCK_SEEDS + 1
 
--- the seed of a program that is run: only a source has one
-abbrev pub seed_for : Runnable → ℕ → Option ℕ
-seed_for (Source program) seed = Some seed
+-- the seed of a program that is run, if the words say one: only a source has one
+abbrev pub seed_for : Runnable → Option ℕ → Option ℕ
+seed_for (Source program) seed = seed
 seed_for (Prg program) seed = None
 
--- the seed by which a job compiles a source, if it does
+-- the seed by which a job compiles a source, if it does and the words say one
 abbrev pub seed_of : Job → Option ℕ
-seed_of (Build source out seed fit notation beside force) = Some seed
+seed_of (Build source out seed fit notation beside force) = seed
 seed_of (Run what settings rude labels strict) = seed_for what settings.seed
 seed_of (Play what seed fit notation limit made screen force strict) = seed_for what seed
 seed_of (Step what settings) = seed_for what settings.seed

@@ -73,8 +73,8 @@ pub enum Typed {
 /// How a program is run.
 #[derive(Debug, Drop)]
 pub struct Settings {
-    /// The first state of RND.
-    pub seed: u16,
+    /// The first state of RND, if the words say it.
+    pub seed: Option<u16>,
     /// Whether a source is refused as too large only if it doesn't fit the memory.
     pub fit: bool,
     /// How its texts are read.
@@ -118,8 +118,8 @@ pub enum Job {
     Build {
         source: String,
         out: String,
-        /// The first state of RND.
-        seed: u16,
+        /// The first state of RND, if the words say it.
+        seed: Option<u16>,
         /// Whether a source is refused as too large only if it doesn't fit the memory.
         fit: bool,
         /// How its texts are read.
@@ -143,8 +143,8 @@ pub enum Job {
     /// Plays a program: standard input is its keyboard.
     Play {
         what: Runnable,
-        /// The first state of RND.
-        seed: u16,
+        /// The first state of RND, if the words say it.
+        seed: Option<u16>,
         /// Whether a source is refused as too large only if it doesn't fit the memory.
         fit: bool,
         /// How its texts are read.

@@ -4,7 +4,7 @@
 //! 1,000,000,000 events. `Failure::status` is 4 for want of memory, 3 if a key file, a label file or the clock cannot be
 //! read, 1 if a label file has a bad line, and otherwise 2. `room_for_screen` says where the screen can be shown.
 //! `clock_seed` is a seed of 1 to 65,535, and another one a millisecond later (`specs/Seeds`). `Job::seed` is that of a job
-//! that compiles a source, and `Job::is_strict` says whether a fault has a status of its own.
+//! that compiles a source, if the words say one, and `Job::is_strict` says whether a fault has a status of its own.
 #![tactic(auto)]
 
 mod failure;

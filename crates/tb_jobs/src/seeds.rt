@@ -18,22 +18,22 @@ pub fn clock_seed(milliseconds: u128) -> u16
 }
 
 // The seed of a program that is run: only a source has one.
-fn seed_for(what: &Runnable, seed: u16) -> Option<u16>
+fn seed_for(what: &Runnable, seed: Option<u16>) -> Option<u16>
     ensures { result ≡ seed_for what.now seed }
 {
     match what {
-        Runnable::Source(_) => Some(seed),
+        Runnable::Source(_) => seed,
         Runnable::Prg(_) => None,
     }
 }
 
 impl Job {
-    /// The seed by which the job compiles a source, if it does.
+    /// The seed by which the job compiles a source, if it does and the words say one.
     pub fn seed(&self) -> Option<u16>
         ensures { result ≡ seed_of self.now }
     {
         match self {
-            Job::Build { seed, .. } => Some(*seed),
+            Job::Build { seed, .. } => *seed,
             Job::Play { what, seed, .. } => seed_for(what, *seed),
             Job::Run { what, settings, .. }
             | Job::Step { what, settings }

@@ -1,6 +1,6 @@
--- That the events of the given outsides are lawful. These lemmas are here since each outside cites its own for the
--- law of `Outside`.
-use Rattle.std.proofs.Common.{ℕ, ◌≡◌, ◌-◌, ◌/◌, ◌%◌, Bool, true, false, List, [], ◌∷◌, refl, arith}
+-- That the events of the given outsides are lawful, and do not depend on what was sent. These lemmas are here since each
+-- outside cites its own for the laws of `Outside`.
+use Rattle.std.proofs.Common.{ℕ, ◌≡◌, ◌-◌, ◌/◌, ◌%◌, Bool, true, false, List, [], ◌∷◌, refl, ap, arith}
 use Rattle.std.proofs.lemmas.Bool.{or_right}
 use Rattle.std.specs.Prelude.{◌==◌, if◌then◌else◌, Option, Some, None}
 use Rattle.std.proofs.lemmas.Bool.Decides.{nat_tests}
@@ -42,6 +42,16 @@ chosen false m e h = quiet_is_lawful m (Go (quiet m)) refl
 pub turn_is_lawful : (es : List Event) (m : Content) → is_lawful (state_of m) (turn es m) ≡ true
 turn_is_lawful [] m = quiet_is_lawful m (Go (quiet m)) refl
 turn_is_lawful (e ∷ es) m = chosen (is_lawful (state_of m) e) m e refl
+
+-- whether an event is lawful does not depend on what was sent
+pub same_lawful : (e : Event) (m : Content) (sent : List ℕ) → is_lawful (state_of (record m { sent = sent })) e ≡ is_lawful (state_of m) e
+same_lawful (Go k) m sent = refl
+same_lawful (Interrupt ws) m sent = refl
+
+-- whether a recorded event is given does not depend on what was sent
+pub turn_is_blind : (es : List Event) (m : Content) (sent : List ℕ) → turn es (record m { sent = sent }) ≡ turn es m
+turn_is_blind [] m sent = refl
+turn_is_blind (e ∷ es) m sent = ap (λ b. if b then e else Go (quiet m)) (same_lawful e m sent)
 
 pub rude_writable : (s v : ℕ) → all_writable s (rude_writes s v) ≡ true
 rude_writable s v = grind (arith, nat_tests)

@@ -5,7 +5,7 @@ use Rattle.tb_opcodes.specs.declared.Mode.{Mode}
 use Rattle.tb_opcodes.specs.declared.Mode.TheVariants.{Implied, Accumulator, Immediate}
 use Rattle.tb_asm.specs.Layout.{Entry, instr, size_of, number_in}
 use Rattle.tb_disasm.specs.Listing.{line_at}
-use Rattle.tb_runtime16.specs.Addresses.{PROLOGUE_AT}
+use Rattle.tb_runtime16.specs.Addresses.{PROLOGUE_AT, SEND_AT}
 use Rattle.tb_kept.specs.Addresses.{LINES_AT, RETURN_LOW, WANTED}
 use Rattle.tb_runtime16.specs.declared.addresses.Routine.TheVariants.{Push, Text}
 use Rattle.tb_compiled.specs.Compiled.{pair_of}
@@ -49,6 +49,14 @@ asks_for_wanted rest = is_at rest 0 0xAD && (eqb (word_in rest 1) WANTED && (is_
 -- where the search for a line is: its comparisons, if it begins with these
 abbrev pub search : Plan → ℕ
 search p = if nat_lt (length p.starts) TOO_MANY_LINES && asks_for_wanted (bytes_from p (comparisons p)) then comparisons p else look_up p
+
+-- whether a byte is loaded here, and Send is called then
+abbrev pub is_sending : List ℕ → Bool
+is_sending rest = is_at rest 0 0xA9 && (is_at rest 2 0x20 && (nat_le 5 (length rest) && eqb (word_in rest 3) SEND_AT))
+
+-- whether the code at an address does so
+abbrev pub sends_byte : Plan → ℕ → Bool
+sends_byte p at = is_sending (bytes_from p at)
 
 -- where fault 7 is, between the last line and the search
 abbrev pub past : Plan → ℕ

@@ -18,7 +18,7 @@ use Rattle.tb_listing.specs.declared.pieces.Kind.{Kind}
 use Rattle.tb_listing.specs.declared.pieces.Named.{Named}
 use Rattle.tb_listing.specs.declared.pieces.Named.TheVariants.{Whole, Low, High}
 use Rattle.tb_listing.specs.Comments.{comment_row, label_row}
-use Rattle.tb_listing.specs.Pieces.{Plan, Row, rows_of}
+use Rattle.tb_listing.specs.Pieces.{Plan, Row, rows_of, sends_byte}
 use Rattle.tb_listing.specs.PlaceNames.{address_named, has_label, is_line, mark_at, marks_of, name_of, outside_text}
 
 -- ── items ──
@@ -103,10 +103,21 @@ abbrev pub outside_of : Named → List ℕ
 outside_of (Whole a) = outside_text a
 outside_of n = []
 
--- the content of a row: its item, and as a comment its address, its bytes, and a name outside the image
+-- the byte that two bytes of code load, as a text
+abbrev pub byte_text : List ℕ → List ℕ
+byte_text (opcode ∷ b ∷ []) = codes " \"" ++ b ∷ codes "\""
+byte_text bs = []
+
+-- the same of a row of code whose byte is sent
+abbrev pub sent_by : Kind → Plan → Row → List ℕ
+sent_by Code p r = if sends_byte p r.at then byte_text r.bytes else []
+sent_by k p r = []
+
+-- the content of a row: its item, and as a comment its address, its bytes, a text of one byte that it sends, and a name
+-- outside the image
 abbrev pub row_content : Plan → List Mark → Row → List ℕ
 row_content p marks r =
-    item_by r.kind p marks r ++ (codes "; " ++ four_digits r.at (codes " ")) ++ bytes_shown r.kind r.bytes ++ outside_of r.named
+    item_by r.kind p marks r ++ (codes "; " ++ four_digits r.at (codes " ")) ++ bytes_shown r.kind r.bytes ++ sent_by r.kind p r ++ outside_of r.named
 
 -- ── rows ──
 -- a row of two parts, with its end

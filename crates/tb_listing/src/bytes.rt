@@ -5,7 +5,7 @@ ghost use Rattle.tb_listing.specs.Bytes as codes;
 use tb_runtime16::{Routine, entry};
 
 /// The opcode of a call.
-const JSR: u8 = 0x20;
+pub const JSR: u8 = 0x20;
 
 /// The address after some bytes.
 pub fn forth(at: u16, size: usize) -> u16

@@ -151,8 +151,33 @@ fn row_content(alloc: Global, view: &View<'_>, piece: &Piece<'_>) -> Result<Vec<
     push_item(alloc, &mut row, view, piece)?;
     write_word(&mut row, b"; ", piece.at, b" ")?;
     push_bytes(&mut row, piece.kind, piece.bytes)?;
+    push_sent(&mut row, view, piece)?;
     push_outside_named(alloc, &mut row, piece.named)?;
     Ok(row)
+}
+
+// Appends the text of one byte that a piece of code sends.
+fn push_sent(row: &mut Vec<u8>, view: &View<'_>, piece: &Piece<'_>) -> Result<(), AllocError>
+    ensures { AppendsBytes result row.old row.new (rows.sent_by piece.now.kind (plan_of view.now.program) (row_of piece.now)) }
+{
+    match piece.kind {
+        Kind::Code if view.program.sends_byte(piece.at) => push_byte_text(row, piece.bytes),
+        Kind::Code | Kind::Data | Kind::Number | Kind::Address => Ok(()),
+    }
+}
+
+// Appends the byte that two bytes of code load, as a text.
+fn push_byte_text(row: &mut Vec<u8>, bytes: &[u8]) -> Result<(), AllocError>
+    ensures { AppendsBytes result row.old row.new (rows.byte_text bytes.now) }
+{
+    match bytes {
+        [_, byte] => {
+            row.extend_from_slice(b" \"")?;
+            row.push(*byte)?;
+            row.extend_from_slice(b"\"")
+        }
+        _ => Ok(()),
+    }
 }
 
 // Appends the name of an address outside the image that a piece names whole.

@@ -5,7 +5,7 @@ ghost use Rattle.tb_listing.specs.Pieces as plans;
 ghost use Rattle.tb_listing.specs.PlaceNames.{address_named};
 ghost use Rattle.tb_listing.specs.Pieces.{plan_of, row_of, rows_of};
 
-use crate::bytes::{behind, forth, is_at, is_call, last, pair_in, word_in};
+use crate::bytes::{JSR, behind, forth, is_at, is_call, last, pair_in, word_in};
 use crate::sizes::{
     ASKED_SIZE, BLOCK_SIZE, COMPARED_SIZE, FAULT_SIZE, LOOK_UP_SIZE, ROW_SIZE, TOO_MANY_LINES, WORD,
 };
@@ -15,7 +15,7 @@ use tb_compiled::LineStart;
 use tb_disasm::{Content, first_line};
 use tb_kept::{LINES_AT, RETURN_LOW, WANTED};
 use tb_opcodes::Mode;
-use tb_runtime16::{BLOCK_AT, Routine, entry};
+use tb_runtime16::{BLOCK_AT, Routine, SEND_AT, entry};
 
 // The opcodes by which the code that loads addresses and texts is found.
 const JMP: u8 = 0x4c;
@@ -78,12 +78,29 @@ impl Program<'_> {
         }
     }
 
+    /// Whether the code at an address loads a byte, and sends it.
+    pub fn sends_byte(&self, at: u16) -> bool
+        ensures { result ≡ plans.sends_byte (plan_of self.now) at }
+    {
+        is_sending(self.bytes_from(at))
+    }
+
     /// The address of fault 7, between the last line and the search.
     pub fn past(&self) -> u16
         ensures { result ≡ plans.past (plan_of self.now) }
     {
         self.search().wrapping_sub(FAULT_SIZE)
     }
+}
+
+// Whether a byte is loaded here, and Send is called then.
+fn is_sending(rest: &[u8]) -> bool
+    ensures { result ≡ plans.is_sending rest.now }
+{
+    is_at(rest, 0, LDA_NUMBER)
+        && is_at(rest, 2, JSR)
+        && 5 <= rest.len()
+        && word_in(rest, 3) == SEND_AT
 }
 
 /// What a piece is.

@@ -1,68 +1,81 @@
--- What a run sends comes after what was sent before.
-use Rattle.std.proofs.Common.{◌≡◌, ℕ, ◌≤◌, Bool, true, false, List, [], ◌∷◌, ◌++◌, length, drop, refl, sym, ap, ◌∙◌, append-nil, append_assoc, arith, length-append}
-use Rattle.std.proofs.Math.Seq.{drop-append_seam}
-use Rattle.std.specs.Prelude.{Option, Some, None, Result, Ok, Err, if◌then◌else◌}
-use Rattle.tb_memmap.specs.Bytes.{Writes, written}
-use Rattle.tb_cpu.specs.declared.wrong.Wrong.{Wrong}
-use Rattle.tb_cpu.specs.Instructions as cpu
-use Rattle.tb_kernal.specs.declared.rom.Service.{Service}
-use Rattle.tb_kernal.specs.declared.rom.Service.TheVariants.{Chrout, Chrin, Getin}
-use Rattle.tb_kernal.specs.declared.events.Clobber.{Clobber}
-use Rattle.tb_kernal.specs.declared.events.Event.{Event}
-use Rattle.tb_kernal.specs.declared.events.Event.TheVariants.{Go, Interrupt}
+-- What a machine sends that may forget the beginning of it.
+use Rattle.std.proofs.Common.{◌≡◌, ◌⊎◌, inl, inr, ℕ, ◌+◌, ◌≤◌, List, [], ◌++◌, length, drop, refl, sym, ap, subst, ◌∙◌, append_assoc, arith, length-append, Ok, Err}
+use Rattle.std.proofs.Math.Seq.{drop-append-add}
+use Rattle.std.specs.Prelude.{Bool, true, false, Result}
 use Rattle.tb_kernal.specs.declared.status.Status.{Status}
-use Rattle.tb_kernal.specs.declared.status.Status.TheVariants.{Running, Waits, Returned, Wrong as WentWrong}
-use Rattle.tb_kernal.specs.Rom.{service_at}
-use Rattle.tb_kernal.specs.Machine.{State, Content, state_of, status, is_stopped, stepped, gone, gone_at, happens}
-use Rattle.tb_kernal.specs.Runs.{run}
-use Rattle.tb_play.specs.Talks.{Stretch, sent_since}
-
-abbrev SendsMore : State → State → Type 0
-SendsMore s t = (fresh : List ℕ) × (t.sent ≡ s.sent ++ fresh)
-
-nothing : (s t : State) → t.sent ≡ s.sent → SendsMore s t
-nothing s t same = ([], same ∙ sym (append-nil s.sent))
-
-stepped_sends : (s : State) (x : Result cpu.State Wrong) → SendsMore s (stepped s x)
-stepped_sends s (Ok t) = nothing s (stepped s (Ok t)) refl
-stepped_sends s (Err w) = nothing s (stepped s (Err w)) refl
-
-gone_at_sends : (o : Option Service) (k : Clobber) (s : State) → SendsMore s (gone_at o k s)
-gone_at_sends None k s = stepped_sends s (cpu.next s.regs s.mem)
-gone_at_sends (Some Chrout) k s = (s.regs.a ∷ [], refl)
-gone_at_sends (Some Chrin) k s = nothing s (gone_at (Some Chrin) k s) refl
-gone_at_sends (Some Getin) k s = nothing s (gone_at (Some Getin) k s) refl
-
-gone_sends : (t : Status) (k : Clobber) (s : State) → SendsMore s (gone t k s)
-gone_sends Running k s = gone_at_sends (service_at s.regs.pc) k s
-gone_sends Waits k s = nothing s s refl
-gone_sends Returned k s = nothing s s refl
-gone_sends (WentWrong w) k s = nothing s s refl
-
-written_sends : (b : Bool) (ws : Writes) (s : State) → SendsMore s (if b then s else record s { mem = written s.mem ws })
-written_sends true ws s = nothing s s refl
-written_sends false ws s = nothing s (record s { mem = written s.mem ws }) refl
-
-happens_sends : (e : Event) (s : State) → SendsMore s (happens s e)
-happens_sends (Go k) s = gone_sends (status s) k s
-happens_sends (Interrupt ws) s = written_sends (is_stopped (status s)) ws.items s
-
-run_sends : (es : List Event) (s : State) → SendsMore s (run es s)
-run_sends [] s = nothing s s refl
-run_sends (e ∷ es) s =
-    let now = happens_sends e s in
-    let later = run_sends es (happens s e) in
-    (now.0 ++ later.0, later.1 ∙ ap (λ l. l ++ later.0) now.1 ∙ append_assoc s.sent now.0 later.0)
+use Rattle.tb_kernal.specs.Machine.{Content, state_of}
+use Rattle.tb_kernal.specs.Sending.{KnowsLast, sent_before, with_earlier}
+use Rattle.tb_kernal.proofs.Sending.{ran_alike}
+use Rattle.tb_streams.specs.HostForm.{host_form_of}
+use Rattle.std.specs.Io.KnownBytes.{Appends}
+use Rattle.tb_streams.specs.Streams.{AppendsPrefix}
+use Rattle.tb_streams.specs.Uses.{Use}
+use Rattle.tb_streams.specs.declared.outcome.Outcome.TheVariants.{Ended, Refused, ReadFault, WriteFault, NoMemory}
+use Rattle.tb_engines.specs.Outcomes.{Outcome}
+use Rattle.tb_engines.specs.Writing.{kept_sent, sent_since}
+use Rattle.tb_engines.proofs.Stretched.{run_adds, run_longer}
+use Rattle.tb_play.specs.Talks.{Goes, GoesOn, Hears, Stretch, gives_quiet}
 
 -- what was sent after a stretch is what was sent before it, and then what it sent itself
 pub stretch_sends : (limit : ℕ) (m n : Content) (t : Status) → Stretch limit m t n → n.sent ≡ m.sent ++ sent_since m n
-stretch_sends limit m n t (p, ran) =
-    let more = run_sends ran.events (state_of m) in
-    let whole : n.sent ≡ m.sent ++ more.0 = ap (λ s. s.sent) ran.ran ∙ more.1 in
-    let fresh : sent_since m n ≡ more.0 = ap (drop (length m.sent)) whole ∙ drop-append_seam m.sent more.0 in
-    whole ∙ ap (λ l. m.sent ++ l) (sym fresh)
+stretch_sends limit m n t (p, ran) = run_adds gives_quiet (record {}) m limit (Ok t) p n ran
 
--- a stretch makes what was sent no shorter
-pub stretch_longer : (limit : ℕ) (m n : Content) (t : Status) → Stretch limit m t n → length m.sent ≤ length n.sent
-stretch_longer limit m n t ran =
-    let e = ap length (stretch_sends limit m n t ran) ∙ length-append m.sent (sent_since m n) in omega (arith, e)
+-- a stretch is the same whatever was sent before it
+stretch_alike : (limit : ℕ) (m n : Content) (t : Status) (earlier : List ℕ) → Stretch limit m t n → Stretch limit (with_earlier earlier m) t (with_earlier earlier n)
+stretch_alike limit m n t earlier (p, ran) = (p, ran_alike gives_quiet (λ o m e q sent h. h) (record {}) m limit (Ok t) p n earlier ran)
+
+-- what was sent since is the same
+since_alike : (m n : Content) (earlier : List ℕ) → sent_since (with_earlier earlier m) (with_earlier earlier n) ≡ sent_since m n
+since_alike m n earlier =
+    ap (λ k. drop k (earlier ++ n.sent)) (length-append earlier m.sent) ∙ drop-append-add earlier n.sent (length m.sent)
+
+-- running on is the same whatever was sent before
+goes_alike : (limit : ℕ) (m : Content) (r : Result Status Outcome) (n : Content) (writer : Use) (earlier : List ℕ) → GoesOn limit m r n writer
+    → GoesOn limit (with_earlier earlier m) r (with_earlier earlier n) writer
+goes_alike limit m (Ok t) n writer earlier (ran, wrote, sound) = (
+  stretch_alike limit m n t earlier ran,
+  subst (λ sent. Appends writer.old writer.new (host_form_of sent)) (sym (since_alike m n earlier)) wrote,
+  sound,
+)
+goes_alike limit m (Err WriteFault) n writer earlier (t, ran, wrote, failed) = (
+  t,
+  stretch_alike limit m n t earlier ran,
+  subst (λ sent. AppendsPrefix writer.old writer.new (host_form_of sent)) (sym (since_alike m n earlier)) wrote,
+  failed,
+)
+goes_alike limit m (Err NoMemory) n writer earlier kept = kept
+goes_alike limit m (Err (Ended end)) n writer earlier h = absurd h
+goes_alike limit m (Err (Refused e)) n writer earlier h = absurd h
+goes_alike limit m (Err ReadFault) n writer earlier h = absurd h
+
+-- two parts that were forgotten, one after the other
+both_earlier : (earlier later : List ℕ) (n : Content) → with_earlier earlier (with_earlier later n) ≡ with_earlier (earlier ++ later) n
+both_earlier earlier later n = ap (λ sent. record n { sent = sent }) (sym (append_assoc earlier later n.sent))
+
+-- a machine that had forgotten a part, and runs on: the run of the machine with all that it sent
+pub goes_whole : (limit : ℕ) (m : Content) (r : Result Status Outcome) (n : Content) (writer : Use) (earlier : List ℕ) → (goes : Goes limit m r n writer)
+    → GoesOn limit (with_earlier earlier m) r (with_earlier (earlier ++ goes.0) n) writer
+goes_whole limit m r n writer earlier (later, known, goes) =
+    subst (λ k. GoesOn limit (with_earlier earlier m) r k writer) (both_earlier earlier later n) (goes_alike limit m r (with_earlier later n) writer earlier goes)
+
+-- what is known then of what it sent
+pub knows_whole : (limit : ℕ) (m : Content) (t : Status) (n : Content) (writer : Use) (earlier : List ℕ) → KnowsLast kept_sent earlier m.sent
+    → (goes : Goes limit m (Ok t) n writer) → KnowsLast kept_sent (earlier ++ goes.0) n.sent
+knows_whole limit m t n writer earlier known (later, inr many, goes) = inr many
+knows_whole limit m t n writer earlier (inl none) (later, inl nothing, goes) = inl (ap (λ e. e ++ later) none ∙ nothing)
+knows_whole limit m t n writer earlier (inr many) (later, inl nothing, goes) =
+    let (p, ran) = goes.0 in
+    let longer = run_longer gives_quiet (record {}) m limit (Ok t) p (with_earlier later n) ran in
+    let same : length (later ++ n.sent) ≡ length n.sent = ap (λ l. length (l ++ n.sent)) nothing in
+    inr (omega (arith, longer, same, many))
+
+-- a line is heard whatever was sent before
+pub hears_alike : (m : Content) (typed : List ℕ) (r : Result Bool Outcome) (n : Content) (typed' : List ℕ) (keys : Use) (earlier : List ℕ)
+    → Hears m typed r n typed' keys → Hears (with_earlier earlier m) typed r (with_earlier earlier n) typed' keys
+hears_alike m typed (Ok true) n typed' keys earlier (line, took, more, kept, few, sound) = (line, took, ap (sent_before earlier) more, kept, few, sound)
+hears_alike m typed (Ok false) n typed' keys earlier (none, same, kept, sound) = (none, ap (with_earlier earlier) same, kept, sound)
+hears_alike m typed (Err ReadFault) n typed' keys earlier h = h
+hears_alike m typed (Err NoMemory) n typed' keys earlier h = h
+hears_alike m typed (Err (Ended end)) n typed' keys earlier h = absurd h
+hears_alike m typed (Err (Refused e)) n typed' keys earlier h = absurd h
+hears_alike m typed (Err WriteFault) n typed' keys earlier h = absurd h

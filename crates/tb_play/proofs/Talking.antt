@@ -16,7 +16,8 @@ use Rattle.tb_streams.specs.Streams.{AppendsPrefix}
 use Rattle.tb_streams.specs.Uses.{Use}
 use Rattle.tb_streams.specs.Lines.{TakesLine, TakesNothing, TakesPart}
 use Rattle.tb_play.specs.Lines.{most_typed, keys_of, typed_of, TakesLines, TakesSome}
-use Rattle.tb_play.specs.Talks.{Stretch, Talked, IsAfterLines, Comes, Stops, Plays, Leaves, WritesBeforeReading, GoesOn, Hears, is_waiting, sent_since}
+use Rattle.tb_play.specs.Talks.{Stretch, Talked, IsAfterLines, Comes, Stops, Plays, Leaves, WritesBeforeReading, GoesOn, Hears, is_waiting}
+use Rattle.tb_engines.specs.Writing.{sent_since}
 use Rattle.tb_play.proofs.Sending.{stretch_sends}
 
 -- a stream's use

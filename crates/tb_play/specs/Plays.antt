@@ -10,6 +10,7 @@ use Rattle.std.specs.declared.alloc.Global.{Global}
 use Rattle.std.specs.declared.vec.Vec.{Vec}
 use Rattle.tb_streams.specs.KeyFiles.{key_file_of, keys_of_file}
 use Rattle.tb_streams.specs.Uses.{Use, Fails, NeverFails}
+use Rattle.tb_text.specs.declared.notation.Notation.TheVariants.{Plain}
 use Rattle.tb_engines.specs.Outcomes.{Outcome, Product}
 use Rattle.tb_engines.specs.Programs.{start, Settings, RunsPrg}
 use Rattle.tb_engines.specs.declared.delivery.NoText.{NoText}
@@ -17,12 +18,13 @@ use Rattle.tb_engines.specs.declared.delivery.NoText.TheVariants.{Refused as NoT
 use Rattle.tb_engines.specs.declared.outcome.End.{End}
 use Rattle.tb_engines.specs.declared.outcome.End.TheVariants.{WaitsForKey}
 use Rattle.tb_streams.specs.declared.outcome.Outcome.TheVariants.{Ended, Refused, ReadFault, WriteFault, NoMemory}
-use Rattle.tb_play.specs.Talks.{gives_quiet, Leaves, Plays, WritesBeforeReading}
+use Rattle.tb_play.specs.Talks.{gives_quiet, LeavesRest, Plays, WritesBeforeReading}
 use Rattle.tb_opcodes.specs.Bytes.{AreBytes}
 
--- the settings of a run with a quiet ROM
+-- the settings of a run with a quiet ROM, whose host form is shown
 abbrev pub quietly : List ℕ → List ℕ → ℕ → Settings Quiet
-quietly text answers limit = record { gives = gives_quiet; outside = record {}; text = text; answers = answers; limit = limit }
+quietly text answers limit =
+    record { gives = gives_quiet; outside = record {}; text = text; answers = answers; limit = limit; notation = Plain }
 
 -- ---- the dialogue
 
@@ -60,9 +62,10 @@ abbrev pub WritesFileBeforeReading : ℕ → List ℕ → Use → Use → Type 0
 WritesFileBeforeReading limit file keys writer =
     (keys.new ≡ keys.old) ⊎ ((m : Content) × IsStart file m × WritesBeforeReading limit m keys writer)
 
--- the machine that is left where playing a PRG file ended: that to which its start machine came
+-- the machine that is left where playing a PRG file ended: that to which its start machine came, but for the beginning of
+-- what it sent, which it may have forgotten
 abbrev pub LeavesOfFile : ℕ → List ℕ → Outcome → List ℕ → Option Content → Type 0
-LeavesOfFile limit file (Ended end) typed (Some n) = (m : Content) × IsStart file m × Leaves limit m (Ended end) typed n
+LeavesOfFile limit file (Ended end) typed (Some n) = (m : Content) × IsStart file m × LeavesRest limit m (Ended end) typed n
 LeavesOfFile limit file (Ended end) typed None = ⊥
 LeavesOfFile limit file (Refused e) typed left = Unit {0}
 LeavesOfFile limit file ReadFault typed left = Unit {0}

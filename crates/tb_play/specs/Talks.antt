@@ -1,5 +1,5 @@
 -- Talks: a machine runs, waits, has a line typed to it, and runs on.
-use Rattle.std.specs.Prelude.{ℕ, Bool, true, false, ◌++◌, ◌≡◌, ◌⊎◌, ◌+◌, ◌<◌, ◌≤◌, List, [], ◌∷◌, length, drop, Option, Result, Ok, Err}
+use Rattle.std.specs.Prelude.{ℕ, Bool, true, false, ◌++◌, ◌≡◌, ◌⊎◌, ◌+◌, ◌<◌, ◌≤◌, List, [], ◌∷◌, length, Option, Result, Ok, Err}
 use Rattle.std.specs.Io.KnownBytes.{Appends, Keeps}
 use Rattle.tb_kernal.specs.declared.outside.Quiet.{Quiet}
 use Rattle.tb_kernal.specs.declared.events.Event.{Event}
@@ -7,12 +7,14 @@ use Rattle.tb_kernal.specs.declared.status.Status.{Status}
 use Rattle.tb_kernal.specs.declared.status.Status.TheVariants.{Running, Waits, Returned, Wrong}
 use Rattle.tb_kernal.specs.Machine.{Content, state_of}
 use Rattle.tb_kernal.specs.Runs.{RanOver, is_quiet}
+use Rattle.tb_kernal.specs.Sending.{KnowsLast, with_earlier}
 use Rattle.tb_kernal.specs.Typing.{with_more}
 use Rattle.tb_streams.specs.HostForm.{host_form_of}
 use Rattle.tb_streams.specs.Streams.{AppendsPrefix}
 use Rattle.tb_streams.specs.Uses.{Use, Fails, NeverFails}
 use Rattle.tb_engines.specs.Programs.{end_of}
 use Rattle.tb_engines.specs.Outcomes.{Outcome}
+use Rattle.tb_engines.specs.Writing.{kept_sent, sent_since}
 use Rattle.tb_streams.specs.declared.outcome.Outcome.TheVariants.{Ended, Refused, ReadFault, WriteFault, NoMemory}
 use Rattle.tb_streams.specs.Lines.{TakesLine, TakesPart, TakesNothing}
 use Rattle.tb_play.specs.Lines.{most_typed, keys_of, typed_of, TakesLines, TakesSome}
@@ -88,6 +90,10 @@ Leaves limit m ReadFault typed n = Unit {0}
 Leaves limit m WriteFault typed n = Unit {0}
 Leaves limit m NoMemory typed n = Unit {0}
 
+-- the same of a machine that may have forgotten the beginning of what it sent
+abbrev pub LeavesRest : ℕ → Content → Outcome → List ℕ → Content → Type 0
+LeavesRest limit m outcome typed n = (earlier : List ℕ) × KnowsLast kept_sent earlier n.sent × Leaves limit m outcome typed (with_earlier earlier n)
+
 -- a text was written, and perhaps more after it
 abbrev pub Writes : Use → List ℕ → Type 0
 Writes writer text = (more : List ℕ) × Appends writer.old writer.new (text ++ more)
@@ -100,10 +106,6 @@ WritesBeforeReading limit m keys writer =
     ⊎ ((lines : List (List ℕ)) × (n : Content) × (mid : Option (List ℕ)) × (line : List ℕ)
     × Comes limit m lines Waits n keys.old mid × TakesPart mid line keys.new × Writes writer (host_form_of n.sent))
 
--- what a machine sent in a stretch, without what it had sent before
-abbrev pub sent_since : Content → Content → List ℕ
-sent_since m n = drop (length m.sent) n.sent
-
 -- what running a stretch and writing what it sent answers, with the machine after it
 abbrev pub GoesOn : ℕ → Content → Result Status Outcome → Content → Use → Type 0
 GoesOn limit m (Ok t) n writer =
@@ -114,6 +116,10 @@ GoesOn limit m (Err NoMemory) n writer = Keeps writer.old writer.new × NeverFai
 GoesOn limit m (Err (Ended end)) n writer = ⊥
 GoesOn limit m (Err (Refused e)) n writer = ⊥
 GoesOn limit m (Err ReadFault) n writer = ⊥
+
+-- the same of a machine that may forget the beginning of what it sent, once that is written
+abbrev pub Goes : ℕ → Content → Result Status Outcome → Content → Use → Type 0
+Goes limit m result n writer = (earlier : List ℕ) × KnowsLast kept_sent earlier n.sent × GoesOn limit m result (with_earlier earlier n) writer
 
 -- what reading a line and typing it answers: whether there was one; with the machine and the typed text before and
 -- after

@@ -1,7 +1,6 @@
-//! Playing: a program runs, and when it waits for a key, a line is read and typed. Before that, what it sent is
-//! written and flushed.
+//! Playing: a program runs, and what it sends is written as it comes. When it waits for a key, a line is read and typed.
 //!
-//! - `play_file` is a dialogue (`dialogue`). At each wait, and at the end, everything that was sent is written in the
+//! - `play_file` is a dialogue (`dialogue`). Before each wait, and at the end, everything that was sent is written in the
 //!   host form. Then one line is taken from the keyboard's reader, byte by byte and nothing after it. It is typed with
 //!   its letters as capitals and a return. The clause says so at each fault too, and each stretch takes at most the
 //!   limit.
@@ -9,7 +8,8 @@
 //!   (`written_first`).
 //! - What was written is the host form of one run from the start whose keyboard text is all that was typed (`whole`).
 //!   So the output clause of `run_prg` holds of it.
-//! - `play_to_end` is the same, and leaves the machine: where playing ended, that to which what was typed led (`left`).
+//! - `play_to_end` is the same, and leaves the machine: where playing ended, that to which what was typed led (`left`), but
+//!   for the beginning of what it sent.
 //! - At most 1,048,576 bytes are handed over (`within`). A read fault comes only if the reader failed or a line was
 //!   read that hands over too many.
 //! - `play` is the same for a machine.

@@ -1,16 +1,18 @@
 //! A machine that is talked to.
-ghost use Rattle.std.specs.Prelude.{◌≡◌, ◌≤◌, [], IfOk, drop, length, vec_len};
+ghost use Rattle.std.specs.Prelude.{◌≡◌, ◌≤◌, [], IfOk, vec_len};
 ghost use Rattle.tb_streams.specs.Uses.{use_of};
-ghost use Rattle.tb_play.specs.Talks.{is_waiting, GoesOn, Hears, Leaves, Plays, WritesBeforeReading};
+ghost use Rattle.tb_play.specs.Talks.{is_waiting, Goes, Hears, LeavesRest, Plays, WritesBeforeReading};
 ghost use Rattle.tb_play.specs.Plays.{PlayFaults, Records};
 ghost use Rattle.tb_play.specs.Lines.{most_typed};
 
 use crate::lines::{MOST_TYPED, read_keys};
 use std::alloc::{AllocError, Global};
 use std::io::{Read, Write};
-use tb_engines::{End, Outcome, end_of};
-use tb_kernal::{Machine, Quiet, Status, run};
-use tb_streams::{Tracked, host_form, key_file, write_output};
+use tb_engines::{End, Outcome, end_of, run_writing};
+use tb_kernal::{Machine, Quiet, Status};
+use tb_streams::{Tracked, key_file};
+use tb_text::Notation;
+use tb_watch::Unwatched;
 
 /// How playing ended, and all that was typed.
 #[derive(Debug, Drop)]
@@ -42,29 +44,26 @@ fn is_waiting(status: Status) -> bool
     matches!(status, Status::Waits)
 }
 
-// What a machine sent after the first `written` bytes.
-fn sent_after(machine: &Machine, written: usize) -> &[u8]
-    requires { written ≤ length machine.now.sent }
-    ensures { result.now ≡ drop written machine.now.sent }
-{
-    &machine.sent()[written..]
-}
-
-// Runs a machine for at most `limit` events, and writes what it sent meanwhile.
+// Runs a machine for at most `limit` events, and writes what it sends as it comes.
 fn go_on<W: Write>(
-    alloc: Global,
     machine: &mut Machine,
     writer: &mut Tracked<W>,
     limit: u64,
 ) -> Result<Status, Outcome>
-    ensures { GoesOn limit machine.old result machine.new (use_of W.contents writer.old writer.new) }
+    ensures { Goes limit machine.old result machine.new (use_of W.contents writer.old writer.new) }
 {
-    let written = machine.sent().len();
-    let status = run(machine, &mut Quiet, limit)?;
-    let text = host_form(alloc, sent_after(machine, written))?;
-    match write_output(writer, text.as_slice()) {
-        Ok(()) => Ok(status),
-        Err(_) => Err(Outcome::WriteFault),
+    let run = run_writing(
+        machine,
+        &mut Quiet,
+        limit,
+        writer,
+        &mut Unwatched,
+        Notation::Plain,
+    )?;
+    if run.is_written {
+        Ok(run.status)
+    } else {
+        Err(Outcome::WriteFault)
     }
 }
 
@@ -101,12 +100,12 @@ fn talk<R: Read, W: Write>(
         (use_of R.remaining keys.old keys.new) (use_of W.contents writer.old writer.new) }
     ensures written_first { WritesBeforeReading limit machine.old
         (use_of R.remaining keys.old keys.new) (use_of W.contents writer.old writer.new) }
-    ensures left { Leaves limit machine.old result typed.new.items machine.new }
+    ensures left { LeavesRest limit machine.old result typed.new.items machine.new }
     ensures within { vec_len typed.new ≤ most_typed }
     ensures faults { PlayFaults result (use_of R.remaining keys.old keys.new) (use_of W.contents writer.old writer.new) }
 {
     'talking: while typed.len() <= MOST_TYPED {
-        let status = match go_on(alloc, machine, writer, limit) {
+        let status = match go_on(machine, writer, limit) {
             Ok(status) => status,
             Err(outcome) => return outcome,
         };
@@ -123,10 +122,11 @@ fn talk<R: Read, W: Write>(
 }
 
 /// Plays a machine to which nothing is typed yet and which has sent nothing. It runs until it waits for a key, stops or
-/// has taken `limit` events; what it sent since the last time is written in the host form, and flushed. If it waits, a
-/// line is read and typed (its letters as capitals, then a return), and it runs on, until no line is left.
+/// has taken `limit` events; what it sends is written in the host form as it comes (`run_writing`). If it waits, a line is
+/// read and typed (its letters as capitals, then a return), and it runs on, until no line is left.
 ///
-/// No byte of a line is taken before all that the machine had sent by then is written, however playing ends.
+/// No byte of a line is taken before all that the machine had sent by then is written, however playing ends. Of what was
+/// sent the machine that is left may have forgotten the beginning.
 pub fn play<R: Read, W: Write>(
     alloc: Global,
     machine: &mut Machine,
@@ -139,7 +139,7 @@ pub fn play<R: Read, W: Write>(
         (use_of R.remaining keys.old keys.new) (use_of W.contents writer.old writer.new) }
     ensures written_first { WritesBeforeReading limit machine.old
         (use_of R.remaining keys.old keys.new) (use_of W.contents writer.old writer.new) }
-    ensures left { Leaves limit machine.old result.outcome result.typed.items machine.new }
+    ensures left { LeavesRest limit machine.old result.outcome result.typed.items machine.new }
     ensures within { vec_len result.typed ≤ most_typed }
     ensures faults { PlayFaults result.outcome (use_of R.remaining keys.old keys.new) (use_of W.contents writer.old writer.new) }
 {

@@ -5,7 +5,7 @@ use Rattle.tb_kernal.specs.declared.events.Event.{Event}
 use Rattle.tb_kernal.specs.Machine.{Content}
 use Rattle.tb_compiled.specs.Compiled.{starts_of, loaded_of}
 use Rattle.tb_compiled.specs.declared.compiled.Compiled.{Compiled}
-use Rattle.tb_engines.specs.Programs.{start, end_of, Settings, settings_of}
+use Rattle.tb_engines.specs.Programs.{start, end_of, Settings, plain_settings_of}
 use Rattle.tb_engines.specs.declared.delivery.NoText.{NoText}
 use Rattle.tb_engines.specs.declared.delivery.NoText.TheVariants.{Refused, NoMemory}
 use Rattle.tb_profile_table.specs.Rows.{Tabled}
@@ -26,7 +26,7 @@ IsProfile s program ran = RunsFrom s.gives s.outside s.limit program (start BASI
 
 -- what a run is given, as the definitions of runs have it
 abbrev pub given : {O W : Type 0} → (O → Content → Event → O → Type 0) → Run O W → Settings O
-given gives run = settings_of gives run.outside run.keyboard run.limit
+given gives run = plain_settings_of gives run.outside run.keyboard run.limit
 
 -- a run, unless memory ran out
 abbrev pub ComesTo : (Ran → Type 0) → Result Ran NoText → Type 0

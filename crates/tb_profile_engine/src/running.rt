@@ -1,7 +1,7 @@
 //! Runs of programs that are counted.
 ghost use Rattle.std.specs.Prelude.{◌≡◌, IfOk, map};
 ghost use Rattle.tb_compiled.specs.Compiled.{starts_of};
-ghost use Rattle.tb_engines.specs.Programs.{settings_of};
+ghost use Rattle.tb_engines.specs.Programs.{plain_settings_of};
 ghost use Rattle.tb_sources.specs.Starting.{IsLoadable};
 ghost use Rattle.tb_profile_table.specs.Rows.{start_pair};
 ghost use Rattle.tb_profile_engine.specs.Facts.{IsCopy};
@@ -91,7 +91,7 @@ pub fn profile_program<O: Outside, W: Watch>(
     watch: &mut W,
 ) -> Result<Ran, NoText>
     requires { IsLoadable program.now }
-    ensures { ComesTo (IsProfile (settings_of O.gives outside.old keyboard limit) program.now) result }
+    ensures { ComesTo (IsProfile (plain_settings_of O.gives outside.old keyboard limit) program.now) result }
 {
     let mut machine = start_program(alloc, program, keyboard)?;
     profile_machine(alloc, &mut machine, program, limit, outside, watch)

@@ -5,7 +5,7 @@ use std::time::Clock;
 use tb_debug_engine::{Rom, Setting, debug_prg};
 use tb_engines::Outcome;
 use tb_file_engine::opened;
-use tb_host::{Host, Progress, keyboard, labels_in, read_warned, settings_of};
+use tb_host::{Host, Progress, Wanted, keyboard, labels_in, read_warned};
 use tb_jobs::{Failure, Runnable, Settings};
 use tb_kernal::Keyboard;
 use tb_labels::Label;
@@ -50,11 +50,7 @@ fn debug_source<R: Files + Clock + Print + Eprint + Input + AllocGlobal>(
     setting: Setting,
 ) -> Outcome {
     let rt = host.rt;
-    match read_warned(
-        host,
-        path,
-        settings_of(settings.seed, settings.fit, settings.notation),
-    ) {
+    match read_warned(host, path, Wanted::of(settings)) {
         Ok(source) => tb_debug_engine::debug(
             rt.alloc(),
             &source,

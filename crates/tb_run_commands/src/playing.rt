@@ -1,13 +1,11 @@
 //! Playing: standard input is the keyboard, and standard output shows what the program sends.
 use crate::running::Ran;
-use std::alloc::AllocError;
 use std::env::VarError;
 use std::rt::{Env, Files};
 use std::{env, io};
-use tb_compiled::CompileSettings;
 use tb_engines::{Outcome, Report};
 use tb_file_engine::{opened, save};
-use tb_host::{Host, read_warned};
+use tb_host::{Host, Wanted, read_warned};
 use tb_jobs::{Failure, Runnable, room_for_screen};
 use tb_play::{Played, play_file};
 use tb_screen_play::play_file_on_screen;
@@ -17,15 +15,13 @@ use tb_streams::{Tracked, read_input};
 /// How a program is played.
 #[derive(Clone, Copy)]
 pub struct Playing<'a> {
-    pub settings: CompileSettings,
+    pub wanted: Wanted,
     /// How many events it may take between two lines.
     pub limit: u64,
     /// The key file that is written of what was typed, if it is wanted.
     pub record: Option<&'a str>,
     /// Whether the machine's screen is shown, in place of the host form of what is sent.
     pub screen: bool,
-    /// Whether a fault has a status of its own.
-    pub is_strict: bool,
 }
 
 /// Plays a source or a PRG file, and records what was typed in a key file, where that is wanted.
@@ -47,7 +43,7 @@ pub fn play<R: Files + Env + Print + Eprint + Input + AllocGlobal>(
                 Some(path) => write_record(host, path, &played),
                 None => played.outcome,
             };
-            ended(outcome, note, playing.is_strict)
+            (outcome, fault_told(outcome, note))
         }
         Err(outcome) => (outcome, None),
     };
@@ -59,23 +55,14 @@ pub fn play<R: Files + Env + Print + Eprint + Input + AllocGlobal>(
 
 // Of a machine that was played without a source nothing is told.
 fn unnoted(played: Played) -> NotedPlay {
-    NotedPlay {
-        played,
-        note: Ok(None),
-    }
+    NotedPlay { played, note: None }
 }
 
-// How playing ended, and by which fault. A player needs no other note. If nobody knows whether there was a fault, a strict
-// run is out of memory.
-fn ended(
-    outcome: Outcome,
-    note: Result<Option<EndNote>, AllocError>,
-    is_strict: bool,
-) -> (Outcome, Option<EndNote>) {
+// The fault by which playing ended, where it ended. A player needs no other note.
+fn fault_told(outcome: Outcome, note: Option<EndNote>) -> Option<EndNote> {
     match (outcome, note) {
-        (Outcome::Ended(_), Ok(Some(note @ EndNote::Fault(_)))) => (outcome, Some(note)),
-        (Outcome::Ended(_), Err(_)) if is_strict => (Outcome::NoMemory, None),
-        _ => (outcome, None),
+        (Outcome::Ended(_), Some(EndNote::Fault(_))) => note,
+        _ => None,
     }
 }
 
@@ -102,7 +89,7 @@ fn play_source<R: Files + Print + Eprint + Input + AllocGlobal>(
     playing: Playing<'_>,
 ) -> Result<NotedPlay, Outcome> {
     let rt = host.rt;
-    let program = read_warned(host, path, playing.settings)?.program;
+    let program = read_warned(host, path, playing.wanted)?.program;
     if playing.screen {
         return Ok(unnoted(shown(rt, program.prg(), playing.limit)));
     }

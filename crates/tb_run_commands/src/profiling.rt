@@ -3,7 +3,7 @@ use std::rt::Files;
 use std::time::Clock;
 use tb_engines::Report;
 use tb_file_engine::{profile_file, profile_prg_file};
-use tb_host::{Host, Progress, keyboard, settings_of};
+use tb_host::{Host, Progress, Wanted, keyboard, settings_for};
 use tb_jobs::{Failure, Runnable, Settings};
 use tb_kernal::{Keyboard, Outside, Quiet, Rude};
 use tb_profile_engine::{Named, Run};
@@ -59,7 +59,7 @@ fn profile_by<R: Files + Clock + Print + Eprint + Input + AllocGlobal, O: Outsid
                 name: source.as_str(),
                 rude,
             };
-            let settings = settings_of(settings.seed, settings.fit, settings.notation);
+            let settings = settings_for(host, source.as_str(), Wanted::of(settings));
             profile_file(alloc, host, named, html, settings, run)
         }
         Runnable::Prg(prg) => {

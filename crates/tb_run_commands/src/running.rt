@@ -8,7 +8,7 @@ use std::time::Clock;
 use tb_codegen::TinyBasic;
 use tb_engines::{Outcome, PrgRun, Report, run_prg_watched};
 use tb_file_engine::opened;
-use tb_host::{Host, Progress, keyboard, labels_in, named_place, settings_of};
+use tb_host::{Host, Progress, Wanted, keyboard, labels_in, named_place, settings_for};
 use tb_jobs::{Failure, Runnable, Settings};
 use tb_kernal::{Keyboard, Outside, Quiet, Rude};
 use tb_labels::Label;
@@ -85,6 +85,7 @@ fn run_source<R: Files + Clock + Print + Eprint + Input + AllocGlobal, O: Outsid
     outside: &mut O,
 ) -> Ran {
     let rt = host.rt;
+    let compiling = settings_for(host, path, Wanted::of(settings));
     let mut file = match opened(host, path) {
         Ok(file) => file,
         Err(outcome) => return Ran::Plain(outcome, None),
@@ -95,11 +96,11 @@ fn run_source<R: Files + Clock + Print + Eprint + Input + AllocGlobal, O: Outsid
         rt.alloc(),
         &mut file,
         &mut Tracked::new(io::writer(rt)),
-        settings_of(settings.seed, settings.fit, settings.notation),
+        compiling,
         keyboard,
         limit,
         outside,
-        &mut Progress::new(rt, limit, host.notes),
+        &mut Progress::new(rt, limit, host.tells_progress()),
     ))
 }
 
@@ -123,7 +124,7 @@ fn run_prg<R: Files + Clock + Print + Eprint + Input + AllocGlobal, O: Outside>(
         keyboard,
         limit,
         outside,
-        &mut Progress::new(rt, limit, host.notes),
+        &mut Progress::new(rt, limit, host.tells_progress()),
     );
     let place = match place {
         Some(address) => named_place(rt, labels, address),
@@ -133,45 +134,63 @@ fn run_prg<R: Files + Clock + Print + Eprint + Input + AllocGlobal, O: Outside>(
 }
 
 /// Steps through a source or a PRG file by commands from standard input.
-pub fn step<R: Files + Print + Input + AllocGlobal>(
+pub fn step<R: Files + Print + Eprint + Input + AllocGlobal>(
     host: &mut Host<'_, R>,
     what: &Runnable,
     settings: &Settings,
 ) -> Result<Report, Failure> {
-    let (Runnable::Source(path) | Runnable::Prg(path)) = what;
-    let rt = host.rt;
-    let alloc = rt.alloc();
     let keyboard = keyboard(host, settings)?;
-    let mut file = match opened(host, path.as_str()) {
-        Ok(file) => file,
-        Err(outcome) => return Ok(Report::new(alloc, outcome)),
-    };
-    let mut commands = Tracked::new(rt.reader());
-    let mut screen = Tracked::new(io::writer(rt));
-    let limit = u64::from(settings.limit.events);
     Ok(match what {
-        Runnable::Source(_) => {
-            step_within(
-                &TinyBasic,
-                alloc,
-                &mut file,
-                &mut commands,
-                &mut screen,
-                settings_of(settings.seed, settings.fit, settings.notation),
-                keyboard,
-                limit,
-            )
-        }
-        Runnable::Prg(_) => {
-            let outcome = step_prg(
-                alloc,
-                &mut file,
-                &mut commands,
-                &mut screen,
-                keyboard,
-                limit,
-            );
-            Report::new(alloc, outcome)
+        Runnable::Source(path) => step_source(host, path.as_str(), settings, keyboard),
+        Runnable::Prg(path) => {
+            let limit = u64::from(settings.limit.events);
+            let outcome = step_file(host, path.as_str(), limit, keyboard);
+            Report::new(host.rt.alloc(), outcome)
         }
     })
+}
+
+fn step_source<R: Files + Print + Eprint + Input + AllocGlobal>(
+    host: &mut Host<'_, R>,
+    path: &str,
+    settings: &Settings,
+    keyboard: Keyboard,
+) -> Report {
+    let rt = host.rt;
+    let compiling = settings_for(host, path, Wanted::of(settings));
+    let mut file = match opened(host, path) {
+        Ok(file) => file,
+        Err(outcome) => return Report::new(rt.alloc(), outcome),
+    };
+    step_within(
+        &TinyBasic,
+        rt.alloc(),
+        &mut file,
+        &mut Tracked::new(rt.reader()),
+        &mut Tracked::new(io::writer(rt)),
+        compiling,
+        keyboard,
+        u64::from(settings.limit.events),
+    )
+}
+
+fn step_file<R: Files + Print + Input + AllocGlobal>(
+    host: &mut Host<'_, R>,
+    path: &str,
+    limit: u64,
+    keyboard: Keyboard,
+) -> Outcome {
+    let rt = host.rt;
+    let mut file = match opened(host, path) {
+        Ok(file) => file,
+        Err(outcome) => return outcome,
+    };
+    step_prg(
+        rt.alloc(),
+        &mut file,
+        &mut Tracked::new(rt.reader()),
+        &mut Tracked::new(io::writer(rt)),
+        keyboard,
+        limit,
+    )
 }

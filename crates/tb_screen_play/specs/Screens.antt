@@ -3,7 +3,7 @@ use Rattle.std.specs.Prelude.{ℕ, ◌-◌, List, length, take}
 use Rattle.tb_kernal.specs.Machine.{Content}
 use Rattle.tb_screen.specs.Contents.{Content as Screen}
 use Rattle.tb_screen.specs.Printing.{all_printed}
-use Rattle.tb_play.specs.Talks.{sent_since}
+use Rattle.tb_engines.specs.Writing.{sent_since}
 
 -- the screen after a machine ran on from one content to another: what it sent meanwhile is printed
 abbrev pub ran : Content → Content → Screen → Screen

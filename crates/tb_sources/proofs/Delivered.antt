@@ -19,6 +19,7 @@ use Rattle.tb_streams.specs.Outcomes.{ended_by}
 use Rattle.tb_engines.specs.declared.outcome.Refusal.TheVariants.{Source}
 use Rattle.tb_streams.specs.declared.outcome.Outcome.TheVariants.{Ended, Refused, ReadFault, WriteFault, NoMemory}
 use Rattle.tb_engines.specs.declared.report.Report.{Report}
+use Rattle.tb_engines.proofs.Ran.{answers_as}
 use Rattle.tb_compiled.specs.Promise.{Own}
 
 -- ---- what was made, and what was written of it
@@ -33,15 +34,6 @@ pub makes_as : (p q : Product → Type 0) → ((x : Product) → p x → q x) �
 makes_as p q wider (Ok text) m = wider _ m
 makes_as p q wider (Err (NoTextRefused e)) m = wider _ m
 makes_as p q wider (Err NoTextNoMemory) m = tt
-
--- and so for what was written
-pub answers_as : (p q : Product → Type 0) → ((x : Product) → p x → q x) → (outcome : Outcome) → (old new : Option (List ℕ))
-    → Answers p outcome old new → Answers q outcome old new
-answers_as p q wider (Ended end) old new (text, made, written) = (text, wider _ made, written)
-answers_as p q wider (Refused e) old new (made, kept) = (wider _ made, kept)
-answers_as p q wider ReadFault old new kept = kept
-answers_as p q wider WriteFault old new (text, end, made, written) = (text, end, wider _ made, written)
-answers_as p q wider NoMemory old new kept = kept
 
 -- what is shown of what was made is of its kind
 pub shown : (makes : Product → Type 0) (made : Result Text NoText) → Makes makes made → (x : Product) → Shows made x → makes x

@@ -1,6 +1,8 @@
 -- What is told of the run of a source.
-use Rattle.std.proofs.Common.{◌≡◌, List, Option, Some, None, Result, Ok, Err, IfOk, ◌⊎◌, inl, inr, option_map, refl, subst, sym}
-use Rattle.tb_kernal.specs.Machine.{Content, state_of, status}
+use Rattle.std.proofs.Common.{◌≡◌, ℕ, List, Option, Some, None, Ok, Err, refl, subst, sym}
+use Rattle.tb_kernal.specs.declared.events.Event.{Event}
+use Rattle.tb_kernal.specs.Machine.{Content}
+use Rattle.tb_kernal.specs.Sending.{with_earlier}
 use Rattle.tb_watch.specs.Hearing.{Hearing}
 use Rattle.tb_compiled.specs.Compiled.{prg_of}
 use Rattle.tb_compiled.specs.declared.compiled.Compiled.{Compiled}
@@ -8,48 +10,69 @@ use Rattle.tb_compiled.specs.declared.settings.CompileSettings.{CompileSettings}
 use Rattle.tb_streams.specs.Outcomes.{ended_by}
 use Rattle.tb_streams.specs.Uses.{Use}
 use Rattle.tb_streams.specs.declared.outcome.Outcome.TheVariants.{Ended, Refused, ReadFault, WriteFault, NoMemory}
-use Rattle.tb_engines.specs.Ends.{ByOutcome, ByText, RunsTo}
-use Rattle.tb_engines.specs.Outcomes.{Failure}
+use Rattle.tb_engines.specs.Delivery.{outcome_without}
+use Rattle.tb_engines.specs.Ends.{ByOutcome, LeavesRun}
+use Rattle.tb_engines.specs.Outcomes.{Failure, Outcome}
 use Rattle.tb_engines.specs.Programs.{Settings, StartsPrg}
 use Rattle.tb_engines.specs.declared.delivery.NoText.{NoText}
-use Rattle.tb_engines.specs.declared.delivery.NoText.TheVariants.{NoMemory as NoTextNoMemory}
-use Rattle.tb_engines.specs.declared.delivery.Text.{Text}
+use Rattle.tb_engines.specs.declared.delivery.NoText.TheVariants.{Refused as NoTextRefused, NoMemory as NoTextNoMemory}
+use Rattle.tb_engines.specs.declared.outcome.End.{End}
 use Rattle.tb_engines.specs.declared.report.Report.{Report}
-use Rattle.tb_engines.proofs.Ran.{by_text}
-use Rattle.tb_sources.specs.Notes.{IsTold, end_note}
+use Rattle.tb_play.specs.Plays.{LeavesOfFile}
+use Rattle.tb_sources.specs.Playing.{TellsLeft, TellsPlay}
 use Rattle.tb_sources.specs.Reading.{ReadsSource}
-use Rattle.tb_sources.specs.Runs.{TellsEnd, TellsSource}
-use Rattle.tb_sources.specs.declared.faults.Fault.{Fault as FaultOfRun}
+use Rattle.tb_sources.specs.Runs.{NotesEnd, NotesRun, TellsSource}
 use Rattle.tb_sources.specs.declared.notes.EndNote.{EndNote}
-use Rattle.tb_sources.specs.declared.notes.EndNote.TheVariants.{Fault}
 use Rattle.tb_sources.specs.declared.reading.CompiledSource.{CompiledSource}
 use Rattle.tb_compiled.specs.Promise.{Own}
 
--- a fault may go untold
-pub untold_fault : (f : Option FaultOfRun) → IsTold (option_map Fault f) None
-untold_fault None = refl
-untold_fault (Some f) = tt
-
--- what holds of what was made, and where memory is short, holds of that or of want of memory
-pub kept_or_lost : (P : Result Text NoText → Type 0) (made left : Result Text NoText) → P (Err NoTextNoMemory)
-    → (left ≡ made) ⊎ (left ≡ Err NoTextNoMemory) → P made → P left
-kept_or_lost P made left none (inl same) h = subst P (sym same) h
-kept_or_lost P made left none (inr lost) h = subst P (sym lost) none
-
--- what the machine tells after its run is told of the run
-pub notes_end : {O W : Type 0} (s : Settings O) (watch : Hearing W) (program : Compiled) (m n : Content) (made : Result Text NoText) (note : Option EndNote)
-    → StartsPrg s.text s.answers (prg_of program) (Ok m) → IfOk made (λ text. RunsTo s.gives s.outside s.limit watch m text.end n)
-    → ByText (λ end told. told ≡ end_note program (status (state_of n)) n) made note → ByText (TellsEnd s watch program) made note
-notes_end s watch program m n (Ok text) said started ran told = (n, (m, started, ran), told)
-notes_end s watch program m n (Err stop) said started ran none = none
+-- the machine that a run leaves tells what it would tell with all that it sent
+pub notes_run : {O W : Type 0} (gives : O → Content → Event → O → Type 0) (o : O) (limit : ℕ) (watch : Hearing W) (program : Compiled) (m n : Content)
+    (outcome : Outcome) (said : Option EndNote) → LeavesRun gives o limit watch m outcome n → NotesRun program outcome n said
+    → ByOutcome (NotesEnd gives o limit watch m program) outcome said
+notes_run gives o limit watch program m n (Ended end) said left tells = (with_earlier left.earlier n, left.ran, tells left.earlier left.known)
+notes_run gives o limit watch program m n WriteFault said (end, left) tells = (end, (with_earlier left.earlier n, left.ran, tells left.earlier left.known))
+notes_run gives o limit watch program m n (Refused e) said left tells = absurd left
+notes_run gives o limit watch program m n ReadFault said left tells = absurd left
+notes_run gives o limit watch program m n NoMemory said left tells = subst (λ x. ByOutcome (NotesEnd gives o limit watch m program) NoMemory x) (sym tells) tt
 
 -- what is told of the run of a program is told of its source
-pub notes_source : {O W : Type 0} (own : Own) (s : Settings O) (watch : Hearing W) (settings : CompileSettings) (reader : Use) (source : CompiledSource)
-    (made : Result Text NoText) (note : Option EndNote) → ReadsSource own settings (Ok source) reader → ByText (TellsEnd s watch source.program) made note
-    → ByText (TellsSource own s watch settings reader) made note
-notes_source own s watch settings reader source made note is told =
-    by_text (TellsEnd s watch source.program) (TellsSource own s watch settings reader) (λ end n tells. (source.text.items, is.0, (source.program, is.1.answer, tells)))
-    made note told
+pub notes_source : {O W : Type 0} (own : Own) (s : Settings O) (watch : Hearing W) (settings : CompileSettings) (reader : Use) (source : CompiledSource) (m : Content)
+    (outcome : Outcome) (said : Option EndNote) → ReadsSource own settings (Ok source) reader → StartsPrg s.text s.answers (prg_of source.program) (Ok m)
+    → ByOutcome (NotesEnd s.gives s.outside s.limit watch m source.program) outcome said → ByOutcome (TellsSource own s watch settings reader) outcome said
+notes_source own s watch settings reader source m outcome said is started = by outcome said
+  where
+    told : (end : End) (said : Option EndNote) → NotesEnd s.gives s.outside s.limit watch m source.program end said → TellsSource own s watch settings reader end said
+    told end said (n, ran, tells) = (source.text.items, is.0, (source.program, is.1.answer, (n, (m, started, ran), tells)))
+
+    by : (outcome : Outcome) (said : Option EndNote) → ByOutcome (NotesEnd s.gives s.outside s.limit watch m source.program) outcome said
+        → ByOutcome (TellsSource own s watch settings reader) outcome said
+    by (Ended end) said tells = told end said tells
+    by WriteFault said (end, tells) = (end, told end said tells)
+    by (Refused e) said none = none
+    by ReadFault said none = none
+    by NoMemory None tells = tt
+    by NoMemory (Some one) (end, tells) = (end, told end (Some one) tells)
+
+-- a program that is not started tells nothing
+pub untold_start : {O W : Type 0} (own : Own) (s : Settings O) (watch : Hearing W) (settings : CompileSettings) (reader : Use) (stop : NoText) (outcome : Outcome)
+    → outcome ≡ outcome_without stop → ByOutcome (TellsSource own s watch settings reader) outcome None
+untold_start own s watch settings reader stop outcome is = subst (λ o. ByOutcome (TellsSource own s watch settings reader) o None) (sym is) (by stop)
+  where
+    by : (stop : NoText) → ByOutcome (TellsSource own s watch settings reader) (outcome_without stop) None
+    by (NoTextRefused e) = refl
+    by NoTextNoMemory = tt
+
+-- what the machine tells that played a program
+pub tells_play : (limit : ℕ) (program : Compiled) (outcome : Outcome) (typed : List ℕ) (left : Option Content) (said : Option EndNote)
+    → LeavesOfFile limit (prg_of program) outcome typed left → TellsLeft program outcome left said → TellsPlay limit program outcome typed said
+tells_play limit program (Ended end) typed (Some n) said (m, start, (earlier, known, leaves)) tells =
+    (m, with_earlier earlier n, start, leaves, tells earlier known)
+tells_play limit program (Ended end) typed None said none tells = absurd none
+tells_play limit program (Refused e) typed left said leaves tells = tells
+tells_play limit program ReadFault typed left said leaves tells = tells
+tells_play limit program WriteFault typed left said leaves tells = tells
+tells_play limit program NoMemory typed left said leaves tells = tells
 
 -- of a source that is not read or not compiled nothing is told
 pub untold_source : {O W : Type 0} (own : Own) (s : Settings O) (watch : Hearing W) (settings : CompileSettings) (reader : Use) (stop : Failure) (report : Report)

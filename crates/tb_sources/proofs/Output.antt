@@ -23,7 +23,8 @@ use Rattle.tb_compiled.specs.declared.settings.CompileSettings.{CompileSettings}
 use Rattle.tb_compiled.specs.Answers.{Answered, OutcomeAnswer, SourceMakes}
 use Rattle.tb_compiled.specs.Compiled.{prg_of, loaded_of}
 use Rattle.tb_compiled.specs.Compiled.{IsBuiltFrom}
-use Rattle.tb_streams.specs.HostForm.{host_form_of}
+use Rattle.tb_text.specs.declared.notation.Notation.{Notation}
+use Rattle.tb_streams.specs.HostForm.{shown_as}
 use Rattle.tb_engines.specs.Outcomes.{Product}
 use Rattle.tb_engines.specs.Delivery.{Makes}
 use Rattle.tb_engines.specs.Programs.{start_memory, start, end_of, Settings, RunsAt, RunsContent, RunsPrg}
@@ -31,7 +32,6 @@ use Rattle.tb_sources.specs.Output.{ShowsOutput, RunsKept, RunsSource, KeepsSour
 use Rattle.tb_engines.specs.declared.delivery.Text.{Text}
 use Rattle.tb_engines.specs.declared.delivery.NoText.{NoText}
 use Rattle.tb_engines.specs.declared.outcome.End.TheVariants.{Done}
-use Rattle.tb_sources.proofs.Delivered.{makes_as}
 use Rattle.tb_engines.proofs.Start.{home_of-start}
 use Rattle.tb_compiled.specs.Promise.{Own}
 
@@ -115,23 +115,23 @@ starts bytes text answers ends small small_text small_answers =
 -- ---- the run
 
 -- what a sound machine sent, by its status
-shows : (program : Program) (seed : ℕ) (s t : State) (pc : ℕ) (stands : Status) → IsSound program seed s t → stands ≡ status t
-    → ShowsOutput program seed s.text s.answers (end_of stands pc) (host_form_of t.sent)
-shows program seed s t pc Running sound e = record { lines = sound.lines; output = t.sent; prefix = sound.prefix; shown = refl }
-shows program seed s t pc (WentWrong w) sound e = absurd (sound.never_wrong w (sym e))
-shows program seed s t pc Returned sound e =
+shows : (notation : Notation) (program : Program) (seed : ℕ) (s t : State) (pc : ℕ) (stands : Status) → IsSound program seed s t → stands ≡ status t
+    → ShowsOutput notation program seed s.text s.answers (end_of stands pc) (shown_as notation t.sent)
+shows notation program seed s t pc Running sound e = record { lines = sound.lines; output = t.sent; prefix = sound.prefix; shown = refl }
+shows notation program seed s t pc (WentWrong w) sound e = absurd (sound.never_wrong w (sym e))
+shows notation program seed s t pc Returned sound e =
     ⊎_elim (λ r. let no : Returned ≡ Running = e ∙ r in cc) (λ w. returned w.0 w.1 w.2) sound.stopped
   where
     returned : (why : End) → source_run program seed s.text s.answers sound.lines ≡ Over why t.sent → HasEnded why t
-        → ShowsOutput program seed s.text s.answers Done (host_form_of t.sent)
+        → ShowsOutput notation program seed s.text s.answers Done (shown_as notation t.sent)
     returned Ended over h = inl (record { lines = sound.lines; output = t.sent; over = over; shown = refl })
     returned Faulted over h = inr (record { lines = sound.lines; output = t.sent; over = over; shown = refl })
     returned Waits over h = let no : Returned ≡ WaitsForKey = e ∙ h in cc
-shows program seed s t pc WaitsForKey sound e =
+shows notation program seed s t pc WaitsForKey sound e =
     ⊎_elim (λ r. let no : WaitsForKey ≡ Running = e ∙ r in cc) (λ w. waits w.0 w.1 w.2) sound.stopped
   where
     waits : (why : End) → source_run program seed s.text s.answers sound.lines ≡ Over why t.sent → HasEnded why t
-        → ShowsOutput program seed s.text s.answers (end_of WaitsForKey pc) (host_form_of t.sent)
+        → ShowsOutput notation program seed s.text s.answers (end_of WaitsForKey pc) (shown_as notation t.sent)
     waits Ended over h = let no : WaitsForKey ≡ Returned = e ∙ h in cc
     waits Faulted over h = let no : WaitsForKey ≡ Returned = e ∙ h in cc
     waits Waits over h = record { lines = sound.lines; output = t.sent; over = over; shown = refl }
@@ -154,26 +154,22 @@ module _ {O : Type 0} (s : Settings O) (settings : CompileSettings) (source file
   begins : Starts BASIC_START bytes begun
   begins = starts bytes s.text s.answers kept.ends (bytes_behind file small) small_text small_answers
 
-  runs_loaded : (x : Product) → RunsAt s BASIC_START bytes x → RunsKept settings s.text s.answers source x
+  runs_loaded : (x : Product) → RunsAt s BASIC_START bytes x → RunsKept settings s.notation s.text s.answers source x
   runs_loaded (Ok product) (opens, (t, p, n, ran, is)) =
       let sound = subst (IsSound kept.program settings.seed begun) (sym ran.ran) (kept.keeps.sound begun begins ran.events ran.lawful) in (
         kept.program,
         kept.made,
-        subst (λ x. ShowsOutput kept.program settings.seed s.text s.answers x.1 x.0) (sym is)
-            (shows kept.program settings.seed begun (state_of n) n.regs.pc t sound ran.answer.0),
+        subst (λ x. ShowsOutput s.notation kept.program settings.seed s.text s.answers x.1 x.0) (sym is)
+            (shows s.notation kept.program settings.seed begun (state_of n) n.regs.pc t sound ran.answer.0),
       )
   runs_loaded (Err e) (is, closed) = absurd (closed (in_ram (length bytes) kept.ends))
 
   -- what comes of running the file comes of running the source
-  pub runs_source : (x : Product) → RunsPrg s file x → RunsKept settings s.text s.answers source x
+  pub runs_source : (x : Product) → RunsPrg s file x → RunsKept settings s.notation s.text s.answers source x
   runs_source x runs = runs_loaded x (subst (λ c. RunsContent s c x) kept.content runs)
 
-  -- what is made by running the file is made by running the source
-  pub made_of_source : (made : Result Text NoText) → Makes (RunsPrg s file) made → Makes (RunsKept settings s.text s.answers source) made
-  made_of_source made m = makes_as (RunsPrg s file) (RunsKept settings s.text s.answers source) runs_source made m
-
 -- what comes of running a file that keeps a source comes of running the source
-pub kept_runs : (own : Own) (settings : CompileSettings) (text answers source : List ℕ) (x : Product) → RunsKept settings text answers source x
+pub kept_runs : (own : Own) (settings : CompileSettings) (text answers source : List ℕ) (x : Product) → RunsKept settings settings.notation text answers source x
     → RunsSource own settings text answers source x
 kept_runs own settings text answers source (Ok shown) runs = runs
 kept_runs own settings text answers source (Err e) none = absurd none

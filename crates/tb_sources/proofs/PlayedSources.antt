@@ -6,6 +6,7 @@ use Rattle.tb_engines.specs.Outcomes.{Outcome, Product}
 use Rattle.tb_streams.specs.declared.outcome.Outcome.TheVariants.{Ended, Refused, ReadFault, WriteFault, NoMemory}
 use Rattle.tb_play.specs.Lines.{AreBytes}
 use Rattle.tb_play.specs.Plays.{quietly, RunsTyped, Shows}
+use Rattle.tb_text.specs.declared.notation.Notation.TheVariants.{Plain}
 use Rattle.tb_sources.specs.Output.{RunsKept, ShowsSources}
 use Rattle.tb_sources.proofs.Output.{runs_source}
 
@@ -27,6 +28,6 @@ shows_as p q wider NoMemory typed writer (inr (so_far, text, end, runs, written)
 pub shows_source : (file : List ℕ) → AreBytes file → (outcome : Outcome) (typed : List ℕ) (writer : Use)
     → Shows (RunsTyped file) outcome typed writer → ShowsSources file outcome typed writer
 shows_source file small outcome typed writer shown settings source kept =
-    shows_as (RunsTyped file) (λ text product. RunsKept settings text [] source product)
+    shows_as (RunsTyped file) (λ text product. RunsKept settings Plain text [] source product)
     (λ text x (bytes, (limit, runs)). runs_source (quietly text [] limit) settings source file kept small (all_bytes text bytes) tt x runs)
     outcome typed writer shown

@@ -26,7 +26,8 @@ use Rattle.tb_streams.specs.Outcomes.{ended_by}
 use Rattle.tb_streams.specs.declared.outcome.Outcome.TheVariants.{Ended, Refused, ReadFault, WriteFault, NoMemory}
 use Rattle.tb_engines.specs.declared.outcome.Refusal.TheVariants.{Source}
 use Rattle.tb_engines.specs.declared.report.Report.{Report}
-use Rattle.tb_sources.proofs.Delivered.{answers_as, kept, shown}
+use Rattle.tb_engines.proofs.Ran.{answers_as}
+use Rattle.tb_sources.proofs.Delivered.{kept, shown}
 use Rattle.tb_sources.proofs.Output.{keeps_source, kept_runs}
 use Rattle.tb_sources.proofs.Refused.{is_refused}
 use Rattle.tb_compiled.specs.Promise.{Own}
@@ -130,18 +131,16 @@ module _ (own : Own) (settings : CompileSettings) (reader : Use) (s : CompiledSo
       let here = makes s.text.items s.program in
       program_made makes warnings warned (answers_as (Shows made) here (shown here made m) outcome writer.old writer.new written)
 
-  -- so is what was made of its file
-  pub file_made : (makes : List ℕ → Product → Type 0) (warnings : List Warning) (file : List ℕ) (made : Result Text NoText) → file ≡ prg_of s.program
-      → warnings ≡ warnings_of s.program → Makes (makes file) made → Answers (Shows made) outcome writer.old writer.new
+  -- what is written of a run of its file is written of the source
+  pub file_ran : (makes : List ℕ → Product → Type 0) (warnings : List Warning) → warnings ≡ warnings_of s.program
+      → Answers (makes (prg_of s.program)) outcome writer.old writer.new
       → AnswersInput (FromSource own settings (λ c. makes (prg_of c)) warnings) outcome reader writer
-  file_made makes warnings file made same warned m written =
-      product_made (λ source c. makes (prg_of c)) warnings made warned (subst (λ f. Makes (makes f) made) same m) written
+  file_ran makes warnings warned written = program_made (λ source c. makes (prg_of c)) warnings warned written
 
   -- running its file is running the source
-  pub file_run : (text answers file : List ℕ) (made : Result Text NoText) → file ≡ prg_of s.program
-      → ((settings : CompileSettings) (source : List ℕ) → KeepsSource settings source file → Makes (RunsKept settings text answers source) made)
-      → Answers (Shows made) outcome writer.old writer.new → AnswersInput (RunsSource own settings text answers) outcome reader writer
-  file_run text answers file made same runs written =
-      let run = runs settings s.text.items (subst (KeepsSource settings s.text.items) (sym same) is.1.keeps) in
-      answers_as (Shows made) (MadeFrom reader.old (RunsSource own settings text answers))
-      (λ x shows. (s.text.items, is.0, kept_runs own settings text answers s.text.items x (shown (RunsKept settings text answers s.text.items) made run x shows))) outcome writer.old writer.new written
+  pub file_run : (runs : Product → Type 0) (text answers : List ℕ)
+      → (KeepsSource settings s.text.items (prg_of s.program) → (x : Product) → runs x → RunsKept settings settings.notation text answers s.text.items x)
+      → Answers runs outcome writer.old writer.new → AnswersInput (RunsSource own settings text answers) outcome reader writer
+  file_run runs text answers kept written =
+      answers_as runs (MadeFrom reader.old (RunsSource own settings text answers))
+      (λ x ran. (s.text.items, is.0, kept_runs own settings text answers s.text.items x (kept is.1.keeps x ran))) outcome writer.old writer.new written

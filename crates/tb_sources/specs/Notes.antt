@@ -20,11 +20,6 @@ end_note program machine.Waits m = Some (Waits (line_of (starts_of program) (tab
 end_note program machine.Returned m = option_map Fault (fault_of (warnings_of program) m.sent (at m.memory))
 end_note program (machine.Wrong w) m = None
 
--- what is told where a machine tells this: the same; but a fault may not be found out where memory runs out
-abbrev pub IsTold : Option EndNote → Option EndNote → Type 0
-IsTold (Some (Fault f)) None = Unit {0}
-IsTold wanted note = note ≡ wanted
-
 -- what is said of a note
 abbrev pub note_text : EndNote → List ℕ
 note_text (Running (Some line)) = codes "line " ++ (decimal line ++ codes " was begun last; --limit N allows more events")

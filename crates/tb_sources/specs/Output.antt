@@ -10,7 +10,9 @@ use Rattle.tb_kept.specs.Keeps.{Keeps}
 use Rattle.tb_compiled.specs.Answers.{SourceMakes}
 use Rattle.tb_compiled.specs.declared.settings.CompileSettings.{CompileSettings}
 use Rattle.tb_prg.specs.Prg.{content_of}
-use Rattle.tb_streams.specs.HostForm.{host_form_of}
+use Rattle.tb_text.specs.declared.notation.Notation.{Notation}
+use Rattle.tb_text.specs.declared.notation.Notation.TheVariants.{Plain}
+use Rattle.tb_streams.specs.HostForm.{shown_as}
 use Rattle.tb_streams.specs.Uses.{Use}
 use Rattle.tb_engines.specs.Outcomes.{Outcome, Product}
 use Rattle.tb_sources.specs.Refused.{IsRefused}
@@ -20,38 +22,38 @@ use Rattle.tb_engines.specs.declared.outcome.Refusal.TheVariants.{Source}
 use Rattle.tb_play.specs.Plays.{Shows}
 use Rattle.tb_compiled.specs.Promise.{Own}
 
--- what is written is the host form of a program's whole output: of all that it sent until its run ended this way
-pub record ShowsWhole (program : Program) (seed : ℕ) (text answers : List ℕ) (why : source.End) (written : List ℕ) : Type 0 where
+-- what is written is a program's whole output as a notation shows it: all that it sent until its run ended this way
+pub record ShowsWhole (notation : Notation) (program : Program) (seed : ℕ) (text answers : List ℕ) (why : source.End) (written : List ℕ) : Type 0 where
   pub lines : ℕ
   pub output : List ℕ
   pub over : source_run program seed text answers lines ≡ Over why output
-  pub shown : written ≡ host_form_of output
+  pub shown : written ≡ shown_as notation output
 
--- what is written is the host form of a prefix of what some number of a program's lines sends
-pub record ShowsPart (program : Program) (seed : ℕ) (text answers : List ℕ) (written : List ℕ) : Type 0 where
+-- what is written is a prefix, as a notation shows it, of what some number of a program's lines sends
+pub record ShowsPart (notation : Notation) (program : Program) (seed : ℕ) (text answers : List ℕ) (written : List ℕ) : Type 0 where
   pub lines : ℕ
   pub output : List ℕ
   pub prefix : IsPrefix output (sent_by (source_run program seed text answers lines))
-  pub shown : written ≡ host_form_of output
+  pub shown : written ≡ shown_as notation output
 
 -- what is written of a program, by how the engine ends: done if the source ended or faulted, waiting if it waits, and
 -- else at the step limit; it never goes wrong
-abbrev pub ShowsOutput : Program → ℕ → List ℕ → List ℕ → End → List ℕ → Type 0
-ShowsOutput program seed text answers Done written =
-    ShowsWhole program seed text answers Ended written ⊎ ShowsWhole program seed text answers Faulted written
-ShowsOutput program seed text answers WaitsForKey written = ShowsWhole program seed text answers Waits written
-ShowsOutput program seed text answers StepLimit written = ShowsPart program seed text answers written
-ShowsOutput program seed text answers (WentWrong wrong pc) written = ⊥
+abbrev pub ShowsOutput : Notation → Program → ℕ → List ℕ → List ℕ → End → List ℕ → Type 0
+ShowsOutput notation program seed text answers Done written =
+    ShowsWhole notation program seed text answers Ended written ⊎ ShowsWhole notation program seed text answers Faulted written
+ShowsOutput notation program seed text answers WaitsForKey written = ShowsWhole notation program seed text answers Waits written
+ShowsOutput notation program seed text answers StepLimit written = ShowsPart notation program seed text answers written
+ShowsOutput notation program seed text answers (WentWrong wrong pc) written = ⊥
 
--- what comes of running a file that keeps a source: what is written of the program that its lines make
-abbrev pub RunsKept : CompileSettings → List ℕ → List ℕ → List ℕ → Product → Type 0
-RunsKept settings text answers source (Ok shown) =
-    (program : Program) × SourceMakes settings.notation source (Ok program) × ShowsOutput program settings.seed text answers shown.1 shown.0
-RunsKept settings text answers source (Err e) = ⊥
+-- what comes of running a file that keeps a source: what is written of the program that its lines make, as a notation shows it
+abbrev pub RunsKept : CompileSettings → Notation → List ℕ → List ℕ → List ℕ → Product → Type 0
+RunsKept settings notation text answers source (Ok shown) =
+    (program : Program) × SourceMakes settings.notation source (Ok program) × ShowsOutput notation program settings.seed text answers shown.1 shown.0
+RunsKept settings notation text answers source (Err e) = ⊥
 
--- what comes of running a source: that of its file, or why it is refused
+-- what comes of running a source: that of its file, shown by its own notation, or why it is refused
 abbrev pub RunsSource : Own → CompileSettings → List ℕ → List ℕ → List ℕ → Product → Type 0
-RunsSource own settings text answers source (Ok shown) = RunsKept settings text answers source (Ok shown)
+RunsSource own settings text answers source (Ok shown) = RunsKept settings settings.notation text answers source (Ok shown)
 RunsSource own settings text answers source (Err (Source e)) = IsRefused own settings source e
 RunsSource own settings text answers source (Err e) = ⊥
 
@@ -67,4 +69,4 @@ pub record KeepsSource (settings : CompileSettings) (source file : List ℕ) : T
 abbrev pub ShowsSources : List ℕ → Outcome → List ℕ → Use → Type 0
 ShowsSources file outcome typed writer =
     (settings : CompileSettings) (source : List ℕ) → KeepsSource settings source file
-    → Shows (λ text product. RunsKept settings text [] source product) outcome typed writer
+    → Shows (λ text product. RunsKept settings Plain text [] source product) outcome typed writer

@@ -1,11 +1,12 @@
 //! By which fault a program ended.
-ghost use Rattle.std.specs.Prelude.{◌≡◌, IfOk, Some};
+ghost use Rattle.std.specs.Prelude.{◌≡◌, ◌++◌, ℕ, List, Some};
+ghost use Rattle.tb_kernal.specs.Sending.{KnowsLast};
+ghost use Rattle.tb_faults.specs.Faults.{longest_fault};
 ghost use Rattle.tb_memmap.specs.Bytes.{at};
 ghost use Rattle.tb_compiled.specs.Compiled.{warnings_of};
 ghost use Rattle.tb_sources.specs.Faults.{fault_note_text, fault_of, missing_line, wanted_line};
 
 use crate::places::data_word;
-use std::alloc::{AllocError, Global};
 use std::fmt;
 use tb_compiled::Compiled;
 use tb_faults::{FaultKind, fault_in, fault_line};
@@ -66,21 +67,19 @@ fn wanted_line(machine: &Machine, warnings: &[Warning], line: u16) -> i16
 }
 
 /// The fault by which a program ended, if it ended by one: its text is what was sent last, with the line that the machine
-/// holds.
-pub fn fault_of(
-    alloc: Global,
-    machine: &Machine,
-    program: &Compiled,
-) -> Result<Option<Fault>, AllocError>
-    ensures { IfOk result (λ fault. fault ≡ fault_of (warnings_of program.now) machine.now.sent (at machine.now.memory)) }
+/// holds. The end of what was sent tells it.
+pub fn fault_of(machine: &Machine, program: &Compiled) -> Option<Fault>
+    ensures fault { result ≡ fault_of (warnings_of program.now) machine.now.sent (at machine.now.memory) }
+    ensures earlier { (earlier : List ℕ) → KnowsLast longest_fault earlier machine.now.sent
+        → result ≡ fault_of (warnings_of program.now) (earlier ++ machine.now.sent) (at machine.now.memory) }
 {
     let line = fault_line(machine);
-    match fault_in(alloc, machine)? {
-        Some(kind) => Ok(Some(Fault {
+    match fault_in(machine) {
+        Some(kind) => Some(Fault {
             kind,
             line,
             wanted: wanted_line(machine, program.warnings(), line),
-        })),
-        None => Ok(None),
+        }),
+        None => None,
     }
 }

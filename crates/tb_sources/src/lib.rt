@@ -1,5 +1,5 @@
-//! The engines of sources, over any compiler, reader and writer: each reads its input to the end, makes all that is to be
-//! written, and then writes it.
+//! The engines of sources, over any compiler, reader and writer: each reads its input to the end. What a run sends is
+//! written as it comes; all else is made first, and then written.
 //!
 //! - `compile_source` answers the source with the program that the compiler makes of it by the given settings, or its
 //!   refusal. `read_source` does so with all that its reader had. That program keeps the source, and begins its lines
@@ -22,7 +22,7 @@
 //!   RAM, with no source, and refuses any other (`StepsPrg`).
 //! - `play_compiled` plays the program that `read_source` answers. What was written is the source's output on what was
 //!   typed (`output`): all of it if the program returned or waits, and a prefix at the limit. `play_noted` also tells how
-//!   the program ended, as `run_noted` does (`TellsPlay`), but for want of memory.
+//!   the program ended, as `run_noted` does (`TellsPlay`).
 //! - `strict_status` is the exit status 8 where a fault is told, and else that of the outcome (`specs/Strictness`).
 //! - `bytes_to_fit` answers how many bytes a source takes that compiles where the memory is the limit (`FitsWith`).
 #![tactic(auto)]

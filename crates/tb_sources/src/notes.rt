@@ -1,11 +1,12 @@
 //! What the machine tells at the end of a run.
-ghost use Rattle.std.specs.Prelude.{◌≡◌, IfErr, IfOk, None, Some};
+ghost use Rattle.std.specs.Prelude.{◌≡◌, ℕ, List, Some};
 ghost use Rattle.tb_kernal.specs.Machine.{state_of, status};
-ghost use Rattle.tb_sources.specs.Notes.{IsTold, end_note, note_text};
+ghost use Rattle.tb_kernal.specs.Sending.{KnowsLast, with_earlier};
+ghost use Rattle.tb_faults.specs.Faults.{longest_fault};
+ghost use Rattle.tb_sources.specs.Notes.{end_note, note_text};
 
 use crate::faults::{Fault, fault_of};
 use crate::places::line_of;
-use std::alloc::{AllocError, Global};
 use std::fmt;
 use tb_compiled::Compiled;
 use tb_kernal::{Machine, Status};
@@ -48,24 +49,17 @@ impl fmt::Display for EndNote {
     }
 }
 
-/// What a machine tells that ran a program. Nothing if the program returned without a fault or went wrong. Fails only if
-/// memory runs out where a fault is looked for.
-#[tactic(auto, using(crate::proofs::Noted::untold_fault))]
-pub fn end_note(
-    alloc: Global,
-    machine: &Machine,
-    program: &Compiled,
-) -> Result<Option<EndNote>, AllocError>
-    ensures told { IfOk result (λ note. note ≡ end_note program.now (status (state_of machine.now)) machine.now) }
-    ensures memory { IfErr result (λ _. IsTold (end_note program.now (status (state_of machine.now)) machine.now) None) }
+/// What a machine tells that ran a program. Nothing if the program returned without a fault or went wrong. Of what was sent
+/// the end is enough.
+pub fn end_note(machine: &Machine, program: &Compiled) -> Option<EndNote>
+    ensures told { result ≡ end_note program.now (status (state_of machine.now)) machine.now }
+    ensures earlier { (earlier : List ℕ) → KnowsLast longest_fault earlier machine.now.sent
+        → result ≡ end_note program.now (status (state_of machine.now)) (with_earlier earlier machine.now) }
 {
     match machine.status() {
-        Status::Running => Ok(Some(EndNote::Running(line_of(machine, program)))),
-        Status::Waits => Ok(Some(EndNote::Waits(line_of(machine, program)))),
-        Status::Returned => match fault_of(alloc, machine, program)? {
-            Some(fault) => Ok(Some(EndNote::Fault(fault))),
-            None => Ok(None),
-        },
-        Status::Wrong(_) => Ok(None),
+        Status::Running => Some(EndNote::Running(line_of(machine, program))),
+        Status::Waits => Some(EndNote::Waits(line_of(machine, program))),
+        Status::Returned => fault_of(machine, program).map(EndNote::Fault),
+        Status::Wrong(_) => None,
     }
 }

@@ -1,5 +1,5 @@
 //! Playing a source: the keyboard is a person.
-ghost use Rattle.std.specs.Prelude.{◌≤◌, IfOk, vec_len};
+ghost use Rattle.std.specs.Prelude.{◌≤◌, vec_len};
 ghost use Rattle.tb_streams.specs.Uses.{use_of};
 ghost use Rattle.tb_play.specs.Plays.{LeavesOfFile, PlaysFile, PlayFaults, RunsTyped, Shows, WritesFileBeforeReading};
 ghost use Rattle.tb_compiled.specs.Compiled.{prg_of};
@@ -8,7 +8,7 @@ ghost use Rattle.tb_sources.specs.Playing.{TellsLeft, TellsPlay};
 ghost use Rattle.tb_play.specs.Lines.{most_typed};
 
 use crate::notes::{EndNote, end_note};
-use std::alloc::{AllocError, Global};
+use std::alloc::Global;
 use std::io::{Read, Write};
 use tb_compiled::Compiled;
 use tb_engines::Outcome;
@@ -19,8 +19,7 @@ use tb_streams::Tracked;
 #[derive(Debug, Drop)]
 pub struct NotedPlay {
     pub played: Played,
-    /// Fails only if memory ran out where a fault was looked for.
-    pub note: Result<Option<EndNote>, AllocError>,
+    pub note: Option<EndNote>,
 }
 
 /// Plays the PRG file of a program that `read_source` answered, as `play_to_end` does.
@@ -48,16 +47,12 @@ pub fn play_compiled<R: Read, W: Write>(
 }
 
 // What the machine tells that played a program, where playing ended.
-fn left_note(
-    alloc: Global,
-    left: &PlayedFile,
-    program: &Compiled,
-) -> Result<Option<EndNote>, AllocError>
-    ensures { IfOk result (TellsLeft program.now left.now.played.outcome left.now.machine) }
+fn left_note(left: &PlayedFile, program: &Compiled) -> Option<EndNote>
+    ensures { TellsLeft program.now left.now.played.outcome left.now.machine result }
 {
     match (left.played.outcome, &left.machine) {
-        (Outcome::Ended(_), Some(machine)) => end_note(alloc, machine, program),
-        _ => Ok(None),
+        (Outcome::Ended(_), Some(machine)) => end_note(machine, program),
+        _ => None,
     }
 }
 
@@ -76,12 +71,12 @@ pub fn play_noted<R: Read, W: Write>(
         (use_of R.remaining keys.old keys.new) (use_of W.contents writer.old writer.new) }
     ensures whole { Shows (RunsTyped (prg_of program.now)) result.played.outcome result.played.typed.items (use_of W.contents writer.old writer.new) }
     ensures output { ShowsSources (prg_of program.now) result.played.outcome result.played.typed.items (use_of W.contents writer.old writer.new) }
-    ensures note { IfOk result.note (TellsPlay limit program.now result.played.outcome result.played.typed.items) }
+    ensures note { TellsPlay limit program.now result.played.outcome result.played.typed.items result.note }
     ensures within { vec_len result.played.typed ≤ most_typed }
     ensures faults { PlayFaults result.played.outcome (use_of R.remaining keys.old keys.new) (use_of W.contents writer.old writer.new) }
 {
     let left = play_compiled(alloc, program.prg(), keys, writer, limit);
-    let note = left_note(alloc, &left, program);
+    let note = left_note(&left, program);
     NotedPlay {
         played: left.played,
         note,

@@ -1,19 +1,14 @@
 //! Running a source, with what the machine tells at the end.
-ghost use Rattle.std.specs.Prelude.{ℕ, ◌≡◌, ◌⊎◌, Err, List};
-ghost use Rattle.tb_kernal.specs.Machine.{state_of, status};
+ghost use Rattle.std.specs.Prelude.{◌≡◌, []};
 ghost use Rattle.tb_watch.specs.Hearing.{hearing_of};
 ghost use Rattle.tb_streams.specs.Uses.{use_of, TakesInput};
-ghost use Rattle.tb_engines.specs.Outcomes.{AnswersInput, Faults};
-ghost use Rattle.tb_engines.specs.Delivery.{Makes};
-ghost use Rattle.tb_engines.specs.Ends.{ByOutcome, ByText};
-ghost use Rattle.tb_engines.specs.Programs.{settings_of, RunsPrg};
-ghost use Rattle.tb_compiled.specs.Compiled.{prg_of};
-ghost use Rattle.tb_compiled.specs.declared.settings.CompileSettings.{CompileSettings};
+ghost use Rattle.tb_engines.specs.Outcomes.{Answers, AnswersInput, Faults};
+ghost use Rattle.tb_engines.specs.Delivery.{DeliveryFaults};
+ghost use Rattle.tb_engines.specs.Ends.{ByOutcome};
+ghost use Rattle.tb_engines.specs.Programs.{settings_of, RunsOn};
 ghost use Rattle.tb_sources.specs.Sources.{RunsText, WarnsOfRead};
-ghost use Rattle.tb_sources.specs.Output.{KeepsSource, RunsKept, RunsSource};
-ghost use Rattle.tb_sources.specs.Notes.{end_note};
-ghost use Rattle.tb_engines.specs.declared.delivery.NoText.TheVariants.{NoMemory};
-ghost use Rattle.tb_sources.specs.Runs.{TellsEnd, TellsSource};
+ghost use Rattle.tb_sources.specs.Output.{RunsSource};
+ghost use Rattle.tb_sources.specs.Runs.{NotesEnd, NotesRun, TellsSource};
 
 use crate::notes::{EndNote, end_note};
 use crate::reading::read_source;
@@ -22,9 +17,10 @@ use crate::starting::start_program;
 use std::alloc::Global;
 use std::io::{Read, Write};
 use tb_compiled::{Compile, CompileSettings, Compiled};
-use tb_engines::{NoText, Outcome, Report, Text, deliver, run_machine};
+use tb_engines::{Outcome, Report, run_machine};
 use tb_kernal::{Keyboard, Machine, Outside};
 use tb_streams::Tracked;
+use tb_text::Notation;
 use tb_watch::{Unwatched, Watch};
 
 /// A run of a source: how it ended, and what the machine told then.
@@ -34,90 +30,50 @@ pub struct NotedRun {
     pub note: Option<EndNote>,
 }
 
-// What was made by a run, and what the machine told at its end.
+// How a run ended, and what the machine told then.
 #[derive(Drop)]
 struct Ran {
-    made: Result<Text, NoText>,
+    outcome: Outcome,
     note: Option<EndNote>,
 }
 
-// Runs a compiled program.
-fn run_program<O: Outside, W: Watch>(
-    alloc: Global,
-    program: &Compiled,
-    keyboard: Keyboard,
-    limit: u64,
-    outside: &mut O,
-    watch: &mut W,
-) -> Ran
-    ensures machine { Makes (RunsPrg (settings_of O.gives outside.old keyboard limit) (prg_of program.now)) result.made }
-    ensures note { ByText (TellsEnd (settings_of O.gives outside.old keyboard limit) (hearing_of W.hears watch.old watch.new) program.now) result.made result.note }
+// What the machine tells after its run, where its output was written, or failed to be.
+fn note_after(outcome: Outcome, machine: &Machine, program: &Compiled) -> Option<EndNote>
+    ensures { NotesRun program.now outcome machine.now result }
 {
-    let mut machine = match start_program(alloc, program, keyboard) {
-        Ok(machine) => machine,
-        Err(stop) => return Ran {
-            made: Err(stop),
-            note: None,
-        },
-    };
-    let made = run_machine(alloc, &mut machine, limit, outside, watch);
-    with_note(alloc, made, &machine, program)
-}
-
-// What was made, with what the machine tells after its run. Nothing was made if it can't be told for want of memory: so
-// no fault goes untold.
-fn with_note(
-    alloc: Global,
-    made: Result<Text, NoText>,
-    machine: &Machine,
-    program: &Compiled,
-) -> Ran
-    ensures made { (result.made ≡ made) ⊎ (result.made ≡ Err NoMemory) }
-    ensures note { ByText (λ _ note. note ≡ end_note program.now (status (state_of machine.now)) machine.now) result.made result.note }
-{
-    let text = match made {
-        Ok(text) => text,
-        Err(stop) => return Ran {
-            made: Err(stop),
-            note: None,
-        },
-    };
-    match end_note(alloc, machine, program) {
-        Ok(note) => Ran {
-            made: Ok(text),
-            note,
-        },
-        Err(_) => Ran {
-            made: Err(NoText::NoMemory),
-            note: None,
-        },
+    match outcome {
+        Outcome::Ended(_) | Outcome::WriteFault => end_note(machine, program),
+        Outcome::Refused(_) | Outcome::ReadFault | Outcome::NoMemory => None,
     }
 }
 
-// Runs the program of a source.
-fn run_compiled<O: Outside, W: Watch>(
-    alloc: Global,
+// Runs the start machine of a compiled program.
+fn run_started<O: Outside, W: Write, V: Watch>(
+    machine: &mut Machine,
     program: &Compiled,
-    keyboard: Keyboard,
     limit: u64,
     outside: &mut O,
-    watch: &mut W,
+    writer: &mut Tracked<W>,
+    watch: &mut V,
+    notation: Notation,
 ) -> Ran
-    ensures machine { Makes (RunsPrg (settings_of O.gives outside.old keyboard limit) (prg_of program.now)) result.made }
-    ensures output { (settings : CompileSettings) (source : List ℕ) → KeepsSource settings source (prg_of program.now)
-        → Makes (RunsKept settings keyboard.text.items keyboard.answers.items source) result.made }
-    ensures note { ByText (TellsEnd (settings_of O.gives outside.old keyboard limit) (hearing_of W.hears watch.old watch.new) program.now) result.made result.note }
+    requires { machine.old.sent ≡ [] }
+    ensures answers { Answers (RunsOn O.gives outside.old machine.old limit notation) result.outcome
+        (W.contents writer.old.stream) (W.contents writer.new.stream) }
+    ensures note { ByOutcome (NotesEnd O.gives outside.old limit (hearing_of V.hears watch.old watch.new) machine.old program.now) result.outcome result.note }
+    ensures faults { DeliveryFaults result.outcome (use_of W.contents writer.old writer.new) }
 {
-    are_bytes(program.prg());
-    are_bytes(keyboard.text.as_slice());
-    are_bytes(keyboard.answers.as_slice());
-    run_program(alloc, program, keyboard, limit, outside, watch)
+    let outcome = run_machine(machine, limit, outside, writer, watch, notation);
+    Ran {
+        outcome,
+        note: note_after(outcome, machine, program),
+    }
 }
 
-/// Compiles a source by any settings, runs it as `run_prg` does, and writes the host form of what it sent. That is the
-/// source's output: all of it if the program returned or waits for a key, and a prefix at the step limit. The answer tells
-/// at which line it stopped or waits, or by which fault its program ended. A watch hears meanwhile how many events were
-/// taken, which changes nothing.
+/// Compiles a source by any settings, runs it as `run_prg` does, and writes what it sends as it comes: in host form, or, where
+/// its texts are read with signs, by the names that signs have. That is the source's output: all of it if the program
+/// returned or waits for a key, and a prefix at the step limit. The answer tells at which line it stopped or waits, or by
+/// which fault its program ended. A watch hears meanwhile how many events were taken, which changes nothing.
 pub fn run_noted<K: Compile, R: Read, W: Write, O: Outside, V: Watch>(
     compiler: &K,
     alloc: Global,
@@ -129,12 +85,12 @@ pub fn run_noted<K: Compile, R: Read, W: Write, O: Outside, V: Watch>(
     outside: &mut O,
     watch: &mut V,
 ) -> NotedRun
-    ensures answers { AnswersInput (RunsText K.own (settings_of O.gives outside.old keyboard limit) settings result.report.warnings.items)
+    ensures answers { AnswersInput (RunsText K.own (settings_of O.gives outside.old keyboard limit settings.notation) settings result.report.warnings.items)
         result.report.outcome (use_of R.remaining reader.old reader.new) (use_of W.contents writer.old writer.new) }
     ensures output { AnswersInput (RunsSource K.own settings keyboard.text.items keyboard.answers.items)
         result.report.outcome (use_of R.remaining reader.old reader.new) (use_of W.contents writer.old writer.new) }
     ensures warned { WarnsOfRead result.report.outcome result.report.warnings.items }
-    ensures note { ByOutcome (TellsSource K.own (settings_of O.gives outside.old keyboard limit) (hearing_of V.hears watch.old watch.new) settings (use_of R.remaining reader.old reader.new))
+    ensures note { ByOutcome (TellsSource K.own (settings_of O.gives outside.old keyboard limit settings.notation) (hearing_of V.hears watch.old watch.new) settings (use_of R.remaining reader.old reader.new))
         result.report.outcome result.note }
     ensures faults { Faults result.report.outcome (use_of R.remaining reader.old reader.new) (use_of W.contents writer.old writer.new) }
     ensures taken { TakesInput (use_of R.remaining reader.old reader.new) }
@@ -146,10 +102,31 @@ pub fn run_noted<K: Compile, R: Read, W: Write, O: Outside, V: Watch>(
             note: None,
         },
     };
-    let ran = run_compiled(alloc, &source.program, keyboard, limit, outside, watch);
+    are_bytes(source.program.prg());
+    are_bytes(keyboard.text.as_slice());
+    are_bytes(keyboard.answers.as_slice());
+    let mut machine = match start_program(alloc, &source.program, keyboard) {
+        Ok(machine) => machine,
+        Err(stop) => return NotedRun {
+            report: Report {
+                outcome: Outcome::from(stop),
+                warnings: source.program.into_warnings(),
+            },
+            note: None,
+        },
+    };
+    let ran = run_started(
+        &mut machine,
+        &source.program,
+        limit,
+        outside,
+        writer,
+        watch,
+        settings.notation,
+    );
     NotedRun {
         report: Report {
-            outcome: deliver(writer, ran.made),
+            outcome: ran.outcome,
             warnings: source.program.into_warnings(),
         },
         note: ran.note,
@@ -167,7 +144,7 @@ pub fn run_within<K: Compile, R: Read, W: Write, O: Outside>(
     limit: u64,
     outside: &mut O,
 ) -> Report
-    ensures answers { AnswersInput (RunsText K.own (settings_of O.gives outside.old keyboard limit) settings result.warnings.items)
+    ensures answers { AnswersInput (RunsText K.own (settings_of O.gives outside.old keyboard limit settings.notation) settings result.warnings.items)
         result.outcome (use_of R.remaining reader.old reader.new) (use_of W.contents writer.old writer.new) }
     ensures output { AnswersInput (RunsSource K.own settings keyboard.text.items keyboard.answers.items)
         result.outcome (use_of R.remaining reader.old reader.new) (use_of W.contents writer.old writer.new) }

@@ -1,4 +1,4 @@
 pub mod Counting
 mod KeyFiles
-mod Written
+pub mod Written
 mod Reading

@@ -7,7 +7,8 @@
 //!   says when a stream failed.
 //! - `read_key_file` gives the keys that a key file spells. It refuses exactly the texts that spell none, and files
 //!   that are too large. What `key_file` makes of keys spells them again (`spelled`).
-//! - `host_form`, `key_list` and `address` are their definitions.
+//! - `host_form`, `key_list` and `address` are their definitions. `write_shown` writes bytes as a notation shows them, or a prefix,
+//!   and takes no memory.
 //! - `Outcome::status` is the exit status of how a call ended (`status_of`), by those of its ends and refusals
 //!   (`ExitStatus`). `Outcome::of`: what made nothing ends as it failed (`ended_by`).
 #![tactic(auto)]
@@ -29,6 +30,6 @@ pub use numbers::constants_are_numbers;
 pub use outcome::{
     Done, ExitStatus, Failure, NoRefusal, OUT_OF_MEMORY, Outcome, READ_FAULT, WRITE_FAULT,
 };
-pub use screen::host_form;
+pub use screen::{host_form, write_shown};
 pub use stream::{InputError, MOST_INPUT, read_input, write_output};
 pub use tracked::{StreamFailure, Tracked};

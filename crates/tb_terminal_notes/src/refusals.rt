@@ -6,13 +6,14 @@ use std::rt::Files;
 use tb_asm_reasons::{item_text, line_text};
 use tb_check_engine::refusal_text;
 use tb_codegen::TinyBasic;
-use tb_compiled::{CompileError, CompileSettings, SizeLimit};
+use tb_compiled::{CompileError, SizeLimit};
 use tb_engines::Refusal;
 use tb_file_engine::opened;
 use tb_file_reasons::{FileNote, FileReason};
 use tb_files::{FileSystem, Place};
-use tb_host::{Host, Source, settings_of};
-use tb_jobs::{Job, Runnable, Settings, USUAL_SEED};
+use tb_host::{Host, Source, Wanted, settings_of};
+use tb_jobs::{Job, Runnable};
+use tb_source_options::own_options;
 use tb_sources::bytes_to_fit;
 use tb_streams::{Tracked, read_input};
 
@@ -20,7 +21,7 @@ use tb_streams::{Tracked, read_input};
 #[derive(Clone, Copy, Drop)]
 struct Compiles<'a> {
     source: &'a str,
-    settings: CompileSettings,
+    wanted: Wanted,
 }
 
 /// Says what helps with a source that is refused.
@@ -32,25 +33,36 @@ pub fn note_source<R: Files + Print + Eprint + Input + AllocGlobal>(
     let Some(compiles) = compiled_by(job) else {
         return;
     };
-    if let CompileError::TooLarge(_) = error {
-        note_fit(host, &compiles);
-    } else if let Some(source) = read_again(host, compiles.source) {
-        let notation = compiles.settings.notation;
-        show(
-            host,
-            refusal_text(
-                &TinyBasic,
-                host.rt.alloc(),
-                compiles.source,
-                source.as_slice(),
-                notation,
-                error,
-            ),
-        );
+    if let Some(source) = read_again(host, compiles.source) {
+        note_refusal(host, &compiles, source.as_slice(), error);
     }
     if let (CompileError::Source(_), Some(path)) = (error, run_by(job)) {
         note_program(host, path);
     }
+}
+
+fn note_refusal<R: Eprint + AllocGlobal>(
+    host: &Host<'_, R>,
+    compiles: &Compiles<'_>,
+    source: &[u8],
+    error: CompileError,
+) {
+    if let CompileError::TooLarge(_) = error {
+        note_fit(host, compiles.wanted, source);
+        return;
+    }
+    let notation = own_options(source).notation(compiles.wanted.notation);
+    show(
+        host,
+        refusal_text(
+            &TinyBasic,
+            host.rt.alloc(),
+            compiles.source,
+            source,
+            notation,
+            error,
+        ),
+    );
 }
 
 // That a PRG file is run with an option, if one is given as a source.
@@ -83,17 +95,13 @@ pub fn note_text<R: Files + Print + Eprint + Input + AllocGlobal>(
 }
 
 // That `--fit` compiles a source that is refused by its cost alone.
-fn note_fit<R: Files + Print + Eprint + Input + AllocGlobal>(
-    host: &mut Host<'_, R>,
-    compiles: &Compiles<'_>,
-) {
-    if compiles.settings.size == SizeLimit::Memory {
+fn note_fit<R: Eprint + AllocGlobal>(host: &Host<'_, R>, wanted: Wanted, source: &[u8]) {
+    let settings = settings_of(wanted, own_options(source));
+    if settings.size == SizeLimit::Memory {
         return;
     }
-    let Some(mut file) = opened_again(host, compiles.source) else {
-        return;
-    };
-    if let Some(bytes) = bytes_to_fit(&TinyBasic, host.rt.alloc(), &mut file, compiles.settings) {
+    let mut source = Tracked::new(source);
+    if let Some(bytes) = bytes_to_fit(&TinyBasic, host.rt.alloc(), &mut source, settings) {
         say(host.rt, Fits(bytes));
     }
 }
@@ -184,7 +192,11 @@ fn compiled_by(job: &Job) -> Option<Compiles<'_>> {
             ..
         } => Some(Compiles {
             source: source.as_str(),
-            settings: settings_of(*seed, *fit, *notation),
+            wanted: Wanted {
+                seed: *seed,
+                fit: *fit,
+                notation: *notation,
+            },
         }),
         // (a source that costs too much is not renumbered, so nothing is said of `--fit`)
         Job::Renumber {
@@ -193,7 +205,11 @@ fn compiled_by(job: &Job) -> Option<Compiles<'_>> {
             ..
         } => Some(Compiles {
             source: source.as_str(),
-            settings: settings_of(USUAL_SEED, true, *notation),
+            wanted: Wanted {
+                seed: None,
+                fit: true,
+                notation: *notation,
+            },
         }),
         Job::Run {
             what: Runnable::Source(source),
@@ -213,14 +229,10 @@ fn compiled_by(job: &Job) -> Option<Compiles<'_>> {
             what: Runnable::Source(source),
             settings,
             ..
-        } => Some(compiled_with(source, settings)),
+        } => Some(Compiles {
+            source: source.as_str(),
+            wanted: Wanted::of(settings),
+        }),
         _ => None,
-    }
-}
-
-fn compiled_with<'a>(source: &'a str, settings: &Settings) -> Compiles<'a> {
-    Compiles {
-        source,
-        settings: settings_of(settings.seed, settings.fit, settings.notation),
     }
 }

@@ -3,10 +3,11 @@
 use crate::checking::sources_of;
 use std::io;
 use std::rt::Files;
+use std::time::Clock;
 use tb_codegen::TinyBasic;
 use tb_compiled::Notation;
-use tb_debug_adapter::AdapterOutcome;
-use tb_host::Host;
+use tb_debug_adapter::{AdapterOutcome, Usual};
+use tb_host::{Host, drawn_seed};
 use tb_language_server::ServerOutcome;
 use tb_streams::Tracked;
 
@@ -29,8 +30,8 @@ pub fn serve_editor<R: Print + Input + AllocGlobal>(
 }
 
 /// Serves an editor as its debug adapter. The source that it launches is opened when that is asked for; its texts are read
-/// in this notation, if nothing else is asked for.
-pub fn serve_debugger<R: Files + Print + Input + AllocGlobal>(
+/// in this notation, if nothing else is asked for. The clock is read before all.
+pub fn serve_debugger<R: Files + Clock + Print + Input + AllocGlobal>(
     host: &Host<'_, R>,
     notation: Notation,
 ) -> AdapterOutcome {
@@ -38,10 +39,14 @@ pub fn serve_debugger<R: Files + Print + Input + AllocGlobal>(
     let mut messages = Tracked::new(rt.reader());
     let mut answers = Tracked::new(io::writer(rt));
     let mut sources = sources_of(host);
+    let usual = Usual {
+        notation,
+        clock: drawn_seed(rt),
+    };
     tb_debug_adapter::serve(
         &TinyBasic,
         rt.alloc(),
-        notation,
+        usual,
         &mut sources,
         &mut messages,
         &mut answers,

@@ -1,15 +1,13 @@
 -- Stretches of events, one after another, make one run.
 use Rattle.std.proofs.Common.{◌≡◌, ℕ, suc, ◌+◌, ◌-◌, ◌*◌, ◌≤◌, true, List, [], ◌∷◌, ◌++◌, length, length-append, refl, subst, arith}
-use Rattle.std.specs.Prelude.{Result, Ok, Err}
-use Rattle.std.specs.declared.alloc.AllocError.{AllocError}
+use Rattle.std.specs.Prelude.{Ok}
 use Rattle.tb_kernal.specs.declared.events.Event.{Event}
 use Rattle.tb_kernal.specs.declared.status.Status.{Status}
 use Rattle.tb_kernal.specs.declared.status.Status.TheVariants.{Running, Waits, Returned, Wrong}
-use Rattle.tb_kernal.specs.Machine.{Content, state_of, is_lawful}
+use Rattle.tb_kernal.specs.Machine.{Content, state_of, is_lawful, is_running}
 use Rattle.tb_kernal.specs.Runs.{Answered, Gave, RanOver}
 use Rattle.tb_kernal.proofs.Giving.{gave_all, gave_lawful, gave_run}
 use Rattle.tb_watch.specs.Hearing.{Began, Ended, Heard, RanWatched, STRETCH, Telling, Took, took}
-use Rattle.tb_watch.specs.Stretches.{goes_on}
 
 module _ {W : Type 0} (hears : W → Telling → W → Type 0) where
   -- one thing more that was heard
@@ -28,73 +26,68 @@ module _ {O W : Type 0} (gives : O → Content → Event → O → Type 0) (hear
     pub gave : Gave gives o m events p n
     pub heard : Heard hears w (Began ∷ took stretches) v
 
-  -- a run begins
-  pub begins : (o : O) (m : Content) (w v : W) (limit : ℕ) → hears w Began v → Taken o m w limit limit o m v
-  begins o m w v limit told = record { events = []; stretches = 0; count = omega arith; whole = omega arith; gave = (refl, refl); heard = (v, told, refl) }
+  -- a run begins, with a machine in the same state
+  pub begins : (o : O) (m n : Content) (w v : W) (limit : ℕ) → state_of n ≡ state_of m → hears w Began v → Taken o m w limit limit o n v
+  begins o m n w v limit same told =
+      record { events = []; stretches = 0; count = omega arith; whole = omega arith; gave = (refl, same); heard = (v, told, refl) }
 
   -- a stretch more, after which the machine goes on, and which is told
-  pub taken_on : (o : O) (m : Content) (w : W) (limit left stretch : ℕ) (p : O) (n : Content) (v : W) (r : Result Status AllocError) (q : O) (k : Content) (u : W)
-      → (t : Taken o m w limit left p n v) → RanOver gives p n stretch r q k → goes_on r ≡ true → stretch ≤ left → stretch ≡ STRETCH
+  pub taken_on : (o : O) (m : Content) (w : W) (limit left stretch : ℕ) (p : O) (n : Content) (v : W) (t : Status) (q : O) (k : Content) (u : W)
+      → (before : Taken o m w limit left p n v) → RanOver gives p n stretch (Ok t) q k → is_running t ≡ true → stretch ≤ left → stretch ≡ STRETCH
       → hears v (Took (limit - (left - stretch))) u → Taken o m w limit (left - stretch) q k u
-  taken_on o m w limit left stretch p n v (Ok Running) q k u t ran on few full told =
+  taken_on o m w limit left stretch p n v Running q k u before ran on few full told =
       let all : length ran.events ≡ stretch = ran.answer.1 refl in
-      let sum = length-append t.events ran.events in
-      let count = t.count in
-      let whole = t.whole in
-      let now : limit - (left - stretch) ≡ (t.stretches + 1) * STRETCH = omega (arith, count, whole, few, full) in
+      let sum = length-append before.events ran.events in
+      let count = before.count in
+      let whole = before.whole in
+      let now : limit - (left - stretch) ≡ (before.stretches + 1) * STRETCH = omega (arith, count, whole, few, full) in
       record {
-        events = t.events ++ ran.events;
-        stretches = suc t.stretches;
+        events = before.events ++ ran.events;
+        stretches = suc before.stretches;
         count = omega (arith, sum, count, all, few);
         whole = omega (arith, sum, whole, all, full);
-        gave = gave_all gives t.events ran.events o m p n q k t.gave ran.gave;
-        heard = heard_more hears (Began ∷ took t.stretches) w v u _ t.heard (subst (λ events. hears v (Took events) u) now told);
+        gave = gave_all gives before.events ran.events o m p n q k before.gave ran.gave;
+        heard = heard_more hears (Began ∷ took before.stretches) w v u _ before.heard (subst (λ events. hears v (Took events) u) now told);
       }
-  taken_on o m w limit left stretch p n v (Ok Waits) q k u t ran on few full told = absurd (cc)
-  taken_on o m w limit left stretch p n v (Ok Returned) q k u t ran on few full told = absurd (cc)
-  taken_on o m w limit left stretch p n v (Ok (Wrong x)) q k u t ran on few full told = absurd (cc)
-  taken_on o m w limit left stretch p n v (Err e) q k u t ran on few full told = absurd (cc)
+  taken_on o m w limit left stretch p n v Waits q k u before ran on few full told = absurd (cc)
+  taken_on o m w limit left stretch p n v Returned q k u before ran on few full told = absurd (cc)
+  taken_on o m w limit left stretch p n v (Wrong x) q k u before ran on few full told = absurd (cc)
 
   -- the last stretch: the machine doesn't go on, or nothing of the limit is left
-  pub ended : (o : O) (m : Content) (w : W) (limit left stretch : ℕ) (p : O) (n : Content) (v : W) (r : Result Status AllocError) (q : O) (k : Content) (u : W)
-      → Taken o m w limit left p n v → RanOver gives p n stretch r q k → stretch ≤ left → stretch ≤ STRETCH → (goes_on r ≡ true → stretch ≡ left)
-      → hears v Ended u → RanWatched gives hears o m w limit r q k u
-  ended o m w limit left stretch p n v r q k u t ran few short last told =
-      let es = t.events ++ ran.events in
-      let sum : length es ≡ length t.events + length ran.events = length-append t.events ran.events in
-      let count = t.count in
-      let whole = t.whole in
+  pub ended : (o : O) (m : Content) (w : W) (limit left stretch : ℕ) (p : O) (n : Content) (v : W) (t : Status) (q : O) (k : Content) (u : W)
+      → Taken o m w limit left p n v → RanOver gives p n stretch (Ok t) q k → stretch ≤ left → stretch ≤ STRETCH → (is_running t ≡ true → stretch ≡ left)
+      → hears v Ended u → RanWatched gives hears o m w limit (Ok t) q k u
+  ended o m w limit left stretch p n v t q k u before ran few short last told =
+      let es = before.events ++ ran.events in
+      let sum : length es ≡ length before.events + length ran.events = length-append before.events ran.events in
+      let count = before.count in
+      let whole = before.whole in
       let fewer = ran.few in
-      let gave : Gave gives o m es q k = gave_all gives t.events ran.events o m p n q k t.gave ran.gave in record {
+      let gave : Gave gives o m es q k = gave_all gives before.events ran.events o m p n q k before.gave ran.gave in record {
         ran = record {
           events = es;
           few = omega (arith, sum, count, fewer, few);
           gave = gave;
           ran = gave_run gives es o m q k gave;
           lawful = gave_lawful gives law es o m q k gave;
-          answer = answered r ran.answer last;
+          answer = answered t ran.answer last;
         };
         told = record {
-          stretches = t.stretches;
+          stretches = before.stretches;
           taken = omega (arith, sum, whole);
           last = omega (arith, sum, whole, fewer, short);
-          heard = heard_more hears (Began ∷ took t.stretches) w v u Ended t.heard told;
+          heard = heard_more hears (Began ∷ took before.stretches) w v u Ended before.heard told;
         };
       }
     where
-      answered : (r : Result Status AllocError) → Answered r k (length ran.events) stretch → (goes_on r ≡ true → stretch ≡ left)
-          → Answered r k (length (t.events ++ ran.events)) limit
-      answered (Ok Running) answer last =
+      answered : (t : Status) → Answered (Ok t) k (length ran.events) stretch → (is_running t ≡ true → stretch ≡ left)
+          → Answered (Ok t) k (length (before.events ++ ran.events)) limit
+      answered Running answer last =
           let all : length ran.events ≡ stretch = answer.1 refl in
           let none : stretch ≡ left = last refl in
-          let sum = length-append t.events ran.events in
-          let count = t.count in
+          let sum = length-append before.events ran.events in
+          let count = before.count in
           (answer.0, λ runs. omega (arith, sum, count, all, none))
-      answered (Ok Waits) answer last = (answer.0, λ runs. absurd (cc))
-      answered (Ok Returned) answer last = (answer.0, λ runs. absurd (cc))
-      answered (Ok (Wrong w)) answer last = (answer.0, λ runs. absurd (cc))
-      answered (Err e) answer last =
-          let sum = length-append t.events ran.events in
-          let count = t.count in
-          let fewer = answer.2 in
-          (answer.0, answer.1, omega (arith, sum, count, fewer, few))
+      answered Waits answer last = (answer.0, λ runs. absurd (cc))
+      answered Returned answer last = (answer.0, λ runs. absurd (cc))
+      answered (Wrong w) answer last = (answer.0, λ runs. absurd (cc))

@@ -8,7 +8,7 @@ use Rattle.tb_kernal.specs.Runs.{RanOver}
 
 -- after how many events a run tells how far it is
 abbrev pub STRETCH : ℕ
-STRETCH = 8388608
+STRETCH = 65536
 
 -- what is told: that a run begins, how many events it has taken so far, that it has ended
 pub data Telling : Type 0 where

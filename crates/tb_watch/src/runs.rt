@@ -1,13 +1,9 @@
-//! A run that tells now and then how far it is.
+//! Who hears of a run, and how often.
 ghost use Rattle.std.specs.Prelude.{◌≡◌};
-ghost use Rattle.tb_watch.specs.Hearing.{Began, Ended, RanWatched, Telling, Took};
-ghost use Rattle.tb_watch.specs.Stretches.{goes_on};
+ghost use Rattle.tb_watch.specs.Hearing.{Began, Ended, Telling, Took};
 
-use std::alloc::AllocError;
-use tb_kernal::{Machine, Outside, Status, run};
-
-/// How many events a run takes before it tells again: a tenth of a second, or less.
-const STRETCH: u64 = 1 << 23;
+/// How many events a run takes before it tells again: about a thousandth of a second.
+pub const STRETCH: u64 = 65_536;
 
 /// Whoever waits for the end of a run.
 pub trait Watch {
@@ -39,35 +35,4 @@ impl Watch for Unwatched {
     fn took(&mut self, _events: u64) {}
 
     fn ended(&mut self) {}
-}
-
-// Whether a machine goes on after a stretch.
-fn goes_on(answer: &Result<Status, AllocError>) -> bool
-    ensures { result ≡ goes_on answer.now }
-{
-    matches!(answer, Ok(Status::Running))
-}
-
-/// Lets the events of an outside happen, as `run` does, and tells a watch how many were taken, after each `STRETCH` of
-/// them. What is told changes nothing.
-pub fn run_watched<O: Outside, W: Watch>(
-    machine: &mut Machine,
-    outside: &mut O,
-    limit: u64,
-    watch: &mut W,
-) -> Result<Status, AllocError>
-    ensures { RanWatched O.gives W.hears outside.old machine.old watch.old limit result outside.new machine.new watch.new }
-{
-    watch.began();
-    let mut left = limit;
-    'stretches: loop {
-        let stretch = left.min(STRETCH);
-        let answer = run(machine, outside, stretch);
-        if !goes_on(&answer) || stretch == left {
-            watch.ended();
-            return answer;
-        }
-        left -= stretch;
-        watch.took(limit - left);
-    }
 }

@@ -10,7 +10,7 @@ use tb_compiled::CompileSettings;
 use tb_engines::{End, Outcome, Report};
 use tb_file_engine::{BuildNames, Numbering, assemble_file, build_file, disk_file, list_file};
 use tb_files::{Barred, Output, may_write};
-use tb_host::{Host, settings_of, size_limit};
+use tb_host::{Host, Wanted, settings_for, size_limit};
 use tb_run_commands::{Playing, debug, play, profile, run, setting_of, step};
 use tb_streams::{Tracked, address, write_output};
 use tb_text_commands::{
@@ -53,15 +53,17 @@ fn run_job<R: Files + Env + Clock + Print + Eprint + Input + AllocGlobal>(
             limit,
             record,
             screen,
-            strict,
             ..
         } => {
             let playing = Playing {
-                settings: settings_of(*seed, *fit, *notation),
+                wanted: Wanted {
+                    seed: *seed,
+                    fit: *fit,
+                    notation: *notation,
+                },
                 limit: u64::from(limit.events),
                 record: name_of(record),
                 screen: *screen,
-                is_strict: *strict,
             };
             Ending::Run(play(host, what, playing)?)
         }
@@ -98,7 +100,7 @@ fn run_job<R: Files + Env + Clock + Print + Eprint + Input + AllocGlobal>(
 }
 
 // Does a job that runs no program. One that runs a program is done already.
-fn other_job<R: Files + Print + Input + AllocGlobal>(
+fn other_job<R: Files + Clock + Print + Eprint + Input + AllocGlobal>(
     host: &mut Host<'_, R>,
     job: &Job,
 ) -> Result<Ending, Failure> {
@@ -113,7 +115,12 @@ fn other_job<R: Files + Print + Input + AllocGlobal>(
             beside,
             ..
         } => {
-            let settings = settings_of(*seed, *fit, *notation);
+            let wanted = Wanted {
+                seed: *seed,
+                fit: *fit,
+                notation: *notation,
+            };
+            let settings = settings_for(host, source, wanted);
             Ok(build(host, source, out, settings, beside))
         }
         Job::Asm { text, out, at, .. } => assemble_at(host, text, out, at),

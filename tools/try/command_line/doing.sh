@@ -23,6 +23,17 @@ row 0 '' 'Compiles Tiny BASIC*Usage: tbc *' help
 row 0 '' "tbc $version" version
 row 2 "error: unrecognized subcommand 'jump'*" '' help jump
 
+# A word that is a command but for two neighbours that changed places has that one for a tip, any other one what is near
+tips() { row 2 "error: unrecognized subcommand '$1'"$'\n\n'"  tip: $2"$'\n\n'"Usage: tbc <COMMAND>"$'\n\n'"For more information, try '--help'." '' "$1"; } # WORD TIP
+tips rnu "a similar subcommand exists: 'run'"
+tips dsi "a similar subcommand exists: 'dis'"
+tips pla "a similar subcommand exists: 'play'"
+tips assemlbe "a similar subcommand exists: 'assemble'"
+tips rn "a similar subcommand exists: 'renumber'"
+tips diks "a similar subcommand exists: 'disk'"
+tips disasm "some similar subcommands exist: 'disk', 'dis'"
+row 2 $'error: unrecognized subcommand \'xyz\'\n\nUsage: *' '' xyz
+
 # A text is typed as it is spelled: small letters as capitals, a backslash and an n as return
 row 0 '' $'A\n? \n42\n\n!7 AT 30' run wait.bas --type '2 1\n'
 row 0 '' $'A\n? \n42\n\n!7 AT 30' run wait.bas --type=$'21\n'

@@ -173,3 +173,22 @@ holds out.keys 6f6c64
 for name in /dev/full nowhere/out.keys folder; do row 3 'tbc: write fault' HELLO play hello.bas --record $name; done
 row 2 'error: *' '' play
 row 2 'error: *' '' play hello.bas --keys 00
+
+# Output is written while a program runs
+file chatty.bas '10 PRINT "HELLO"\n20 GOTO 10\n'
+"$tbc" build chatty.bas chatty.prg
+comes_early() { # WORD..: a row: something is written long before the end
+    local runs
+    rows=$((rows + 1))
+    : >early
+    "$tbc" "$@" --limit 1000000000 >early 2>said </dev/null &
+    runs=$!
+    until [ -s early ] || ! kill -0 $runs 2>said; do sleep 0.02; done
+    if kill $runs 2>said && [[ $(head -n 1 early) == HELLO ]]; then return; fi
+    failed=$((failed + 1))
+    printf 'tbc %s\n  writes nothing before its end\n' "$*"
+}
+comes_early run chatty.bas
+comes_early play chatty.bas
+comes_early run --prg chatty.prg
+comes_early play --prg chatty.prg

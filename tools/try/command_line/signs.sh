@@ -3,13 +3,14 @@
 # A part of tools/try/command_line.sh, which has the calls.
 
 file signs.bas '10 PRINT "{clr}{3 Down}[A]{c1}b"\n20 PRINT "{rvon}",7;\n30 END\n'
-signs_shown=$'{93}{11}{11}{11}{5B}A{5D}{C1}B\n{12}       7'
+signs_sent=$'{93}{11}{11}{11}{5B}A{5D}{C1}B\n{12}       7'
+signs_shown=$'{clr}{down}{down}{down}\\[A\\]{C1}B\n{rvon}       7' # as `run` shows it
 
 # Each command that takes a source
-built "$signs_shown" --petscii signs.bas out.prg
+built "$signs_sent" --petscii signs.bas out.prg
 row 0 '' "$signs_shown" run signs.bas --petscii
 row 0 '' "$signs_shown" run --petscii --fit --rude 7 signs.bas
-row 0 '' "$signs_shown" play signs.bas --petscii
+row 0 '' "$signs_sent" play signs.bas --petscii
 file commands 'c\nq\n'
 from=commands
 row 0 '' $'10 *\n| {12}       7\nreturned' debug signs.bas --petscii
@@ -135,12 +136,13 @@ done
 
 # The coloured examples, by an interpreter that was written from docs/LANGUAGE.md alone; what is shown of a text is read as
 # the same text again
+alone() { sed 's/[][*?\\]/\\&/g'; } # prints a pattern of standard input alone
 coloured() { # NAME KEYS: rows: a run, and a source that prints what each line of its output shows
-    row 0 '' "$("$root/tools/interpreter.py" --petscii "$root/examples/colour/$1.bas" --keys "$2")" \
+    row 0 '' "$("$root/tools/interpreter.py" --petscii "$root/examples/colour/$1.bas" --keys "$2" | alone)" \
         run --petscii "$root/examples/colour/$1.bas" --keys "$2"
     awk '{ printf "%d PRINT \"%s\"\n", NR, $0 } END { print NR + 1 " END" }' shown >shown.bas
     cp shown wanted
-    row 0 '' "$(<wanted)" run --petscii shown.bas
+    row 0 '' "$(alone <wanted)" run --petscii shown.bas
 }
 coloured times ''
 coloured guess 35300d31300d32330d

@@ -181,3 +181,32 @@ fn a_name_that_is_written_is_not_offered(rt: HostRuntime) -> Result<(), Fail> {
     }
     Ok(())
 }
+
+/// A text that asks for signs itself, as JSON has it.
+const OWN: &str = r#"5 REM TBC: --petscii\n10 PRINT \"{clr}\"\n20 GOTO 10"#;
+
+#[test]
+fn a_text_may_ask_for_signs(rt: HostRuntime) -> Result<(), Fail> {
+    let alloc = rt.alloc();
+    assert!(rt; is_good(alloc, Notation::Plain, OWN)?);
+    let place = r#","position":{"line":2,"character":8}"#;
+    let answer = asked_in(alloc, Notation::Plain, OWN, "definition", place)?;
+    let frame = wanted_answer(
+        alloc,
+        r#"{"range":{"end":{"character":2,"line":1},"start":{"character":0,"line":1}},"uri":"u"}"#,
+    )?;
+    assert_eq!(rt; answer.as_str(), frame.as_str());
+    Ok(())
+}
+
+#[test]
+fn a_word_that_is_no_option_is_a_finding(rt: HostRuntime) -> Result<(), Fail> {
+    let text = r#"10 REM TBC: --fast\n20 END"#;
+    let told = answered_in(rt.alloc(), Notation::Plain, opening(rt.alloc(), text)?.as_slice());
+    assert!(rt;
+        shown(told.as_slice()).contains(
+            r#""diagnostics":[{"code":"no-option","message":"not --fit, --petscii or --seed with a number","range":{"end":{"character":13,"line":0},"start":{"character":12,"line":0}},"severity":1,"source":"tbc"}]"#
+        )
+    );
+    Ok(())
+}

@@ -43,6 +43,8 @@ impl Outside for Contrary {
 
     ghost gives_lawful = { λ _ m e _ h. lawful_by m e h };
 
+    ghost gives_blindly = { λ _ _ _ _ _ h. h };
+
     fn next(&mut self, machine: &Machine) -> Event {
         let regs = machine.regs();
         self.interrupts = !self.interrupts;
@@ -83,11 +85,15 @@ impl Sweeping {
 
 impl Outside for Sweeping {
     ghost use Rattle.std.specs.Prelude.{◌≡◌, true};
+    ghost use Rattle.std.proofs.Common.{◌∙◌};
+    ghost use Rattle.tb_kernal.specs.LawfulEvents.{same_lawful};
     ghost use Rattle.tb_kernal.specs.Machine.{state_of, is_lawful};
 
     ghost gives = { λ _ m e _. is_lawful (state_of m) e ≡ true };
 
     ghost gives_lawful = { λ _ m e _ h. h };
+
+    ghost gives_blindly = { λ _ m e _ sent h. same_lawful e m sent ∙ h };
 
     fn next(&mut self, machine: &Machine) -> Event {
         self.interrupts = !self.interrupts;

@@ -16,3 +16,5 @@ mod play;
 mod profile;
 #[cfg(test)]
 mod words;
+#[cfg(test)]
+mod written;

@@ -10,49 +10,49 @@ const CLOCK: u16 = 4711;
 static JOBS: [(&[&str], &str); 28] = [
     (
         &["build", "a", "b"],
-        "Ok(Build { source: \"a\", out: \"b\", seed: 1, fit: false, notation: Plain, beside: BuildExtras { labels: None, listing: None, dialect: None, map: None, watch: None }, force: false })",
+        "Ok(Build { source: \"a\", out: \"b\", seed: None, fit: false, notation: Plain, beside: BuildExtras { labels: None, listing: None, dialect: None, map: None, watch: None }, force: false })",
     ),
     (
         &["build", "f.d/a.bas"],
-        "Ok(Build { source: \"f.d/a.bas\", out: \"f.d/a.prg\", seed: 1, fit: false, notation: Plain, beside: BuildExtras { labels: None, listing: None, dialect: None, map: None, watch: None }, force: false })",
+        "Ok(Build { source: \"f.d/a.bas\", out: \"f.d/a.prg\", seed: None, fit: false, notation: Plain, beside: BuildExtras { labels: None, listing: None, dialect: None, map: None, watch: None }, force: false })",
     ),
     (
         &["build", "a.BAS"],
-        "Ok(Build { source: \"a.BAS\", out: \"a.BAS.prg\", seed: 1, fit: false, notation: Plain, beside: BuildExtras { labels: None, listing: None, dialect: None, map: None, watch: None }, force: false })",
+        "Ok(Build { source: \"a.BAS\", out: \"a.BAS.prg\", seed: None, fit: false, notation: Plain, beside: BuildExtras { labels: None, listing: None, dialect: None, map: None, watch: None }, force: false })",
     ),
     (
         &["build", "a"],
-        "Ok(Build { source: \"a\", out: \"a.prg\", seed: 1, fit: false, notation: Plain, beside: BuildExtras { labels: None, listing: None, dialect: None, map: None, watch: None }, force: false })",
+        "Ok(Build { source: \"a\", out: \"a.prg\", seed: None, fit: false, notation: Plain, beside: BuildExtras { labels: None, listing: None, dialect: None, map: None, watch: None }, force: false })",
     ),
     (
         &["build", "-"],
-        "Ok(Build { source: \"-\", out: \"-\", seed: 1, fit: false, notation: Plain, beside: BuildExtras { labels: None, listing: None, dialect: None, map: None, watch: None }, force: false })",
+        "Ok(Build { source: \"-\", out: \"-\", seed: None, fit: false, notation: Plain, beside: BuildExtras { labels: None, listing: None, dialect: None, map: None, watch: None }, force: false })",
     ),
     (
         &["build", "a", "-o", "b"],
-        "Ok(Build { source: \"a\", out: \"b\", seed: 1, fit: false, notation: Plain, beside: BuildExtras { labels: None, listing: None, dialect: None, map: None, watch: None }, force: false })",
+        "Ok(Build { source: \"a\", out: \"b\", seed: None, fit: false, notation: Plain, beside: BuildExtras { labels: None, listing: None, dialect: None, map: None, watch: None }, force: false })",
     ),
     (
         &["build", "-ob", "-"],
-        "Ok(Build { source: \"-\", out: \"b\", seed: 1, fit: false, notation: Plain, beside: BuildExtras { labels: None, listing: None, dialect: None, map: None, watch: None }, force: false })",
+        "Ok(Build { source: \"-\", out: \"b\", seed: None, fit: false, notation: Plain, beside: BuildExtras { labels: None, listing: None, dialect: None, map: None, watch: None }, force: false })",
     ),
     (
         &["build", "--seed", "65535", "a", "b"],
-        "Ok(Build { source: \"a\", out: \"b\", seed: 65535, fit: false, notation: Plain, beside: BuildExtras { labels: None, listing: None, dialect: None, map: None, watch: None }, force: false })",
+        "Ok(Build { source: \"a\", out: \"b\", seed: Some(65535), fit: false, notation: Plain, beside: BuildExtras { labels: None, listing: None, dialect: None, map: None, watch: None }, force: false })",
     ),
     (
         &[
             "build", "a", "b", "--map=m", "--labels", "v", "--watch", "w", "--list", "s",
         ],
-        "Ok(Build { source: \"a\", out: \"b\", seed: 1, fit: false, notation: Plain, beside: BuildExtras { labels: Some(\"v\"), listing: Some(\"s\"), dialect: None, map: Some(\"m\"), watch: Some(\"w\") }, force: false })",
+        "Ok(Build { source: \"a\", out: \"b\", seed: None, fit: false, notation: Plain, beside: BuildExtras { labels: Some(\"v\"), listing: Some(\"s\"), dialect: None, map: Some(\"m\"), watch: Some(\"w\") }, force: false })",
     ),
     (
         &["build", "--fit", "a", "b"],
-        "Ok(Build { source: \"a\", out: \"b\", seed: 1, fit: true, notation: Plain, beside: BuildExtras { labels: None, listing: None, dialect: None, map: None, watch: None }, force: false })",
+        "Ok(Build { source: \"a\", out: \"b\", seed: None, fit: true, notation: Plain, beside: BuildExtras { labels: None, listing: None, dialect: None, map: None, watch: None }, force: false })",
     ),
     (
         &["run", "a"],
-        "Ok(Run { what: Source(\"a\"), settings: Settings { seed: 1, fit: false, notation: Plain, keys: Digits(\"\"), answers: \"\", limit: Limit { events: 10000000 } }, rude: None, labels: None, strict: false })",
+        "Ok(Run { what: Source(\"a\"), settings: Settings { seed: None, fit: false, notation: Plain, keys: Digits(\"\"), answers: \"\", limit: Limit { events: 10000000 } }, rude: None, labels: None, strict: false })",
     ),
     (
         &[
@@ -66,37 +66,37 @@ static JOBS: [(&[&str], &str); 28] = [
             "--rude",
             "65535",
         ],
-        "Ok(Run { what: Source(\"a\"), settings: Settings { seed: 1, fit: false, notation: Plain, keys: Digits(\"330d\"), answers: \"00\", limit: Limit { events: 1000000000 } }, rude: Some(65535), labels: None, strict: false })",
+        "Ok(Run { what: Source(\"a\"), settings: Settings { seed: None, fit: false, notation: Plain, keys: Digits(\"330d\"), answers: \"00\", limit: Limit { events: 1000000000 } }, rude: Some(65535), labels: None, strict: false })",
     ),
     (
         &["run", "--prg", "p", "--seed", "0", "--limit", "1"],
-        "Ok(Run { what: Prg(\"p\"), settings: Settings { seed: 0, fit: false, notation: Plain, keys: Digits(\"\"), answers: \"\", limit: Limit { events: 1 } }, rude: None, labels: None, strict: false })",
+        "Ok(Run { what: Prg(\"p\"), settings: Settings { seed: Some(0), fit: false, notation: Plain, keys: Digits(\"\"), answers: \"\", limit: Limit { events: 1 } }, rude: None, labels: None, strict: false })",
     ),
     (
         &["run", "--prg", "p", "--labels", "v"],
-        "Ok(Run { what: Prg(\"p\"), settings: Settings { seed: 1, fit: false, notation: Plain, keys: Digits(\"\"), answers: \"\", limit: Limit { events: 10000000 } }, rude: None, labels: Some(\"v\"), strict: false })",
+        "Ok(Run { what: Prg(\"p\"), settings: Settings { seed: None, fit: false, notation: Plain, keys: Digits(\"\"), answers: \"\", limit: Limit { events: 10000000 } }, rude: None, labels: Some(\"v\"), strict: false })",
     ),
     (
         &["run", "a", "--keys-file", "k", "--answers", "03"],
-        "Ok(Run { what: Source(\"a\"), settings: Settings { seed: 1, fit: false, notation: Plain, keys: File(\"k\"), answers: \"03\", limit: Limit { events: 10000000 } }, rude: None, labels: None, strict: false })",
+        "Ok(Run { what: Source(\"a\"), settings: Settings { seed: None, fit: false, notation: Plain, keys: File(\"k\"), answers: \"03\", limit: Limit { events: 10000000 } }, rude: None, labels: None, strict: false })",
     ),
     (
         &["play", "a"],
-        "Ok(Play { what: Source(\"a\"), seed: 1, fit: false, notation: Plain, limit: Limit { events: 1000000000 }, record: None, screen: false, force: false, strict: false })",
+        "Ok(Play { what: Source(\"a\"), seed: None, fit: false, notation: Plain, limit: Limit { events: 1000000000 }, record: None, screen: false, force: false, strict: false })",
     ),
     (
         &[
             "play", "--prg=p", "--seed", "9", "--limit", "5", "--record", "r",
         ],
-        "Ok(Play { what: Prg(\"p\"), seed: 9, fit: false, notation: Plain, limit: Limit { events: 5 }, record: Some(\"r\"), screen: false, force: false, strict: false })",
+        "Ok(Play { what: Prg(\"p\"), seed: Some(9), fit: false, notation: Plain, limit: Limit { events: 5 }, record: Some(\"r\"), screen: false, force: false, strict: false })",
     ),
     (
         &["play", "a", "--fit"],
-        "Ok(Play { what: Source(\"a\"), seed: 1, fit: true, notation: Plain, limit: Limit { events: 1000000000 }, record: None, screen: false, force: false, strict: false })",
+        "Ok(Play { what: Source(\"a\"), seed: None, fit: true, notation: Plain, limit: Limit { events: 1000000000 }, record: None, screen: false, force: false, strict: false })",
     ),
     (
         &["play", "--screen", "a"],
-        "Ok(Play { what: Source(\"a\"), seed: 1, fit: false, notation: Plain, limit: Limit { events: 1000000000 }, record: None, screen: true, force: false, strict: false })",
+        "Ok(Play { what: Source(\"a\"), seed: None, fit: false, notation: Plain, limit: Limit { events: 1000000000 }, record: None, screen: true, force: false, strict: false })",
     ),
     (
         &["asm", "a", "b", "--at", "c00"],
@@ -124,15 +124,15 @@ static JOBS: [(&[&str], &str); 28] = [
     ),
     (
         &["build", "--petscii", "a"],
-        "Ok(Build { source: \"a\", out: \"a.prg\", seed: 1, fit: false, notation: Signs, beside: BuildExtras { labels: None, listing: None, dialect: None, map: None, watch: None }, force: false })",
+        "Ok(Build { source: \"a\", out: \"a.prg\", seed: None, fit: false, notation: Signs, beside: BuildExtras { labels: None, listing: None, dialect: None, map: None, watch: None }, force: false })",
     ),
     (
         &["run", "a", "--petscii", "--fit"],
-        "Ok(Run { what: Source(\"a\"), settings: Settings { seed: 1, fit: true, notation: Signs, keys: Digits(\"\"), answers: \"\", limit: Limit { events: 10000000 } }, rude: None, labels: None, strict: false })",
+        "Ok(Run { what: Source(\"a\"), settings: Settings { seed: None, fit: true, notation: Signs, keys: Digits(\"\"), answers: \"\", limit: Limit { events: 10000000 } }, rude: None, labels: None, strict: false })",
     ),
     (
         &["play", "a", "--petscii", "--screen"],
-        "Ok(Play { what: Source(\"a\"), seed: 1, fit: false, notation: Signs, limit: Limit { events: 1000000000 }, record: None, screen: true, force: false, strict: false })",
+        "Ok(Play { what: Source(\"a\"), seed: None, fit: false, notation: Signs, limit: Limit { events: 1000000000 }, record: None, screen: true, force: false, strict: false })",
     ),
 ];
 
@@ -153,11 +153,11 @@ static TOOL_JOBS: [(&[&str], &str); 39] = [
     ),
     (
         &["build", "a", "b", "--list", "s", "--for", "xa"],
-        "Ok(Build { source: \"a\", out: \"b\", seed: 1, fit: false, notation: Plain, beside: BuildExtras { labels: None, listing: Some(\"s\"), dialect: Some(Xa), map: None, watch: None }, force: false })",
+        "Ok(Build { source: \"a\", out: \"b\", seed: None, fit: false, notation: Plain, beside: BuildExtras { labels: None, listing: Some(\"s\"), dialect: Some(Xa), map: None, watch: None }, force: false })",
     ),
     (
         &["debug", "a"],
-        "Ok(Debug { what: Source(\"a\"), settings: Settings { seed: 1, fit: false, notation: Plain, keys: Digits(\"\"), answers: \"\", limit: Limit { events: 10000000 } }, rude: None, labels: None })",
+        "Ok(Debug { what: Source(\"a\"), settings: Settings { seed: None, fit: false, notation: Plain, keys: Digits(\"\"), answers: \"\", limit: Limit { events: 10000000 } }, rude: None, labels: None })",
     ),
     (
         &[
@@ -170,19 +170,19 @@ static TOOL_JOBS: [(&[&str], &str); 39] = [
             "--limit",
             "9",
         ],
-        "Ok(Debug { what: Source(\"a\"), settings: Settings { seed: 1, fit: false, notation: Plain, keys: File(\"k\"), answers: \"\", limit: Limit { events: 9 } }, rude: Some(7), labels: None })",
+        "Ok(Debug { what: Source(\"a\"), settings: Settings { seed: None, fit: false, notation: Plain, keys: File(\"k\"), answers: \"\", limit: Limit { events: 9 } }, rude: Some(7), labels: None })",
     ),
     (
         &["debug", "--prg", "a", "--type", "b"],
-        "Ok(Debug { what: Prg(\"a\"), settings: Settings { seed: 1, fit: false, notation: Plain, keys: Text(\"b\"), answers: \"\", limit: Limit { events: 10000000 } }, rude: None, labels: None })",
+        "Ok(Debug { what: Prg(\"a\"), settings: Settings { seed: None, fit: false, notation: Plain, keys: Text(\"b\"), answers: \"\", limit: Limit { events: 10000000 } }, rude: None, labels: None })",
     ),
     (
         &["debug", "--labels=v", "--prg=a"],
-        "Ok(Debug { what: Prg(\"a\"), settings: Settings { seed: 1, fit: false, notation: Plain, keys: Digits(\"\"), answers: \"\", limit: Limit { events: 10000000 } }, rude: None, labels: Some(\"v\") })",
+        "Ok(Debug { what: Prg(\"a\"), settings: Settings { seed: None, fit: false, notation: Plain, keys: Digits(\"\"), answers: \"\", limit: Limit { events: 10000000 } }, rude: None, labels: Some(\"v\") })",
     ),
     (
         &["profile", "a"],
-        "Ok(Profile { what: Source(\"a\"), settings: Settings { seed: 1, fit: false, notation: Plain, keys: Digits(\"\"), answers: \"\", limit: Limit { events: 10000000 } }, rude: None, html: None, force: false })",
+        "Ok(Profile { what: Source(\"a\"), settings: Settings { seed: None, fit: false, notation: Plain, keys: Digits(\"\"), answers: \"\", limit: Limit { events: 10000000 } }, rude: None, html: None, force: false })",
     ),
     (
         &[
@@ -196,11 +196,11 @@ static TOOL_JOBS: [(&[&str], &str); 39] = [
             "--limit",
             "9",
         ],
-        "Ok(Profile { what: Source(\"a\"), settings: Settings { seed: 1, fit: false, notation: Plain, keys: File(\"k\"), answers: \"\", limit: Limit { events: 9 } }, rude: Some(7), html: Some(\"p\"), force: false })",
+        "Ok(Profile { what: Source(\"a\"), settings: Settings { seed: None, fit: false, notation: Plain, keys: File(\"k\"), answers: \"\", limit: Limit { events: 9 } }, rude: Some(7), html: Some(\"p\"), force: false })",
     ),
     (
         &["profile", "--prg=a", "--rude", "7"],
-        "Ok(Profile { what: Prg(\"a\"), settings: Settings { seed: 1, fit: false, notation: Plain, keys: Digits(\"\"), answers: \"\", limit: Limit { events: 10000000 } }, rude: Some(7), html: None, force: false })",
+        "Ok(Profile { what: Prg(\"a\"), settings: Settings { seed: None, fit: false, notation: Plain, keys: Digits(\"\"), answers: \"\", limit: Limit { events: 10000000 } }, rude: Some(7), html: None, force: false })",
     ),
     (
         &["disk", "o", "a"],
@@ -258,15 +258,15 @@ static TOOL_JOBS: [(&[&str], &str); 39] = [
     (&["dap"], "Ok(Dap { notation: Plain })"),
     (
         &["step", "--petscii", "a"],
-        "Ok(Step { what: Source(\"a\"), settings: Settings { seed: 1, fit: false, notation: Signs, keys: Digits(\"\"), answers: \"\", limit: Limit { events: 10000000 } } })",
+        "Ok(Step { what: Source(\"a\"), settings: Settings { seed: None, fit: false, notation: Signs, keys: Digits(\"\"), answers: \"\", limit: Limit { events: 10000000 } } })",
     ),
     (
         &["debug", "a", "--petscii"],
-        "Ok(Debug { what: Source(\"a\"), settings: Settings { seed: 1, fit: false, notation: Signs, keys: Digits(\"\"), answers: \"\", limit: Limit { events: 10000000 } }, rude: None, labels: None })",
+        "Ok(Debug { what: Source(\"a\"), settings: Settings { seed: None, fit: false, notation: Signs, keys: Digits(\"\"), answers: \"\", limit: Limit { events: 10000000 } }, rude: None, labels: None })",
     ),
     (
         &["profile", "a", "--petscii"],
-        "Ok(Profile { what: Source(\"a\"), settings: Settings { seed: 1, fit: false, notation: Signs, keys: Digits(\"\"), answers: \"\", limit: Limit { events: 10000000 } }, rude: None, html: None, force: false })",
+        "Ok(Profile { what: Source(\"a\"), settings: Settings { seed: None, fit: false, notation: Signs, keys: Digits(\"\"), answers: \"\", limit: Limit { events: 10000000 } }, rude: None, html: None, force: false })",
     ),
     (
         &["check", "--petscii", "a"],
@@ -288,19 +288,19 @@ static TOOL_JOBS: [(&[&str], &str); 39] = [
     ),
     (
         &["step", "a", "--fit", "--seed", "2"],
-        "Ok(Step { what: Source(\"a\"), settings: Settings { seed: 2, fit: true, notation: Plain, keys: Digits(\"\"), answers: \"\", limit: Limit { events: 10000000 } } })",
+        "Ok(Step { what: Source(\"a\"), settings: Settings { seed: Some(2), fit: true, notation: Plain, keys: Digits(\"\"), answers: \"\", limit: Limit { events: 10000000 } } })",
     ),
     (
         &["step", "--prg", "a", "--seed", "2", "--fit", "--type", "b"],
-        "Ok(Step { what: Prg(\"a\"), settings: Settings { seed: 2, fit: true, notation: Plain, keys: Text(\"b\"), answers: \"\", limit: Limit { events: 10000000 } } })",
+        "Ok(Step { what: Prg(\"a\"), settings: Settings { seed: Some(2), fit: true, notation: Plain, keys: Text(\"b\"), answers: \"\", limit: Limit { events: 10000000 } } })",
     ),
     (
         &["step", "a"],
-        "Ok(Step { what: Source(\"a\"), settings: Settings { seed: 1, fit: false, notation: Plain, keys: Digits(\"\"), answers: \"\", limit: Limit { events: 10000000 } } })",
+        "Ok(Step { what: Source(\"a\"), settings: Settings { seed: None, fit: false, notation: Plain, keys: Digits(\"\"), answers: \"\", limit: Limit { events: 10000000 } } })",
     ),
     (
         &["step", "--keys-file=k", "a"],
-        "Ok(Step { what: Source(\"a\"), settings: Settings { seed: 1, fit: false, notation: Plain, keys: File(\"k\"), answers: \"\", limit: Limit { events: 10000000 } } })",
+        "Ok(Step { what: Source(\"a\"), settings: Settings { seed: None, fit: false, notation: Plain, keys: File(\"k\"), answers: \"\", limit: Limit { events: 10000000 } } })",
     ),
     (
         &[
@@ -315,31 +315,35 @@ static TOOL_JOBS: [(&[&str], &str); 39] = [
             "--seed",
             "7",
         ],
-        "Ok(Step { what: Source(\"a\"), settings: Settings { seed: 7, fit: false, notation: Plain, keys: Digits(\"31\"), answers: \"03\", limit: Limit { events: 5 } } })",
+        "Ok(Step { what: Source(\"a\"), settings: Settings { seed: Some(7), fit: false, notation: Plain, keys: Digits(\"31\"), answers: \"03\", limit: Limit { events: 5 } } })",
     ),
 ];
 
 /// Words of scripts: the clock's seed, and runs that tell of faults.
-static SCRIPT_JOBS: [(&[&str], &str); 5] = [
+static SCRIPT_JOBS: [(&[&str], &str); 6] = [
+    (
+        &["step", "a", "--seed", "1"],
+        "Ok(Step { what: Source(\"a\"), settings: Settings { seed: Some(1), fit: false, notation: Plain, keys: Digits(\"\"), answers: \"\", limit: Limit { events: 10000000 } } })",
+    ),
     (
         &["run", "a", "--seed", "time"],
-        "Ok(Run { what: Source(\"a\"), settings: Settings { seed: 4711, fit: false, notation: Plain, keys: Digits(\"\"), answers: \"\", limit: Limit { events: 10000000 } }, rude: None, labels: None, strict: false })",
+        "Ok(Run { what: Source(\"a\"), settings: Settings { seed: Some(4711), fit: false, notation: Plain, keys: Digits(\"\"), answers: \"\", limit: Limit { events: 10000000 } }, rude: None, labels: None, strict: false })",
     ),
     (
         &["build", "a", "b", "--seed=time"],
-        "Ok(Build { source: \"a\", out: \"b\", seed: 4711, fit: false, notation: Plain, beside: BuildExtras { labels: None, listing: None, dialect: None, map: None, watch: None }, force: false })",
+        "Ok(Build { source: \"a\", out: \"b\", seed: Some(4711), fit: false, notation: Plain, beside: BuildExtras { labels: None, listing: None, dialect: None, map: None, watch: None }, force: false })",
     ),
     (
         &["step", "a", "--seed", "time"],
-        "Ok(Step { what: Source(\"a\"), settings: Settings { seed: 4711, fit: false, notation: Plain, keys: Digits(\"\"), answers: \"\", limit: Limit { events: 10000000 } } })",
+        "Ok(Step { what: Source(\"a\"), settings: Settings { seed: Some(4711), fit: false, notation: Plain, keys: Digits(\"\"), answers: \"\", limit: Limit { events: 10000000 } } })",
     ),
     (
         &["run", "--strict", "a", "--seed", "0"],
-        "Ok(Run { what: Source(\"a\"), settings: Settings { seed: 0, fit: false, notation: Plain, keys: Digits(\"\"), answers: \"\", limit: Limit { events: 10000000 } }, rude: None, labels: None, strict: true })",
+        "Ok(Run { what: Source(\"a\"), settings: Settings { seed: Some(0), fit: false, notation: Plain, keys: Digits(\"\"), answers: \"\", limit: Limit { events: 10000000 } }, rude: None, labels: None, strict: true })",
     ),
     (
         &["play", "a", "--strict", "--seed", "time"],
-        "Ok(Play { what: Source(\"a\"), seed: 4711, fit: false, notation: Plain, limit: Limit { events: 1000000000 }, record: None, screen: false, force: false, strict: true })",
+        "Ok(Play { what: Source(\"a\"), seed: Some(4711), fit: false, notation: Plain, limit: Limit { events: 1000000000 }, record: None, screen: false, force: false, strict: true })",
     ),
 ];
 

@@ -3,7 +3,7 @@ use super::sessions::{MESSAGES, SOURCE};
 use super::support::{One, answers, frames, served, shown};
 use std::test::Fail;
 use tb_codegen::TinyBasic;
-use tb_debug_adapter::serve;
+use tb_debug_adapter::{Usual, serve};
 use tb_streams::Tracked;
 use tb_test_support::{FailingReader, FailingWriter};
 use tb_text::Notation;
@@ -94,7 +94,10 @@ fn a_writer_that_fails_has_a_prefix(rt: HostRuntime) -> Result<(), Fail> {
         let outcome = serve(
             &TinyBasic,
             alloc,
-            Notation::Plain,
+            Usual {
+                notation: Notation::Plain,
+                clock: None,
+            },
             &mut sources,
             &mut reader,
             &mut writer,

@@ -19,6 +19,16 @@ const MESSAGES: [&str; 4] = [
 
 // What an adapter that has a notation answers, where the source is launched with these arguments too.
 fn told(alloc: Global, notation: Notation, more: &str) -> Result<Vec<u8>, Fail> {
+    told_of(alloc, notation, SOURCE, more)
+}
+
+// The same of another source.
+fn told_of(
+    alloc: Global,
+    notation: Notation,
+    source: &[u8],
+    more: &str,
+) -> Result<Vec<u8>, Fail> {
     let launch = format!(in alloc;
         "{{\"seq\":2,\"type\":\"request\",\"command\":\"launch\",\"arguments\":{{\"program\":\"/a/t.bas\"{more}}}}}"
     )?;
@@ -28,7 +38,7 @@ fn told(alloc: Global, notation: Notation, more: &str) -> Result<Vec<u8>, Fail> 
     for message in MESSAGES {
         messages.push(message)?;
     }
-    answers_in(alloc, notation, SOURCE, &messages)
+    answers_in(alloc, notation, source, &messages)
 }
 
 /// Launches whose source may have signs.
@@ -99,6 +109,29 @@ fn the_flag_is_true_or_false(rt: HostRuntime) -> Result<(), Fail> {
             shown(&told).contains("\"message\":\"bad arguments\",\"request_seq\":2,"),
             "{flag}"
         );
+    }
+    Ok(())
+}
+
+/// A source that asks for signs itself, and for a seed. The state after 7 is 58988, that after 0 is 13849, and that after
+/// the clock's 4711 is 49228.
+const OWN: &[u8] = b"10 REM TBC: --petscii --seed 7\n20 PRINT \"{clr}\";RND(1000)\n30 END\n";
+
+/// What is launched, and what the source prints.
+const OWN_LAUNCHES: [(&str, &str); 5] = [
+    ("", "\"output\":\"{93}988\\n"),
+    (",\"petscii\":false", "\"output\":\"{93}988\\n"),
+    (",\"seed\":0", "\"output\":\"{93}849\\n"),
+    (",\"seed\":\"time\"", "\"output\":\"{93}228\\n"),
+    (",\"seed\":\"time\"", "\"category\":\"console\",\"output\":\"the seed is 4711\\n\""),
+];
+
+#[test]
+fn a_source_may_ask_for_signs_and_a_seed(rt: HostRuntime) -> Result<(), Fail> {
+    for (more, wanted) in OWN_LAUNCHES {
+        let told = told_of(rt.alloc(), Notation::Plain, OWN, more)?;
+        let told = shown(&told);
+        assert!(rt; told.contains(wanted), "{told}");
     }
     Ok(())
 }

@@ -237,7 +237,7 @@ fn each_request_in_each_state(rt: HostRuntime) -> Result<(), Fail> {
 }
 
 /// Launches that are refused, and why.
-const LAUNCHES: [(&str, &str); 11] = [
+const LAUNCHES: [(&str, &str); 12] = [
     (r#"{}"#, "bad arguments"),
     (r#"{"program":7}"#, "bad arguments"),
     (r#"{"program":"-"}"#, "bad arguments"),
@@ -247,6 +247,7 @@ const LAUNCHES: [(&str, &str); 11] = [
         "bad arguments",
     ),
     (r#"{"program":"/a/t.bas","seed":65536}"#, "bad arguments"),
+    (r#"{"program":"/a/t.bas","seed":"noon"}"#, "bad arguments"),
     (r#"{"program":"/a/t.bas","rude":-1}"#, "bad arguments"),
     (r#"{"program":"/a/t.bas","noDebug":1}"#, "bad arguments"),
     (r#"{"program":"/a/t.bas","fit":"yes"}"#, "bad arguments"),

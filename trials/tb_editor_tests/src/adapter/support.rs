@@ -4,13 +4,16 @@ use std::io::Read;
 use std::test::Fail;
 use tb_check_engine::Sources;
 use tb_codegen::TinyBasic;
-use tb_debug_adapter::serve;
+use tb_debug_adapter::{Usual, serve};
 use tb_streams::{InputError, Tracked};
 use tb_test_support::FailingReader;
 use tb_text::Notation;
 
 /// Where the source is.
 pub const PATH: &str = "/a/t.bas";
+
+/// The seed that the clock gives.
+pub const CLOCK: u16 = 4711;
 
 /// One source, at `PATH`.
 #[derive(Drop)]
@@ -65,7 +68,10 @@ pub fn served_in<R: Read + Drop>(
     let outcome = serve(
         &TinyBasic,
         alloc,
-        notation,
+        Usual {
+            notation,
+            clock: Some(CLOCK),
+        },
         &mut sources,
         &mut reader,
         &mut writer,

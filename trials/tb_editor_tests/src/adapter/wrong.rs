@@ -78,6 +78,7 @@ fn a_wrong_machine_stops_and_ends_with_its_code(rt: HostRuntime) -> Result<(), F
             limit: 10_000,
             stops_on_entry: false,
             is_plain: false,
+            drawn: None,
         },
         stage: Stage::Loaded,
         typed: 0,

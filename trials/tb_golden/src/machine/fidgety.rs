@@ -12,11 +12,15 @@ pub struct Fidgety {
 }
 
 impl Outside for Fidgety {
+    ghost use Rattle.std.proofs.Common.{◌∙◌};
+    ghost use Rattle.tb_kernal.specs.LawfulEvents.{same_lawful};
     ghost use Rattle.tb_kernal.specs.Machine.{Content, state_of, is_lawful};
 
     ghost gives = { λ _ m e _. is_lawful (state_of m) e ≡ true };
 
     ghost gives_lawful = { λ _ m e _ h. h };
+
+    ghost gives_blindly = { λ _ m e _ sent h. same_lawful e m sent ∙ h };
 
     fn next(&mut self, machine: &Machine) -> Event {
         self.interrupts = !self.interrupts;

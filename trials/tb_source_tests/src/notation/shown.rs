@@ -3,9 +3,9 @@ use std::alloc::Global;
 use std::test::Fail;
 use tb_codegen::TinyBasic;
 use tb_compiled::{CompileSettings, Notation, SizeLimit};
-use tb_driver::Tracked;
+use tb_driver::{Tracked, run_prg};
 use tb_kernal::Quiet;
-use tb_sources::run_within;
+use tb_sources::{read_source, run_within};
 use tb_test_support::keyboard_of;
 
 /// How many events a run takes at most.
@@ -180,13 +180,51 @@ static TYPED: [TypedRow; 3] = [
     ),
 ];
 
-/// Whether a source shows that if these keys are typed, and the run is done.
-pub fn shows(alloc: Global, source: &str, keys: &[u8], shown: &str) -> Result<bool, Fail> {
-    let settings = CompileSettings {
+/// Sources that show themselves by the names of their signs where they are run as sources, and what they show.
+static NAMED: [Row; 5] = [
+    (
+        "10 PRINT \"{blk}{wht}{red}{cyn}{pur}{grn}{blu}{yel}{orng}{brn}{lred}{gry1}{gry2}{lgrn}{lblu}{gry3}\"\n20 END\n",
+        "{blk}{wht}{red}{cyn}{pur}{grn}{blu}{yel}{orng}{brn}{lred}{gry1}{gry2}{lgrn}{lblu}{gry3}\n",
+    ),
+    (
+        "10 PRINT \"{clr}{home}{down}{up}{left}{rght}{rvon}{rvof}{swlc}{swuc}{del}{inst}\"\n20 END\n",
+        "{clr}{home}{down}{up}{left}{rght}{rvon}{rvof}{swlc}{swuc}{del}{inst}\n",
+    ),
+    (
+        "10 PRINT \"{CLR}{2 down}[A]{c1}b{61}{7B}{00}{93}\"\n20 END\n",
+        "{clr}{down}{down}[A]{C1}B{61}{7B}{00}{clr}\n",
+    ),
+    (
+        "10 PRINT \"{rvon}\";7;\"{rvof}\",1\n20 END\n",
+        "{rvon}7{rvof}     1\n",
+    ),
+    ("10 PRINT \"{red}\";1/0\n20 END\n", "{red}\n!2 AT 10\n"),
+];
+
+// Texts of sources have signs.
+fn with_signs() -> CompileSettings {
+    CompileSettings {
         seed: 1,
         size: SizeLimit::Cost,
         notation: Notation::Signs,
+    }
+}
+
+/// Whether the PRG file of a source shows that if these keys are typed, and the run is done.
+pub fn shows(alloc: Global, source: &str, keys: &[u8], shown: &str) -> Result<bool, Fail> {
+    let mut reader = Tracked::new(source.as_bytes());
+    let Ok(compiled) = read_source(&TinyBasic, alloc, &mut reader, with_signs()) else {
+        return Ok(false);
     };
+    let mut file = Tracked::new(compiled.program.prg());
+    let mut writer = Tracked::new(Vec::new(alloc));
+    let keyboard = keyboard_of(alloc, keys, b"")?;
+    let outcome = run_prg(alloc, &mut file, &mut writer, keyboard, LIMIT, &mut Quiet);
+    Ok(writer.stream.as_slice() == shown.as_bytes() && outcome.status() == 0)
+}
+
+// Whether a source shows that where it is run as a source.
+fn shows_by_names(alloc: Global, source: &str, shown: &str) -> Result<bool, Fail> {
     let mut reader = Tracked::new(source.as_bytes());
     let mut writer = Tracked::new(Vec::new(alloc));
     let report = run_within(
@@ -194,12 +232,20 @@ pub fn shows(alloc: Global, source: &str, keys: &[u8], shown: &str) -> Result<bo
         alloc,
         &mut reader,
         &mut writer,
-        settings,
-        keyboard_of(alloc, keys, b"")?,
+        with_signs(),
+        keyboard_of(alloc, b"", b"")?,
         LIMIT,
         &mut Quiet,
     );
     Ok(writer.stream.as_slice() == shown.as_bytes() && report.outcome.status() == 0)
+}
+
+#[test]
+fn a_run_of_a_source_shows_its_signs_by_their_names(rt: HostRuntime) -> Result<(), Fail> {
+    for row in &NAMED {
+        assert!(rt; shows_by_names(rt.alloc(), row.0, row.1)?);
+    }
+    Ok(())
 }
 
 #[test]

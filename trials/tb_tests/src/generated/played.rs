@@ -68,8 +68,8 @@ fn limit_of(run: &SourceRun, lines: &[u8]) -> u64 {
 }
 
 // Whether a fault is told exactly if the source ended by one.
-fn tells_of_fault(run: &SourceRun, note: &Result<Option<EndNote>, AllocError>) -> bool {
-    let is_told = matches!(note, Ok(Some(EndNote::Fault(_))));
+fn tells_of_fault(run: &SourceRun, note: Option<EndNote>) -> bool {
+    let is_told = matches!(note, Some(EndNote::Fault(_)));
     is_told == matches!(run.end, RunEnd::Faulted)
 }
 
@@ -105,7 +105,7 @@ fn plays_as_its_source(alloc: Global, case: &Case) -> Result<bool, Fail> {
         typed.len() == lines.len().saturating_sub(left)
     };
     Ok(agrees(alloc, &run, &ran)?
-        && tells_of_fault(&run, &note)
+        && tells_of_fault(&run, note)
         && case.keys.starts_with(&typed)
         && is_all_handed)
 }

@@ -100,3 +100,13 @@ fn listings_labels_and_maps_have_their_names(rt: HostRuntime) -> Result<(), Fail
     assert!(rt; made.map.as_slice() == MAP.as_bytes());
     Ok(())
 }
+
+#[test]
+fn a_text_of_one_byte_is_in_its_comment(rt: HostRuntime) -> Result<(), Fail> {
+    let source = b"10 PRINT \"*\"\n";
+    let program = compile(rt.alloc(), source, Options { seed: 1 })?;
+    let made = make(rt.alloc(), source, Notation::Plain, &program)?;
+    let sent = b"  LDA #$2A ; 0C10  A9 2A \"*\"\n  JSR send ; 0C12  20 1F 08\n";
+    assert!(rt; contains(&made.listing, sent));
+    Ok(())
+}

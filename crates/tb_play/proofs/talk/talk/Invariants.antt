@@ -1,14 +1,16 @@
 -- What holds at each turn of the loop of `talk` in src/talk.rt.
 use Rattle.std.proofs.Common.{◌≡◌, ◌≤◌, ◌+◌, ◌-◌, List, ℕ, vec_len}
+use Rattle.tb_kernal.specs.Sending.{KnowsLast, with_earlier}
 use Rattle.tb_streams.specs.Uses.{use_of}
+use Rattle.tb_engines.specs.Writing.{kept_sent}
 use Rattle.tb_play.specs.Lines.{most_typed, typed_of}
 use Rattle.tb_play.specs.Talks.{IsAfterLines, WritesBeforeReading}
 use Rattle.tb_play.proofs.talk.talk.Given as goal
 
 abbrev pub invariant-talking : goal.invariant-talking
 invariant-talking g l =
-    (lines : List (List ℕ))
-    × IsAfterLines l.limit l.initial.machine lines l.machine
+    (earlier : List ℕ) × (lines : List (List ℕ)) × KnowsLast kept_sent earlier l.machine.sent
+    × IsAfterLines l.limit l.initial.machine lines (with_earlier earlier l.machine)
     (use_of g.R.Read.remaining l.initial.keys l.keys) (use_of g.W.Write.contents l.initial.writer l.writer)
     × WritesBeforeReading l.limit l.initial.machine
     (use_of g.R.Read.remaining l.initial.keys l.keys) (use_of g.W.Write.contents l.initial.writer l.writer)

@@ -1,0 +1,2 @@
+-- the end of what was sent tells the fault
+pub mod Ending

@@ -1,0 +1,2 @@
+-- where the first word of a text ends
+pub mod FirstWord
