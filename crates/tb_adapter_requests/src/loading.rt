@@ -164,7 +164,7 @@ fn settings_by(manner: Manner, own: OwnOptions) -> CompileSettings
     }
 }
 
-// The same by the source.
+// The compiler's settings of a launch by the source's own words.
 fn settings_for(manner: Manner, source: &[u8]) -> CompileSettings
     ensures { result ≡ spec.compile_settings manner source.now }
 {

@@ -81,7 +81,7 @@ fn near_instruction(alloc: Global, word: &[u8]) -> Result<Option<Vec<u8>>, Alloc
     near_note(alloc, &INSTRUCTIONS, word)
 }
 
-// The same of a word that has as many letters.
+// An instruction that is near a word, if the word has as many letters as each instruction.
 fn instruction_note(alloc: Global, word: &[u8]) -> Result<Option<Vec<u8>>, AllocError>
     ensures { IfOk result (λ r. option_map (λ t. t.items) r ≡ instruction_note word.now) }
 {

@@ -3,8 +3,8 @@
 //! `diagnose`: the diagnostics of a source are those of findings that are the source's by the clause of
 //! `examine_to_fit` (`AreFitted`). A program that is too large by its cost alone is no fault, and an information says so.
 //! There is one for each bad line, line that is too deep, or warning, in their order, with range, severity, code, text and
-//! note, and one for its own word that is no option. Or it says that the source has more than 1,048,576 bytes (`Diagnoses`). `publish` and `publish_none`: the
-//! content reads as the message with just these (`Publishes`).
+//! note, and one for its own word that is no option. Or it says that the source has more than 1,048,576 bytes
+//! (`Diagnoses`). `publish` and `publish_none`: the content reads as the message with just these (`Publishes`).
 #![tactic(auto)]
 
 mod codes;

@@ -30,7 +30,7 @@ abbrev pub WritesMore : Bool → Bool → Use → List ℕ → Type 0
 WritesMore true is writer text = IsWritten is writer text
 WritesMore false is writer text = (is ≡ false) × (writer.new ≡ writer.old) × NeverFails writer
 
--- a stretch of a run: at its end what was sent in it is written as a notation shows it, and only the last bytes of that are kept
+-- a stretch of a run: at its end what was sent in it is written as a notation shows it; the last bytes of that are kept
 pub record RanStretch {O : Type 0} (gives : O → Content → Event → O → Type 0) (o : O) (m : Content) (limit : ℕ) (t : Status) (p : O) (n : Content)
     (notation : Notation) (was is : Bool) (writer : Use) : Type 0 where
   pub whole : Content
@@ -39,7 +39,8 @@ pub record RanStretch {O : Type 0} (gives : O → Content → Event → O → Ty
   pub rest : n ≡ record whole { sent = last_of kept_sent whole.sent; room = n.room }
   pub room : KeepsRoom m n
 
--- a whole run: what is written is what was sent in it, as a notation shows it; the machine may have forgotten the beginning of that
+-- a whole run: what is written is what was sent in it, as a notation shows it; the machine may have forgotten the first
+-- part of that
 pub record RanWriting {O W : Type 0} (gives : O → Content → Event → O → Type 0) (hears : W → Telling → W → Type 0)
     (o : O) (m : Content) (w : W) (limit : ℕ) (t : Status) (p : O) (n : Content) (v : W) (notation : Notation) (is : Bool) (writer : Use) : Type 0 where
   pub earlier : List ℕ

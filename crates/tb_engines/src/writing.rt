@@ -33,9 +33,9 @@ fn sent_after(machine: &Machine, before: usize) -> &[u8]
     &machine.sent()[before..]
 }
 
-/// Lets the events of an outside happen, as `run` does, and then writes what the machine sent meanwhile, as a notation shows
-/// it (`write_shown`), unless the writer has failed before. Of what was sent the machine keeps the last bytes, and has room for more. It takes
-/// no memory.
+/// Lets the events of an outside happen, as `run` does, and then writes what the machine sent meanwhile, as a notation
+/// shows it (`write_shown`), unless the writer has failed before. Of what was sent the machine keeps the last bytes, and
+/// has room for more. It takes no memory.
 pub fn run_stretch<O: Outside, W: Write>(
     machine: &mut Machine,
     outside: &mut O,

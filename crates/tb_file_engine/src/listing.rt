@@ -45,7 +45,7 @@ fn listing_of(alloc: Global, dialect: Option<Dialect>, file: &[u8]) -> Result<Te
     }
 }
 
-// The same, as the texts of all outputs.
+// The listing of a PRG file as the one text that is written.
 fn listed(
     alloc: Global,
     dialect: Option<Dialect>,

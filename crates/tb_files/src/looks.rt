@@ -120,7 +120,7 @@ enum Row {
     Whole,
 }
 
-// The same after the first byte of what is left of a text.
+// How far a line is after one more byte; the text begins with that byte.
 fn after(row: Row, text: &[u8], byte: u8) -> Row
     ensures { result ≡ after row text.now byte }
 {

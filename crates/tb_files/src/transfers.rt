@@ -166,7 +166,8 @@ pub fn transfer<F: FileSystem, W: Work>(
     }
 }
 
-/// The same where all texts are made of the bytes of one input.
+/// Does the work of a command that has one input: it reads it, makes the texts of all outputs of its bytes, and then
+/// writes them in order. It fails as `transfer` does.
 pub fn convert<F: FileSystem, M: Maker>(
     alloc: Global,
     files: &mut F,

@@ -41,14 +41,14 @@ pub struct Server {
     pub notation: Notation,
 }
 
-// That texts are told of as a whole.
+// The capability of texts: they are told of as a whole.
 fn synchronization_value(alloc: Global) -> Result<Value, AllocError>
     ensures { IfOk result (λ v. view v ≡ synchronization) }
 {
     json!(in alloc; {"change": 1, "openClose": true})
 }
 
-// That of code actions the server offers quick fixes.
+// The capability of code actions: the server offers quick fixes.
 fn fixes_value(alloc: Global) -> Result<Value, AllocError>
     ensures { IfOk result (λ v. view v ≡ fixes) }
 {

@@ -91,7 +91,7 @@ impl OwnOptions {
     }
 }
 
-/// The same by the source.
+/// The notation in which a source is read: signs if it asks for them, else the one that is asked for.
 pub fn notation_for(asked: Notation, source: &[u8]) -> Notation
     ensures { result ≡ spec.notation_for asked source.now }
 {

@@ -11,7 +11,8 @@ use Rattle.tb_compiled.specs.declared.settings.SizeLimit.TheVariants.{Memory}
 use Rattle.tb_compiled.specs.Answers.{Compiles}
 use Rattle.tb_compiled.specs.Promise.{Own}
 
--- all that a reader had compiles with these settings and the memory as its limit, and from the first line's address on its file has so many bytes
+-- all that a reader had compiles with these settings and the memory as its limit; from the first line's address on its
+-- file has so many bytes
 pub record FitsWith (own : Own) (settings : CompileSettings) (bytes : ℕ) (reader : Use) : Type 0 where
   pub source : List ℕ
   pub program : Compiled

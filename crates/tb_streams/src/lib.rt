@@ -7,8 +7,8 @@
 //!   says when a stream failed.
 //! - `read_key_file` gives the keys that a key file spells. It refuses exactly the texts that spell none, and files
 //!   that are too large. What `key_file` makes of keys spells them again (`spelled`).
-//! - `host_form`, `key_list` and `address` are their definitions. `write_shown` writes bytes as a notation shows them, or a prefix,
-//!   and takes no memory.
+//! - `host_form`, `key_list` and `address` are their definitions. `write_shown` writes bytes as a notation shows them, or
+//!   a prefix of that, and takes no memory.
 //! - `Outcome::status` is the exit status of how a call ended (`status_of`), by those of its ends and refusals
 //!   (`ExitStatus`). `Outcome::of`: what made nothing ends as it failed (`ended_by`).
 #![tactic(auto)]
