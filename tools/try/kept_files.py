@@ -52,6 +52,8 @@ WAYS = [
     ("disk OUT", ["disk", "OUT", "in.prg"]),
     ("play --record", ["play", "in.ask.bas", "--record", "OUT"]),
     ("profile --html", ["profile", "in.bas", "--html", "OUT"]),
+    ("page OUT", ["page", "in.bas", "OUT"]),
+    ("page --prg", ["page", "--prg", "in.prg", "-o", "OUT"]),
     ("format --in-place", ["format", "--in-place", "OUT"]),
     ("renumber --in-place", ["renumber", "--in-place", "OUT"]),
 ]

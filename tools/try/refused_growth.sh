@@ -248,6 +248,11 @@ check profile warned.bas
 check profile bad.bas
 check profile nowhere.bas
 check profile --prg hello.prg
+check page hello.bas page.html
+check page all.bas page.html --fit --title '<A>'
+check page bad.bas
+check page nowhere.bas
+check page --prg hello.prg page.html
 printf 'n 3\np\n\nb 30\nb\nw A\nf\nc\nrc\nt 9\nt 2\nl\nv\nv A\ne A*2-1\nr\no\nk 7,8\nc\ns 9\nx\nm C000\ni\nh\nz\nq\n' >commands
 check debug all.bas
 check debug all.bas --keys 332c350d --rude 7

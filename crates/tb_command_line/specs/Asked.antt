@@ -1,17 +1,22 @@
 -- The table of the jobs: from which arguments of a command each part of its job comes.
-use Rattle.std.specs.Prelude.{◌≡◌, ◌⊎◌, ◌≢◌, ℕ, List, [], ◌∷◌, ◌++◌, map, codes, string_bytes, Option, Some, MatchOption, option_map, unwrap_or}
+use Rattle.std.specs.Prelude.{◌≡◌, ◌⊎◌, ◌≢◌, ℕ, List, [], ◌∷◌, ◌++◌, map, codes, string_bytes, Option, Some, MatchBool, MatchOption, option_map, unwrap_or}
+use Rattle.std.specs.Str.{bytes_eq}
+use Rattle.std.specs.declared.alloc.Global.{Global}
+use Rattle.std.specs.declared.string.String.{String}
 use Rattle.clap.specs.Words.{first_value, rows_of, subcommand_name_of, subcommand_rows_of}
 use Rattle.clap.specs.declared.parser.matches.ArgMatches.{ArgMatches}
 use Rattle.clap.specs.declared.parser.matches.Found.{Found}
-use Rattle.tb_files.specs.Names.{IsUsualOut}
+use Rattle.tb_files.specs.Names.{IsUsualOut, standard}
 use Rattle.tb_engines.specs.Numbers.{MOST_EVENTS}
 use Rattle.tb_jobs.specs.Numbers.{USUAL_STEP}
 use Rattle.tb_jobs.specs.declared.jobs.Job.{Job}
+use Rattle.tb_jobs.specs.declared.jobs.Runnable.{Runnable}
+use Rattle.tb_jobs.specs.declared.jobs.Runnable.TheVariants.{Source, Prg}
 use Rattle.tb_jobs.specs.declared.jobs.Job.TheVariants as job
 use Rattle.tb_command_line.specs.Table.{name_of}
 use Rattle.tb_command_line.specs.Values.{AreExtras, AreSettings, IsFlag, IsLimit, IsNotation, IsNumber, IsOptional, IsOptionalNumber, IsRunnable, IsSeed, IsTarget, IsText, dialect_in, is_by_clock, or_else, text_in, texts_in}
 use Rattle.tb_command_line.specs.declared.commands.CommandName.{CommandName}
-use Rattle.tb_command_line.specs.declared.commands.CommandName.TheVariants.{Build, Run, Play, Asm, Assemble, Dis, Step, Debug, Profile, Disk, Check, Format, Renumber, Lsp, Dap, Version}
+use Rattle.tb_command_line.specs.declared.commands.CommandName.TheVariants.{Build, Run, Play, Asm, Assemble, Dis, Step, Debug, Profile, Page, Disk, Check, Format, Renumber, Lsp, Dap, Version}
 use Rattle.tb_command_line.specs.declared.parser.TheConstants.{VERSION}
 use Rattle.tb_jobs.specs.declared.jobs.Asked.{Asked}
 
@@ -19,9 +24,9 @@ use Rattle.tb_jobs.specs.declared.jobs.Asked.{Asked}
 abbrev pub out_in : Found → Option (List ℕ)
 out_in found = or_else (first_value found (codes "output")) (first_value found (codes "OUT"))
 
--- a path without its ending `.asm`, if it has that
-abbrev pub IsStem : List ℕ → List ℕ → Type 0
-IsStem path stem = (path ≡ stem ++ codes ".asm") ⊎ (((other : List ℕ) → path ≢ other ++ codes ".asm") × (stem ≡ path))
+-- a path without this ending, if it has that
+abbrev pub IsStem : (ending path stem : List ℕ) → Type 0
+IsStem ending path stem = (path ≡ stem ++ ending) ⊎ (((other : List ℕ) → path ≢ other ++ ending) × (stem ≡ path))
 
 -- the PRG file of a source: the one that is named, and else the usual one of the source's path
 abbrev pub IsOut : Option (List ℕ) → List ℕ → List ℕ → Type 0
@@ -30,7 +35,25 @@ IsOut named path out = MatchOption named (IsUsualOut path out) (λ text. out ≡
 -- that of an assembler text: the one that is named, and else the usual one of its path without `.asm`
 abbrev pub IsAssemblyOut : Option (List ℕ) → List ℕ → List ℕ → Type 0
 IsAssemblyOut named path out =
-    MatchOption named ((stem : List ℕ) × IsStem path stem × IsUsualOut stem out) (λ text. out ≡ text)
+    MatchOption named ((stem : List ℕ) × IsStem (codes ".asm") path stem × IsUsualOut stem out) (λ text. out ≡ text)
+
+-- the page of a file that has this ending, if no other is named: `.html` in its place; from standard input to standard output
+abbrev pub IsUsualPage : (ending path page : List ℕ) → Type 0
+IsUsualPage ending path page =
+    MatchBool (bytes_eq path standard) (page ≡ standard) ((stem : List ℕ) × IsStem ending path stem × (page ≡ stem ++ codes ".html"))
+
+-- the page that is named, and else the usual one of the path
+abbrev pub IsPage : Option (List ℕ) → (ending path page : List ℕ) → Type 0
+IsPage named ending path page = MatchOption named (IsUsualPage ending path page) (λ text. page ≡ text)
+
+-- the file that is written where a PRG file takes the place of SOURCE: by `-o`, and else by the first word
+abbrev pub first_out_in : Found → Option (List ℕ)
+first_out_in found = or_else (first_value found (codes "output")) (first_value found (codes "SOURCE"))
+
+-- the page of what is played on it
+abbrev pub IsPageOf : Found → Runnable → String Global → Type 0
+IsPageOf found (Source path) out = IsPage (out_in found) (codes ".bas") (string_bytes path) (string_bytes out)
+IsPageOf found (Prg path) out = IsPage (first_out_in found) (codes ".prg") (string_bytes path) (string_bytes out)
 
 -- a disk image and its PRG files: OUT is the image, or the first of the files where `-o` names the image
 abbrev pub AreOfDisk : Found → List ℕ → List (List ℕ) → Type 0
@@ -91,6 +114,14 @@ IsJob clock Profile found (job.Profile what settings rude html force) =
     × AreSettings clock found settings
     × IsOptionalNumber found (codes "rude") rude
     × IsOptional found (codes "html") html
+    × IsFlag found (codes "force") force
+IsJob clock Page found (job.Page what out seed fit notation title force) =
+    IsRunnable found what
+    × IsPageOf found what out
+    × IsSeed clock found seed
+    × IsFlag found (codes "fit") fit
+    × IsNotation found notation
+    × IsOptional found (codes "title") title
     × IsFlag found (codes "force") force
 IsJob clock Disk found (job.Disk out files force) =
     AreOfDisk found (string_bytes out) (map string_bytes files.items)

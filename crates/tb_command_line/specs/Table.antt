@@ -4,7 +4,7 @@ use Rattle.std.specs.List.{list_all}
 use Rattle.std.specs.Str.{bytes_eq}
 use Rattle.tb_command_line.specs.declared.commands.CommandRow.{CommandRow}
 use Rattle.tb_command_line.specs.declared.commands.CommandName.{CommandName}
-use Rattle.tb_command_line.specs.declared.commands.CommandName.TheVariants.{Build, Run, Play, Asm, Assemble, Dis, Step, Debug, Profile, Disk, Check, Format, Renumber, Lsp, Dap, Version}
+use Rattle.tb_command_line.specs.declared.commands.CommandName.TheVariants.{Build, Run, Play, Asm, Assemble, Dis, Step, Debug, Profile, Page, Disk, Check, Format, Renumber, Lsp, Dap, Version}
 
 -- what a command is called
 abbrev pub name_of : CommandName → List ℕ
@@ -17,6 +17,7 @@ name_of Dis = codes "dis"
 name_of Step = codes "step"
 name_of Debug = codes "debug"
 name_of Profile = codes "profile"
+name_of Page = codes "page"
 name_of Disk = codes "disk"
 name_of Check = codes "check"
 name_of Format = codes "format"

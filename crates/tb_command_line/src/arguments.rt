@@ -166,6 +166,12 @@ pub const DISK_OUT: Argument = Argument {
     form: Form::File,
 };
 
+pub const PAGE_OUT: Argument = Argument {
+    name: OUT_NAME,
+    help: "The page that is written; SOURCE with .html in place of .bas if it is missing",
+    form: Form::FileIfNamed,
+};
+
 pub const OUTPUT: Argument = Argument {
     name: OUTPUT_NAME,
     help: "The file that is written, in place of OUT",
@@ -182,6 +188,12 @@ pub const PRG: Argument = Argument {
     name: PRG_NAME,
     help: "Run this PRG file in place of a source",
     form: Form::FileInPlaceOf(SOURCE_NAME),
+};
+
+pub const PRG_OF_PAGE: Argument = Argument {
+    name: PRG_NAME,
+    help: "Take this PRG file in place of a source; then the one other word is OUT",
+    form: Form::FileInPlaceOf(OUT_NAME),
 };
 
 pub const SEED: Argument = Argument {
@@ -326,6 +338,12 @@ pub const PLAY_STRICT: Argument = Argument {
     name: STRICT_NAME,
     help: STRICT_HELP,
     form: Form::FlagInPlaceOf(&[PRG_NAME, SCREEN_NAME]),
+};
+
+pub const TITLE: Argument = Argument {
+    name: "title",
+    help: "The page's title; the file's name without its ending if it is missing",
+    form: Form::TextInPlaceOf(&[]),
 };
 
 pub const FORCE: Argument = Argument {

@@ -14,6 +14,7 @@ pub enum CommandName {
     Step,
     Debug,
     Profile,
+    Page,
     Disk,
     Check,
     Format,
@@ -42,7 +43,7 @@ pub fn rows() -> &'static [CommandRow]
     &COMMANDS
 }
 
-static COMMANDS: [CommandRow; 16] = [
+static COMMANDS: [CommandRow; 17] = [
     CommandRow {
         command: CommandName::Build,
         name: "build",
@@ -96,6 +97,14 @@ static COMMANDS: [CommandRow; 16] = [
         name: "profile",
         help: "Run a source or a PRG file, and show what each of its lines or instructions took",
         usage: Some("tbc profile [OPTIONS] <SOURCE>\n       tbc profile [OPTIONS] --prg <FILE>"),
+    },
+    CommandRow {
+        command: CommandName::Page,
+        name: "page",
+        help: "Write a web page on which a source or a PRG file is played",
+        usage: Some(
+            "tbc page [OPTIONS] <SOURCE> [OUT]\n       tbc page [OPTIONS] --prg <FILE> [OUT]",
+        ),
     },
     CommandRow {
         command: CommandName::Disk,

@@ -2,9 +2,9 @@
 use crate::arguments::{
     ANSWERS, ASSEMBLY_OUT, AT, Argument, BUILD_OUT, DISK_OUT, DISK_OUTPUT, FIRST_LINE, FIT, FOR,
     FORCE, IN_PLACE, KEY_FILE, KEYS, LABELS, LIMIT, LINE_STEP, LIST, LIST_FOR, LONG, MAP,
-    ONLY_CHECK, ORIGIN, OUT, OUTPUT, PAGE, PETSCII, PLAY_LIMIT, PLAY_STRICT, PRG, PRG_FILE,
-    PRG_FILES, PRG_LABELS, RECORD, RUDE, SCREEN, SEED, SOURCE, SOURCE_OR_PRG, SOURCES, STRICT,
-    TEXT, TYPE, WATCH,
+    ONLY_CHECK, ORIGIN, OUT, OUTPUT, PAGE, PAGE_OUT, PETSCII, PLAY_LIMIT, PLAY_STRICT, PRG,
+    PRG_FILE, PRG_FILES, PRG_LABELS, PRG_OF_PAGE, RECORD, RUDE, SCREEN, SEED, SOURCE,
+    SOURCE_OR_PRG, SOURCES, STRICT, TEXT, TITLE, TYPE, WATCH,
 };
 use crate::commands::CommandName;
 
@@ -100,6 +100,18 @@ static PROFILE_ARGUMENTS: [Argument; 13] = [
     FORCE,
 ];
 
+static PAGE_ARGUMENTS: [Argument; 9] = [
+    SOURCE_OR_PRG,
+    PAGE_OUT,
+    OUTPUT,
+    PRG_OF_PAGE,
+    SEED,
+    FIT,
+    PETSCII,
+    TITLE,
+    FORCE,
+];
+
 static DISK_ARGUMENTS: [Argument; 4] = [DISK_OUT, PRG_FILES, DISK_OUTPUT, FORCE];
 
 static CHECK_ARGUMENTS: [Argument; 3] = [SOURCES, FIT, PETSCII];
@@ -122,6 +134,7 @@ pub fn arguments_of(command: CommandName) -> &'static [Argument] {
         CommandName::Step => &STEP_ARGUMENTS,
         CommandName::Debug => &DEBUG_ARGUMENTS,
         CommandName::Profile => &PROFILE_ARGUMENTS,
+        CommandName::Page => &PAGE_ARGUMENTS,
         CommandName::Disk => &DISK_ARGUMENTS,
         CommandName::Check => &CHECK_ARGUMENTS,
         CommandName::Format => &FORMAT_ARGUMENTS,

@@ -1,15 +1,15 @@
 //! The words of the command line, read with `clap`: they become a job.
-ghost use Rattle.std.specs.Prelude.{ℕ, ◌≡◌, ◌∷◌, IfOk, Option};
+ghost use Rattle.std.specs.Prelude.{ℕ, ◌≡◌, ◌∷◌, IfOk, Option, codes, string_bytes};
 ghost use Rattle.clap.specs.Words.{found_of};
 ghost use Rattle.tb_jobs.specs.Limits.{IsWithinLimit};
-ghost use Rattle.tb_command_line.specs.Asked.{IsAsked, IsJob, IsStem};
+ghost use Rattle.tb_command_line.specs.Asked.{IsAsked, IsJob, IsPage, IsPageOf, IsStem, IsUsualPage, first_out_in, out_in};
 ghost use Rattle.tb_command_line.specs.declared.commands.CommandName.TheVariants as command;
 ghost use Rattle.clap.specs.declared.parser.matches.Found.{Found};
 
 use crate::arguments::{
     ASSEMBLY_OUT, AT, BUILD_OUT, DISK_OUT, DISK_OUTPUT, FIRST_LINE, LABELS, LINE_STEP, LIST,
-    ORIGIN, OUT, OUTPUT, PAGE, PLAY_LIMIT, PRG_FILE, PRG_FILES, PRG_LABELS, RECORD, SOURCE,
-    SOURCES, TEXT,
+    ORIGIN, OUT, OUTPUT, PAGE, PAGE_OUT, PLAY_LIMIT, PRG_FILE, PRG_FILES, PRG_LABELS, RECORD,
+    SOURCE, SOURCE_OR_PRG, SOURCES, TEXT, TITLE,
 };
 use crate::commands::{CommandName, command_named, rows};
 use crate::parser::{VERSION, parser};
@@ -23,8 +23,12 @@ use clap::ArgMatches;
 use clap::error::ErrorKind;
 use std::alloc::{AllocError, Global};
 use std::convert::AsStr;
-use tb_files::usual_out;
-use tb_jobs::{Asked, Job, JobError, Limit};
+use tb_files::{STANDARD, usual_out};
+use tb_jobs::{Asked, Job, JobError, Limit, Runnable};
+
+// What is said where a page is named twice, in the parser's form.
+const TWO_PAGES: &str =
+    "error: the argument '[OUT]' cannot be used with '-o <OUT>'\n\nFor more information, try '--help'.\n";
 
 /// Reads the words after the program's own name. The clock's seed is the one that `time` stands for.
 pub fn job<S: AsStr>(alloc: Global, words: &[S], clock: Option<u16>) -> Result<Asked, JobError>
@@ -114,6 +118,7 @@ fn job_of(
         CommandName::Step => step_job(alloc, found, clock),
         CommandName::Debug => debug_job(alloc, found, clock),
         CommandName::Profile => profile_job(alloc, found, clock),
+        CommandName::Page => page_job(alloc, found, clock),
         CommandName::Disk => disk_job(alloc, found),
         CommandName::Check => check_job(alloc, found),
         CommandName::Format => format_job(alloc, found),
@@ -190,11 +195,11 @@ fn asm_job(alloc: Global, found: &ArgMatches<'_>) -> Result<Job, JobError>
     })
 }
 
-// The path of an assembler text without its ending.
-fn stem_of(text: &str) -> &str
-    ensures { IsStem text.now result.now }
+// A path without this ending.
+fn stem_of<'a>(path: &'a str, ending: &str) -> &'a str
+    ensures { IsStem ending.now path.now result.now }
 {
-    text.strip_suffix(".asm").unwrap_or(text)
+    path.strip_suffix(ending).unwrap_or(path)
 }
 
 fn assemble_job(alloc: Global, found: &ArgMatches<'_>) -> Result<Job, JobError>
@@ -204,7 +209,7 @@ fn assemble_job(alloc: Global, found: &ArgMatches<'_>) -> Result<Job, JobError>
     let text = text(alloc, found, &TEXT)?;
     let out = match first_text(alloc, found, &OUTPUT, &ASSEMBLY_OUT)? {
         Some(out) => out,
-        None => usual_out(alloc, stem_of(text.as_str()))?,
+        None => usual_out(alloc, stem_of(text.as_str(), ".asm"))?,
     };
     Ok(Job::Assemble {
         text,
@@ -258,6 +263,68 @@ fn profile_job(alloc: Global, found: &ArgMatches<'_>, clock: Option<u16>) -> Res
         settings: settings_of(alloc, found, clock)?,
         rude: rude_of(found),
         html: optional_text(alloc, found, &PAGE)?,
+        force: force_of(found),
+    })
+}
+
+// The page of a file that has this ending, if no other is named.
+fn usual_page(alloc: Global, path: &str, ending: &str) -> Result<String, AllocError>
+    ensures { IfOk result (λ page. IsUsualPage ending.now path.now (string_bytes page)) }
+{
+    if path == STANDARD {
+        return String::from_str(alloc, STANDARD);
+    }
+    let mut page = String::from_str(alloc, stem_of(path, ending))?;
+    page.push_str(".html")?;
+    Ok(page)
+}
+
+// The page of a source: by `-o` or OUT, and else the usual one.
+fn page_of_source(alloc: Global, found: &ArgMatches<'_>, source: &str) -> Result<String, JobError>
+    ensures { IfOk result (λ page. IsPage (out_in (found_of found.now)) (codes ".bas") source.now (string_bytes page)) }
+{
+    Ok(match first_text(alloc, found, &OUTPUT, &PAGE_OUT)? {
+        Some(out) => out,
+        None => usual_page(alloc, source, ".bas")?,
+    })
+}
+
+// The page of a PRG file: by `-o` or the word in the place of SOURCE, and else the usual one. Both at once are refused.
+fn page_of_prg(alloc: Global, found: &ArgMatches<'_>, prg: &str) -> Result<String, JobError>
+    ensures { IfOk result (λ page. IsPage (first_out_in (found_of found.now)) (codes ".prg") prg.now (string_bytes page)) }
+{
+    if found.get_str(OUTPUT.name).is_some() && found.get_str(SOURCE_OR_PRG.name).is_some() {
+        return Err(JobError::Words(String::from_str(alloc, TWO_PAGES)?));
+    }
+    Ok(match first_text(alloc, found, &OUTPUT, &SOURCE_OR_PRG)? {
+        Some(out) => out,
+        None => usual_page(alloc, prg, ".prg")?,
+    })
+}
+
+// The page of what is played on it.
+fn page_out(alloc: Global, found: &ArgMatches<'_>, what: &Runnable) -> Result<String, JobError>
+    ensures { IfOk result (IsPageOf (found_of found.now) what.now) }
+{
+    match what {
+        Runnable::Source(source) => page_of_source(alloc, found, source.as_str()),
+        Runnable::Prg(prg) => page_of_prg(alloc, found, prg.as_str()),
+    }
+}
+
+fn page_job(alloc: Global, found: &ArgMatches<'_>, clock: Option<u16>) -> Result<Job, JobError>
+    ensures limit { IfOk result IsWithinLimit }
+    ensures asked { IfOk result (IsJob clock command.Page (found_of found.now)) }
+{
+    let what = runnable_of(alloc, found)?;
+    let out = page_out(alloc, found, &what)?;
+    Ok(Job::Page {
+        what,
+        out,
+        seed: seed_of(alloc, found, clock)?,
+        fit: fit_of(found),
+        notation: notation_of(found),
+        title: optional_text(alloc, found, &TITLE)?,
         force: force_of(found),
     })
 }

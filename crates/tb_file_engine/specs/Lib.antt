@@ -12,3 +12,5 @@ pub mod Memory
 pub mod Builds
 -- what a profile writes, and what it does with files
 pub mod Profiles
+-- what a web page is made of, and what making it does with files
+pub mod Pages

@@ -44,7 +44,7 @@ abbrev pub outputs : Option (List ℕ) → List (List ℕ)
 outputs None = standard ∷ []
 outputs (Some path) = standard ∷ path ∷ []
 
--- what is reported of a profile, by how it ended
+-- what is reported of a source whose texts were made, by how that ended
 abbrev pub IsReport : AnyOutcome Told Refusal → Report → Type 0
 IsReport (Ended told) report = (report.outcome ≡ Ended told.end) × (report.warnings ≡ told.warnings)
 IsReport (Refused e) report = (report.outcome ≡ Refused e) × (report.warnings.items ≡ [])

@@ -20,6 +20,8 @@
 //!   (`ChecksTidy`). `renumber_file` and `renumber_in_place`: the text with other line numbers (`MakesRenumbered`).
 //! - `profile_file`: standard output gets the table of the source's run, and then the page's file its page, if one is
 //!   named (`MakesPages`, `ProfilesFile`). `profile_prg_file`: the table of the PRG file's run (`MakesTable`).
+//! - `page_file`: OUT is the web page of the source's program, with a row for each of its lines (`MakesSourcePage`,
+//!   `PagesFile`). `page_prg_file`: the page of a PRG file that can be started (`MakesPrgPage`).
 //! - `FileSources` reads the sources of a check, as `read_file` of tb_files does. `opened` and `save` open or write one
 //!   file, and answer a fault only if that failed (`OpensFile`, `SavesFile`).
 //!
@@ -31,6 +33,7 @@ mod building;
 mod disks;
 mod formatting;
 mod listing;
+mod paging;
 mod profiling;
 mod renumbering;
 mod saving;
@@ -41,8 +44,10 @@ pub use building::{BuildNames, build_file};
 pub use disks::disk_file;
 pub use formatting::{FormatOutcome, Tidiness, check_format, format_file, format_in_place};
 pub use listing::{Dialect, list_file};
+pub use paging::{page_file, page_prg_file};
 pub use profiling::{profile_file, profile_prg_file};
 pub use renumbering::{RenumberOutcome, RenumberRefusal, renumber_file, renumber_in_place};
 pub use saving::{opened, save};
 pub use sources::FileSources;
+pub use tb_page::title_of;
 pub use tb_renumber::Numbering;

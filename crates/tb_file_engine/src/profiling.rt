@@ -18,11 +18,11 @@ use tb_profile_table::Texts;
 use tb_streams::Outcome;
 use tb_watch::Watch;
 
-// How a profile ended whose texts were written, and what there is to warn of.
+/// How making the texts of a source ended that were written, and what there is to warn of.
 #[derive(Drop)]
-struct Told {
-    end: End,
-    warnings: Vec<Warning>,
+pub struct Told {
+    pub end: End,
+    pub warnings: Vec<Warning>,
 }
 
 // The table, and the page behind it, if it is wanted.
@@ -112,8 +112,8 @@ impl<O: Outside + Drop, W: Watch + Drop> Maker for PrgProfile<O, W> {
     }
 }
 
-// What is reported of a profile.
-fn report_of(alloc: Global, ended: Outcome<Told, Refusal>) -> Report
+/// What is reported of a source whose texts were made.
+pub fn report_of(alloc: Global, ended: Outcome<Told, Refusal>) -> Report
     ensures { IsReport ended result }
 {
     match ended {

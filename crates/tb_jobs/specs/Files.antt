@@ -6,14 +6,15 @@ use Rattle.hex.specs.Hex.{decode_of, is_hex_digit}
 use Rattle.std.specs.declared.string.String.{String}
 use Rattle.tb_files.specs.Looks.{code_kind}
 use Rattle.tb_files.specs.declared.looks.Kind.{Kind}
-use Rattle.tb_files.specs.declared.looks.Kind.TheVariants.{Program, Code, Image, Labels, Listing, Map, Watch, Page, Keys}
+use Rattle.tb_files.specs.declared.looks.Kind.TheVariants.{Program, Code, Image, Labels, Listing, Map, Watch, Keys}
+use Rattle.tb_files.specs.declared.looks.Kind.TheVariants as kind
 use Rattle.tb_jobs.specs.declared.jobs.BuildExtras.{BuildExtras}
 use Rattle.tb_jobs.specs.declared.jobs.Typed.{Typed}
 use Rattle.tb_jobs.specs.declared.jobs.Typed.TheVariants.{Digits, File, Text}
 use Rattle.tb_jobs.specs.declared.jobs.Runnable.{Runnable}
 use Rattle.tb_jobs.specs.declared.jobs.Runnable.TheVariants.{Source, Prg}
 use Rattle.tb_jobs.specs.declared.jobs.Job.{Job}
-use Rattle.tb_jobs.specs.declared.jobs.Job.TheVariants.{Build, Run, Play, Asm, Assemble, Dis, Step, Debug, Profile, Disk, Check, Format, Renumber, Lsp, Dap, Show}
+use Rattle.tb_jobs.specs.declared.jobs.Job.TheVariants.{Build, Run, Play, Asm, Assemble, Dis, Step, Debug, Profile, Page, Disk, Check, Format, Renumber, Lsp, Dap, Show}
 
 -- where standard input is found as a file
 abbrev pub standard_input : List ℕ
@@ -52,7 +53,7 @@ keys_of (Digits digits) = []
 keys_of (File file) = input_path (string_bytes file) ∷ []
 keys_of (Text text) = []
 
--- what is run, played or profiled
+-- what is run, played, profiled or made a page of
 abbrev pub path_of : Runnable → List ℕ
 path_of (Source program) = string_bytes program
 path_of (Prg program) = string_bytes program
@@ -64,6 +65,7 @@ kept_of (Play what seed fit notation limit made screen force strict) = input_pat
 kept_of (Asm text out at force) = input_path (string_bytes text) ∷ []
 kept_of (Assemble text out at long labels listing force) = input_path (string_bytes text) ∷ []
 kept_of (Profile what settings rude html force) = input_path (path_of what) ∷ standard_output ∷ keys_of settings.keys
+kept_of (Page what out seed fit notation title force) = input_path (path_of what) ∷ []
 kept_of (Disk out files force) = map (λ f. input_path (string_bytes f)) files.items
 kept_of (Run what settings rude labels strict) = []
 kept_of (Dis prg dialect) = []
@@ -85,7 +87,8 @@ Writes (Asm text out at force) puts =
     (address : Option ℕ) × IsAddress (string_bytes at) address × (puts ≡ (output_path (string_bytes out), code_kind (string_bytes out) address) ∷ [])
 Writes (Assemble text out at long labels listing force) puts =
     puts ≡ (output_path (string_bytes out), Code None) ∷ wanted Labels labels ++ wanted Listing listing
-Writes (Profile what settings rude html force) puts = puts ≡ wanted Page html
+Writes (Profile what settings rude html force) puts = puts ≡ wanted kind.Page html
+Writes (Page what out seed fit notation title force) puts = puts ≡ (output_path (string_bytes out), kind.Page) ∷ []
 Writes (Disk out files force) puts = puts ≡ (output_path (string_bytes out), Image) ∷ []
 Writes (Run what settings rude labels strict) puts = puts ≡ []
 Writes (Dis prg dialect) puts = puts ≡ []
@@ -105,6 +108,7 @@ is_forced (Play what seed fit notation limit made screen force strict) = force
 is_forced (Asm text out at force) = force
 is_forced (Assemble text out at long labels listing force) = force
 is_forced (Profile what settings rude html force) = force
+is_forced (Page what out seed fit notation title force) = force
 is_forced (Disk out files force) = force
 is_forced (Run what settings rude labels strict) = false
 is_forced (Dis prg dialect) = false

@@ -3,7 +3,7 @@ use Rattle.std.specs.Prelude.{◌≤◌, ⊤}
 use Rattle.tb_engines.specs.Numbers.{MOST_EVENTS}
 use Rattle.tb_jobs.specs.declared.jobs.Limit.{Limit}
 use Rattle.tb_jobs.specs.declared.jobs.Job.{Job}
-use Rattle.tb_jobs.specs.declared.jobs.Job.TheVariants.{Build, Run, Play, Asm, Assemble, Dis, Step, Debug, Profile, Disk, Check, Format, Renumber, Lsp, Dap, Show}
+use Rattle.tb_jobs.specs.declared.jobs.Job.TheVariants.{Build, Run, Play, Asm, Assemble, Dis, Step, Debug, Profile, Page, Disk, Check, Format, Renumber, Lsp, Dap, Show}
 
 -- a limit of 1 to MOST_EVENTS events
 abbrev pub IsWithin : Limit → Type 0
@@ -20,6 +20,7 @@ IsWithinLimit (Dis prg dialect) = ⊤
 IsWithinLimit (Step what settings) = IsWithin settings.limit
 IsWithinLimit (Debug what settings rude labels) = IsWithin settings.limit
 IsWithinLimit (Profile what settings rude html force) = IsWithin settings.limit
+IsWithinLimit (Page what out seed fit notation title force) = ⊤
 IsWithinLimit (Disk out files force) = ⊤
 IsWithinLimit (Check sources fit notation) = ⊤
 IsWithinLimit (Format source notation target) = ⊤

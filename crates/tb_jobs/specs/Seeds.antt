@@ -4,7 +4,7 @@ use Rattle.tb_jobs.specs.Numbers.{CLOCK_SEEDS}
 use Rattle.tb_jobs.specs.declared.jobs.Runnable.{Runnable}
 use Rattle.tb_jobs.specs.declared.jobs.Runnable.TheVariants.{Source, Prg}
 use Rattle.tb_jobs.specs.declared.jobs.Job.{Job}
-use Rattle.tb_jobs.specs.declared.jobs.Job.TheVariants.{Build, Run, Play, Asm, Assemble, Dis, Step, Debug, Profile, Disk, Check, Format, Renumber, Lsp, Dap, Show}
+use Rattle.tb_jobs.specs.declared.jobs.Job.TheVariants.{Build, Run, Play, Asm, Assemble, Dis, Step, Debug, Profile, Page, Disk, Check, Format, Renumber, Lsp, Dap, Show}
 
 -- the seed that is made of a time in milliseconds: one of 1 to CLOCK_SEEDS, and the next one a millisecond later
 abbrev pub clock_seed : ℕ → ℕ
@@ -23,6 +23,7 @@ seed_of (Play what seed fit notation limit made screen force strict) = seed_for 
 seed_of (Step what settings) = seed_for what settings.seed
 seed_of (Debug what settings rude labels) = seed_for what settings.seed
 seed_of (Profile what settings rude html force) = seed_for what settings.seed
+seed_of (Page what out seed fit notation title force) = seed_for what seed
 seed_of (Asm text out at force) = None
 seed_of (Assemble text out at long labels listing force) = None
 seed_of (Dis prg dialect) = None

@@ -71,7 +71,7 @@ fn kind_text(kind: Kind) -> &'static str {
         Kind::Listing => "a listing",
         Kind::Map => "a map",
         Kind::Watch => "a watch file",
-        Kind::Page => "a page of tbc profile",
+        Kind::Page => "a page of tbc",
         Kind::Keys => "a key file",
     }
 }

@@ -109,6 +109,10 @@ impl Job {
             Job::Asm { text, .. } | Job::Assemble { text, .. } => {
                 one(alloc, input_path(text.as_str()))
             }
+            Job::Page { what, .. } => {
+                let (Runnable::Source(program) | Runnable::Prg(program)) = what;
+                one(alloc, input_path(program.as_str()))
+            }
             Job::Disk { files, .. } => all_inputs(alloc, files.as_slice()),
             Job::Play { what, .. } => {
                 let (Runnable::Source(program) | Runnable::Prg(program)) = what;
@@ -138,6 +142,7 @@ impl Job {
                 code_kind(out.as_str(), address(at)),
                 out.as_str(),
             ),
+            Job::Page { out, .. } => only(alloc, Kind::Page, out.as_str()),
             Job::Disk { out, .. } => only(alloc, Kind::Image, out.as_str()),
             Job::Assemble {
                 out,
@@ -165,6 +170,7 @@ impl Job {
             | Job::Asm { force, .. }
             | Job::Assemble { force, .. }
             | Job::Profile { force, .. }
+            | Job::Page { force, .. }
             | Job::Disk { force, .. } => *force,
             _ => false,
         }

@@ -215,6 +215,21 @@ pub enum Job {
         /// Whether a file is replaced that looks like something else.
         force: bool,
     },
+    /// Writes a program's web page.
+    Page {
+        what: Runnable,
+        out: String,
+        /// The first state of RND, if the words say it.
+        seed: Option<u16>,
+        /// Whether a source is refused as too large only if it doesn't fit the memory.
+        fit: bool,
+        /// How its texts are read.
+        notation: Notation,
+        /// The page's title, if the words say it.
+        title: Option<String>,
+        /// Whether a file is replaced that looks like something else.
+        force: bool,
+    },
     /// Writes a disk image.
     Disk {
         out: String,

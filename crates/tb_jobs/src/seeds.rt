@@ -34,7 +34,7 @@ impl Job {
     {
         match self {
             Job::Build { seed, .. } => *seed,
-            Job::Play { what, seed, .. } => seed_for(what, *seed),
+            Job::Play { what, seed, .. } | Job::Page { what, seed, .. } => seed_for(what, *seed),
             Job::Run { what, settings, .. }
             | Job::Step { what, settings }
             | Job::Debug { what, settings, .. }

@@ -18,6 +18,7 @@ impl Job {
             | Job::Step { .. }
             | Job::Debug { .. }
             | Job::Profile { .. }
+            | Job::Page { .. }
             | Job::Disk { .. }
             | Job::Check { .. }
             | Job::Format { .. }

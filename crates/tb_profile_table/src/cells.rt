@@ -17,9 +17,9 @@ pub struct Scale {
     pub largest: u64,
 }
 
-// Appends a byte of a text, escaped if HTML would read it otherwise.
+/// Appends a byte of a text, escaped if HTML would read it otherwise.
 #[tactic(auto, unfolding(crate::specs::Cells::escaped))]
-fn push_escaped(text: &mut Vec<u8>, byte: u8) -> Result<(), AllocError>
+pub fn push_escaped(text: &mut Vec<u8>, byte: u8) -> Result<(), AllocError>
     ensures { AppendsBytes result text.old text.new (escaped byte) }
 {
     match byte {

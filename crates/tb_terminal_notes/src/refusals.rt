@@ -190,6 +190,13 @@ fn compiled_by(job: &Job) -> Option<Compiles<'_>> {
             fit,
             notation,
             ..
+        }
+        | Job::Page {
+            what: Runnable::Source(source),
+            seed,
+            fit,
+            notation,
+            ..
         } => Some(Compiles {
             source: source.as_str(),
             wanted: Wanted {

@@ -1,5 +1,5 @@
-//! The commands on texts, over the files of the system: a text is assembled, sources are checked, tidied and
-//! renumbered, and an editor is served.
+//! The commands on texts, over the files of the system: a text is assembled, sources are checked, tidied, renumbered and
+//! made web pages of, and an editor is served.
 //!
 //! All is safe and total. Which file is opened and which engine is called only tests show
 //! (`tools/try/command_line.sh`).
@@ -8,11 +8,13 @@
 mod assembling;
 mod checking;
 mod formatting;
+mod paging;
 mod renumbering;
 mod serving;
 
 pub use assembling::assemble;
 pub use checking::check_files;
 pub use formatting::format_file;
+pub use paging::page;
 pub use renumbering::renumber_file;
 pub use serving::{serve_debugger, serve_editor};

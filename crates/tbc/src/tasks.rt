@@ -14,7 +14,7 @@ use tb_host::{Host, Wanted, settings_for, size_limit};
 use tb_run_commands::{Playing, debug, play, profile, run, setting_of, step};
 use tb_streams::{Tracked, address, write_output};
 use tb_text_commands::{
-    assemble, check_files, format_file, renumber_file, serve_debugger, serve_editor,
+    assemble, check_files, format_file, page, renumber_file, serve_debugger, serve_editor,
 };
 
 /// Does what the words ask for, if the files that are to be written may be. A prompt is shown before a debugger's command
@@ -86,6 +86,7 @@ fn run_job<R: Files + Env + Clock + Print + Eprint + Input + AllocGlobal>(
         }
         Job::Step { what, settings } => Ending::Report(step(host, what, settings)?),
         Job::Build { .. }
+        | Job::Page { .. }
         | Job::Asm { .. }
         | Job::Assemble { .. }
         | Job::Dis { .. }
@@ -122,6 +123,23 @@ fn other_job<R: Files + Clock + Print + Eprint + Input + AllocGlobal>(
             };
             let settings = settings_for(host, source, wanted);
             Ok(build(host, source, out, settings, beside))
+        }
+        Job::Page {
+            what,
+            out,
+            seed,
+            fit,
+            notation,
+            title,
+            ..
+        } => {
+            let wanted = Wanted {
+                seed: *seed,
+                fit: *fit,
+                notation: *notation,
+            };
+            let report = page(host, what, out, name_of(title), wanted);
+            Ok(Ending::Report(report))
         }
         Job::Asm { text, out, at, .. } => assemble_at(host, text, out, at),
         Job::Assemble {

@@ -96,6 +96,7 @@ lost_files() {
         row 2 'tbc: same file twice' '' asm "$path" -o in/up/a.bas --at c000
         row 2 'tbc: same file twice' '' play a.bas --record "$path"
         row 2 'tbc: same file twice' '' profile a.bas --html "$path"
+        row 2 'tbc: same file twice' '' page a.bas "$path"
         row 2 'tbc: same file twice' '' profile b.bas --keys-file a.bas --html "$path"
         from=a.bas
         row 2 'tbc: same file twice' '' build - "$path"
@@ -137,6 +138,7 @@ lost_files() {
     row 2 'tbc: b.bas is a source' '' asm routine.s b.bas --at c000
     row 2 'tbc: b.bas is a source' '' play a.bas --record b.bas
     row 2 'tbc: b.bas is a source' '' profile a.bas --html b.bas
+    row 2 'tbc: b.bas is a source' '' page a.bas b.bas
     same b.bas b.kept
     same a.bas a.kept
     elsewhere=yes

@@ -1,5 +1,6 @@
-//! The tests of what users call: playing, debugging, disks, listings, profiles, engines over streams that fail or are cut
-//! off, and which words become which job. There is nothing else in this crate, as in tb_tests, which is proved beside it.
+//! The tests of what users call: playing, debugging, disks, listings, profiles, web pages, engines over streams that
+//! fail or are cut off, and which words become which job. There is nothing else in this crate, as in tb_tests, which is
+//! proved beside it.
 #![tactic(auto)]
 
 #[cfg(test)]
@@ -10,6 +11,8 @@ mod debug;
 mod disk;
 #[cfg(test)]
 mod listing;
+#[cfg(test)]
+mod pages;
 #[cfg(test)]
 mod play;
 #[cfg(test)]

@@ -137,7 +137,7 @@ static JOBS: [(&[&str], &str); 28] = [
 ];
 
 /// The same, of commands that look at programs or at sources.
-static TOOL_JOBS: [(&[&str], &str); 39] = [
+static TOOL_JOBS: [(&[&str], &str); 46] = [
     (&["dis", "a"], "Ok(Dis { prg: \"a\", dialect: None })"),
     (
         &["dis", "a", "--for", "64tass"],
@@ -201,6 +201,34 @@ static TOOL_JOBS: [(&[&str], &str); 39] = [
     (
         &["profile", "--prg=a", "--rude", "7"],
         "Ok(Profile { what: Prg(\"a\"), settings: Settings { seed: None, fit: false, notation: Plain, keys: Digits(\"\"), answers: \"\", limit: Limit { events: 10000000 } }, rude: Some(7), html: None, force: false })",
+    ),
+    (
+        &["page", "d/a.bas"],
+        "Ok(Page { what: Source(\"d/a.bas\"), out: \"d/a.html\", seed: None, fit: false, notation: Plain, title: None, force: false })",
+    ),
+    (
+        &["page", "-", "--title", "-A", "--seed", "7", "--fit", "--petscii", "--force"],
+        "Ok(Page { what: Source(\"-\"), out: \"-\", seed: Some(7), fit: true, notation: Signs, title: Some(\"-A\"), force: true })",
+    ),
+    (
+        &["page", "a.prg", "b"],
+        "Ok(Page { what: Source(\"a.prg\"), out: \"b\", seed: None, fit: false, notation: Plain, title: None, force: false })",
+    ),
+    (
+        &["page", "a", "-o", "b"],
+        "Ok(Page { what: Source(\"a\"), out: \"b\", seed: None, fit: false, notation: Plain, title: None, force: false })",
+    ),
+    (
+        &["page", "--prg", "a.prg"],
+        "Ok(Page { what: Prg(\"a.prg\"), out: \"a.html\", seed: None, fit: false, notation: Plain, title: None, force: false })",
+    ),
+    (
+        &["page", "--prg", "a.bas", "b"],
+        "Ok(Page { what: Prg(\"a.bas\"), out: \"b\", seed: None, fit: false, notation: Plain, title: None, force: false })",
+    ),
+    (
+        &["page", "--prg=-", "-o", "b"],
+        "Ok(Page { what: Prg(\"-\"), out: \"b\", seed: None, fit: false, notation: Plain, title: None, force: false })",
     ),
     (
         &["disk", "o", "a"],
@@ -348,7 +376,7 @@ static SCRIPT_JOBS: [(&[&str], &str); 6] = [
 ];
 
 /// Words that are refused.
-static REFUSED: [&[&str]; 64] = [
+static REFUSED: [&[&str]; 70] = [
     &["run", "a", "--seed", "noon"],
     &["run", "a", "--seed", "TIME"],
     &["run", "a", "--seed", ""],
@@ -375,6 +403,12 @@ static REFUSED: [&[&str]; 64] = [
     &["run"],
     &["run", "a", "--prg", "b"],
     &["run", "a", "b"],
+    &["page"],
+    &["page", "a", "b", "c"],
+    &["page", "a", "b", "-o", "c"],
+    &["page", "--prg", "p", "a", "b"],
+    &["page", "--prg", "p", "a", "-o", "b"],
+    &["page", "a", "--title"],
     &["run", "a", "--labels", "v"],
     &["run", "--prg", "p", "--labels"],
     &["debug", "a", "--labels", "v"],

@@ -1,7 +1,7 @@
 -- Each command is found by its name, and each row has its command's, by computing. A command that no row has is refused here,
 -- and so is another name.
 use Rattle.std.proofs.Common.{refl}
-use Rattle.tb_command_line.specs.declared.commands.CommandName.TheVariants.{Build, Run, Play, Asm, Assemble, Dis, Step, Debug, Profile, Disk, Check, Format, Renumber, Lsp, Dap, Version}
+use Rattle.tb_command_line.specs.declared.commands.CommandName.TheVariants.{Build, Run, Play, Asm, Assemble, Dis, Step, Debug, Profile, Page, Disk, Check, Format, Renumber, Lsp, Dap, Version}
 use Rattle.tb_command_line.proofs.commands.rows.Goals as goal
 
 pub returns-clause-each : goal.returns-clause-each
@@ -14,6 +14,7 @@ returns-clause-each c Dis = refl
 returns-clause-each c Step = refl
 returns-clause-each c Debug = refl
 returns-clause-each c Profile = refl
+returns-clause-each c Page = refl
 returns-clause-each c Disk = refl
 returns-clause-each c Check = refl
 returns-clause-each c Format = refl
