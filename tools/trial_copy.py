@@ -2,8 +2,8 @@
 """Copies what a trial run of a program needs, so that it has less to build: tools/trial_copy.py FOLDER PROGRAM [WORD..]
 
 The copy has the sources of the program and of the crates below it, and no definitions: a trial run tests no contract, and
-the toolchain would read them for a hint alone. With the WORDs of a command of tbc, the matches of jobs in
-crates/tbc/src/tasks.rt keep the arms of that command and of texts. Then whatever nothing names any more is left out:
+the toolchain would read them for a hint alone. With the WORDs of a command of tbc, the match of jobs in
+crates/tbc/src/tasks.rt keeps the arms of that command and of texts. Then whatever nothing names any more is left out:
 functions, types, variants, modules and crates; of the program, and of the crates that have its commands. What is kept is
 word for word what the repository has, but for one function: where the words are `run FILE` and no more, the copy takes the
 FILE without reading options, so that it doesn't need the reader of the command line, which is a third of all that there is
@@ -19,8 +19,9 @@ NAMED = re.compile(r"(?:pub(?:\([a-z]+\))? )?(?:fn|struct|enum|const|static|type
 TRAITS = {"IsTerminal", "MetadataExt", "Read", "Write"}  # an import of these is used without being named
 USE = re.compile(r"(?:pub |ghost )?use |//!|#!")  # and the head of a file
 MODULE = re.compile(r"(?:pub )?mod \w+;")
-MATCH = re.compile(r"(?m)^ {4}(?:Ok\(Some\()?match job \{\n")
-OTHERS = {"fn run_job<": "return Ok(None)", "fn other_job<": "Err(Failure::NoMemory)"}  # what all other commands do there
+MATCH = re.compile(r"(?m)^ {4}match job \{\n")
+PERFORM = "pub fn perform<"  # the function with the match of jobs
+OTHER = "Err(Failure::NoMemory)"  # what all other commands do there
 AT_A_TERMINAL = {"hinting", "noting"}  # modules of what is said to a person
 PARTS = ("tb_run_commands", "tb_text_commands", "tb_file_engine")  # the crates of the program's commands, from above
 # What takes the place of the function that makes a job of words, where they are `run FILE`.
@@ -30,21 +31,24 @@ RUN_FILE = """fn job_of_words<R: Env + AllocGlobal>(rt: &R) -> Result<Asked, Fai
         Some(word) => word,
         None => return Err(Failure::NotUtf8),
     };
-    let settings = Settings {
+    let options = SourceOptions {
         seed: None,
         fit: false,
         notation: Notation::Plain,
+    };
+    let settings = Settings {
+        options,
         keys: Typed::Digits(String::new(rt.alloc())),
         answers: String::new(rt.alloc()),
         limit: Limit::default_limit(),
     };
-    let job = Job::Run {
+    let job = Job::Run(RunJob {
         what: Runnable::Source(source),
         settings,
         rude: None,
         labels: None,
         strict: false,
-    };
+    });
     Ok(Asked {
         job,
         is_by_clock: false,
@@ -74,14 +78,14 @@ def arm_of(command):
     return re.compile(rf" {{8}}Job::({command.capitalize()}|Show)\b")
 
 
-def with_one_arm(text, command, other):
-    """A function over jobs with that command's arm; no other one is reached."""
+def with_one_arm(text, command):
+    """The function over jobs with that command's arm; no other one is reached."""
     found = MATCH.search(text)
     if not found:
         sys.exit("there is no match of jobs")
     arms, end, tail = re.split(r"(?m)^( {4}\}.*\n)", text[found.end() :], maxsplit=1)
     kept = [it for it in re.split(r"(?m)^(?= {8}Job::)", arms) if arm_of(command).match(it)]
-    return text[: found.end()] + "".join(kept) + f"        _ => {other},\n" + end + tail
+    return text[: found.end()] + "".join(kept) + f"        _ => {OTHER},\n" + end + tail
 
 
 def without_notes(text):
@@ -183,8 +187,7 @@ def reached(table, program):
 
 def with_one_command(files, tasks, command):
     """The files of the program with that command alone."""
-    for start, other in OTHERS.items():
-        files[tasks] = [(above, with_one_arm(it, command, other) if it.startswith(start) else it) for above, it in files[tasks]]
+    files[tasks] = [(above, with_one_arm(it, command) if it.startswith(PERFORM) else it) for above, it in files[tasks]]
     return narrowed({file: [] if file.stem in AT_A_TERMINAL else [(above, without_notes(it)) for above, it in items] for file, items in files.items()})
 
 
@@ -209,7 +212,7 @@ def without_reader(files, main):
     for old, new in moved.items():
         files = {file: [(above, it.replace(old, new)) for above, it in items] for file, items in files.items()}
     files[main] = [("", RUN_FILE) if it.startswith("fn job_of_words<") else (above, it) for above, it in files[main]]
-    files[main].insert(1, ("", "use tb_jobs::{Limit, Notation, Runnable, Settings, Typed};\n"))
+    files[main].insert(1, ("", "use tb_jobs::{Limit, Notation, RunJob, Runnable, Settings, SourceOptions, Typed};\n"))
     return files
 
 

@@ -14,7 +14,7 @@ use Rattle.tb_jobs.specs.declared.jobs.Runnable.{Runnable}
 use Rattle.tb_jobs.specs.declared.jobs.Runnable.TheVariants.{Source, Prg}
 use Rattle.tb_jobs.specs.declared.jobs.Job.TheVariants as job
 use Rattle.tb_command_line.specs.Table.{name_of}
-use Rattle.tb_command_line.specs.Values.{AreExtras, AreSettings, IsFlag, IsLimit, IsNotation, IsNumber, IsOptional, IsOptionalNumber, IsRunnable, IsSeed, IsTarget, IsText, dialect_in, is_by_clock, or_else, text_in, texts_in}
+use Rattle.tb_command_line.specs.Values.{AreExtras, AreOptions, AreSettings, IsFlag, IsLimit, IsNotation, IsNumber, IsOptional, IsOptionalNumber, IsRunnable, IsTarget, IsText, dialect_in, is_by_clock, or_else, text_in, texts_in}
 use Rattle.tb_command_line.specs.declared.commands.CommandName.{CommandName}
 use Rattle.tb_command_line.specs.declared.commands.CommandName.TheVariants.{Build, Run, Play, Asm, Assemble, Dis, Step, Debug, Profile, Page, Disk, Check, Format, Renumber, Lsp, Dap, Version}
 use Rattle.tb_command_line.specs.declared.parser.TheConstants.{VERSION}
@@ -65,81 +65,75 @@ AreOfDisk found out files =
 -- the job of a command, part by part, from what the parser found of its arguments and the seed of the clock; it is of no
 -- other kind
 abbrev pub IsJob : Option ℕ → CommandName → Found → Job → Type 0
-IsJob clock Build found (job.Build source out seed fit notation beside force) =
-    IsText found (codes "SOURCE") source
-    × IsOut (out_in found) (string_bytes source) (string_bytes out)
-    × IsSeed clock found seed
-    × IsFlag found (codes "fit") fit
-    × IsNotation found notation
-    × AreExtras found beside
-    × IsFlag found (codes "force") force
-IsJob clock Run found (job.Run what settings rude labels strict) =
-    IsRunnable found what
-    × AreSettings clock found settings
-    × IsOptionalNumber found (codes "rude") rude
-    × IsOptional found (codes "labels") labels
-    × IsFlag found (codes "strict") strict
-IsJob clock Play found (job.Play what seed fit notation limit made screen force strict) =
-    IsRunnable found what
-    × IsSeed clock found seed
-    × IsFlag found (codes "fit") fit
-    × IsNotation found notation
-    × IsLimit found (codes "limit") MOST_EVENTS limit
-    × IsOptional found (codes "record") made
-    × IsFlag found (codes "screen") screen
-    × IsFlag found (codes "force") force
-    × IsFlag found (codes "strict") strict
-IsJob clock Asm found (job.Asm text out at force) =
-    IsText found (codes "IN") text
-    × (string_bytes out ≡ unwrap_or (out_in found) [])
-    × IsText found (codes "at") at
-    × IsFlag found (codes "force") force
-IsJob clock Assemble found (job.Assemble text out at long labels listing force) =
-    IsText found (codes "IN") text
-    × IsAssemblyOut (out_in found) (string_bytes text) (string_bytes out)
-    × IsOptional found (codes "at") at
-    × IsFlag found (codes "long") long
-    × IsOptional found (codes "labels") labels
-    × IsOptional found (codes "list") listing
-    × IsFlag found (codes "force") force
-IsJob clock Dis found (job.Dis prg dialect) = IsText found (codes "FILE") prg × (dialect ≡ dialect_in found)
-IsJob clock Step found (job.Step what settings) = IsRunnable found what × AreSettings clock found settings
-IsJob clock Debug found (job.Debug what settings rude labels) =
-    IsRunnable found what
-    × AreSettings clock found settings
-    × IsOptionalNumber found (codes "rude") rude
-    × IsOptional found (codes "labels") labels
-IsJob clock Profile found (job.Profile what settings rude html force) =
-    IsRunnable found what
-    × AreSettings clock found settings
-    × IsOptionalNumber found (codes "rude") rude
-    × IsOptional found (codes "html") html
-    × IsFlag found (codes "force") force
-IsJob clock Page found (job.Page what out seed fit notation title force) =
-    IsRunnable found what
-    × IsPageOf found what out
-    × IsSeed clock found seed
-    × IsFlag found (codes "fit") fit
-    × IsNotation found notation
-    × IsOptional found (codes "title") title
-    × IsFlag found (codes "force") force
-IsJob clock Disk found (job.Disk out files force) =
-    AreOfDisk found (string_bytes out) (map string_bytes files.items)
-    × IsFlag found (codes "force") force
-IsJob clock Check found (job.Check sources fit notation) =
-    (map string_bytes sources.items ≡ texts_in found (codes "SOURCE"))
-    × IsFlag found (codes "fit") fit
-    × IsNotation found notation
-IsJob clock Format found (job.Format source notation target) =
-    IsText found (codes "SOURCE") source
-    × IsNotation found notation
-    × IsTarget found target
-IsJob clock Renumber found (job.Renumber source notation first step in_place) =
-    IsText found (codes "SOURCE") source
-    × IsNotation found notation
-    × IsNumber found (codes "from") USUAL_STEP first
-    × IsNumber found (codes "step") USUAL_STEP step
-    × IsFlag found (codes "in-place") in_place
+IsJob clock Build found (job.Build j) =
+    IsText found (codes "SOURCE") j.source
+    × IsOut (out_in found) (string_bytes j.source) (string_bytes j.out)
+    × AreOptions clock found j.options
+    × AreExtras found j.beside
+    × IsFlag found (codes "force") j.force
+IsJob clock Run found (job.Run j) =
+    IsRunnable found j.what
+    × AreSettings clock found j.settings
+    × IsOptionalNumber found (codes "rude") j.rude
+    × IsOptional found (codes "labels") j.labels
+    × IsFlag found (codes "strict") j.strict
+IsJob clock Play found (job.Play j) =
+    IsRunnable found j.what
+    × AreOptions clock found j.options
+    × IsLimit found (codes "limit") MOST_EVENTS j.limit
+    × IsOptional found (codes "record") j.recording
+    × IsFlag found (codes "screen") j.screen
+    × IsFlag found (codes "force") j.force
+    × IsFlag found (codes "strict") j.strict
+IsJob clock Asm found (job.Asm j) =
+    IsText found (codes "IN") j.text
+    × (string_bytes j.out ≡ unwrap_or (out_in found) [])
+    × IsText found (codes "at") j.at
+    × IsFlag found (codes "force") j.force
+IsJob clock Assemble found (job.Assemble j) =
+    IsText found (codes "IN") j.text
+    × IsAssemblyOut (out_in found) (string_bytes j.text) (string_bytes j.out)
+    × IsOptional found (codes "at") j.at
+    × IsFlag found (codes "long") j.long
+    × IsOptional found (codes "labels") j.labels
+    × IsOptional found (codes "list") j.listing
+    × IsFlag found (codes "force") j.force
+IsJob clock Dis found (job.Dis j) = IsText found (codes "FILE") j.prg × (j.dialect ≡ dialect_in found)
+IsJob clock Step found (job.Step j) = IsRunnable found j.what × AreSettings clock found j.settings
+IsJob clock Debug found (job.Debug j) =
+    IsRunnable found j.what
+    × AreSettings clock found j.settings
+    × IsOptionalNumber found (codes "rude") j.rude
+    × IsOptional found (codes "labels") j.labels
+IsJob clock Profile found (job.Profile j) =
+    IsRunnable found j.what
+    × AreSettings clock found j.settings
+    × IsOptionalNumber found (codes "rude") j.rude
+    × IsOptional found (codes "html") j.html
+    × IsFlag found (codes "force") j.force
+IsJob clock Page found (job.Page j) =
+    IsRunnable found j.what
+    × IsPageOf found j.what j.out
+    × AreOptions clock found j.options
+    × IsOptional found (codes "title") j.title
+    × IsFlag found (codes "force") j.force
+IsJob clock Disk found (job.Disk j) =
+    AreOfDisk found (string_bytes j.out) (map string_bytes j.files.items)
+    × IsFlag found (codes "force") j.force
+IsJob clock Check found (job.Check j) =
+    (map string_bytes j.sources.items ≡ texts_in found (codes "SOURCE"))
+    × IsFlag found (codes "fit") j.fit
+    × IsNotation found j.notation
+IsJob clock Format found (job.Format j) =
+    IsText found (codes "SOURCE") j.source
+    × IsNotation found j.notation
+    × IsTarget found j.target
+IsJob clock Renumber found (job.Renumber j) =
+    IsText found (codes "SOURCE") j.source
+    × IsNotation found j.notation
+    × IsNumber found (codes "from") USUAL_STEP j.first
+    × IsNumber found (codes "step") USUAL_STEP j.step
+    × IsFlag found (codes "in-place") j.in_place
 IsJob clock Lsp found (job.Lsp notation) = IsNotation found notation
 IsJob clock Dap found (job.Dap notation) = IsNotation found notation
 IsJob clock Version found (job.Show text) = string_bytes text ≡ codes "tbc " ++ (VERSION.now ++ 10 ∷ [])

@@ -20,6 +20,7 @@ use Rattle.tb_jobs.specs.declared.jobs.Limit.{Limit}
 use Rattle.tb_jobs.specs.declared.jobs.Runnable.{Runnable}
 use Rattle.tb_jobs.specs.declared.jobs.Runnable.TheVariants.{Source, Prg}
 use Rattle.tb_jobs.specs.declared.jobs.Settings.{Settings}
+use Rattle.tb_jobs.specs.declared.jobs.SourceOptions.{SourceOptions}
 use Rattle.tb_jobs.specs.declared.jobs.Typed.{Typed}
 use Rattle.tb_jobs.specs.declared.jobs.Typed.TheVariants.{Digits, File, Text}
 
@@ -161,11 +162,15 @@ IsTyped found (File path) = (first_value found (codes "type") ≡ None) × (firs
 IsTyped found (Digits digits) =
     (first_value found (codes "type") ≡ None) × (first_value found (codes "keys-file") ≡ None) × IsText found (codes "keys") digits
 
+-- how a source is compiled, each part by its option
+pub record AreOptions (clock : Option ℕ) (found : Found) (options : SourceOptions) : Type 0 where
+  pub seed : IsSeed clock found options.seed
+  pub fit : IsFlag found (codes "fit") options.fit
+  pub notation : IsNotation found options.notation
+
 -- how a program is run, each part by its option
 pub record AreSettings (clock : Option ℕ) (found : Found) (settings : Settings) : Type 0 where
-  pub seed : IsSeed clock found settings.seed
-  pub fit : IsFlag found (codes "fit") settings.fit
-  pub notation : IsNotation found settings.notation
+  pub options : AreOptions clock found settings.options
   pub keys : IsTyped found settings.keys
   pub answers : IsText found (codes "answers") settings.answers
   pub limit : IsLimit found (codes "limit") USUAL_EVENTS settings.limit

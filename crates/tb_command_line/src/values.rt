@@ -11,8 +11,8 @@ use crate::arguments::{
 use clap::ArgMatches;
 use std::alloc::{AllocError, Global};
 use tb_jobs::{
-    BuildExtras, Dialect, FormatTarget, JobError, Limit, Notation, Runnable, Settings, Typed,
-    USUAL_STEP,
+    BuildExtras, Dialect, FormatTarget, JobError, Limit, Notation, Runnable, Settings,
+    SourceOptions, Typed, USUAL_STEP,
 };
 
 /// A copy of the text of an argument, or an empty one if the parser let it be missing.
@@ -71,8 +71,8 @@ pub fn texts(
     Ok(texts)
 }
 
-/// The first state of RND: the number that the words say, or for `time` that of the clock, if there is one.
-pub fn seed_of(
+// The first state of RND: the number that the words say, or for `time` that of the clock, if there is one.
+fn seed_of(
     alloc: Global,
     found: &ArgMatches<'_>,
     clock: Option<u16>,
@@ -229,6 +229,21 @@ pub fn limit_of(found: &ArgMatches<'_>, argument: &Argument, usual: Limit) -> Li
         .unwrap_or(usual)
 }
 
+/// How a source is compiled.
+pub fn options_of(
+    alloc: Global,
+    found: &ArgMatches<'_>,
+    clock: Option<u16>,
+) -> Result<SourceOptions, JobError>
+    ensures { IfOk result (spec.AreOptions clock (found_of found.now)) }
+{
+    Ok(SourceOptions {
+        seed: seed_of(alloc, found, clock)?,
+        fit: fit_of(found),
+        notation: notation_of(found),
+    })
+}
+
 /// How a program is run.
 pub fn settings_of(
     alloc: Global,
@@ -238,9 +253,7 @@ pub fn settings_of(
     ensures { IfOk result (spec.AreSettings clock (found_of found.now)) }
 {
     Ok(Settings {
-        seed: seed_of(alloc, found, clock)?,
-        fit: fit_of(found),
-        notation: notation_of(found),
+        options: options_of(alloc, found, clock)?,
         keys: typed_of(alloc, found)?,
         answers: text(alloc, found, &ANSWERS)?,
         limit: limit_of(found, &LIMIT, Limit::default_limit()),

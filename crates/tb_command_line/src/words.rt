@@ -16,15 +16,18 @@ use crate::parser::{VERSION, parser};
 use crate::swaps::swap_text;
 use crate::values::{
     dialect_of, extras_of, first_text, fit_of, force_of, in_place_of, is_by_clock, limit_of,
-    line_number_of, long_of, notation_of, optional_text, rude_of, runnable_of, screen_of, seed_of,
-    settings_of, strict_of, target_of, text, texts,
+    line_number_of, long_of, notation_of, optional_text, options_of, rude_of, runnable_of,
+    screen_of, settings_of, strict_of, target_of, text, texts,
 };
 use clap::ArgMatches;
 use clap::error::ErrorKind;
 use std::alloc::{AllocError, Global};
 use std::convert::AsStr;
 use tb_files::{STANDARD, usual_out};
-use tb_jobs::{Asked, Job, JobError, Limit, Runnable};
+use tb_jobs::{
+    Asked, AsmJob, AssembleJob, BuildJob, CheckJob, DebugJob, DisJob, DiskJob, FormatJob, Job,
+    JobError, Limit, PageJob, PlayJob, ProfileJob, RenumberJob, RunJob, Runnable, StepJob,
+};
 
 // What is said where a page is named twice, in the parser's form.
 const TWO_PAGES: &str =
@@ -93,7 +96,7 @@ fn without_matches<S: AsStr>(
         Err(JobError::Words(text))
     } else {
         Ok(Asked {
-            job: Job::Show { text },
+            job: Job::Show(text),
             is_by_clock: false,
         })
     }
@@ -123,12 +126,8 @@ fn job_of(
         CommandName::Check => check_job(alloc, found),
         CommandName::Format => format_job(alloc, found),
         CommandName::Renumber => renumber_job(alloc, found),
-        CommandName::Lsp => Ok(Job::Lsp {
-            notation: notation_of(found),
-        }),
-        CommandName::Dap => Ok(Job::Dap {
-            notation: notation_of(found),
-        }),
+        CommandName::Lsp => Ok(Job::Lsp(notation_of(found))),
+        CommandName::Dap => Ok(Job::Dap(notation_of(found))),
         CommandName::Version => version_job(alloc),
     }
 }
@@ -142,57 +141,53 @@ fn build_job(alloc: Global, found: &ArgMatches<'_>, clock: Option<u16>) -> Resul
         Some(out) => out,
         None => usual_out(alloc, source.as_str())?,
     };
-    Ok(Job::Build {
+    Ok(Job::Build(BuildJob {
         source,
         out,
-        seed: seed_of(alloc, found, clock)?,
-        fit: fit_of(found),
-        notation: notation_of(found),
+        options: options_of(alloc, found, clock)?,
         beside: extras_of(alloc, found)?,
         force: force_of(found),
-    })
+    }))
 }
 
 fn run_job(alloc: Global, found: &ArgMatches<'_>, clock: Option<u16>) -> Result<Job, JobError>
     ensures limit { IfOk result IsWithinLimit }
     ensures asked { IfOk result (IsJob clock command.Run (found_of found.now)) }
 {
-    Ok(Job::Run {
+    Ok(Job::Run(RunJob {
         what: runnable_of(alloc, found)?,
         settings: settings_of(alloc, found, clock)?,
         rude: rude_of(found),
         labels: optional_text(alloc, found, &PRG_LABELS)?,
         strict: strict_of(found),
-    })
+    }))
 }
 
 fn play_job(alloc: Global, found: &ArgMatches<'_>, clock: Option<u16>) -> Result<Job, JobError>
     ensures limit { IfOk result IsWithinLimit }
     ensures asked { IfOk result (IsJob clock command.Play (found_of found.now)) }
 {
-    Ok(Job::Play {
+    Ok(Job::Play(PlayJob {
         what: runnable_of(alloc, found)?,
-        seed: seed_of(alloc, found, clock)?,
-        fit: fit_of(found),
-        notation: notation_of(found),
+        options: options_of(alloc, found, clock)?,
         limit: limit_of(found, &PLAY_LIMIT, Limit::most()),
-        record: optional_text(alloc, found, &RECORD)?,
+        recording: optional_text(alloc, found, &RECORD)?,
         screen: screen_of(found),
         force: force_of(found),
         strict: strict_of(found),
-    })
+    }))
 }
 
 fn asm_job(alloc: Global, found: &ArgMatches<'_>) -> Result<Job, JobError>
     ensures limit { IfOk result IsWithinLimit }
     ensures asked { (clock : Option ℕ) → IfOk result (IsJob clock command.Asm (found_of found.now)) }
 {
-    Ok(Job::Asm {
+    Ok(Job::Asm(AsmJob {
         text: text(alloc, found, &TEXT)?,
         out: first_text(alloc, found, &OUTPUT, &OUT)?.unwrap_or(String::new(alloc)),
         at: text(alloc, found, &AT)?,
         force: force_of(found),
-    })
+    }))
 }
 
 // A path without this ending.
@@ -211,7 +206,7 @@ fn assemble_job(alloc: Global, found: &ArgMatches<'_>) -> Result<Job, JobError>
         Some(out) => out,
         None => usual_out(alloc, stem_of(text.as_str(), ".asm"))?,
     };
-    Ok(Job::Assemble {
+    Ok(Job::Assemble(AssembleJob {
         text,
         out,
         at: optional_text(alloc, found, &ORIGIN)?,
@@ -219,52 +214,52 @@ fn assemble_job(alloc: Global, found: &ArgMatches<'_>) -> Result<Job, JobError>
         labels: optional_text(alloc, found, &LABELS)?,
         listing: optional_text(alloc, found, &LIST)?,
         force: force_of(found),
-    })
+    }))
 }
 
 fn dis_job(alloc: Global, found: &ArgMatches<'_>) -> Result<Job, JobError>
     ensures limit { IfOk result IsWithinLimit }
     ensures asked { (clock : Option ℕ) → IfOk result (IsJob clock command.Dis (found_of found.now)) }
 {
-    Ok(Job::Dis {
+    Ok(Job::Dis(DisJob {
         prg: text(alloc, found, &PRG_FILE)?,
         dialect: dialect_of(found),
-    })
+    }))
 }
 
 fn step_job(alloc: Global, found: &ArgMatches<'_>, clock: Option<u16>) -> Result<Job, JobError>
     ensures limit { IfOk result IsWithinLimit }
     ensures asked { IfOk result (IsJob clock command.Step (found_of found.now)) }
 {
-    Ok(Job::Step {
+    Ok(Job::Step(StepJob {
         what: runnable_of(alloc, found)?,
         settings: settings_of(alloc, found, clock)?,
-    })
+    }))
 }
 
 fn debug_job(alloc: Global, found: &ArgMatches<'_>, clock: Option<u16>) -> Result<Job, JobError>
     ensures limit { IfOk result IsWithinLimit }
     ensures asked { IfOk result (IsJob clock command.Debug (found_of found.now)) }
 {
-    Ok(Job::Debug {
+    Ok(Job::Debug(DebugJob {
         what: runnable_of(alloc, found)?,
         settings: settings_of(alloc, found, clock)?,
         rude: rude_of(found),
         labels: optional_text(alloc, found, &PRG_LABELS)?,
-    })
+    }))
 }
 
 fn profile_job(alloc: Global, found: &ArgMatches<'_>, clock: Option<u16>) -> Result<Job, JobError>
     ensures limit { IfOk result IsWithinLimit }
     ensures asked { IfOk result (IsJob clock command.Profile (found_of found.now)) }
 {
-    Ok(Job::Profile {
+    Ok(Job::Profile(ProfileJob {
         what: runnable_of(alloc, found)?,
         settings: settings_of(alloc, found, clock)?,
         rude: rude_of(found),
         html: optional_text(alloc, found, &PAGE)?,
         force: force_of(found),
-    })
+    }))
 }
 
 // The page of a file that has this ending, if no other is named.
@@ -318,15 +313,13 @@ fn page_job(alloc: Global, found: &ArgMatches<'_>, clock: Option<u16>) -> Result
 {
     let what = runnable_of(alloc, found)?;
     let out = page_out(alloc, found, &what)?;
-    Ok(Job::Page {
+    Ok(Job::Page(PageJob {
         what,
         out,
-        seed: seed_of(alloc, found, clock)?,
-        fit: fit_of(found),
-        notation: notation_of(found),
+        options: options_of(alloc, found, clock)?,
         title: optional_text(alloc, found, &TITLE)?,
         force: force_of(found),
-    })
+    }))
 }
 
 // Files, and one before them.
@@ -353,13 +346,13 @@ fn disk_job(alloc: Global, found: &ArgMatches<'_>) -> Result<Job, JobError>
     match optional_text(alloc, found, &DISK_OUTPUT)? {
         Some(out) => {
             let files = with_first(alloc, first, others)?;
-            Ok(Job::Disk { out, files, force })
+            Ok(Job::Disk(DiskJob { out, files, force }))
         }
-        None => Ok(Job::Disk {
+        None => Ok(Job::Disk(DiskJob {
             out: first,
             files: others,
             force,
-        }),
+        })),
     }
 }
 
@@ -367,35 +360,35 @@ fn check_job(alloc: Global, found: &ArgMatches<'_>) -> Result<Job, JobError>
     ensures limit { IfOk result IsWithinLimit }
     ensures asked { (clock : Option ℕ) → IfOk result (IsJob clock command.Check (found_of found.now)) }
 {
-    Ok(Job::Check {
+    Ok(Job::Check(CheckJob {
         sources: texts(alloc, found, &SOURCES)?,
         fit: fit_of(found),
         notation: notation_of(found),
-    })
+    }))
 }
 
 fn format_job(alloc: Global, found: &ArgMatches<'_>) -> Result<Job, JobError>
     ensures limit { IfOk result IsWithinLimit }
     ensures asked { (clock : Option ℕ) → IfOk result (IsJob clock command.Format (found_of found.now)) }
 {
-    Ok(Job::Format {
+    Ok(Job::Format(FormatJob {
         source: text(alloc, found, &SOURCE)?,
         notation: notation_of(found),
         target: target_of(found),
-    })
+    }))
 }
 
 fn renumber_job(alloc: Global, found: &ArgMatches<'_>) -> Result<Job, JobError>
     ensures limit { IfOk result IsWithinLimit }
     ensures asked { (clock : Option ℕ) → IfOk result (IsJob clock command.Renumber (found_of found.now)) }
 {
-    Ok(Job::Renumber {
+    Ok(Job::Renumber(RenumberJob {
         source: text(alloc, found, &SOURCE)?,
         notation: notation_of(found),
         first: line_number_of(found, &FIRST_LINE),
         step: line_number_of(found, &LINE_STEP),
         in_place: in_place_of(found),
-    })
+    }))
 }
 
 fn version_job(alloc: Global) -> Result<Job, JobError>
@@ -405,5 +398,5 @@ fn version_job(alloc: Global) -> Result<Job, JobError>
     let mut text = String::from_str(alloc, "tbc ")?;
     text.push_str(VERSION)?;
     text.push_str("\n")?;
-    Ok(Job::Show { text })
+    Ok(Job::Show(text))
 }

@@ -5,23 +5,18 @@ use Rattle.tb_compiled.specs.Numbers.{USUAL_SEED}
 use Rattle.tb_compiled.specs.declared.settings.CompileSettings.{CompileSettings}
 use Rattle.tb_compiled.specs.declared.settings.SizeLimit.{SizeLimit}
 use Rattle.tb_compiled.specs.declared.settings.SizeLimit.TheVariants.{Cost, Memory}
-use Rattle.tb_jobs.specs.declared.jobs.Settings.{Settings}
+use Rattle.tb_jobs.specs.declared.jobs.SourceOptions.{SourceOptions}
 use Rattle.tb_source_options.specs.Options.{notation_by}
 use Rattle.tb_source_options.specs.declared.options.OwnOptions.{OwnOptions}
-use Rattle.tb_host.specs.declared.reading.Wanted.{Wanted}
-
--- what the words ask for of a program that is run
-abbrev pub wanted_of : Settings → Wanted
-wanted_of settings = record { seed = settings.seed; fit = settings.fit; notation = settings.notation }
 
 -- when a program is too large: by what it costs, or only if it doesn't fit the memory
 abbrev pub size_limit : Bool → SizeLimit
 size_limit fit = if fit then Memory else Cost
 
 -- how a source is compiled: a seed of the words goes before its own, and the usual one comes last
-abbrev pub settings_of : Wanted → OwnOptions → CompileSettings
-settings_of wanted own = record {
-  seed = unwrap_or (option_or wanted.seed own.seed) USUAL_SEED;
-  size = size_limit (wanted.fit || own.fit);
-  notation = notation_by wanted.notation own;
+abbrev pub settings_of : SourceOptions → OwnOptions → CompileSettings
+settings_of options own = record {
+  seed = unwrap_or (option_or options.seed own.seed) USUAL_SEED;
+  size = size_limit (options.fit || own.fit);
+  notation = notation_by options.notation own;
 }

@@ -19,7 +19,7 @@ mod waiting;
 pub use host::{Asked, Host};
 pub use keys::keyboard;
 pub use labels::{labels_in, named_place};
-pub use reading::{Wanted, notation_at, read_warned, settings_for, settings_of, size_limit};
+pub use reading::{notation_at, read_warned, settings_for, settings_of, size_limit};
 pub use seeds::drawn_seed;
 pub use system::Source;
 pub use waiting::Progress;

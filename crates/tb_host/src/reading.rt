@@ -10,33 +10,9 @@ use tb_codegen::TinyBasic;
 use tb_compiled::{CompileSettings, Notation, SizeLimit, USUAL_SEED};
 use tb_engines::{Outcome, Warnings};
 use tb_file_engine::opened;
-use tb_jobs::Settings;
+use tb_jobs::SourceOptions;
 use tb_source_options::{BadWord, OwnOptions, own_options};
 use tb_sources::{CompiledSource, read_source};
-
-/// What the words of the command line ask for.
-#[derive(Clone, Copy, Debug, Drop)]
-pub struct Wanted {
-    /// The first state of RND.
-    pub seed: Option<u16>,
-    /// Whether a source is refused as too large only if it doesn't fit the memory.
-    pub fit: bool,
-    /// How its texts are read.
-    pub notation: Notation,
-}
-
-impl Wanted {
-    /// What the words ask for of a program that is run.
-    pub fn of(settings: &Settings) -> Wanted
-        ensures { result ≡ spec.wanted_of settings.now }
-    {
-        Wanted {
-            seed: settings.seed,
-            fit: settings.fit,
-            notation: settings.notation,
-        }
-    }
-}
 
 /// When a program is too large: by what it costs, or only if it doesn't fit the memory.
 pub fn size_limit(fit: bool) -> SizeLimit
@@ -50,13 +26,13 @@ pub fn size_limit(fit: bool) -> SizeLimit
 }
 
 /// How a source is compiled, by what the words ask for and by its own options. A seed of the words goes before its own.
-pub fn settings_of(wanted: Wanted, own: OwnOptions) -> CompileSettings
-    ensures { result ≡ spec.settings_of wanted own }
+pub fn settings_of(options: SourceOptions, own: OwnOptions) -> CompileSettings
+    ensures { result ≡ spec.settings_of options own }
 {
     CompileSettings {
-        seed: wanted.seed.or(own.seed).unwrap_or(USUAL_SEED),
-        size: size_limit(wanted.fit || own.fit),
-        notation: own.notation(wanted.notation),
+        seed: options.seed.or(own.seed).unwrap_or(USUAL_SEED),
+        size: size_limit(options.fit || own.fit),
+        notation: own.notation(options.notation),
     }
 }
 
@@ -64,9 +40,9 @@ pub fn settings_of(wanted: Wanted, own: OwnOptions) -> CompileSettings
 pub fn settings_for<R: Files + Print + Eprint + Input + AllocGlobal>(
     host: &mut Host<'_, R>,
     path: &str,
-    wanted: Wanted,
+    options: SourceOptions,
 ) -> CompileSettings {
-    settings_of(wanted, options_at(host, path))
+    settings_of(options, options_at(host, path))
 }
 
 /// How the texts of the source at a path are read, which is opened next.
@@ -113,10 +89,10 @@ impl fmt::Display for Passed<'_> {
 pub fn read_warned<R: Files + Print + Eprint + Input + AllocGlobal>(
     host: &mut Host<'_, R>,
     path: &str,
-    wanted: Wanted,
+    options: SourceOptions,
 ) -> Result<CompiledSource, Outcome> {
     let rt = host.rt;
-    let settings = settings_for(host, path, wanted);
+    let settings = settings_for(host, path, options);
     let source = match read_source(&TinyBasic, rt.alloc(), &mut opened(host, path)?, settings) {
         Ok(source) => source,
         Err(stop) => return Err(Outcome::of(Err(stop))),

@@ -60,20 +60,20 @@ path_of (Prg program) = string_bytes program
 
 -- what a job that writes files reads, and the standard streams that it uses
 abbrev pub kept_of : Job → List (List ℕ)
-kept_of (Build source out seed fit notation beside force) = input_path (string_bytes source) ∷ []
-kept_of (Play what seed fit notation limit made screen force strict) = input_path (path_of what) ∷ standard_input ∷ standard_output ∷ []
-kept_of (Asm text out at force) = input_path (string_bytes text) ∷ []
-kept_of (Assemble text out at long labels listing force) = input_path (string_bytes text) ∷ []
-kept_of (Profile what settings rude html force) = input_path (path_of what) ∷ standard_output ∷ keys_of settings.keys
-kept_of (Page what out seed fit notation title force) = input_path (path_of what) ∷ []
-kept_of (Disk out files force) = map (λ f. input_path (string_bytes f)) files.items
-kept_of (Run what settings rude labels strict) = []
-kept_of (Dis prg dialect) = []
-kept_of (Step what settings) = []
-kept_of (Debug what settings rude labels) = []
-kept_of (Check sources fit notation) = []
-kept_of (Format source notation target) = []
-kept_of (Renumber source notation first step in_place) = []
+kept_of (Build j) = input_path (string_bytes j.source) ∷ []
+kept_of (Play j) = input_path (path_of j.what) ∷ standard_input ∷ standard_output ∷ []
+kept_of (Asm j) = input_path (string_bytes j.text) ∷ []
+kept_of (Assemble j) = input_path (string_bytes j.text) ∷ []
+kept_of (Profile j) = input_path (path_of j.what) ∷ standard_output ∷ keys_of j.settings.keys
+kept_of (Page j) = input_path (path_of j.what) ∷ []
+kept_of (Disk j) = map (λ f. input_path (string_bytes f)) j.files.items
+kept_of (Run j) = []
+kept_of (Dis j) = []
+kept_of (Step j) = []
+kept_of (Debug j) = []
+kept_of (Check j) = []
+kept_of (Format j) = []
+kept_of (Renumber j) = []
 kept_of (Lsp notation) = []
 kept_of (Dap notation) = []
 kept_of (Show text) = []
@@ -81,42 +81,42 @@ kept_of (Show text) = []
 -- The files that a job writes, in the order in which it writes them. A source that is made tidy or renumbered is none of
 -- these: its new text takes its own place.
 abbrev pub Writes : Job → List (List ℕ × Kind) → Type 0
-Writes (Build source out seed fit notation beside force) puts = puts ≡ (output_path (string_bytes out), Program) ∷ wanted_beside beside
-Writes (Play what seed fit notation limit made screen force strict) puts = puts ≡ wanted Keys made
-Writes (Asm text out at force) puts =
-    (address : Option ℕ) × IsAddress (string_bytes at) address × (puts ≡ (output_path (string_bytes out), code_kind (string_bytes out) address) ∷ [])
-Writes (Assemble text out at long labels listing force) puts =
-    puts ≡ (output_path (string_bytes out), Code None) ∷ wanted Labels labels ++ wanted Listing listing
-Writes (Profile what settings rude html force) puts = puts ≡ wanted kind.Page html
-Writes (Page what out seed fit notation title force) puts = puts ≡ (output_path (string_bytes out), kind.Page) ∷ []
-Writes (Disk out files force) puts = puts ≡ (output_path (string_bytes out), Image) ∷ []
-Writes (Run what settings rude labels strict) puts = puts ≡ []
-Writes (Dis prg dialect) puts = puts ≡ []
-Writes (Step what settings) puts = puts ≡ []
-Writes (Debug what settings rude labels) puts = puts ≡ []
-Writes (Check sources fit notation) puts = puts ≡ []
-Writes (Format source notation target) puts = puts ≡ []
-Writes (Renumber source notation first step in_place) puts = puts ≡ []
+Writes (Build j) puts = puts ≡ (output_path (string_bytes j.out), Program) ∷ wanted_beside j.beside
+Writes (Play j) puts = puts ≡ wanted Keys j.recording
+Writes (Asm j) puts =
+    (address : Option ℕ) × IsAddress (string_bytes j.at) address × (puts ≡ (output_path (string_bytes j.out), code_kind (string_bytes j.out) address) ∷ [])
+Writes (Assemble j) puts =
+    puts ≡ (output_path (string_bytes j.out), Code None) ∷ wanted Labels j.labels ++ wanted Listing j.listing
+Writes (Profile j) puts = puts ≡ wanted kind.Page j.html
+Writes (Page j) puts = puts ≡ (output_path (string_bytes j.out), kind.Page) ∷ []
+Writes (Disk j) puts = puts ≡ (output_path (string_bytes j.out), Image) ∷ []
+Writes (Run j) puts = puts ≡ []
+Writes (Dis j) puts = puts ≡ []
+Writes (Step j) puts = puts ≡ []
+Writes (Debug j) puts = puts ≡ []
+Writes (Check j) puts = puts ≡ []
+Writes (Format j) puts = puts ≡ []
+Writes (Renumber j) puts = puts ≡ []
 Writes (Lsp notation) puts = puts ≡ []
 Writes (Dap notation) puts = puts ≡ []
 Writes (Show text) puts = puts ≡ []
 
 -- whether a job replaces a file that looks like something else
 abbrev pub is_forced : Job → Bool
-is_forced (Build source out seed fit notation beside force) = force
-is_forced (Play what seed fit notation limit made screen force strict) = force
-is_forced (Asm text out at force) = force
-is_forced (Assemble text out at long labels listing force) = force
-is_forced (Profile what settings rude html force) = force
-is_forced (Page what out seed fit notation title force) = force
-is_forced (Disk out files force) = force
-is_forced (Run what settings rude labels strict) = false
-is_forced (Dis prg dialect) = false
-is_forced (Step what settings) = false
-is_forced (Debug what settings rude labels) = false
-is_forced (Check sources fit notation) = false
-is_forced (Format source notation target) = false
-is_forced (Renumber source notation first step in_place) = false
+is_forced (Build j) = j.force
+is_forced (Play j) = j.force
+is_forced (Asm j) = j.force
+is_forced (Assemble j) = j.force
+is_forced (Profile j) = j.force
+is_forced (Page j) = j.force
+is_forced (Disk j) = j.force
+is_forced (Run j) = false
+is_forced (Dis j) = false
+is_forced (Step j) = false
+is_forced (Debug j) = false
+is_forced (Check j) = false
+is_forced (Format j) = false
+is_forced (Renumber j) = false
 is_forced (Lsp notation) = false
 is_forced (Dap notation) = false
 is_forced (Show text) = false

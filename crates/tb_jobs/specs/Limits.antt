@@ -11,20 +11,20 @@ IsWithin limit = (1 ≤ limit.events) × (limit.events ≤ MOST_EVENTS)
 
 -- a run takes 1 to MOST_EVENTS events
 abbrev pub IsWithinLimit : Job → Type 0
-IsWithinLimit (Build source out seed fit notation beside force) = ⊤
-IsWithinLimit (Run what settings rude labels strict) = IsWithin settings.limit
-IsWithinLimit (Play what seed fit notation limit made screen force strict) = IsWithin limit
-IsWithinLimit (Asm text out at force) = ⊤
-IsWithinLimit (Assemble text out at long labels listing force) = ⊤
-IsWithinLimit (Dis prg dialect) = ⊤
-IsWithinLimit (Step what settings) = IsWithin settings.limit
-IsWithinLimit (Debug what settings rude labels) = IsWithin settings.limit
-IsWithinLimit (Profile what settings rude html force) = IsWithin settings.limit
-IsWithinLimit (Page what out seed fit notation title force) = ⊤
-IsWithinLimit (Disk out files force) = ⊤
-IsWithinLimit (Check sources fit notation) = ⊤
-IsWithinLimit (Format source notation target) = ⊤
-IsWithinLimit (Renumber source notation first step in_place) = ⊤
+IsWithinLimit (Build j) = ⊤
+IsWithinLimit (Run j) = IsWithin j.settings.limit
+IsWithinLimit (Play j) = IsWithin j.limit
+IsWithinLimit (Asm j) = ⊤
+IsWithinLimit (Assemble j) = ⊤
+IsWithinLimit (Dis j) = ⊤
+IsWithinLimit (Step j) = IsWithin j.settings.limit
+IsWithinLimit (Debug j) = IsWithin j.settings.limit
+IsWithinLimit (Profile j) = IsWithin j.settings.limit
+IsWithinLimit (Page j) = ⊤
+IsWithinLimit (Disk j) = ⊤
+IsWithinLimit (Check j) = ⊤
+IsWithinLimit (Format j) = ⊤
+IsWithinLimit (Renumber j) = ⊤
 IsWithinLimit (Lsp notation) = ⊤
 IsWithinLimit (Dap notation) = ⊤
 IsWithinLimit (Show text) = ⊤

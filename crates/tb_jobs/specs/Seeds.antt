@@ -17,20 +17,20 @@ seed_for (Prg program) seed = None
 
 -- the seed by which a job compiles a source, if it does and the words say one
 abbrev pub seed_of : Job → Option ℕ
-seed_of (Build source out seed fit notation beside force) = seed
-seed_of (Run what settings rude labels strict) = seed_for what settings.seed
-seed_of (Play what seed fit notation limit made screen force strict) = seed_for what seed
-seed_of (Step what settings) = seed_for what settings.seed
-seed_of (Debug what settings rude labels) = seed_for what settings.seed
-seed_of (Profile what settings rude html force) = seed_for what settings.seed
-seed_of (Page what out seed fit notation title force) = seed_for what seed
-seed_of (Asm text out at force) = None
-seed_of (Assemble text out at long labels listing force) = None
-seed_of (Dis prg dialect) = None
-seed_of (Disk out files force) = None
-seed_of (Check sources fit notation) = None
-seed_of (Format source notation target) = None
-seed_of (Renumber source notation first step in_place) = None
+seed_of (Build j) = j.options.seed
+seed_of (Run j) = seed_for j.what j.settings.options.seed
+seed_of (Play j) = seed_for j.what j.options.seed
+seed_of (Step j) = seed_for j.what j.settings.options.seed
+seed_of (Debug j) = seed_for j.what j.settings.options.seed
+seed_of (Profile j) = seed_for j.what j.settings.options.seed
+seed_of (Page j) = seed_for j.what j.options.seed
+seed_of (Asm j) = None
+seed_of (Assemble j) = None
+seed_of (Dis j) = None
+seed_of (Disk j) = None
+seed_of (Check j) = None
+seed_of (Format j) = None
+seed_of (Renumber j) = None
 seed_of (Lsp notation) = None
 seed_of (Dap notation) = None
 seed_of (Show text) = None

@@ -2,7 +2,7 @@
 ghost use Rattle.std.specs.Prelude.{◌≡◌, ◌++◌, ◌∷◌, [], IfOk, map, string_bytes};
 ghost use Rattle.tb_files.specs.Checks.{put_of};
 ghost use Rattle.tb_files.specs.declared.looks.Kind.TheVariants as Kind;
-ghost use Rattle.tb_jobs.specs.Files.{input_path, is_forced, kept_of, keys_of, output_path, wanted, wanted_beside, Writes};
+ghost use Rattle.tb_jobs.specs.Files.{input_path, is_forced, kept_of, keys_of, output_path, path_of, wanted, wanted_beside, Writes};
 
 use crate::jobs::{BuildExtras, Job, Runnable, Settings, Typed};
 use std::alloc::{AllocError, Global};
@@ -98,6 +98,14 @@ fn only<'a>(alloc: Global, kind: Kind, path: &'a str) -> Result<Vec<Output<'a>>,
     Ok(outputs)
 }
 
+// The path of what is run, played, profiled or made a page of.
+fn path_of(what: &Runnable) -> &str
+    ensures { result.now ≡ input_path (path_of what.now) }
+{
+    let (Runnable::Source(program) | Runnable::Prg(program)) = what;
+    input_path(program.as_str())
+}
+
 impl Job {
     /// The paths of the files that the job reads, and of the streams that it uses, if it writes files: none of these may
     /// be one that must be kept.
@@ -105,27 +113,21 @@ impl Job {
         ensures { IfOk result (λ r. map (λ p. p.now) r.items ≡ kept_of self.now) }
     {
         match self {
-            Job::Build { source, .. } => one(alloc, input_path(source.as_str())),
-            Job::Asm { text, .. } | Job::Assemble { text, .. } => {
-                one(alloc, input_path(text.as_str()))
-            }
-            Job::Page { what, .. } => {
-                let (Runnable::Source(program) | Runnable::Prg(program)) = what;
-                one(alloc, input_path(program.as_str()))
-            }
-            Job::Disk { files, .. } => all_inputs(alloc, files.as_slice()),
-            Job::Play { what, .. } => {
-                let (Runnable::Source(program) | Runnable::Prg(program)) = what;
-                let mut paths = one(alloc, input_path(program.as_str()))?;
+            Job::Build(job) => one(alloc, input_path(job.source.as_str())),
+            Job::Asm(job) => one(alloc, input_path(job.text.as_str())),
+            Job::Assemble(job) => one(alloc, input_path(job.text.as_str())),
+            Job::Page(job) => one(alloc, path_of(&job.what)),
+            Job::Disk(job) => all_inputs(alloc, job.files.as_slice()),
+            Job::Play(job) => {
+                let mut paths = one(alloc, path_of(&job.what))?;
                 paths.push(STANDARD_INPUT)?;
                 paths.push(STANDARD_OUTPUT)?;
                 Ok(paths)
             }
-            Job::Profile { what, settings, .. } => {
-                let (Runnable::Source(program) | Runnable::Prg(program)) = what;
-                let mut paths = one(alloc, input_path(program.as_str()))?;
+            Job::Profile(job) => {
+                let mut paths = one(alloc, path_of(&job.what))?;
                 paths.push(STANDARD_OUTPUT)?;
-                with_keys(paths, &settings.keys)
+                with_keys(paths, &job.settings.keys)
             }
             _ => Ok(Vec::new(alloc)),
         }
@@ -136,26 +138,20 @@ impl Job {
         ensures { IfOk result (λ r. Writes self.now (map put_of r.items)) }
     {
         match self {
-            Job::Build { out, beside, .. } => written_by_build(alloc, out.as_str(), beside),
-            Job::Asm { out, at, .. } => only(
-                alloc,
-                code_kind(out.as_str(), address(at)),
-                out.as_str(),
-            ),
-            Job::Page { out, .. } => only(alloc, Kind::Page, out.as_str()),
-            Job::Disk { out, .. } => only(alloc, Kind::Image, out.as_str()),
-            Job::Assemble {
-                out,
-                labels,
-                listing,
-                ..
-            } => {
-                let outputs = only(alloc, Kind::Code(None), out.as_str())?;
-                let outputs = with_wanted(outputs, Kind::Labels, labels)?;
-                with_wanted(outputs, Kind::Listing, listing)
+            Job::Build(job) => written_by_build(alloc, job.out.as_str(), &job.beside),
+            Job::Asm(job) => {
+                let kind = code_kind(job.out.as_str(), address(&job.at));
+                only(alloc, kind, job.out.as_str())
             }
-            Job::Play { record, .. } => with_wanted(Vec::new(alloc), Kind::Keys, record),
-            Job::Profile { html, .. } => with_wanted(Vec::new(alloc), Kind::Page, html),
+            Job::Page(job) => only(alloc, Kind::Page, job.out.as_str()),
+            Job::Disk(job) => only(alloc, Kind::Image, job.out.as_str()),
+            Job::Assemble(job) => {
+                let outputs = only(alloc, Kind::Code(None), job.out.as_str())?;
+                let outputs = with_wanted(outputs, Kind::Labels, &job.labels)?;
+                with_wanted(outputs, Kind::Listing, &job.listing)
+            }
+            Job::Play(job) => with_wanted(Vec::new(alloc), Kind::Keys, &job.recording),
+            Job::Profile(job) => with_wanted(Vec::new(alloc), Kind::Page, &job.html),
             _ => Ok(Vec::new(alloc)),
         }
     }
@@ -165,13 +161,13 @@ impl Job {
         ensures { result ≡ is_forced self.now }
     {
         match self {
-            Job::Build { force, .. }
-            | Job::Play { force, .. }
-            | Job::Asm { force, .. }
-            | Job::Assemble { force, .. }
-            | Job::Profile { force, .. }
-            | Job::Page { force, .. }
-            | Job::Disk { force, .. } => *force,
+            Job::Build(job) => job.force,
+            Job::Play(job) => job.force,
+            Job::Asm(job) => job.force,
+            Job::Assemble(job) => job.force,
+            Job::Profile(job) => job.force,
+            Job::Page(job) => job.force,
+            Job::Disk(job) => job.force,
             _ => false,
         }
     }

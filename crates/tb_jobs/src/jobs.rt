@@ -70,15 +70,21 @@ pub enum Typed {
     Text(String),
 }
 
-/// How a program is run.
-#[derive(Debug, Drop)]
-pub struct Settings {
+/// How a source is compiled, as far as the words say.
+#[derive(Clone, Copy, Debug, Drop)]
+pub struct SourceOptions {
     /// The first state of RND, if the words say it.
     pub seed: Option<u16>,
-    /// Whether a source is refused as too large only if it doesn't fit the memory.
+    /// Whether it is refused as too large only if it doesn't fit the memory.
     pub fit: bool,
     /// How its texts are read.
     pub notation: Notation,
+}
+
+/// How a program is run.
+#[derive(Debug, Drop)]
+pub struct Settings {
+    pub options: SourceOptions,
     pub keys: Typed,
     /// The answers for GETIN.
     pub answers: String,
@@ -111,175 +117,194 @@ pub enum FormatTarget {
     Check,
 }
 
+/// A source that is compiled to a PRG file, and what else is written of it.
+#[derive(Debug, Drop)]
+pub struct BuildJob {
+    pub source: String,
+    pub out: String,
+    pub options: SourceOptions,
+    /// The files of the texts that tell of it.
+    pub beside: BuildExtras,
+    /// Whether a file is replaced that looks like something else.
+    pub force: bool,
+}
+
+/// A program that is run, and what it sends shown.
+#[derive(Debug, Drop)]
+pub struct RunJob {
+    pub what: Runnable,
+    pub settings: Settings,
+    /// The seed of rude events, where they are wanted.
+    pub rude: Option<u16>,
+    /// The label file that names addresses of a PRG file, if there is one.
+    pub labels: Option<String>,
+    /// Whether a fault of the program has a status of its own.
+    pub strict: bool,
+}
+
+/// A program that is played: standard input is its keyboard.
+#[derive(Debug, Drop)]
+pub struct PlayJob {
+    pub what: Runnable,
+    pub options: SourceOptions,
+    /// How many events it may take between two lines.
+    pub limit: Limit,
+    /// The key file that is written of all that was typed, if it is wanted.
+    pub recording: Option<String>,
+    /// Whether the machine's screen is shown, in place of the host form of what is sent.
+    pub screen: bool,
+    /// Whether a file is replaced that looks like something else.
+    pub force: bool,
+    /// Whether a fault of the program has a status of its own.
+    pub strict: bool,
+}
+
+/// A text that is assembled to a PRG file.
+#[derive(Debug, Drop)]
+pub struct AsmJob {
+    pub text: String,
+    pub out: String,
+    /// The address of the first byte.
+    pub at: String,
+    /// Whether a file is replaced that looks like something else.
+    pub force: bool,
+}
+
+/// A text as people write it that is assembled to a PRG file, and what else is written of it.
+#[derive(Debug, Drop)]
+pub struct AssembleJob {
+    pub text: String,
+    pub out: String,
+    /// The address of the first byte, if the words say it.
+    pub at: Option<String>,
+    /// Whether branches that don't reach are made long.
+    pub long: bool,
+    /// The label file.
+    pub labels: Option<String>,
+    /// The listing.
+    pub listing: Option<String>,
+    /// Whether a file is replaced that looks like something else.
+    pub force: bool,
+}
+
+/// A PRG file that is listed.
+#[derive(Debug, Drop)]
+pub struct DisJob {
+    pub prg: String,
+    /// The assembler that the listing is for, if it isn't `tbc asm`.
+    pub dialect: Option<Dialect>,
+}
+
+/// A program that is stepped through by commands from standard input.
+#[derive(Debug, Drop)]
+pub struct StepJob {
+    pub what: Runnable,
+    pub settings: Settings,
+}
+
+/// A program that is debugged by commands from standard input.
+#[derive(Debug, Drop)]
+pub struct DebugJob {
+    pub what: Runnable,
+    pub settings: Settings,
+    /// The seed of rude events, where they are wanted.
+    pub rude: Option<u16>,
+    /// The label file that names addresses of a PRG file, if there is one.
+    pub labels: Option<String>,
+}
+
+/// A program that is run, and what its lines took shown, or the instructions of a PRG file.
+#[derive(Debug, Drop)]
+pub struct ProfileJob {
+    pub what: Runnable,
+    pub settings: Settings,
+    /// The seed of rude events, where they are wanted.
+    pub rude: Option<u16>,
+    /// The page that is written, if it is wanted. A PRG file has none.
+    pub html: Option<String>,
+    /// Whether a file is replaced that looks like something else.
+    pub force: bool,
+}
+
+/// A program whose web page is written.
+#[derive(Debug, Drop)]
+pub struct PageJob {
+    pub what: Runnable,
+    pub out: String,
+    pub options: SourceOptions,
+    /// The page's title, if the words say it.
+    pub title: Option<String>,
+    /// Whether a file is replaced that looks like something else.
+    pub force: bool,
+}
+
+/// A disk image that is written.
+#[derive(Debug, Drop)]
+pub struct DiskJob {
+    pub out: String,
+    /// The PRG files, in order.
+    pub files: Vec<String>,
+    /// Whether a file is replaced that looks like something else.
+    pub force: bool,
+}
+
+/// Sources of which everything that is wrong is shown.
+#[derive(Debug, Drop)]
+pub struct CheckJob {
+    /// The sources, in order.
+    pub sources: Vec<String>,
+    /// Whether a source is refused as too large only if it doesn't fit the memory.
+    pub fit: bool,
+    /// How the texts of sources are read.
+    pub notation: Notation,
+}
+
+/// A source whose tidy text is written.
+#[derive(Debug, Drop)]
+pub struct FormatJob {
+    pub source: String,
+    /// How its texts are read.
+    pub notation: Notation,
+    pub target: FormatTarget,
+}
+
+/// A source that is written with other line numbers.
+#[derive(Debug, Drop)]
+pub struct RenumberJob {
+    pub source: String,
+    /// How its texts are read.
+    pub notation: Notation,
+    /// The number of the first line.
+    pub first: u16,
+    /// How much higher each next number is.
+    pub step: u16,
+    /// Whether the new text takes the source's place.
+    pub in_place: bool,
+}
+
 /// A command with its words. File names, key lists and addresses are still texts.
 #[derive(Debug, Drop)]
 pub enum Job {
-    /// Compiles a source, and writes a PRG file and what else is wanted.
-    Build {
-        source: String,
-        out: String,
-        /// The first state of RND, if the words say it.
-        seed: Option<u16>,
-        /// Whether a source is refused as too large only if it doesn't fit the memory.
-        fit: bool,
-        /// How its texts are read.
-        notation: Notation,
-        /// The files of the texts that tell of it.
-        beside: BuildExtras,
-        /// Whether a file is replaced that looks like something else.
-        force: bool,
-    },
-    /// Runs a program, and shows what it sends.
-    Run {
-        what: Runnable,
-        settings: Settings,
-        /// The seed of rude events, where they are wanted.
-        rude: Option<u16>,
-        /// The label file that names addresses of a PRG file, if there is one.
-        labels: Option<String>,
-        /// Whether a fault of the program has a status of its own.
-        strict: bool,
-    },
-    /// Plays a program: standard input is its keyboard.
-    Play {
-        what: Runnable,
-        /// The first state of RND, if the words say it.
-        seed: Option<u16>,
-        /// Whether a source is refused as too large only if it doesn't fit the memory.
-        fit: bool,
-        /// How its texts are read.
-        notation: Notation,
-        /// How many events it may take between two lines.
-        limit: Limit,
-        /// The key file that is written of all that was typed, if it is wanted.
-        record: Option<String>,
-        /// Whether the machine's screen is shown, in place of the host form of what is sent.
-        screen: bool,
-        /// Whether a file is replaced that looks like something else.
-        force: bool,
-        /// Whether a fault of the program has a status of its own.
-        strict: bool,
-    },
-    /// Assembles a text, and writes a PRG file.
-    Asm {
-        text: String,
-        out: String,
-        /// The address of the first byte.
-        at: String,
-        /// Whether a file is replaced that looks like something else.
-        force: bool,
-    },
-    /// Assembles a text as people write it, and writes a PRG file and what else is wanted.
-    Assemble {
-        text: String,
-        out: String,
-        /// The address of the first byte, if the words say it.
-        at: Option<String>,
-        /// Whether branches that don't reach are made long.
-        long: bool,
-        /// The label file.
-        labels: Option<String>,
-        /// The listing.
-        listing: Option<String>,
-        /// Whether a file is replaced that looks like something else.
-        force: bool,
-    },
-    /// Lists a PRG file.
-    Dis {
-        prg: String,
-        /// The assembler that the listing is for, if it isn't `tbc asm`.
-        dialect: Option<Dialect>,
-    },
-    /// Steps through a program by commands from standard input.
-    Step {
-        what: Runnable,
-        settings: Settings,
-    },
-    /// Debugs a program by commands from standard input.
-    Debug {
-        what: Runnable,
-        settings: Settings,
-        /// The seed of rude events, where they are wanted.
-        rude: Option<u16>,
-        /// The label file that names addresses of a PRG file, if there is one.
-        labels: Option<String>,
-    },
-    /// Runs a program, and shows what its lines took, or the instructions of a PRG file.
-    Profile {
-        what: Runnable,
-        settings: Settings,
-        /// The seed of rude events, where they are wanted.
-        rude: Option<u16>,
-        /// The page that is written, if it is wanted. A PRG file has none.
-        html: Option<String>,
-        /// Whether a file is replaced that looks like something else.
-        force: bool,
-    },
-    /// Writes a program's web page.
-    Page {
-        what: Runnable,
-        out: String,
-        /// The first state of RND, if the words say it.
-        seed: Option<u16>,
-        /// Whether a source is refused as too large only if it doesn't fit the memory.
-        fit: bool,
-        /// How its texts are read.
-        notation: Notation,
-        /// The page's title, if the words say it.
-        title: Option<String>,
-        /// Whether a file is replaced that looks like something else.
-        force: bool,
-    },
-    /// Writes a disk image.
-    Disk {
-        out: String,
-        /// The PRG files, in order.
-        files: Vec<String>,
-        /// Whether a file is replaced that looks like something else.
-        force: bool,
-    },
-    /// Shows everything that is wrong with sources.
-    Check {
-        /// The sources, in order.
-        sources: Vec<String>,
-        /// Whether a source is refused as too large only if it doesn't fit the memory.
-        fit: bool,
-        /// How the texts of sources are read.
-        notation: Notation,
-    },
-    /// Writes the tidy text of a source.
-    Format {
-        source: String,
-        /// How its texts are read.
-        notation: Notation,
-        target: FormatTarget,
-    },
-    /// Writes a source with other line numbers.
-    Renumber {
-        source: String,
-        /// How its texts are read.
-        notation: Notation,
-        /// The number of the first line.
-        first: u16,
-        /// How much higher each next number is.
-        step: u16,
-        /// Whether the new text takes the source's place.
-        in_place: bool,
-    },
-    /// Serves an editor as its language server.
-    Lsp {
-        /// How the texts of sources are read.
-        notation: Notation,
-    },
-    /// Serves an editor as its debug adapter.
-    Dap {
-        /// How the texts of sources are read.
-        notation: Notation,
-    },
+    Build(BuildJob),
+    Run(RunJob),
+    Play(PlayJob),
+    Asm(AsmJob),
+    Assemble(AssembleJob),
+    Dis(DisJob),
+    Step(StepJob),
+    Debug(DebugJob),
+    Profile(ProfileJob),
+    Page(PageJob),
+    Disk(DiskJob),
+    Check(CheckJob),
+    Format(FormatJob),
+    Renumber(RenumberJob),
+    /// Serves an editor as its language server, by which the texts of sources are read so.
+    Lsp(Notation),
+    /// Serves an editor as its debug adapter, by which the texts of sources are read so.
+    Dap(Notation),
     /// A help text or the version, to be shown.
-    Show {
-        text: String,
-    },
+    Show(String),
 }
 
 /// What the words ask for.

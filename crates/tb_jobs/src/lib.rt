@@ -18,7 +18,9 @@ mod typing;
 
 pub use failure::Failure;
 pub use jobs::{
-    Asked, BuildExtras, FormatTarget, Job, JobError, Limit, Runnable, Settings, Typed, USUAL_STEP,
+    Asked, AsmJob, AssembleJob, BuildExtras, BuildJob, CheckJob, DebugJob, DisJob, DiskJob,
+    FormatJob, FormatTarget, Job, JobError, Limit, PageJob, PlayJob, ProfileJob, RenumberJob,
+    RunJob, Runnable, Settings, SourceOptions, StepJob, Typed, USUAL_STEP,
 };
 pub use numbers::constants_are_numbers;
 pub use seeds::{CLOCK_SEEDS, clock_seed};

@@ -33,22 +33,23 @@ impl Job {
         ensures { result ≡ seed_of self.now }
     {
         match self {
-            Job::Build { seed, .. } => *seed,
-            Job::Play { what, seed, .. } | Job::Page { what, seed, .. } => seed_for(what, *seed),
-            Job::Run { what, settings, .. }
-            | Job::Step { what, settings }
-            | Job::Debug { what, settings, .. }
-            | Job::Profile { what, settings, .. } => seed_for(what, settings.seed),
-            Job::Asm { .. }
-            | Job::Assemble { .. }
-            | Job::Dis { .. }
-            | Job::Disk { .. }
-            | Job::Check { .. }
-            | Job::Format { .. }
-            | Job::Renumber { .. }
-            | Job::Lsp { .. }
-            | Job::Dap { .. }
-            | Job::Show { .. } => None,
+            Job::Build(job) => job.options.seed,
+            Job::Play(job) => seed_for(&job.what, job.options.seed),
+            Job::Page(job) => seed_for(&job.what, job.options.seed),
+            Job::Run(job) => seed_for(&job.what, job.settings.options.seed),
+            Job::Step(job) => seed_for(&job.what, job.settings.options.seed),
+            Job::Debug(job) => seed_for(&job.what, job.settings.options.seed),
+            Job::Profile(job) => seed_for(&job.what, job.settings.options.seed),
+            Job::Asm(_)
+            | Job::Assemble(_)
+            | Job::Dis(_)
+            | Job::Disk(_)
+            | Job::Check(_)
+            | Job::Format(_)
+            | Job::Renumber(_)
+            | Job::Lsp(_)
+            | Job::Dap(_)
+            | Job::Show(_) => None,
         }
     }
 }

@@ -10,22 +10,23 @@ impl Job {
         ensures { result ≡ is_strict self.now }
     {
         match self {
-            Job::Run { strict, .. } | Job::Play { strict, .. } => *strict,
-            Job::Build { .. }
-            | Job::Asm { .. }
-            | Job::Assemble { .. }
-            | Job::Dis { .. }
-            | Job::Step { .. }
-            | Job::Debug { .. }
-            | Job::Profile { .. }
-            | Job::Page { .. }
-            | Job::Disk { .. }
-            | Job::Check { .. }
-            | Job::Format { .. }
-            | Job::Renumber { .. }
-            | Job::Lsp { .. }
-            | Job::Dap { .. }
-            | Job::Show { .. } => false,
+            Job::Run(job) => job.strict,
+            Job::Play(job) => job.strict,
+            Job::Build(_)
+            | Job::Asm(_)
+            | Job::Assemble(_)
+            | Job::Dis(_)
+            | Job::Step(_)
+            | Job::Debug(_)
+            | Job::Profile(_)
+            | Job::Page(_)
+            | Job::Disk(_)
+            | Job::Check(_)
+            | Job::Format(_)
+            | Job::Renumber(_)
+            | Job::Lsp(_)
+            | Job::Dap(_)
+            | Job::Show(_) => false,
         }
     }
 }

@@ -5,35 +5,35 @@ use std::time::Clock;
 use tb_debug_engine::{Rom, Setting, debug_prg};
 use tb_engines::Outcome;
 use tb_file_engine::opened;
-use tb_host::{Host, Progress, Wanted, keyboard, labels_in, read_warned};
-use tb_jobs::{Failure, Runnable, Settings};
+use tb_host::{Host, Progress, keyboard, labels_in, read_warned};
+use tb_jobs::{DebugJob, Failure, Runnable, Settings};
 use tb_kernal::Keyboard;
 use tb_labels::Label;
 use tb_streams::{Tracked, read_input};
 
-/// How a program is debugged.
-pub fn setting_of(settings: &Settings, rude: Option<u16>, prompts: bool) -> Setting {
+// How a program is debugged.
+fn setting_of(job: &DebugJob, prompts: bool) -> Setting {
     Setting {
-        rom: match rude {
+        rom: match job.rude {
             Some(seed) => Rom::Rude(seed),
             None => Rom::Quiet,
         },
-        limit: u64::from(settings.limit.events),
+        limit: u64::from(job.settings.limit.events),
         prompts,
     }
 }
 
-/// Debugs a source, or a PRG file with a label file.
+/// Debugs a source, or a PRG file with a label file. A prompt is shown before each command where that is wanted.
 pub fn debug<R: Files + Clock + Print + Eprint + Input + AllocGlobal>(
     host: &mut Host<'_, R>,
-    what: &Runnable,
-    settings: &Settings,
-    labels: Option<&str>,
-    setting: Setting,
+    job: &DebugJob,
+    prompts: bool,
 ) -> Result<Outcome, Failure> {
+    let settings = &job.settings;
+    let setting = setting_of(job, prompts);
     let keyboard = keyboard(host, settings)?;
-    let labels = labels_in(host, labels)?;
-    Ok(match what {
+    let labels = labels_in(host, job.labels.as_deref())?;
+    Ok(match &job.what {
         Runnable::Source(path) => debug_source(host, path.as_str(), settings, keyboard, setting),
         Runnable::Prg(path) => {
             debug_file(host, path.as_str(), labels.as_slice(), keyboard, setting)
@@ -50,7 +50,7 @@ fn debug_source<R: Files + Clock + Print + Eprint + Input + AllocGlobal>(
     setting: Setting,
 ) -> Outcome {
     let rt = host.rt;
-    match read_warned(host, path, Wanted::of(settings)) {
+    match read_warned(host, path, settings.options) {
         Ok(source) => tb_debug_engine::debug(
             rt.alloc(),
             &source,

@@ -10,7 +10,7 @@ mod playing;
 mod profiling;
 mod running;
 
-pub use debugging::{debug, setting_of};
-pub use playing::{Playing, play};
+pub use debugging::debug;
+pub use playing::play;
 pub use profiling::profile;
 pub use running::{Ran, run, step};

@@ -5,41 +5,28 @@ use std::rt::{Env, Files};
 use std::{env, io};
 use tb_engines::{Outcome, Report};
 use tb_file_engine::{opened, save};
-use tb_host::{Host, Wanted, read_warned};
-use tb_jobs::{Failure, Runnable, room_for_screen};
+use tb_host::{Host, read_warned};
+use tb_jobs::{Failure, PlayJob, Runnable, room_for_screen};
 use tb_play::{Played, play_file};
 use tb_screen_play::play_file_on_screen;
 use tb_sources::{EndNote, NotedPlay, NotedRun, play_noted};
 use tb_streams::{Tracked, read_input};
 
-/// How a program is played.
-#[derive(Clone, Copy)]
-pub struct Playing<'a> {
-    pub wanted: Wanted,
-    /// How many events it may take between two lines.
-    pub limit: u64,
-    /// The key file that is written of what was typed, if it is wanted.
-    pub record: Option<&'a str>,
-    /// Whether the machine's screen is shown, in place of the host form of what is sent.
-    pub screen: bool,
-}
-
 /// Plays a source or a PRG file, and records what was typed in a key file, where that is wanted.
 pub fn play<R: Files + Env + Print + Eprint + Input + AllocGlobal>(
     host: &mut Host<'_, R>,
-    what: &Runnable,
-    playing: Playing<'_>,
+    job: &PlayJob,
 ) -> Result<Ran, Failure> {
-    if playing.screen {
+    if job.screen {
         look_at_terminal(host)?;
     }
-    let played = match what {
-        Runnable::Source(source) => play_source(host, source.as_str(), playing),
-        Runnable::Prg(prg) => play_prg(host, prg.as_str(), playing).map(unnoted),
+    let played = match &job.what {
+        Runnable::Source(source) => play_source(host, source.as_str(), job),
+        Runnable::Prg(prg) => play_prg(host, prg.as_str(), job).map(unnoted),
     };
     let (outcome, note) = match played {
         Ok(NotedPlay { played, note }) => {
-            let outcome = match playing.record {
+            let outcome = match job.recording.as_deref() {
                 Some(path) => write_record(host, path, &played),
                 None => played.outcome,
             };
@@ -86,37 +73,33 @@ fn number_told<R: Env + AllocGlobal>(rt: &R, name: &str) -> Result<Option<usize>
 fn play_source<R: Files + Print + Eprint + Input + AllocGlobal>(
     host: &mut Host<'_, R>,
     path: &str,
-    playing: Playing<'_>,
+    job: &PlayJob,
 ) -> Result<NotedPlay, Outcome> {
     let rt = host.rt;
-    let program = read_warned(host, path, playing.wanted)?.program;
-    if playing.screen {
-        return Ok(unnoted(shown(rt, program.prg(), playing.limit)));
+    let limit = u64::from(job.limit.events);
+    let program = read_warned(host, path, job.options)?.program;
+    if job.screen {
+        return Ok(unnoted(shown(rt, program.prg(), limit)));
     }
     let mut keys = Tracked::new(rt.reader());
     let mut writer = Tracked::new(io::writer(rt));
-    Ok(play_noted(rt.alloc(), &program, &mut keys, &mut writer, playing.limit))
+    Ok(play_noted(rt.alloc(), &program, &mut keys, &mut writer, limit))
 }
 
 fn play_prg<R: Files + Print + Input + AllocGlobal>(
     host: &mut Host<'_, R>,
     path: &str,
-    playing: Playing<'_>,
+    job: &PlayJob,
 ) -> Result<Played, Outcome> {
     let rt = host.rt;
+    let limit = u64::from(job.limit.events);
     let prg = read_input(rt.alloc(), &mut opened(host, path)?)?;
-    if playing.screen {
-        return Ok(shown(rt, prg.as_slice(), playing.limit));
+    if job.screen {
+        return Ok(shown(rt, prg.as_slice(), limit));
     }
     let mut keys = Tracked::new(rt.reader());
     let mut writer = Tracked::new(io::writer(rt));
-    Ok(play_file(
-        rt.alloc(),
-        prg.as_slice(),
-        &mut keys,
-        &mut writer,
-        playing.limit,
-    ))
+    Ok(play_file(rt.alloc(), prg.as_slice(), &mut keys, &mut writer, limit))
 }
 
 // Plays a PRG file on the machine's screen.

@@ -3,28 +3,25 @@ use std::rt::Files;
 use std::time::Clock;
 use tb_engines::Report;
 use tb_file_engine::{profile_file, profile_prg_file};
-use tb_host::{Host, Progress, Wanted, keyboard, settings_for};
-use tb_jobs::{Failure, Runnable, Settings};
+use tb_host::{Host, Progress, keyboard, settings_for};
+use tb_jobs::{Failure, ProfileJob, Runnable, Settings};
 use tb_kernal::{Keyboard, Outside, Quiet, Rude};
 use tb_profile_engine::{Named, Run};
 
 /// Profiles a source or a PRG file, beside a rude ROM if one is asked for.
 pub fn profile<R: Files + Clock + Print + Eprint + Input + AllocGlobal>(
     host: &mut Host<'_, R>,
-    what: &Runnable,
-    settings: &Settings,
-    rude: Option<u16>,
-    html: Option<&str>,
+    job: &ProfileJob,
 ) -> Result<Report, Failure> {
-    let keyboard = keyboard(host, settings)?;
-    Ok(match rude {
+    let keyboard = keyboard(host, &job.settings)?;
+    Ok(match job.rude {
         Some(seed) => {
-            let run = run_of(host, settings, keyboard, Rude::new(seed));
-            profile_by(host, what, settings, rude, html, run)
+            let run = run_of(host, &job.settings, keyboard, Rude::new(seed));
+            profile_by(host, job, run)
         }
         None => {
-            let run = run_of(host, settings, keyboard, Quiet);
-            profile_by(host, what, settings, rude, html, run)
+            let run = run_of(host, &job.settings, keyboard, Quiet);
+            profile_by(host, job, run)
         }
     })
 }
@@ -46,21 +43,18 @@ fn run_of<'a, R: Clock + Eprint, O: Outside>(
 
 fn profile_by<R: Files + Clock + Print + Eprint + Input + AllocGlobal, O: Outside + Drop>(
     host: &mut Host<'_, R>,
-    what: &Runnable,
-    settings: &Settings,
-    rude: Option<u16>,
-    html: Option<&str>,
+    job: &ProfileJob,
     run: Run<O, Progress<'_, R>>,
 ) -> Report {
     let alloc = host.rt.alloc();
-    match what {
+    match &job.what {
         Runnable::Source(source) => {
             let named = Named {
                 name: source.as_str(),
-                rude,
+                rude: job.rude,
             };
-            let settings = settings_for(host, source.as_str(), Wanted::of(settings));
-            profile_file(alloc, host, named, html, settings, run)
+            let settings = settings_for(host, source.as_str(), job.settings.options);
+            profile_file(alloc, host, named, job.html.as_deref(), settings, run)
         }
         Runnable::Prg(prg) => {
             let outcome = profile_prg_file(alloc, host, prg.as_str(), run);

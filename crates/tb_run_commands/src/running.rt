@@ -8,8 +8,8 @@ use std::time::Clock;
 use tb_codegen::TinyBasic;
 use tb_engines::{Outcome, PrgRun, Report, run_prg_watched};
 use tb_file_engine::opened;
-use tb_host::{Host, Progress, Wanted, keyboard, labels_in, named_place, settings_for};
-use tb_jobs::{Failure, Runnable, Settings};
+use tb_host::{Host, Progress, keyboard, labels_in, named_place, settings_for};
+use tb_jobs::{Failure, RunJob, Runnable, Settings, StepJob};
 use tb_kernal::{Keyboard, Outside, Quiet, Rude};
 use tb_labels::Label;
 use tb_sources::{NotedRun, run_noted, step_prg, step_within, strict_status};
@@ -40,29 +40,26 @@ impl Ran {
 /// Runs a source, or a PRG file with a label file, beside a rude ROM if one is asked for.
 pub fn run<R: Files + Clock + Print + Eprint + Input + AllocGlobal>(
     host: &mut Host<'_, R>,
-    what: &Runnable,
-    settings: &Settings,
-    rude: Option<u16>,
-    labels: Option<&str>,
+    job: &RunJob,
 ) -> Result<Ran, Failure> {
-    let keyboard = keyboard(host, settings)?;
-    let labels = labels_in(host, labels)?;
+    let keyboard = keyboard(host, &job.settings)?;
+    let labels = labels_in(host, job.labels.as_deref())?;
     let labels = labels.as_slice();
-    Ok(match rude {
-        Some(rude) => run_beside(host, what, settings, keyboard, &mut Rude::new(rude), labels),
-        None => run_beside(host, what, settings, keyboard, &mut Quiet, labels),
+    Ok(match job.rude {
+        Some(rude) => run_beside(host, job, keyboard, &mut Rude::new(rude), labels),
+        None => run_beside(host, job, keyboard, &mut Quiet, labels),
     })
 }
 
 fn run_beside<R: Files + Clock + Print + Eprint + Input + AllocGlobal, O: Outside>(
     host: &mut Host<'_, R>,
-    what: &Runnable,
-    settings: &Settings,
+    job: &RunJob,
     keyboard: Keyboard,
     outside: &mut O,
     labels: &[Label],
 ) -> Ran {
-    match what {
+    let settings = &job.settings;
+    match &job.what {
         Runnable::Source(path) => run_source(host, path.as_str(), settings, keyboard, outside),
         Runnable::Prg(path) => {
             run_prg(
@@ -85,7 +82,7 @@ fn run_source<R: Files + Clock + Print + Eprint + Input + AllocGlobal, O: Outsid
     outside: &mut O,
 ) -> Ran {
     let rt = host.rt;
-    let compiling = settings_for(host, path, Wanted::of(settings));
+    let compiling = settings_for(host, path, settings.options);
     let mut file = match opened(host, path) {
         Ok(file) => file,
         Err(outcome) => return Ran::Plain(outcome, None),
@@ -136,11 +133,11 @@ fn run_prg<R: Files + Clock + Print + Eprint + Input + AllocGlobal, O: Outside>(
 /// Steps through a source or a PRG file by commands from standard input.
 pub fn step<R: Files + Print + Eprint + Input + AllocGlobal>(
     host: &mut Host<'_, R>,
-    what: &Runnable,
-    settings: &Settings,
+    job: &StepJob,
 ) -> Result<Report, Failure> {
+    let settings = &job.settings;
     let keyboard = keyboard(host, settings)?;
-    Ok(match what {
+    Ok(match &job.what {
         Runnable::Source(path) => step_source(host, path.as_str(), settings, keyboard),
         Runnable::Prg(path) => {
             let limit = u64::from(settings.limit.events);
@@ -157,7 +154,7 @@ fn step_source<R: Files + Print + Eprint + Input + AllocGlobal>(
     keyboard: Keyboard,
 ) -> Report {
     let rt = host.rt;
-    let compiling = settings_for(host, path, Wanted::of(settings));
+    let compiling = settings_for(host, path, settings.options);
     let mut file = match opened(host, path) {
         Ok(file) => file,
         Err(outcome) => return Report::new(rt.alloc(), outcome),

@@ -67,8 +67,8 @@ fn told<R: Files>(rt: &R, path: &str) -> Told {
 
 /// Says of each source that is checked why it can't be read.
 pub fn noted_sources<R: Files + Eprint>(host: &Host<'_, R>, job: &Job) {
-    if let Job::Check { sources, .. } = job {
-        for path in sources {
+    if let Job::Check(job) = job {
+        for path in &job.sources {
             let told = told(host.rt, path.as_str());
             note_told(host.rt, path.as_str(), Purpose::Input, told);
         }

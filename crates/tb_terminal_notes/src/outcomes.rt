@@ -44,7 +44,7 @@ fn note_prg<R: Eprint>(host: &Host<'_, R>, refusal: Refusal) {
 // A player who gives no more keys needs no note.
 fn note_end<R: Eprint>(host: &Host<'_, R>, job: &Job, end: End) {
     match (job, end) {
-        (Job::Play { .. }, End::WaitsForKey) => {}
+        (Job::Play(_), End::WaitsForKey) => {}
         (_, End::WaitsForKey) => say(host.rt, EndNote::Waits(None)),
         (_, End::StepLimit) => say(host.rt, EndNote::Running(None)),
         (_, End::Done | End::WentWrong { .. }) => {}
@@ -58,8 +58,8 @@ pub fn note_disk<R: Files + Print + Eprint + Input + AllocGlobal>(
     outcome: DiskOutcome,
 ) {
     match (outcome, job) {
-        (DiskOutcome::Refused(refusal), Job::Disk { out, files, .. }) => {
-            if let Some(note) = disk_note(out, files.as_slice(), host.opened, refusal) {
+        (DiskOutcome::Refused(refusal), Job::Disk(job)) => {
+            if let Some(note) = disk_note(&job.out, job.files.as_slice(), host.opened, refusal) {
                 say(host.rt, note);
             }
         }

@@ -11,8 +11,8 @@ use tb_engines::Refusal;
 use tb_file_engine::opened;
 use tb_file_reasons::{FileNote, FileReason};
 use tb_files::{FileSystem, Place};
-use tb_host::{Host, Source, Wanted, settings_of};
-use tb_jobs::{Job, Runnable};
+use tb_host::{Host, Source, settings_of};
+use tb_jobs::{Job, Runnable, SourceOptions};
 use tb_source_options::own_options;
 use tb_sources::bytes_to_fit;
 use tb_streams::{Tracked, read_input};
@@ -21,7 +21,7 @@ use tb_streams::{Tracked, read_input};
 #[derive(Clone, Copy, Drop)]
 struct Compiles<'a> {
     source: &'a str,
-    wanted: Wanted,
+    options: SourceOptions,
 }
 
 /// Says what helps with a source that is refused.
@@ -48,10 +48,10 @@ fn note_refusal<R: Eprint + AllocGlobal>(
     error: CompileError,
 ) {
     if let CompileError::TooLarge(_) = error {
-        note_fit(host, compiles.wanted, source);
+        note_fit(host, compiles.options, source);
         return;
     }
-    let notation = own_options(source).notation(compiles.wanted.notation);
+    let notation = own_options(source).notation(compiles.options.notation);
     show(
         host,
         refusal_text(
@@ -80,9 +80,10 @@ pub fn note_text<R: Files + Print + Eprint + Input + AllocGlobal>(
     job: &Job,
     refusal: Refusal,
 ) {
-    let Job::Asm { text: path, .. } = job else {
+    let Job::Asm(job) = job else {
         return;
     };
+    let path = job.text.as_str();
     let Some(text) = read_again(host, path) else {
         return;
     };
@@ -95,8 +96,8 @@ pub fn note_text<R: Files + Print + Eprint + Input + AllocGlobal>(
 }
 
 // That `--fit` compiles a source that is refused by its cost alone.
-fn note_fit<R: Eprint + AllocGlobal>(host: &Host<'_, R>, wanted: Wanted, source: &[u8]) {
-    let settings = settings_of(wanted, own_options(source));
+fn note_fit<R: Eprint + AllocGlobal>(host: &Host<'_, R>, options: SourceOptions, source: &[u8]) {
+    let settings = settings_of(options, own_options(source));
     if settings.size == SizeLimit::Memory {
         return;
     }
@@ -147,99 +148,59 @@ fn opened_again<R: Files + Print + Input + AllocGlobal>(
     }
 }
 
+// What a job runs, if it does.
+fn runnable_of(job: &Job) -> Option<&Runnable> {
+    match job {
+        Job::Run(job) => Some(&job.what),
+        Job::Play(job) => Some(&job.what),
+        Job::Step(job) => Some(&job.what),
+        Job::Debug(job) => Some(&job.what),
+        Job::Profile(job) => Some(&job.what),
+        _ => None,
+    }
+}
+
 // The source that a job runs, if it does.
 fn run_by(job: &Job) -> Option<&str> {
-    match job {
-        Job::Run {
-            what: Runnable::Source(source),
-            ..
-        }
-        | Job::Play {
-            what: Runnable::Source(source),
-            ..
-        }
-        | Job::Step {
-            what: Runnable::Source(source),
-            ..
-        }
-        | Job::Debug {
-            what: Runnable::Source(source),
-            ..
-        }
-        | Job::Profile {
-            what: Runnable::Source(source),
-            ..
-        } => Some(source.as_str()),
+    match runnable_of(job) {
+        Some(Runnable::Source(source)) => Some(source.as_str()),
         _ => None,
+    }
+}
+
+// What is compiled of what a job takes, if that is a source.
+fn compiled_of(what: &Runnable, options: SourceOptions) -> Option<Compiles<'_>> {
+    match what {
+        Runnable::Source(source) => Some(Compiles {
+            source: source.as_str(),
+            options,
+        }),
+        Runnable::Prg(_) => None,
     }
 }
 
 // What a job compiles, if it does.
 fn compiled_by(job: &Job) -> Option<Compiles<'_>> {
     match job {
-        Job::Build {
-            source,
-            seed,
-            fit,
-            notation,
-            ..
-        }
-        | Job::Play {
-            what: Runnable::Source(source),
-            seed,
-            fit,
-            notation,
-            ..
-        }
-        | Job::Page {
-            what: Runnable::Source(source),
-            seed,
-            fit,
-            notation,
-            ..
-        } => Some(Compiles {
-            source: source.as_str(),
-            wanted: Wanted {
-                seed: *seed,
-                fit: *fit,
-                notation: *notation,
-            },
+        Job::Build(job) => Some(Compiles {
+            source: job.source.as_str(),
+            options: job.options,
         }),
         // (a source that costs too much is not renumbered, so nothing is said of `--fit`)
-        Job::Renumber {
-            source,
-            notation,
-            ..
-        } => Some(Compiles {
-            source: source.as_str(),
-            wanted: Wanted {
+        Job::Renumber(job) => Some(Compiles {
+            source: job.source.as_str(),
+            options: SourceOptions {
                 seed: None,
                 fit: true,
-                notation: *notation,
+                notation: job.notation,
             },
         }),
-        Job::Run {
-            what: Runnable::Source(source),
-            settings,
-            ..
-        }
-        | Job::Step {
-            what: Runnable::Source(source),
-            settings,
-        }
-        | Job::Debug {
-            what: Runnable::Source(source),
-            settings,
-            ..
-        }
-        | Job::Profile {
-            what: Runnable::Source(source),
-            settings,
-            ..
-        } => Some(Compiles {
-            source: source.as_str(),
-            wanted: Wanted::of(settings),
-        }),
+        Job::Play(job) => compiled_of(&job.what, job.options),
+        Job::Page(job) => compiled_of(&job.what, job.options),
+        Job::Run(job) => compiled_of(&job.what, job.settings.options),
+        Job::Step(job) => compiled_of(&job.what, job.settings.options),
+        Job::Debug(job) => compiled_of(&job.what, job.settings.options),
+        Job::Profile(job) => compiled_of(&job.what, job.settings.options),
         _ => None,
     }
 }

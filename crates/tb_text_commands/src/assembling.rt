@@ -5,7 +5,7 @@ use tb_assembly_engine::{
     Manner, TextFailure, TextNames, TextOutcome, TextRefusal, assemble_source,
 };
 use tb_host::Host;
-use tb_jobs::Failure;
+use tb_jobs::{AssembleJob, Failure};
 use tb_streams::{Done, Tracked, address, write_output};
 
 /// The address of the first byte, if neither the words nor the text say it.
@@ -15,16 +15,20 @@ const USUAL_ADDRESS: u16 = 0xc000;
 /// otherwise.
 pub fn assemble<R: Files + Print + Input + AllocGlobal>(
     host: &mut Host<'_, R>,
-    text: &str,
-    at: Option<&str>,
-    long: bool,
-    names: TextNames<'_>,
+    job: &AssembleJob,
 ) -> Result<TextOutcome, Failure> {
-    let at = match at {
+    let at = match job.at.as_deref() {
         Some(at) => address(at).ok_or(Failure::BadAddress)?,
         None => USUAL_ADDRESS,
     };
-    match assemble_source(host.rt.alloc(), host, text, Manner { at, long }, names) {
+    let names = TextNames {
+        out: job.out.as_str(),
+        labels: job.labels.as_deref(),
+        listing: job.listing.as_deref(),
+        is_forced: job.force,
+    };
+    let manner = Manner { at, long: job.long };
+    match assemble_source(host.rt.alloc(), host, job.text.as_str(), manner, names) {
         Ok(()) => Ok(TextOutcome::Ended(Done)),
         Err(TextFailure::Refused(TextRefusal::SameFile)) => Err(Failure::SameFile),
         Err(TextFailure::Refused(TextRefusal::IsSource(path))) => Err(Failure::IsSource(path)),

@@ -4,7 +4,8 @@ use std::rt::Files;
 use tb_check_engine::{CheckOutcome, CheckSettings, check_sources};
 use tb_codegen::TinyBasic;
 use tb_file_engine::FileSources;
-use tb_host::Host;
+use tb_host::{Host, size_limit};
+use tb_jobs::CheckJob;
 use tb_streams::Tracked;
 
 /// The sources that are files of the system. What is read of them is noted in no other host.
@@ -12,20 +13,23 @@ pub fn sources_of<'a, R>(host: &Host<'a, R>) -> FileSources<Host<'a, R>> {
     FileSources(Host::new(host.rt, host.notes, host.shows))
 }
 
-/// Checks sources by these settings, and writes what there is to say of them.
+/// Checks sources, and writes what there is to say of them.
 pub fn check_files<R: Files + Print + Input + AllocGlobal>(
     host: &Host<'_, R>,
-    paths: &[String],
-    settings: CheckSettings,
+    job: &CheckJob,
 ) -> CheckOutcome {
     let rt = host.rt;
+    let settings = CheckSettings {
+        size: size_limit(job.fit),
+        notation: job.notation,
+    };
     let mut screen = Tracked::new(io::writer(rt));
     let mut sources = sources_of(host);
     check_sources(
         &TinyBasic,
         rt.alloc(),
         &mut sources,
-        paths,
+        job.sources.as_slice(),
         &mut screen,
         settings,
     )

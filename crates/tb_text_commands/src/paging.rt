@@ -3,22 +3,21 @@ use std::rt::Files;
 use std::time::Clock;
 use tb_engines::Report;
 use tb_file_engine::{page_file, page_prg_file, title_of};
-use tb_host::{Host, Wanted, settings_for};
-use tb_jobs::Runnable;
+use tb_host::{Host, settings_for};
+use tb_jobs::{PageJob, Runnable};
 
 /// Writes the page of a source or of a PRG file, under the title that is asked for, or else the file's own.
 pub fn page<R: Files + Clock + Print + Eprint + Input + AllocGlobal>(
     host: &mut Host<'_, R>,
-    what: &Runnable,
-    out: &str,
-    title: Option<&str>,
-    wanted: Wanted,
+    job: &PageJob,
 ) -> Report {
     let alloc = host.rt.alloc();
-    match what {
+    let title = job.title.as_deref();
+    let out = job.out.as_str();
+    match &job.what {
         Runnable::Source(source) => {
             let title = title_of(title, source.as_str());
-            let settings = settings_for(host, source.as_str(), wanted);
+            let settings = settings_for(host, source.as_str(), job.options);
             page_file(alloc, host, source.as_str(), out, title, settings)
         }
         Runnable::Prg(prg) => {

@@ -1,20 +1,22 @@
 //! Renumbering a source: its new text goes to standard output, or takes the source's place.
 use std::rt::Files;
-use tb_compiled::Notation;
 use tb_file_engine::{Numbering, RenumberOutcome, renumber_in_place};
 use tb_host::{Host, notation_at};
+use tb_jobs::RenumberJob;
 
-/// Renumbers a source's file, whose texts are read in a notation, or as its own words ask for.
+/// Renumbers a source's file. Its texts are read as the words ask for, or as its own do.
 pub fn renumber_file<R: Files + Print + Eprint + Input + AllocGlobal>(
     host: &mut Host<'_, R>,
-    path: &str,
-    notation: Notation,
-    numbering: Numbering,
-    in_place: bool,
+    job: &RenumberJob,
 ) -> RenumberOutcome {
     let alloc = host.rt.alloc();
-    let notation = notation_at(host, path, notation);
-    if in_place {
+    let path = job.source.as_str();
+    let notation = notation_at(host, path, job.notation);
+    let numbering = Numbering {
+        first: job.first,
+        step: job.step,
+    };
+    if job.in_place {
         renumber_in_place(alloc, host, path, notation, numbering)
     } else {
         tb_file_engine::renumber_file(alloc, host, path, notation, numbering)

@@ -29,7 +29,7 @@ pub fn note_after<R: Eprint>(rt: &R, asked: &Asked) {
 }
 
 fn is_on_screen(job: &Job) -> bool {
-    matches!(job, Job::Play { screen: true, .. })
+    matches!(job, Job::Play(job) if job.screen)
 }
 
 /// Says what helps with how a job ended.

@@ -10,49 +10,49 @@ const CLOCK: u16 = 4711;
 static JOBS: [(&[&str], &str); 28] = [
     (
         &["build", "a", "b"],
-        "Ok(Build { source: \"a\", out: \"b\", seed: None, fit: false, notation: Plain, beside: BuildExtras { labels: None, listing: None, dialect: None, map: None, watch: None }, force: false })",
+        "Ok(Build(BuildJob { source: \"a\", out: \"b\", options: SourceOptions { seed: None, fit: false, notation: Plain }, beside: BuildExtras { labels: None, listing: None, dialect: None, map: None, watch: None }, force: false }))",
     ),
     (
         &["build", "f.d/a.bas"],
-        "Ok(Build { source: \"f.d/a.bas\", out: \"f.d/a.prg\", seed: None, fit: false, notation: Plain, beside: BuildExtras { labels: None, listing: None, dialect: None, map: None, watch: None }, force: false })",
+        "Ok(Build(BuildJob { source: \"f.d/a.bas\", out: \"f.d/a.prg\", options: SourceOptions { seed: None, fit: false, notation: Plain }, beside: BuildExtras { labels: None, listing: None, dialect: None, map: None, watch: None }, force: false }))",
     ),
     (
         &["build", "a.BAS"],
-        "Ok(Build { source: \"a.BAS\", out: \"a.BAS.prg\", seed: None, fit: false, notation: Plain, beside: BuildExtras { labels: None, listing: None, dialect: None, map: None, watch: None }, force: false })",
+        "Ok(Build(BuildJob { source: \"a.BAS\", out: \"a.BAS.prg\", options: SourceOptions { seed: None, fit: false, notation: Plain }, beside: BuildExtras { labels: None, listing: None, dialect: None, map: None, watch: None }, force: false }))",
     ),
     (
         &["build", "a"],
-        "Ok(Build { source: \"a\", out: \"a.prg\", seed: None, fit: false, notation: Plain, beside: BuildExtras { labels: None, listing: None, dialect: None, map: None, watch: None }, force: false })",
+        "Ok(Build(BuildJob { source: \"a\", out: \"a.prg\", options: SourceOptions { seed: None, fit: false, notation: Plain }, beside: BuildExtras { labels: None, listing: None, dialect: None, map: None, watch: None }, force: false }))",
     ),
     (
         &["build", "-"],
-        "Ok(Build { source: \"-\", out: \"-\", seed: None, fit: false, notation: Plain, beside: BuildExtras { labels: None, listing: None, dialect: None, map: None, watch: None }, force: false })",
+        "Ok(Build(BuildJob { source: \"-\", out: \"-\", options: SourceOptions { seed: None, fit: false, notation: Plain }, beside: BuildExtras { labels: None, listing: None, dialect: None, map: None, watch: None }, force: false }))",
     ),
     (
         &["build", "a", "-o", "b"],
-        "Ok(Build { source: \"a\", out: \"b\", seed: None, fit: false, notation: Plain, beside: BuildExtras { labels: None, listing: None, dialect: None, map: None, watch: None }, force: false })",
+        "Ok(Build(BuildJob { source: \"a\", out: \"b\", options: SourceOptions { seed: None, fit: false, notation: Plain }, beside: BuildExtras { labels: None, listing: None, dialect: None, map: None, watch: None }, force: false }))",
     ),
     (
         &["build", "-ob", "-"],
-        "Ok(Build { source: \"-\", out: \"b\", seed: None, fit: false, notation: Plain, beside: BuildExtras { labels: None, listing: None, dialect: None, map: None, watch: None }, force: false })",
+        "Ok(Build(BuildJob { source: \"-\", out: \"b\", options: SourceOptions { seed: None, fit: false, notation: Plain }, beside: BuildExtras { labels: None, listing: None, dialect: None, map: None, watch: None }, force: false }))",
     ),
     (
         &["build", "--seed", "65535", "a", "b"],
-        "Ok(Build { source: \"a\", out: \"b\", seed: Some(65535), fit: false, notation: Plain, beside: BuildExtras { labels: None, listing: None, dialect: None, map: None, watch: None }, force: false })",
+        "Ok(Build(BuildJob { source: \"a\", out: \"b\", options: SourceOptions { seed: Some(65535), fit: false, notation: Plain }, beside: BuildExtras { labels: None, listing: None, dialect: None, map: None, watch: None }, force: false }))",
     ),
     (
         &[
             "build", "a", "b", "--map=m", "--labels", "v", "--watch", "w", "--list", "s",
         ],
-        "Ok(Build { source: \"a\", out: \"b\", seed: None, fit: false, notation: Plain, beside: BuildExtras { labels: Some(\"v\"), listing: Some(\"s\"), dialect: None, map: Some(\"m\"), watch: Some(\"w\") }, force: false })",
+        "Ok(Build(BuildJob { source: \"a\", out: \"b\", options: SourceOptions { seed: None, fit: false, notation: Plain }, beside: BuildExtras { labels: Some(\"v\"), listing: Some(\"s\"), dialect: None, map: Some(\"m\"), watch: Some(\"w\") }, force: false }))",
     ),
     (
         &["build", "--fit", "a", "b"],
-        "Ok(Build { source: \"a\", out: \"b\", seed: None, fit: true, notation: Plain, beside: BuildExtras { labels: None, listing: None, dialect: None, map: None, watch: None }, force: false })",
+        "Ok(Build(BuildJob { source: \"a\", out: \"b\", options: SourceOptions { seed: None, fit: true, notation: Plain }, beside: BuildExtras { labels: None, listing: None, dialect: None, map: None, watch: None }, force: false }))",
     ),
     (
         &["run", "a"],
-        "Ok(Run { what: Source(\"a\"), settings: Settings { seed: None, fit: false, notation: Plain, keys: Digits(\"\"), answers: \"\", limit: Limit { events: 10000000 } }, rude: None, labels: None, strict: false })",
+        "Ok(Run(RunJob { what: Source(\"a\"), settings: Settings { options: SourceOptions { seed: None, fit: false, notation: Plain }, keys: Digits(\"\"), answers: \"\", limit: Limit { events: 10000000 } }, rude: None, labels: None, strict: false }))",
     ),
     (
         &[
@@ -66,98 +66,98 @@ static JOBS: [(&[&str], &str); 28] = [
             "--rude",
             "65535",
         ],
-        "Ok(Run { what: Source(\"a\"), settings: Settings { seed: None, fit: false, notation: Plain, keys: Digits(\"330d\"), answers: \"00\", limit: Limit { events: 1000000000 } }, rude: Some(65535), labels: None, strict: false })",
+        "Ok(Run(RunJob { what: Source(\"a\"), settings: Settings { options: SourceOptions { seed: None, fit: false, notation: Plain }, keys: Digits(\"330d\"), answers: \"00\", limit: Limit { events: 1000000000 } }, rude: Some(65535), labels: None, strict: false }))",
     ),
     (
         &["run", "--prg", "p", "--seed", "0", "--limit", "1"],
-        "Ok(Run { what: Prg(\"p\"), settings: Settings { seed: Some(0), fit: false, notation: Plain, keys: Digits(\"\"), answers: \"\", limit: Limit { events: 1 } }, rude: None, labels: None, strict: false })",
+        "Ok(Run(RunJob { what: Prg(\"p\"), settings: Settings { options: SourceOptions { seed: Some(0), fit: false, notation: Plain }, keys: Digits(\"\"), answers: \"\", limit: Limit { events: 1 } }, rude: None, labels: None, strict: false }))",
     ),
     (
         &["run", "--prg", "p", "--labels", "v"],
-        "Ok(Run { what: Prg(\"p\"), settings: Settings { seed: None, fit: false, notation: Plain, keys: Digits(\"\"), answers: \"\", limit: Limit { events: 10000000 } }, rude: None, labels: Some(\"v\"), strict: false })",
+        "Ok(Run(RunJob { what: Prg(\"p\"), settings: Settings { options: SourceOptions { seed: None, fit: false, notation: Plain }, keys: Digits(\"\"), answers: \"\", limit: Limit { events: 10000000 } }, rude: None, labels: Some(\"v\"), strict: false }))",
     ),
     (
         &["run", "a", "--keys-file", "k", "--answers", "03"],
-        "Ok(Run { what: Source(\"a\"), settings: Settings { seed: None, fit: false, notation: Plain, keys: File(\"k\"), answers: \"03\", limit: Limit { events: 10000000 } }, rude: None, labels: None, strict: false })",
+        "Ok(Run(RunJob { what: Source(\"a\"), settings: Settings { options: SourceOptions { seed: None, fit: false, notation: Plain }, keys: File(\"k\"), answers: \"03\", limit: Limit { events: 10000000 } }, rude: None, labels: None, strict: false }))",
     ),
     (
         &["play", "a"],
-        "Ok(Play { what: Source(\"a\"), seed: None, fit: false, notation: Plain, limit: Limit { events: 1000000000 }, record: None, screen: false, force: false, strict: false })",
+        "Ok(Play(PlayJob { what: Source(\"a\"), options: SourceOptions { seed: None, fit: false, notation: Plain }, limit: Limit { events: 1000000000 }, recording: None, screen: false, force: false, strict: false }))",
     ),
     (
         &[
             "play", "--prg=p", "--seed", "9", "--limit", "5", "--record", "r",
         ],
-        "Ok(Play { what: Prg(\"p\"), seed: Some(9), fit: false, notation: Plain, limit: Limit { events: 5 }, record: Some(\"r\"), screen: false, force: false, strict: false })",
+        "Ok(Play(PlayJob { what: Prg(\"p\"), options: SourceOptions { seed: Some(9), fit: false, notation: Plain }, limit: Limit { events: 5 }, recording: Some(\"r\"), screen: false, force: false, strict: false }))",
     ),
     (
         &["play", "a", "--fit"],
-        "Ok(Play { what: Source(\"a\"), seed: None, fit: true, notation: Plain, limit: Limit { events: 1000000000 }, record: None, screen: false, force: false, strict: false })",
+        "Ok(Play(PlayJob { what: Source(\"a\"), options: SourceOptions { seed: None, fit: true, notation: Plain }, limit: Limit { events: 1000000000 }, recording: None, screen: false, force: false, strict: false }))",
     ),
     (
         &["play", "--screen", "a"],
-        "Ok(Play { what: Source(\"a\"), seed: None, fit: false, notation: Plain, limit: Limit { events: 1000000000 }, record: None, screen: true, force: false, strict: false })",
+        "Ok(Play(PlayJob { what: Source(\"a\"), options: SourceOptions { seed: None, fit: false, notation: Plain }, limit: Limit { events: 1000000000 }, recording: None, screen: true, force: false, strict: false }))",
     ),
     (
         &["asm", "a", "b", "--at", "c00"],
-        "Ok(Asm { text: \"a\", out: \"b\", at: \"c00\", force: false })",
+        "Ok(Asm(AsmJob { text: \"a\", out: \"b\", at: \"c00\", force: false }))",
     ),
     (
         &["asm", "a", "-o", "b", "--at", "c00"],
-        "Ok(Asm { text: \"a\", out: \"b\", at: \"c00\", force: false })",
+        "Ok(Asm(AsmJob { text: \"a\", out: \"b\", at: \"c00\", force: false }))",
     ),
     (
         &["assemble", "a.asm"],
-        "Ok(Assemble { text: \"a.asm\", out: \"a.prg\", at: None, long: false, labels: None, listing: None, force: false })",
+        "Ok(Assemble(AssembleJob { text: \"a.asm\", out: \"a.prg\", at: None, long: false, labels: None, listing: None, force: false }))",
     ),
     (
         &["assemble", "a", "b", "--at", "c00", "--labels", "v"],
-        "Ok(Assemble { text: \"a\", out: \"b\", at: Some(\"c00\"), long: false, labels: Some(\"v\"), listing: None, force: false })",
+        "Ok(Assemble(AssembleJob { text: \"a\", out: \"b\", at: Some(\"c00\"), long: false, labels: Some(\"v\"), listing: None, force: false }))",
     ),
     (
         &["assemble", "--long", "a"],
-        "Ok(Assemble { text: \"a\", out: \"a.prg\", at: None, long: true, labels: None, listing: None, force: false })",
+        "Ok(Assemble(AssembleJob { text: \"a\", out: \"a.prg\", at: None, long: true, labels: None, listing: None, force: false }))",
     ),
     (
         &["assemble", "-", "--list=s"],
-        "Ok(Assemble { text: \"-\", out: \"-\", at: None, long: false, labels: None, listing: Some(\"s\"), force: false })",
+        "Ok(Assemble(AssembleJob { text: \"-\", out: \"-\", at: None, long: false, labels: None, listing: Some(\"s\"), force: false }))",
     ),
     (
         &["build", "--petscii", "a"],
-        "Ok(Build { source: \"a\", out: \"a.prg\", seed: None, fit: false, notation: Signs, beside: BuildExtras { labels: None, listing: None, dialect: None, map: None, watch: None }, force: false })",
+        "Ok(Build(BuildJob { source: \"a\", out: \"a.prg\", options: SourceOptions { seed: None, fit: false, notation: Signs }, beside: BuildExtras { labels: None, listing: None, dialect: None, map: None, watch: None }, force: false }))",
     ),
     (
         &["run", "a", "--petscii", "--fit"],
-        "Ok(Run { what: Source(\"a\"), settings: Settings { seed: None, fit: true, notation: Signs, keys: Digits(\"\"), answers: \"\", limit: Limit { events: 10000000 } }, rude: None, labels: None, strict: false })",
+        "Ok(Run(RunJob { what: Source(\"a\"), settings: Settings { options: SourceOptions { seed: None, fit: true, notation: Signs }, keys: Digits(\"\"), answers: \"\", limit: Limit { events: 10000000 } }, rude: None, labels: None, strict: false }))",
     ),
     (
         &["play", "a", "--petscii", "--screen"],
-        "Ok(Play { what: Source(\"a\"), seed: None, fit: false, notation: Signs, limit: Limit { events: 1000000000 }, record: None, screen: true, force: false, strict: false })",
+        "Ok(Play(PlayJob { what: Source(\"a\"), options: SourceOptions { seed: None, fit: false, notation: Signs }, limit: Limit { events: 1000000000 }, recording: None, screen: true, force: false, strict: false }))",
     ),
 ];
 
 /// The same, of commands that look at programs or at sources.
 static TOOL_JOBS: [(&[&str], &str); 46] = [
-    (&["dis", "a"], "Ok(Dis { prg: \"a\", dialect: None })"),
+    (&["dis", "a"], "Ok(Dis(DisJob { prg: \"a\", dialect: None }))"),
     (
         &["dis", "a", "--for", "64tass"],
-        "Ok(Dis { prg: \"a\", dialect: Some(Tass64) })",
+        "Ok(Dis(DisJob { prg: \"a\", dialect: Some(Tass64) }))",
     ),
     (
         &["dis", "--for=ca65", "a"],
-        "Ok(Dis { prg: \"a\", dialect: Some(Ca65) })",
+        "Ok(Dis(DisJob { prg: \"a\", dialect: Some(Ca65) }))",
     ),
     (
         &["dis", "--for", "acme", "-"],
-        "Ok(Dis { prg: \"-\", dialect: Some(Acme) })",
+        "Ok(Dis(DisJob { prg: \"-\", dialect: Some(Acme) }))",
     ),
     (
         &["build", "a", "b", "--list", "s", "--for", "xa"],
-        "Ok(Build { source: \"a\", out: \"b\", seed: None, fit: false, notation: Plain, beside: BuildExtras { labels: None, listing: Some(\"s\"), dialect: Some(Xa), map: None, watch: None }, force: false })",
+        "Ok(Build(BuildJob { source: \"a\", out: \"b\", options: SourceOptions { seed: None, fit: false, notation: Plain }, beside: BuildExtras { labels: None, listing: Some(\"s\"), dialect: Some(Xa), map: None, watch: None }, force: false }))",
     ),
     (
         &["debug", "a"],
-        "Ok(Debug { what: Source(\"a\"), settings: Settings { seed: None, fit: false, notation: Plain, keys: Digits(\"\"), answers: \"\", limit: Limit { events: 10000000 } }, rude: None, labels: None })",
+        "Ok(Debug(DebugJob { what: Source(\"a\"), settings: Settings { options: SourceOptions { seed: None, fit: false, notation: Plain }, keys: Digits(\"\"), answers: \"\", limit: Limit { events: 10000000 } }, rude: None, labels: None }))",
     ),
     (
         &[
@@ -170,19 +170,19 @@ static TOOL_JOBS: [(&[&str], &str); 46] = [
             "--limit",
             "9",
         ],
-        "Ok(Debug { what: Source(\"a\"), settings: Settings { seed: None, fit: false, notation: Plain, keys: File(\"k\"), answers: \"\", limit: Limit { events: 9 } }, rude: Some(7), labels: None })",
+        "Ok(Debug(DebugJob { what: Source(\"a\"), settings: Settings { options: SourceOptions { seed: None, fit: false, notation: Plain }, keys: File(\"k\"), answers: \"\", limit: Limit { events: 9 } }, rude: Some(7), labels: None }))",
     ),
     (
         &["debug", "--prg", "a", "--type", "b"],
-        "Ok(Debug { what: Prg(\"a\"), settings: Settings { seed: None, fit: false, notation: Plain, keys: Text(\"b\"), answers: \"\", limit: Limit { events: 10000000 } }, rude: None, labels: None })",
+        "Ok(Debug(DebugJob { what: Prg(\"a\"), settings: Settings { options: SourceOptions { seed: None, fit: false, notation: Plain }, keys: Text(\"b\"), answers: \"\", limit: Limit { events: 10000000 } }, rude: None, labels: None }))",
     ),
     (
         &["debug", "--labels=v", "--prg=a"],
-        "Ok(Debug { what: Prg(\"a\"), settings: Settings { seed: None, fit: false, notation: Plain, keys: Digits(\"\"), answers: \"\", limit: Limit { events: 10000000 } }, rude: None, labels: Some(\"v\") })",
+        "Ok(Debug(DebugJob { what: Prg(\"a\"), settings: Settings { options: SourceOptions { seed: None, fit: false, notation: Plain }, keys: Digits(\"\"), answers: \"\", limit: Limit { events: 10000000 } }, rude: None, labels: Some(\"v\") }))",
     ),
     (
         &["profile", "a"],
-        "Ok(Profile { what: Source(\"a\"), settings: Settings { seed: None, fit: false, notation: Plain, keys: Digits(\"\"), answers: \"\", limit: Limit { events: 10000000 } }, rude: None, html: None, force: false })",
+        "Ok(Profile(ProfileJob { what: Source(\"a\"), settings: Settings { options: SourceOptions { seed: None, fit: false, notation: Plain }, keys: Digits(\"\"), answers: \"\", limit: Limit { events: 10000000 } }, rude: None, html: None, force: false }))",
     ),
     (
         &[
@@ -196,79 +196,79 @@ static TOOL_JOBS: [(&[&str], &str); 46] = [
             "--limit",
             "9",
         ],
-        "Ok(Profile { what: Source(\"a\"), settings: Settings { seed: None, fit: false, notation: Plain, keys: File(\"k\"), answers: \"\", limit: Limit { events: 9 } }, rude: Some(7), html: Some(\"p\"), force: false })",
+        "Ok(Profile(ProfileJob { what: Source(\"a\"), settings: Settings { options: SourceOptions { seed: None, fit: false, notation: Plain }, keys: File(\"k\"), answers: \"\", limit: Limit { events: 9 } }, rude: Some(7), html: Some(\"p\"), force: false }))",
     ),
     (
         &["profile", "--prg=a", "--rude", "7"],
-        "Ok(Profile { what: Prg(\"a\"), settings: Settings { seed: None, fit: false, notation: Plain, keys: Digits(\"\"), answers: \"\", limit: Limit { events: 10000000 } }, rude: Some(7), html: None, force: false })",
+        "Ok(Profile(ProfileJob { what: Prg(\"a\"), settings: Settings { options: SourceOptions { seed: None, fit: false, notation: Plain }, keys: Digits(\"\"), answers: \"\", limit: Limit { events: 10000000 } }, rude: Some(7), html: None, force: false }))",
     ),
     (
         &["page", "d/a.bas"],
-        "Ok(Page { what: Source(\"d/a.bas\"), out: \"d/a.html\", seed: None, fit: false, notation: Plain, title: None, force: false })",
+        "Ok(Page(PageJob { what: Source(\"d/a.bas\"), out: \"d/a.html\", options: SourceOptions { seed: None, fit: false, notation: Plain }, title: None, force: false }))",
     ),
     (
         &["page", "-", "--title", "-A", "--seed", "7", "--fit", "--petscii", "--force"],
-        "Ok(Page { what: Source(\"-\"), out: \"-\", seed: Some(7), fit: true, notation: Signs, title: Some(\"-A\"), force: true })",
+        "Ok(Page(PageJob { what: Source(\"-\"), out: \"-\", options: SourceOptions { seed: Some(7), fit: true, notation: Signs }, title: Some(\"-A\"), force: true }))",
     ),
     (
         &["page", "a.prg", "b"],
-        "Ok(Page { what: Source(\"a.prg\"), out: \"b\", seed: None, fit: false, notation: Plain, title: None, force: false })",
+        "Ok(Page(PageJob { what: Source(\"a.prg\"), out: \"b\", options: SourceOptions { seed: None, fit: false, notation: Plain }, title: None, force: false }))",
     ),
     (
         &["page", "a", "-o", "b"],
-        "Ok(Page { what: Source(\"a\"), out: \"b\", seed: None, fit: false, notation: Plain, title: None, force: false })",
+        "Ok(Page(PageJob { what: Source(\"a\"), out: \"b\", options: SourceOptions { seed: None, fit: false, notation: Plain }, title: None, force: false }))",
     ),
     (
         &["page", "--prg", "a.prg"],
-        "Ok(Page { what: Prg(\"a.prg\"), out: \"a.html\", seed: None, fit: false, notation: Plain, title: None, force: false })",
+        "Ok(Page(PageJob { what: Prg(\"a.prg\"), out: \"a.html\", options: SourceOptions { seed: None, fit: false, notation: Plain }, title: None, force: false }))",
     ),
     (
         &["page", "--prg", "a.bas", "b"],
-        "Ok(Page { what: Prg(\"a.bas\"), out: \"b\", seed: None, fit: false, notation: Plain, title: None, force: false })",
+        "Ok(Page(PageJob { what: Prg(\"a.bas\"), out: \"b\", options: SourceOptions { seed: None, fit: false, notation: Plain }, title: None, force: false }))",
     ),
     (
         &["page", "--prg=-", "-o", "b"],
-        "Ok(Page { what: Prg(\"-\"), out: \"b\", seed: None, fit: false, notation: Plain, title: None, force: false })",
+        "Ok(Page(PageJob { what: Prg(\"-\"), out: \"b\", options: SourceOptions { seed: None, fit: false, notation: Plain }, title: None, force: false }))",
     ),
     (
         &["disk", "o", "a"],
-        "Ok(Disk { out: \"o\", files: [\"a\"], force: false })",
+        "Ok(Disk(DiskJob { out: \"o\", files: [\"a\"], force: false }))",
     ),
     (
         &["disk", "b", "-o", "o", "a"],
-        "Ok(Disk { out: \"o\", files: [\"b\", \"a\"], force: false })",
+        "Ok(Disk(DiskJob { out: \"o\", files: [\"b\", \"a\"], force: false }))",
     ),
     (
         &["disk", "o", "--force", "a"],
-        "Ok(Disk { out: \"o\", files: [\"a\"], force: true })",
+        "Ok(Disk(DiskJob { out: \"o\", files: [\"a\"], force: true }))",
     ),
     (
         &["assemble", "a", "b", "--force"],
-        "Ok(Assemble { text: \"a\", out: \"b\", at: None, long: false, labels: None, listing: None, force: true })",
+        "Ok(Assemble(AssembleJob { text: \"a\", out: \"b\", at: None, long: false, labels: None, listing: None, force: true }))",
     ),
     (
         &["disk", "o", "b", "--", "a", "-b"],
-        "Ok(Disk { out: \"o\", files: [\"b\", \"a\", \"-b\"], force: false })",
+        "Ok(Disk(DiskJob { out: \"o\", files: [\"b\", \"a\", \"-b\"], force: false }))",
     ),
     (
         &["check", "a"],
-        "Ok(Check { sources: [\"a\"], fit: false, notation: Plain })",
+        "Ok(Check(CheckJob { sources: [\"a\"], fit: false, notation: Plain }))",
     ),
     (
         &["format", "a"],
-        "Ok(Format { source: \"a\", notation: Plain, target: Output })",
+        "Ok(Format(FormatJob { source: \"a\", notation: Plain, target: Output }))",
     ),
     (
         &["format", "--in-place", "a"],
-        "Ok(Format { source: \"a\", notation: Plain, target: InPlace })",
+        "Ok(Format(FormatJob { source: \"a\", notation: Plain, target: InPlace }))",
     ),
     (
         &["format", "a", "--check"],
-        "Ok(Format { source: \"a\", notation: Plain, target: Check })",
+        "Ok(Format(FormatJob { source: \"a\", notation: Plain, target: Check }))",
     ),
     (
         &["renumber", "a"],
-        "Ok(Renumber { source: \"a\", notation: Plain, first: 10, step: 10, in_place: false })",
+        "Ok(Renumber(RenumberJob { source: \"a\", notation: Plain, first: 10, step: 10, in_place: false }))",
     ),
     (
         &[
@@ -280,55 +280,55 @@ static TOOL_JOBS: [(&[&str], &str); 46] = [
             "--in-place",
             "a",
         ],
-        "Ok(Renumber { source: \"a\", notation: Plain, first: 1, step: 32767, in_place: true })",
+        "Ok(Renumber(RenumberJob { source: \"a\", notation: Plain, first: 1, step: 32767, in_place: true }))",
     ),
-    (&["lsp"], "Ok(Lsp { notation: Plain })"),
-    (&["dap"], "Ok(Dap { notation: Plain })"),
+    (&["lsp"], "Ok(Lsp(Plain))"),
+    (&["dap"], "Ok(Dap(Plain))"),
     (
         &["step", "--petscii", "a"],
-        "Ok(Step { what: Source(\"a\"), settings: Settings { seed: None, fit: false, notation: Signs, keys: Digits(\"\"), answers: \"\", limit: Limit { events: 10000000 } } })",
+        "Ok(Step(StepJob { what: Source(\"a\"), settings: Settings { options: SourceOptions { seed: None, fit: false, notation: Signs }, keys: Digits(\"\"), answers: \"\", limit: Limit { events: 10000000 } } }))",
     ),
     (
         &["debug", "a", "--petscii"],
-        "Ok(Debug { what: Source(\"a\"), settings: Settings { seed: None, fit: false, notation: Signs, keys: Digits(\"\"), answers: \"\", limit: Limit { events: 10000000 } }, rude: None, labels: None })",
+        "Ok(Debug(DebugJob { what: Source(\"a\"), settings: Settings { options: SourceOptions { seed: None, fit: false, notation: Signs }, keys: Digits(\"\"), answers: \"\", limit: Limit { events: 10000000 } }, rude: None, labels: None }))",
     ),
     (
         &["profile", "a", "--petscii"],
-        "Ok(Profile { what: Source(\"a\"), settings: Settings { seed: None, fit: false, notation: Signs, keys: Digits(\"\"), answers: \"\", limit: Limit { events: 10000000 } }, rude: None, html: None, force: false })",
+        "Ok(Profile(ProfileJob { what: Source(\"a\"), settings: Settings { options: SourceOptions { seed: None, fit: false, notation: Signs }, keys: Digits(\"\"), answers: \"\", limit: Limit { events: 10000000 } }, rude: None, html: None, force: false }))",
     ),
     (
         &["check", "--petscii", "a"],
-        "Ok(Check { sources: [\"a\"], fit: false, notation: Signs })",
+        "Ok(Check(CheckJob { sources: [\"a\"], fit: false, notation: Signs }))",
     ),
     (
         &["format", "--petscii", "--check", "a"],
-        "Ok(Format { source: \"a\", notation: Signs, target: Check })",
+        "Ok(Format(FormatJob { source: \"a\", notation: Signs, target: Check }))",
     ),
     (
         &["renumber", "a", "--petscii"],
-        "Ok(Renumber { source: \"a\", notation: Signs, first: 10, step: 10, in_place: false })",
+        "Ok(Renumber(RenumberJob { source: \"a\", notation: Signs, first: 10, step: 10, in_place: false }))",
     ),
-    (&["lsp", "--petscii"], "Ok(Lsp { notation: Signs })"),
-    (&["dap", "--petscii"], "Ok(Dap { notation: Signs })"),
+    (&["lsp", "--petscii"], "Ok(Lsp(Signs))"),
+    (&["dap", "--petscii"], "Ok(Dap(Signs))"),
     (
         &["check", "a", "b", "--", "-c"],
-        "Ok(Check { sources: [\"a\", \"b\", \"-c\"], fit: false, notation: Plain })",
+        "Ok(Check(CheckJob { sources: [\"a\", \"b\", \"-c\"], fit: false, notation: Plain }))",
     ),
     (
         &["step", "a", "--fit", "--seed", "2"],
-        "Ok(Step { what: Source(\"a\"), settings: Settings { seed: Some(2), fit: true, notation: Plain, keys: Digits(\"\"), answers: \"\", limit: Limit { events: 10000000 } } })",
+        "Ok(Step(StepJob { what: Source(\"a\"), settings: Settings { options: SourceOptions { seed: Some(2), fit: true, notation: Plain }, keys: Digits(\"\"), answers: \"\", limit: Limit { events: 10000000 } } }))",
     ),
     (
         &["step", "--prg", "a", "--seed", "2", "--fit", "--type", "b"],
-        "Ok(Step { what: Prg(\"a\"), settings: Settings { seed: Some(2), fit: true, notation: Plain, keys: Text(\"b\"), answers: \"\", limit: Limit { events: 10000000 } } })",
+        "Ok(Step(StepJob { what: Prg(\"a\"), settings: Settings { options: SourceOptions { seed: Some(2), fit: true, notation: Plain }, keys: Text(\"b\"), answers: \"\", limit: Limit { events: 10000000 } } }))",
     ),
     (
         &["step", "a"],
-        "Ok(Step { what: Source(\"a\"), settings: Settings { seed: None, fit: false, notation: Plain, keys: Digits(\"\"), answers: \"\", limit: Limit { events: 10000000 } } })",
+        "Ok(Step(StepJob { what: Source(\"a\"), settings: Settings { options: SourceOptions { seed: None, fit: false, notation: Plain }, keys: Digits(\"\"), answers: \"\", limit: Limit { events: 10000000 } } }))",
     ),
     (
         &["step", "--keys-file=k", "a"],
-        "Ok(Step { what: Source(\"a\"), settings: Settings { seed: None, fit: false, notation: Plain, keys: File(\"k\"), answers: \"\", limit: Limit { events: 10000000 } } })",
+        "Ok(Step(StepJob { what: Source(\"a\"), settings: Settings { options: SourceOptions { seed: None, fit: false, notation: Plain }, keys: File(\"k\"), answers: \"\", limit: Limit { events: 10000000 } } }))",
     ),
     (
         &[
@@ -343,7 +343,7 @@ static TOOL_JOBS: [(&[&str], &str); 46] = [
             "--seed",
             "7",
         ],
-        "Ok(Step { what: Source(\"a\"), settings: Settings { seed: Some(7), fit: false, notation: Plain, keys: Digits(\"31\"), answers: \"03\", limit: Limit { events: 5 } } })",
+        "Ok(Step(StepJob { what: Source(\"a\"), settings: Settings { options: SourceOptions { seed: Some(7), fit: false, notation: Plain }, keys: Digits(\"31\"), answers: \"03\", limit: Limit { events: 5 } } }))",
     ),
 ];
 
@@ -351,27 +351,27 @@ static TOOL_JOBS: [(&[&str], &str); 46] = [
 static SCRIPT_JOBS: [(&[&str], &str); 6] = [
     (
         &["step", "a", "--seed", "1"],
-        "Ok(Step { what: Source(\"a\"), settings: Settings { seed: Some(1), fit: false, notation: Plain, keys: Digits(\"\"), answers: \"\", limit: Limit { events: 10000000 } } })",
+        "Ok(Step(StepJob { what: Source(\"a\"), settings: Settings { options: SourceOptions { seed: Some(1), fit: false, notation: Plain }, keys: Digits(\"\"), answers: \"\", limit: Limit { events: 10000000 } } }))",
     ),
     (
         &["run", "a", "--seed", "time"],
-        "Ok(Run { what: Source(\"a\"), settings: Settings { seed: Some(4711), fit: false, notation: Plain, keys: Digits(\"\"), answers: \"\", limit: Limit { events: 10000000 } }, rude: None, labels: None, strict: false })",
+        "Ok(Run(RunJob { what: Source(\"a\"), settings: Settings { options: SourceOptions { seed: Some(4711), fit: false, notation: Plain }, keys: Digits(\"\"), answers: \"\", limit: Limit { events: 10000000 } }, rude: None, labels: None, strict: false }))",
     ),
     (
         &["build", "a", "b", "--seed=time"],
-        "Ok(Build { source: \"a\", out: \"b\", seed: Some(4711), fit: false, notation: Plain, beside: BuildExtras { labels: None, listing: None, dialect: None, map: None, watch: None }, force: false })",
+        "Ok(Build(BuildJob { source: \"a\", out: \"b\", options: SourceOptions { seed: Some(4711), fit: false, notation: Plain }, beside: BuildExtras { labels: None, listing: None, dialect: None, map: None, watch: None }, force: false }))",
     ),
     (
         &["step", "a", "--seed", "time"],
-        "Ok(Step { what: Source(\"a\"), settings: Settings { seed: Some(4711), fit: false, notation: Plain, keys: Digits(\"\"), answers: \"\", limit: Limit { events: 10000000 } } })",
+        "Ok(Step(StepJob { what: Source(\"a\"), settings: Settings { options: SourceOptions { seed: Some(4711), fit: false, notation: Plain }, keys: Digits(\"\"), answers: \"\", limit: Limit { events: 10000000 } } }))",
     ),
     (
         &["run", "--strict", "a", "--seed", "0"],
-        "Ok(Run { what: Source(\"a\"), settings: Settings { seed: Some(0), fit: false, notation: Plain, keys: Digits(\"\"), answers: \"\", limit: Limit { events: 10000000 } }, rude: None, labels: None, strict: true })",
+        "Ok(Run(RunJob { what: Source(\"a\"), settings: Settings { options: SourceOptions { seed: Some(0), fit: false, notation: Plain }, keys: Digits(\"\"), answers: \"\", limit: Limit { events: 10000000 } }, rude: None, labels: None, strict: true }))",
     ),
     (
         &["play", "a", "--strict", "--seed", "time"],
-        "Ok(Play { what: Source(\"a\"), seed: Some(4711), fit: false, notation: Plain, limit: Limit { events: 1000000000 }, record: None, screen: false, force: false, strict: true })",
+        "Ok(Play(PlayJob { what: Source(\"a\"), options: SourceOptions { seed: Some(4711), fit: false, notation: Plain }, limit: Limit { events: 1000000000 }, recording: None, screen: false, force: false, strict: true }))",
     ),
 ];
 
@@ -451,21 +451,21 @@ static REFUSED: [&[&str]; 70] = [
 
 /// Words that ask for a text, and how it begins.
 static TEXTS: [(&[&str], &str); 6] = [
-    (&["--help"], "Ok(Show { text: \"Compiles Tiny BASIC"),
-    (&["-h"], "Ok(Show { text: \"Compiles Tiny BASIC"),
+    (&["--help"], "Ok(Show(\"Compiles Tiny BASIC"),
+    (&["-h"], "Ok(Show(\"Compiles Tiny BASIC"),
     (
         &["run", "--help"],
-        "Ok(Show { text: \"Run a source or a PRG file",
+        "Ok(Show(\"Run a source or a PRG file",
     ),
     (
         &["play", "-h"],
-        "Ok(Show { text: \"Play a source or a PRG file",
+        "Ok(Show(\"Play a source or a PRG file",
     ),
     (
         &["check", "--help"],
-        "Ok(Show { text: \"Show everything that is wrong",
+        "Ok(Show(\"Show everything that is wrong",
     ),
-    (&["--version"], "Ok(Show { text: \"tbc "),
+    (&["--version"], "Ok(Show(\"tbc "),
 ];
 
 // What becomes of words, as a text.
