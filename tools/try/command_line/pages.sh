@@ -6,6 +6,7 @@ file game.bas '10 PRINT "<A&B>"\n20 GOTO 10\n'
 printf '\x00\xc0\x60' >short.prg
 elsewhere=yes
 row 0 '' '' page game.bas
+row 0 '' '' page game.bas # over the one that is there
 row 0 '' '*<title>game</title>*<h1>game</h1>*<data id="seed" value="1"></data>*' page game.bas -
 row 0 '' $'*\n<li value="10" data-at="0C00">10 PRINT &quot;&lt;A&amp;B&gt;&quot;</li>\n<li value="20" data-at="*">20 GOTO 10</li>\n</ol>*' page game.bas -
 row 0 '' '*<title>&lt;/title&gt;&quot;Ä</title>*value="7"*' page game.bas - --seed 7 --title '</title>"Ä'
