@@ -71,8 +71,8 @@ pub fn texts(
     Ok(texts)
 }
 
-// The first state of RND: the number that the words say, or for `time` that of the clock, if there is one.
-fn seed_of(
+/// The first state of RND: the number that the words say, or for `time` that of the clock, if there is one.
+pub fn seed_of(
     alloc: Global,
     found: &ArgMatches<'_>,
     clock: Option<u16>,
