@@ -1,3 +1,2 @@
-pub mod Methods
-pub mod Asked
+pub mod Requests
 pub mod Answers

@@ -2,10 +2,9 @@
 ghost use Rattle.std.specs.Prelude.{◌≡◌, ◌≤◌, [], IfOk, length};
 ghost use Rattle.serde_json.specs.View.{view};
 ghost use Rattle.tb_streams.specs.Streams.{most_input};
-ghost use Rattle.tb_answers.specs.Answers.{Answers, AnswersAsked, AnswersBy, AnswersNamed, AnswersNames, AnswersRange, AnswersRename, readable};
+ghost use Rattle.tb_answers.specs.Answers.{Answers, AnswersFrom, AnswersRange, readable};
 
-use crate::methods::Method;
-use crate::params::{Asked, OfNames, asked_of};
+use crate::requests::Request;
 use serde_json::Value;
 use std::alloc::{AllocError, Global};
 use tb_compiled::Compile;
@@ -16,7 +15,6 @@ use tb_hover::hover;
 use tb_messages::Refusal;
 use tb_navigation::{definition, highlights, references, symbols};
 use tb_outline::{folds, semantic_tokens};
-use tb_place_values::Place;
 use tb_rename::{prepare, rename};
 use tb_source_names::{Source, read_source};
 use tb_source_options::notation_for;
@@ -30,132 +28,52 @@ fn readable(text: &[u8]) -> &[u8]
     if text.len() > MOST_INPUT { &[] } else { text }
 }
 
-// The fixes on lines.
+// The fixes on lines, if any are asked for.
 fn fixes<K: Compile>(
-    compiler: &K,
-    alloc: Global,
-    notation: Notation,
-    uri: &str,
-    text: &[u8],
-    range: Option<LineRange>,
-) -> Result<Value, AllocError>
-    ensures { IfOk result (λ v. AnswersRange K.own notation range uri.now text.now (view v)) }
-{
-    match range {
-        Some(range) => actions(compiler, alloc, notation, uri, text, range),
-        None => Ok(Value::Array(Vec::new(alloc))),
-    }
-}
-
-// What is answered from the names of a source.
-fn named<K: Compile>(
     compiler: &K,
     alloc: Global,
     uri: &str,
     text: &[u8],
     source: &Source<'_>,
-    asked: OfNames,
+    range: Option<LineRange>,
 ) -> Result<Value, AllocError>
-    ensures { IfOk result (λ v. AnswersNamed K.own source.now.notation asked uri.now text.now source.now.lines.items (view v)) }
+    ensures { IfOk result (λ v. AnswersRange K.own source.now.notation range uri.now text.now source.now.lines.items (view v)) }
 {
-    match asked {
-        OfNames::Hover(place) => {
-            let (line, character) = (place.line as usize, place.character as usize);
-            hover(compiler, alloc, text, source, line, character)
-        }
-        OfNames::Definition(place) => {
-            let (line, character) = (place.line as usize, place.character as usize);
-            definition(alloc, uri, source, line, character)
-        }
-        OfNames::References(place, declared) => {
-            let (line, character) = (place.line as usize, place.character as usize);
-            references(alloc, uri, source, line, character, declared)
-        }
-        OfNames::Highlights(place) => {
-            let (line, character) = (place.line as usize, place.character as usize);
-            highlights(alloc, source, line, character)
-        }
-        OfNames::Symbols => symbols(alloc, source),
-        OfNames::Completion(place) => {
-            let (line, character) = (place.line as usize, place.character as usize);
-            completion(alloc, source, line, character)
-        }
-        OfNames::Prepare(place) => {
-            let (line, character) = (place.line as usize, place.character as usize);
-            prepare(alloc, source, line, character)
-        }
-        OfNames::Folds => folds(alloc, source),
-        OfNames::Tokens => semantic_tokens(alloc, source),
+    match range {
+        Some(range) => actions(compiler, alloc, uri, text, source, range),
+        None => Ok(Value::Array(Vec::new(alloc))),
     }
 }
 
-// What is answered from the names of a text.
-fn names<K: Compile>(
+// What is answered to a request on a text, by the lines that it is read as.
+fn answer_from<K: Compile>(
     compiler: &K,
     alloc: Global,
-    notation: Notation,
     uri: &str,
     text: &[u8],
-    asked: OfNames,
-) -> Result<Value, AllocError>
-    ensures { IfOk result (λ v. AnswersNames K.own notation asked uri.now text.now (view v)) }
-{
-    let source = read_source(alloc, notation, text)?;
-    named(compiler, alloc, uri, text, &source, asked)
-}
-
-// What is answered to a new name for a variable.
-fn renaming(
-    alloc: Global,
-    notation: Notation,
-    uri: &str,
-    text: &[u8],
-    place: Place,
-    letter: Option<u8>,
+    source: &Source<'_>,
+    request: Request,
 ) -> Result<Result<Value, Refusal>, AllocError>
-    ensures { IfOk result (AnswersRename notation place letter uri.now text.now) }
+    ensures { IfOk result (AnswersFrom K.own source.now.notation request uri.now text.now source.now.lines.items) }
 {
-    let source = read_source(alloc, notation, text)?;
-    let (line, character) = (place.line as usize, place.character as usize);
-    let answer = rename(alloc, uri, &source, line, character, letter)?;
-    Ok(answer)
-}
-
-// What is answered to what is asked of a text.
-fn answer_asked<K: Compile>(
-    compiler: &K,
-    alloc: Global,
-    notation: Notation,
-    uri: &str,
-    text: &[u8],
-    asked: Asked,
-) -> Result<Result<Value, Refusal>, AllocError>
-    ensures { IfOk result (AnswersAsked K.own notation asked uri.now text.now) }
-{
-    match asked {
-        Asked::Names(asked) => Ok(Ok(names(compiler, alloc, notation, uri, text, asked)?)),
-        Asked::Actions(range) => Ok(Ok(fixes(compiler, alloc, notation, uri, text, range)?)),
-        Asked::Formatting => Ok(Ok(formatting(alloc, notation, text)?)),
-        Asked::Rename(place, letter) => renaming(alloc, notation, uri, text, place, letter),
+    match request {
+        Request::Hover(at) => Ok(Ok(hover(compiler, alloc, text, source, at.line, at.character)?)),
+        Request::Definition(at) => Ok(Ok(definition(alloc, uri, source, at.line, at.character)?)),
+        Request::References(at, declared) => {
+            let found = references(alloc, uri, source, at.line, at.character, declared)?;
+            Ok(Ok(found))
+        }
+        Request::Highlights(at) => Ok(Ok(highlights(alloc, source, at.line, at.character)?)),
+        Request::Symbols => Ok(Ok(symbols(alloc, source)?)),
+        Request::Actions(range) => Ok(Ok(fixes(compiler, alloc, uri, text, source, range)?)),
+        Request::Formatting => Ok(Ok(formatting(alloc, source.notation, text)?)),
+        Request::Completion(at) => Ok(Ok(completion(alloc, source, at.line, at.character)?)),
+        Request::Prepare(at) => Ok(Ok(prepare(alloc, source, at.line, at.character)?)),
+        Request::Rename(at, letter) => rename(alloc, uri, source, at.line, at.character, letter),
+        Request::Folds => Ok(Ok(folds(alloc, source)?)),
+        Request::Tokens => Ok(Ok(semantic_tokens(alloc, source)?)),
+        Request::Unfit => Ok(Err(Refusal::BadParams)),
     }
-}
-
-// The answer to a request, or that its params have not the form that it asks for.
-fn answer_if_asked<K: Compile>(
-    compiler: &K,
-    alloc: Global,
-    notation: Notation,
-    uri: &str,
-    text: &[u8],
-    asked: Option<Asked>,
-) -> Result<Result<Value, Refusal>, AllocError>
-    ensures { IfOk result (AnswersBy K.own notation asked uri.now text.now) }
-{
-    let Some(asked) = asked else {
-        return Ok(Err(Refusal::BadParams));
-    };
-    let answer = answer_asked(compiler, alloc, notation, uri, readable(text), asked)?;
-    Ok(answer)
 }
 
 /// What is answered to a request on a text that is read in a notation, or as its own words ask for; or why it is
@@ -164,19 +82,14 @@ pub fn answer<K: Compile>(
     compiler: &K,
     alloc: Global,
     notation: Notation,
-    method: Method,
     uri: &str,
     text: &[u8],
-    params: &Value,
+    request: Request,
 ) -> Result<Result<Value, Refusal>, AllocError>
-    ensures { IfOk result (Answers K.own notation method uri.now text.now (view params.now)) }
+    ensures { IfOk result (Answers K.own notation request uri.now text.now) }
 {
-    answer_if_asked(
-        compiler,
-        alloc,
-        notation_for(notation, text),
-        uri,
-        text,
-        asked_of(method, params),
-    )
+    let notation = notation_for(notation, text);
+    let text = readable(text);
+    let source = read_source(alloc, notation, text)?;
+    answer_from(compiler, alloc, uri, text, &source, request)
 }

@@ -1,14 +1,12 @@
-//! What is answered to requests on texts: what they ask for, and the answers of each group.
+//! What is answered to requests on texts: what they ask for, and the answer to each.
 //!
-//! `method_of` and `asked_of`: what a request asks for by its method and params. `answer`: what is answered is what
+//! `request_of`: what a request asks for by its method and params, as one value. `answer`: what is answered to it is what
 //! the definition of the request says of the lines of this text, or it is refused only where its params have not the
 //! form (`Answers`).
 #![tactic(auto)]
 
 mod answers;
-mod methods;
-mod params;
+mod requests;
 
 pub use answers::answer;
-pub use methods::{Method, method_of};
-pub use params::{Asked, OfNames, asked_of};
+pub use requests::{Request, request_of};

@@ -1,4 +1,6 @@
-pub mod Dialogue
-pub mod Greeting
 pub mod Outcomes
+pub mod Greeting
 pub mod Sessions
+pub mod Talking
+pub mod Waiting
+pub mod Dialogue

@@ -2,7 +2,7 @@
 //! sources, reader and writer.
 //!
 //! - `serve` answers frames one after the other, each before the next one is read (`Serves`). Up to a launch it goes
-//!   by `Greeted`, and then with the program by `Talks`, until a frame ends the dialogue or the streams do. What was
+//!   by `Waits`, and then with the program by `Debugs`, until a frame ends the dialogue or the streams do. What was
 //!   launched is a debugger on the run of the program from the machine that was started (`IsSession`).
 //! - Each request is answered as `Answers` names it, by the stage in which it comes (`barred`). A movement keeps the
 //!   run and ends where the debugger's walks do. Typed keys make it the run on all keys so far. What is told of the
@@ -17,8 +17,10 @@ mod dialogue;
 mod greeting;
 mod outcome;
 mod session;
+mod talking;
+mod waiting;
 
-pub use dialogue::{Heard, serve};
+pub use dialogue::{Debugging, serve};
 pub use outcome::AdapterOutcome;
 pub use session::{Session, Stage};
 pub use tb_adapter_requests::{Plan, Said, Stop, Usual};

@@ -9,7 +9,6 @@ use Rattle.tb_check.specs.declared.examination.BadLine.{BadLine}
 use Rattle.tb_check.specs.declared.examination.Findings.{Findings}
 use Rattle.tb_check.specs.declared.examination.Findings.TheVariants.{BadLines, Empty, Refused, Accepted}
 use Rattle.tb_check.specs.declared.warnings.LineWarning.{LineWarning}
-use Rattle.tb_source_names.specs.Sources.{AreLinesOf}
 use Rattle.tb_source_names.specs.declared.lines.Line.{Line as SourceLine}
 use Rattle.tb_diagnostics.specs.Diagnostics.{on_bad_line, on_warning}
 use Rattle.tb_edit_values.specs.Edits.{changes}
@@ -65,8 +64,9 @@ is_end (Some b) = (b == 10) || (b == 13)
 abbrev pub ends_its_line : List ℕ → Bool
 ends_its_line source = is_end (slice_get source (length source - 1))
 
--- the fixes of the findings of a source that may take the memory, which are what `check` says of it in a notation
-abbrev pub AreActions : Own → Notation → List ℕ → List ℕ → LineRange → Data → Type 0
-AreActions own notation uri source range v =
-    (cost : Option ℕ) × (f : Findings) × (all : List SourceLine) × AreFitted own notation source cost f × AreLinesOf notation source all
-    × (v ≡ array (items_of (of_findings uri (lines_of_file source) all (ends_its_line source) range f)))
+-- the fixes of the findings of a text that may take the memory, which are what `check` says of it in a notation, by the
+-- lines that it is read as
+abbrev pub AreActions : Own → Notation → List ℕ → List ℕ → List SourceLine → LineRange → Data → Type 0
+AreActions own notation uri text all range v =
+    (cost : Option ℕ) × (f : Findings) × AreFitted own notation text cost f
+    × (v ≡ array (items_of (of_findings uri (lines_of_file text) all (ends_its_line text) range f)))

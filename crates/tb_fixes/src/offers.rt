@@ -9,16 +9,16 @@ use crate::fixes::{Fix, fix_of_bad_line, fix_of_warning};
 use serde_json::{Value, json};
 use std::alloc::{AllocError, Global};
 use tb_check::{BadLine, Findings, LineWarning, examine_to_fit};
-use tb_compiled::{Compile, Notation};
+use tb_compiled::Compile;
 use tb_diagnostics::{Lines, on_bad_line, on_warning};
 use tb_edit_values::changes_value;
-use tb_source_names::{Source, read_source};
+use tb_source_names::Source;
 
 /// Lines of a text, from 0.
 #[derive(Clone, Copy, Drop)]
 pub struct LineRange {
-    pub first: u64,
-    pub last: u64,
+    pub first: usize,
+    pub last: usize,
 }
 
 impl LineRange {
@@ -26,7 +26,7 @@ impl LineRange {
     fn has(self, line: usize) -> bool
         ensures { result ≡ spec.has self line }
     {
-        let line = line.saturating_sub(1) as u64;
+        let line = line.saturating_sub(1);
         self.first <= line && line <= self.last
     }
 }
@@ -173,24 +173,23 @@ fn ends_its_line(source: &[u8]) -> bool
     }
 }
 
-/// The fixes of what `check` finds on these lines of a source, in its order; the source is read in a notation.
+/// The fixes of what `check` finds on these lines of a text, in its order, by the lines that it is read as.
 pub fn actions<K: Compile>(
     compiler: &K,
     alloc: Global,
-    notation: Notation,
     uri: &str,
-    source: &[u8],
+    text: &[u8],
+    source: &Source<'_>,
     range: LineRange,
 ) -> Result<Value, AllocError>
-    ensures { IfOk result (λ v. spec.AreActions K.own notation uri.now source.now range (view v)) }
+    ensures { IfOk result (λ v. spec.AreActions K.own source.now.notation uri.now text.now source.now.lines.items range (view v)) }
 {
-    let examined = examine_to_fit(compiler, alloc, source, notation)?.examined;
-    let text = Lines {
+    let examined = examine_to_fit(compiler, alloc, text, source.notation)?.examined;
+    let lines = Lines {
         uri,
         lines: examined.lines.as_slice(),
     };
-    let read = read_source(alloc, notation, source)?;
-    let is_ended = ends_its_line(source);
-    let found = of_findings(alloc, &text, &read, is_ended, range, &examined.findings)?;
+    let is_ended = ends_its_line(text);
+    let found = of_findings(alloc, &lines, source, is_ended, range, &examined.findings)?;
     Ok(Value::Array(found))
 }

@@ -1,3 +1,2 @@
-mod Frames
 -- objects that get more members
 pub mod Members

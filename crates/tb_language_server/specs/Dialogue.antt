@@ -1,122 +1,53 @@
--- What a server says to frames.
-use Rattle.std.specs.Prelude.{ℕ, ◌≡◌, ◌≢◌, ◌⊎◌, List, Option, Some, None, Result, Ok, Err}
-use Rattle.std.specs.Io.KnownBytes.{Appends}
+-- What a server says in a dialogue.
+use Rattle.std.specs.Prelude.{ℕ, ◌≡◌, List, Option, Some, None, Result, Ok, Err}
+use Rattle.std.specs.declared.alloc.AllocError.{AllocError}
 use Rattle.std.specs.declared.alloc.Global.{Global}
 use Rattle.std.specs.declared.vec.Vec.{Vec}
-use Rattle.std.specs.Str.{IsUtf8}
-use Rattle.serde_json.specs.Data.{Data, null}
-use Rattle.serde_json.specs.Read.{read}
-use Rattle.tb_streams.specs.Streams.{AppendsPrefix}
-use Rattle.tb_frames.specs.Frames.{ReadsFrame, frame_of}
-use Rattle.tb_frames.specs.declared.reading.Frame.{Frame}
-use Rattle.tb_frames.specs.declared.reading.FrameError.TheVariants as frame_error
-use Rattle.tb_frames.specs.declared.reading.Frame.TheVariants as frame
+use Rattle.serde_json.specs.Data.{null}
+use Rattle.serde_json.specs.View.{view}
+use Rattle.tb_frames.specs.Frames.{frame_of}
 use Rattle.tb_messages.specs.declared.refusals.Refusal.TheVariants.{NoJson, TooLarge}
+use Rattle.tb_dialogue.specs.Dialogue.{Converses, Streams, moment}
+use Rattle.tb_dialogue.specs.declared.hearing.Heard.{Heard}
+use Rattle.tb_dialogue.specs.declared.hearing.Heard.TheVariants as heard
+use Rattle.tb_dialogue.specs.declared.talking.Turn.{Turn}
 use Rattle.tb_text.specs.declared.notation.Notation.{Notation}
 use Rattle.tb_language_server.specs.Outcomes.{ServerOutcome, end_of}
 use Rattle.tb_language_server.specs.Replies.{IsNew, Refuses, Takes}
-use Rattle.tb_language_server.specs.declared.outcome.Served.TheVariants as served
-use Rattle.tb_streams.specs.declared.outcome.Outcome.TheVariants.{Ended, Refused, ReadFault, WriteFault, NoMemory}
-use Rattle.tb_language_server.specs.declared.life.Stage.TheVariants.{Shut}
+use Rattle.tb_language_server.specs.declared.life.Stage.{Stage}
+use Rattle.tb_language_server.specs.declared.outcome.Served.{Served}
 use Rattle.tb_language_server.specs.declared.server.Reply.{Reply}
 use Rattle.tb_language_server.specs.declared.server.Reply.TheVariants.{Nothing, Content, Exit}
 use Rattle.tb_language_server.specs.declared.server.Server.{Server}
 use Rattle.tb_compiled.specs.Promise.{Own}
 
--- a content that is JSON is taken as its value; one that is not is refused
-abbrev pub TakesContent : Own → List ℕ → Server → Reply → Server → Type 0
-TakesContent own content old reply new =
-    ((d : Data) × (read content ≡ Some d) × Takes own d old reply new) ⊎ ((IsUtf8 content → read content ≡ None) × Refuses null NoJson old reply new)
+-- a value that is heard is taken; what is none is refused
+abbrev pub RepliesTo : Own → Heard → Server → Reply → Server → Type 0
+RepliesTo own (heard.Value v) old reply new = Takes own (view v) old reply new
+RepliesTo own heard.NoJson old reply new = Refuses null NoJson old reply new
+RepliesTo own heard.TooLarge old reply new = Refuses null TooLarge old reply new
 
--- a frame's content is taken; one that is too long is refused
-abbrev pub TakesOne : Own → Frame → Server → Reply → Server → Type 0
-TakesOne own (frame.Content content) old reply new = TakesContent own content.items old reply new
-TakesOne own (frame.TooLong n) old reply new = Refuses null TooLarge old reply new
+-- frames are these bytes
+abbrev pub AreFrames : Option (Vec ℕ Global) → List ℕ → Type 0
+AreFrames (Some frames) bytes = frames.items ≡ bytes
+AreFrames None bytes = ⊥
 
--- what is said, where memory did not run out
-abbrev pub Replies : (Reply → Type 0) → Result Reply ServerOutcome → Type 0
-Replies Said (Ok reply) = Said reply
-Replies Said (Err outcome) = outcome ≡ NoMemory
+-- the turn of a reply, by the server's stage then: the frame of a content is written, or the server ends
+abbrev pub IsTurn : Reply → Stage → Turn Served → Type 0
+IsTurn Nothing stage turn = (turn.frames ≡ None) × (turn.end ≡ None)
+IsTurn (Content content) stage turn = AreFrames turn.frames (frame_of content.items) × (turn.end ≡ None)
+IsTurn Exit stage turn = (turn.frames ≡ None) × (turn.end ≡ Some (end_of stage))
 
--- what is written of a reply
-abbrev pub Written : Reply → Option (List ℕ) → Option (List ℕ) → Type 0
-Written Nothing old new = new ≡ old
-Written (Content content) old new = Appends old new (frame_of content.items)
-Written Exit old new = ⊥
+-- what is heard is replied to
+abbrev pub Answers : Own → Server → Heard → Result (Turn Served) AllocError → Server → Type 0
+Answers own old h (Ok turn) new = (reply : Reply) × RepliesTo own h old reply new × IsTurn reply new.stage turn
+Answers own old h (Err e) new = Unit {0}
 
--- streams before and after: what the reader has and the writer holds, and how often each has failed
-pub record Streams : Type 0 where
-  pub had : Option (List ℕ)
-  pub left : Option (List ℕ)
-  pub read : ℕ
-  pub read_after : ℕ
-  pub old : Option (List ℕ)
-  pub new : Option (List ℕ)
-  pub wrote : ℕ
-  pub wrote_after : ℕ
-
--- the same by each
-abbrev pub streams : (had left : Option (List ℕ)) (read read_after : ℕ) (old new : Option (List ℕ)) (wrote wrote_after : ℕ) → Streams
-streams had left read read_after old new wrote wrote_after = record {
-  had = had;
-  left = left;
-  read = read;
-  read_after = read_after;
-  old = old;
-  new = new;
-  wrote = wrote;
-  wrote_after = wrote_after;
-}
-
--- the writer is as it was
-pub record IsUnwritten (s : Streams) : Type 0 where
-  pub kept : s.new ≡ s.old
-  pub sound : s.wrote_after ≡ s.wrote
-
--- one frame was read, and what is said to it
-abbrev pub TakesOneOf : Own → Streams → Server → Reply → Server → Type 0
-TakesOneOf own s old reply new = (f : Frame) × ReadsFrame (Ok (Some f)) s.had s.left s.read s.read_after × TakesOne own f old reply new
-
--- the server was asked to end, or its input has ended
-abbrev pub Ends : Own → Streams → Server → Server → Type 0
-Ends own s old new = IsUnwritten s × (ReadsFrame (Ok None) s.had s.left s.read s.read_after ⊎ TakesOneOf own s old Exit new)
-
--- what a frame leads to: what is said to it is written whole before the next one, or the dialogue ends as it must
-abbrev pub TakesFrame : Own → Streams → Server → Result (Unit {0}) ServerOutcome → Server → Type 0
-TakesFrame own s old (Ok done) new = (reply : Reply) × TakesOneOf own s old reply new × Written reply s.old s.new × (s.wrote_after ≡ s.wrote)
-TakesFrame own s old (Err (Ended served.Ended)) new = (new.stage ≡ Shut) × Ends own s old new
-TakesFrame own s old (Err (Ended served.NotShutDown)) new = (new.stage ≢ Shut) × Ends own s old new
-TakesFrame own s old (Err (Refused bad)) new = IsUnwritten s × ReadsFrame (Err frame_error.Bad) s.had s.left s.read s.read_after
-TakesFrame own s old (Err ReadFault) new = IsUnwritten s × ReadsFrame (Err frame_error.Fault) s.had s.left s.read s.read_after
-TakesFrame own s old (Err WriteFault) new =
-    (content : Vec ℕ Global) × TakesOneOf own s old (Content content) new × AppendsPrefix s.old s.new (frame_of content.items) × (s.wrote_after ≢ s.wrote)
-TakesFrame own s old (Err NoMemory) new = IsUnwritten s
-
--- a moment of a dialogue: the server, what its reader still has, what its writer holds, and how often each has failed
-pub record Moment : Type 0 where
-  pub server : Server
-  pub left : Option (List ℕ)
-  pub read : ℕ
-  pub written : Option (List ℕ)
-  pub wrote : ℕ
-
--- a moment by each
-abbrev pub moment : Server → (left : Option (List ℕ)) (read : ℕ) (written : Option (List ℕ)) (wrote : ℕ) → Moment
-moment server left read written wrote = record { server = server; left = left; read = read; written = written; wrote = wrote }
-
--- a frame leads from one moment to another
-abbrev pub Leads : Own → Moment → Result (Unit {0}) ServerOutcome → Moment → Type 0
-Leads own a result b = TakesFrame own (streams a.left b.left a.read b.read a.written b.written a.wrote b.wrote) a.server result b.server
-
--- frames lead from one moment to another, each answered before the next one is read
-pub data Talks (own : Own) : Moment → Moment → Type 0 where
-  none : (a : Moment) → Talks own a a
-  more : (a b c : Moment) (done : Unit {0}) → Talks own a b → Leads own b (Ok done) c → Talks own a c
-
--- a whole dialogue: frames, and one that ends it; or as many as can be counted
-abbrev pub Serves : Own → Moment → ServerOutcome → Moment → Type 0
-Serves own a outcome z = ((b : Moment) × Talks own a b × Leads own b (Err outcome) z) ⊎ (Talks own a z × (outcome ≡ end_of z.server.stage))
+-- a dialogue ends with its input as the server's stage has it
+abbrev pub EndsAs : Server → Served → Type 0
+EndsAs s end = end ≡ end_of s.stage
 
 -- a dialogue of a new server, which has a notation
-abbrev pub ServesNew : (own : Own) (version : List ℕ) → Notation → (Server → Moment) → ServerOutcome → (Server → Moment) → Type 0
-ServesNew own version notation first outcome last = (s : Server) × IsNew version notation s × ((z : Server) × Serves own (first s) outcome (last z))
+abbrev pub ServesNew : (own : Own) (version : List ℕ) → Notation → Streams → ServerOutcome → Streams → Type 0
+ServesNew own version notation first outcome last =
+    (s : Server) × IsNew version notation s × ((z : Server) × Converses (Answers own) EndsAs (moment s first) outcome (moment z last))

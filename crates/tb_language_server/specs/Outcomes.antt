@@ -2,7 +2,6 @@
 use Rattle.std.specs.Prelude.{ℕ}
 use Rattle.tb_streams.specs.Numbers.{DONE, REFUSED}
 use Rattle.tb_streams.specs.declared.outcome.Outcome.{Outcome}
-use Rattle.tb_streams.specs.declared.outcome.Outcome.TheVariants.{Ended}
 use Rattle.tb_frames.specs.declared.outcome.BadFrame.{BadFrame}
 use Rattle.tb_language_server.specs.declared.life.Stage.{Stage}
 use Rattle.tb_language_server.specs.declared.life.Stage.TheVariants.{New, Ready, Shut}
@@ -19,7 +18,7 @@ status_of served.Ended = DONE
 status_of served.NotShutDown = REFUSED
 
 -- how a server ends that is asked to, or whose input ends, by its stage
-abbrev pub end_of : Stage → ServerOutcome
-end_of New = Ended served.NotShutDown
-end_of Ready = Ended served.NotShutDown
-end_of Shut = Ended served.Ended
+abbrev pub end_of : Stage → Served
+end_of New = served.NotShutDown
+end_of Ready = served.NotShutDown
+end_of Shut = served.Ended

@@ -9,7 +9,7 @@ use Rattle.serde_json.specs.declared.value.Value.{Value}
 use Rattle.tb_outline.specs.Tokens.{legend}
 use Rattle.tb_text.specs.declared.notation.Notation.{Notation}
 use Rattle.tb_answers.specs.Answers.{Answers}
-use Rattle.tb_answers.specs.declared.methods.Method.{Method}
+use Rattle.tb_answers.specs.declared.requests.Request.{Request}
 use Rattle.tb_messages.specs.Messages.{Says, Tells, failure_of, seen, success_of}
 use Rattle.tb_messages.specs.declared.messages.Message.{Message}
 use Rattle.tb_messages.specs.declared.messages.Message.TheVariants as message
@@ -122,26 +122,21 @@ said id (Ok v) = success_of id (view v)
 said id (Err refusal) = failure_of id refusal
 
 -- what a request on a text is answered, where that is open
-abbrev pub AnswersOnText : Own → Notation → Method → (id : Data) → (uri : List ℕ) → (params : Data) → Option (List ℕ) → (content : List ℕ) → Type 0
-AnswersOnText own notation m id uri params (Some text) content = (r : Result Value Refusal) × Answers own notation m uri text params r × Says content (said id r)
-AnswersOnText own notation m id uri params None content = Says content (failure_of id NotOpen)
+abbrev pub AnswersOnText : Own → Notation → Request → (id : Data) → (uri : List ℕ) → Option (List ℕ) → (content : List ℕ) → Type 0
+AnswersOnText own notation asked id uri (Some text) content = (r : Result Value Refusal) × Answers own notation asked uri text r × Says content (said id r)
+AnswersOnText own notation asked id uri None content = Says content (failure_of id NotOpen)
 
--- the same by the text that params name
-abbrev pub AnswersParams : Own → Notation → Method → (id params : Data) → Option (List ℕ) → List OpenText → (content : List ℕ) → Type 0
-AnswersParams own notation m id params (Some uri) texts content = AnswersOnText own notation m id uri params (text_of uri texts) content
-AnswersParams own notation m id params None texts content = Says content (failure_of id BadParams)
+-- the same by the name of the text, if it is given
+abbrev pub AnswersText : Own → Notation → Request → (id : Data) → Option (List ℕ) → List OpenText → (content : List ℕ) → Type 0
+AnswersText own notation asked id (Some uri) texts content = AnswersOnText own notation asked id uri (text_of uri texts) content
+AnswersText own notation asked id None texts content = Says content (failure_of id BadParams)
 
--- what a request on a text is answered
-abbrev pub AnswersText : Own → Notation → Method → Data → Option Data → List OpenText → (content : List ℕ) → Type 0
-AnswersText own notation m id (Some params) texts content = AnswersParams own notation m id params (uri_in params) texts content
-AnswersText own notation m id None texts content = Says content (failure_of id BadParams)
-
--- what a request with this id and these params is answered, by what is done with it
-abbrev pub AnswersBy : Own → Decision → Data → Option Data → Server → Vec ℕ Global → Server → Type 0
-AnswersBy own Begin id params old content new = Becomes Ready old new × Says content.items (success_of id (initialized old.version.now))
-AnswersBy own End id params old content new = Becomes Shut old new × Says content.items (success_of id null)
-AnswersBy own (Answer m) id params old content new = IsSame old new × AnswersText own old.notation m id params old.texts.all.items content.items
-AnswersBy own (Refuse refusal) id params old content new = IsSame old new × Says content.items (failure_of id refusal)
+-- what a request with this id on this text is answered, by what is done with it
+abbrev pub AnswersBy : Own → Decision → Data → Option (List ℕ) → Server → Vec ℕ Global → Server → Type 0
+AnswersBy own Begin id uri old content new = Becomes Ready old new × Says content.items (success_of id (initialized old.version.now))
+AnswersBy own End id uri old content new = Becomes Shut old new × Says content.items (success_of id null)
+AnswersBy own (Answer asked) id uri old content new = IsSame old new × AnswersText own old.notation asked id uri old.texts.all.items content.items
+AnswersBy own (Refuse refusal) id uri old content new = IsSame old new × Says content.items (failure_of id refusal)
 
 -- ── notifications ──
 -- a text is taken, and what is said of it is published
@@ -206,8 +201,8 @@ TakesNotification own method params old reply new = TakesOther own (bytes_eq met
 
 -- ── messages ──
 -- a request is answered
-abbrev pub TakesRequest : Own → Data → List ℕ → Option Data → Server → Reply → Server → Type 0
-TakesRequest own id method params old (Content content) new = AnswersBy own (decision_of old.stage method) id params old content new
+abbrev pub TakesRequest : Own → Data → List ℕ → Data → Server → Reply → Server → Type 0
+TakesRequest own id method params old (Content content) new = AnswersBy own (decision_of old.stage method params) id (uri_in params) old content new
 TakesRequest own id method params old Nothing new = ⊥
 TakesRequest own id method params old Exit new = ⊥
 
@@ -219,7 +214,7 @@ Refuses id refusal old Exit new = ⊥
 
 -- what is said to a message
 abbrev pub TakesMessage : Own → Message → Server → Reply → Server → Type 0
-TakesMessage own (message.Request id method params) old reply new = TakesRequest own (view id.now) method.now (seen params) old reply new
+TakesMessage own (message.Request id method params) old reply new = TakesRequest own (view id.now) method.now (unwrap_or (seen params) null) old reply new
 TakesMessage own (message.Notification method params) old reply new = TakesNotification own method.now (seen params) old reply new
 TakesMessage own message.Answer old reply new = Ignores old reply new
 TakesMessage own (message.NoMessage id) old reply new = Refuses (unwrap_or (seen id) null) NoMessage old reply new

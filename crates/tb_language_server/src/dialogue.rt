@@ -1,89 +1,94 @@
 //! The dialogue with an editor.
-ghost use Rattle.std.specs.Prelude.{◌≡◌};
-ghost use Rattle.serde_json.specs.Data.{null};
-ghost use Rattle.tb_language_server.specs.Dialogue.{Replies, TakesContent, ServesNew, TakesFrame, TakesOne, moment, streams};
-ghost use Rattle.tb_streams.specs.Failures.{failures_of};
+ghost use Rattle.std.specs.Prelude.{◌≡◌, IfOk};
+ghost use Rattle.tb_dialogue.specs.Dialogue.{streams};
+ghost use Rattle.tb_language_server.specs.Dialogue.{IsTurn, RepliesTo, ServesNew};
 ghost use Rattle.tb_language_server.specs.Outcomes.{end_of};
-ghost use Rattle.tb_language_server.specs.Replies.{Refuses};
+ghost use Rattle.tb_streams.specs.Failures.{failures_of};
 
 use crate::life::Stage;
 use crate::outcome::{Served, ServerOutcome};
 use crate::server::{Reply, Server};
-use std::alloc::Global;
+use std::alloc::{AllocError, Global};
 use std::io::{Read, Write};
 use tb_compiled::Compile;
-use tb_frames::{Frame, read_frame, write_frame};
-use tb_messages::{Refusal, Unreadable, failure, read_value};
+use tb_dialogue::{Heard, Talker, Turn, converse};
+use tb_frames::frame_of;
+use tb_messages::{Refusal, failure};
 use tb_streams::Tracked;
 use tb_text::Notation;
 
+// A server, with the compiler that it asks.
+#[derive(Drop)]
+struct Serving<'a, K> {
+    compiler: &'a K,
+    server: Server,
+}
+
 // How a server ends that is asked to, or whose input ends.
-fn end_of(stage: Stage) -> ServerOutcome
+fn end_of(stage: Stage) -> Served
     ensures { result ≡ end_of stage }
 {
     match stage {
-        Stage::Shut => ServerOutcome::Ended(Served::Ended),
-        Stage::New | Stage::Ready => ServerOutcome::Ended(Served::NotShutDown),
+        Stage::Shut => Served::Ended,
+        Stage::New | Stage::Ready => Served::NotShutDown,
     }
 }
 
-// What is said to a frame that is no message.
-fn refuse(alloc: Global, server: &mut Server, refusal: Refusal) -> Result<Reply, ServerOutcome>
-    ensures { Replies (λ reply. Refuses null refusal server.old reply server.new) result }
-{
-    Ok(Reply::Content(failure(alloc, None, refusal)?))
-}
-
-// What is said to a content.
-fn reply_to_content<K: Compile>(
+// What is said to what is heard.
+fn reply_to<K: Compile>(
     compiler: &K,
     alloc: Global,
     server: &mut Server,
-    content: &[u8],
-) -> Result<Reply, ServerOutcome>
-    ensures { Replies (λ reply. TakesContent K.own content.now server.old reply server.new) result }
+    heard: &Heard,
+) -> Result<Reply, AllocError>
+    ensures { IfOk result (λ reply. RepliesTo K.own heard.now server.old reply server.new) }
 {
-    match read_value(alloc, content) {
-        Ok(value) => Ok(server.take(compiler, alloc, &value)?),
-        Err(Unreadable::NotJson) => refuse(alloc, server, Refusal::NoJson),
-        Err(Unreadable::NoMemory) => Err(ServerOutcome::NoMemory),
+    match heard {
+        Heard::Value(value) => server.take(compiler, alloc, value),
+        Heard::NoJson => Ok(Reply::Content(failure(alloc, None, Refusal::NoJson)?)),
+        Heard::TooLarge => Ok(Reply::Content(failure(alloc, None, Refusal::TooLarge)?)),
     }
 }
 
-// What is said to a frame.
-fn reply_to_frame<K: Compile>(
-    compiler: &K,
-    alloc: Global,
-    server: &mut Server,
-    frame: &Frame,
-) -> Result<Reply, ServerOutcome>
-    ensures { Replies (λ reply. TakesOne K.own frame.now server.old reply server.new) result }
+// The turn of a reply, by the server's stage then.
+fn turn_of(alloc: Global, reply: Reply, stage: Stage) -> Result<Turn<Served>, AllocError>
+    ensures { IfOk result (IsTurn reply stage) }
 {
-    match frame {
-        Frame::Content(content) => reply_to_content(compiler, alloc, server, content),
-        Frame::TooLong(_) => refuse(alloc, server, Refusal::TooLarge),
+    match reply {
+        Reply::Nothing => Ok(Turn {
+            frames: None,
+            end: None,
+        }),
+        Reply::Content(content) => {
+            let frame = frame_of(alloc, content.as_slice())?;
+            Ok(Turn {
+                frames: Some(frame),
+                end: None,
+            })
+        }
+        Reply::Exit => Ok(Turn {
+            frames: None,
+            end: Some(end_of(stage)),
+        }),
     }
 }
 
-// Takes a frame, and says what there is to say to it: the end, if the dialogue ends with it.
-fn take_frame<K: Compile, R: Read, W: Write>(
-    compiler: &K,
-    alloc: Global,
-    server: &mut Server,
-    reader: &mut Tracked<R>,
-    writer: &mut Tracked<W>,
-) -> Result<(), ServerOutcome>
-    ensures { TakesFrame K.own (streams (R.remaining reader.old.stream) (R.remaining reader.new.stream)
-        (failures_of reader.old) (failures_of reader.new) (W.contents writer.old.stream) (W.contents writer.new.stream)
-        (failures_of writer.old) (failures_of writer.new)) server.old result server.new }
-{
-    let Some(frame) = read_frame(alloc, reader)? else {
-        return Err(end_of(server.stage));
-    };
-    match reply_to_frame(compiler, alloc, server, &frame)? {
-        Reply::Nothing => Ok(()),
-        Reply::Content(content) => Ok(write_frame(alloc, writer, content.as_slice())?),
-        Reply::Exit => Err(end_of(server.stage)),
+impl<K: Compile> Talker for Serving<'_, K> {
+    ghost use Rattle.tb_language_server.specs.Dialogue.{Answers, EndsAs};
+
+    type End = Served;
+
+    ghost takes = { λ s heard result t. Answers K.own s.server heard result t.server };
+
+    ghost ends = { λ s end. EndsAs s.server end };
+
+    fn take(&mut self, alloc: Global, heard: &Heard) -> Result<Turn<Served>, AllocError> {
+        let reply = reply_to(self.compiler, alloc, &mut self.server, heard)?;
+        turn_of(alloc, reply, self.server.stage)
+    }
+
+    fn end(&self) -> Served {
+        end_of(self.server.stage)
     }
 }
 
@@ -97,15 +102,13 @@ pub fn serve<K: Compile, R: Read, W: Write>(
     writer: &mut Tracked<W>,
 ) -> ServerOutcome
     ensures { ServesNew K.own version.now notation
-        (λ s. moment s (R.remaining reader.old.stream) (failures_of reader.old) (W.contents writer.old.stream) (failures_of writer.old))
+        (streams (R.remaining reader.old.stream) (failures_of reader.old) (W.contents writer.old.stream) (failures_of writer.old))
         result
-        (λ s. moment s (R.remaining reader.new.stream) (failures_of reader.new) (W.contents writer.new.stream) (failures_of writer.new)) }
+        (streams (R.remaining reader.new.stream) (failures_of reader.new) (W.contents writer.new.stream) (failures_of writer.new)) }
 {
-    let mut server = Server::new(alloc, version, notation);
-    for _ in 0..u64::MAX {
-        if let Err(outcome) = take_frame(compiler, alloc, &mut server, reader, writer) {
-            return outcome;
-        }
-    }
-    end_of(server.stage)
+    let mut serving = Serving {
+        compiler,
+        server: Server::new(alloc, version, notation),
+    };
+    converse(alloc, &mut serving, reader, writer)
 }

@@ -1,8 +1,10 @@
 //! The life of a server: what is done with requests at each stage of it.
 ghost use Rattle.std.specs.Prelude.{◌≡◌};
+ghost use Rattle.serde_json.specs.View.{view};
 ghost use Rattle.tb_language_server.specs.Life.{answered, decision_of};
 
-use tb_answers::{Method, method_of};
+use serde_json::Value;
+use tb_answers::{Request, request_of};
 use tb_messages::Refusal;
 
 /// How far a server's life is.
@@ -22,24 +24,24 @@ pub enum Decision {
     Begin,
     /// It shuts down.
     End,
-    /// It is asked of a text.
-    Answer(Method),
+    /// This is asked of a text.
+    Answer(Request),
     Refuse(Refusal),
 }
 
 // What is done with a request on a text, if it is known.
-fn answered(method: Option<Method>) -> Decision
-    ensures { result ≡ answered method }
+fn answered(request: Option<Request>) -> Decision
+    ensures { result ≡ answered request }
 {
-    match method {
-        Some(method) => Decision::Answer(method),
+    match request {
+        Some(request) => Decision::Answer(request),
         None => Decision::Refuse(Refusal::UnknownMethod),
     }
 }
 
-/// What is done with a request at a stage.
-pub fn decide(stage: Stage, method: &str) -> Decision
-    ensures { result ≡ decision_of stage method.now }
+/// What is done with a request at a stage, by its method and params.
+pub fn decide(stage: Stage, method: &str, params: &Value) -> Decision
+    ensures { result ≡ decision_of stage method.now (view params.now) }
 {
     match stage {
         Stage::New => match method {
@@ -49,7 +51,7 @@ pub fn decide(stage: Stage, method: &str) -> Decision
         Stage::Ready => match method {
             "initialize" => Decision::Refuse(Refusal::Initialized),
             "shutdown" => Decision::End,
-            _ => answered(method_of(method)),
+            _ => answered(request_of(method, params)),
         },
         Stage::Shut => Decision::Refuse(Refusal::ShutDown),
     }

@@ -1,9 +1,9 @@
 //! The server: its life and the texts that are open, and what it says to a message.
-ghost use Rattle.std.specs.Prelude.{◌≡◌, IfOk, OnOk, codes, option_map};
-ghost use Rattle.serde_json.specs.Data.{string};
+ghost use Rattle.std.specs.Prelude.{◌≡◌, IfOk, OnOk, codes, option_map, unwrap_or};
+ghost use Rattle.serde_json.specs.Data.{null, string};
 ghost use Rattle.serde_json.specs.View.{members_view, view};
 ghost use Rattle.tb_messages.specs.Messages.{Says, seen};
-ghost use Rattle.tb_language_server.specs.Replies.{AnswersBy, AnswersOnText, AnswersParams, AnswersText, IsNew, said, Takes, TakesMessage, TakesNotice, TakesNotification, TakesText, capabilities, completion, fixes, initialized, renaming, synchronization, tokens, with_encoding, with_options, with_requests};
+ghost use Rattle.tb_language_server.specs.Replies.{AnswersBy, AnswersOnText, AnswersText, IsNew, said, Takes, TakesMessage, TakesNotice, TakesNotification, TakesText, capabilities, completion, fixes, initialized, renaming, synchronization, tokens, with_encoding, with_options, with_requests};
 ghost use Rattle.tb_language_server.specs.Life.{decision_of};
 ghost use Rattle.tb_language_server.specs.Texts.{text_of};
 ghost use Rattle.tb_language_server.specs.Notices.{told, uri_in};
@@ -13,7 +13,7 @@ use crate::notices::{Notice, notice_of, uri_in};
 use crate::texts::Texts;
 use serde_json::{Map, Value, json, put};
 use std::alloc::{AllocError, Global};
-use tb_answers::{Method, answer};
+use tb_answers::{Request, answer};
 use tb_compiled::Compile;
 use tb_diagnostics::{publish, publish_none};
 use tb_messages::{Message, Refusal, failure, message_of, success};
@@ -165,34 +165,14 @@ fn said(alloc: Global, id: &Value, answer: Result<Value, Refusal>) -> Result<Vec
     }
 }
 
-// What is said to a request on a text, where that is open.
-fn answer_found<K: Compile>(
-    compiler: &K,
-    alloc: Global,
-    notation: Notation,
-    id: &Value,
-    method: Method,
-    params: &Value,
-    uri: &str,
-    text: Option<&str>,
-) -> Result<Vec<u8>, AllocError>
-    ensures { IfOk result (λ content. AnswersOnText K.own notation method (view id.now) uri.now (view params.now) (option_map (λ t. t.now) text.entry)
-        content.items) }
+// The params of a request, or null.
+fn given<'a>(params: Option<&'a Value>, none: &'a Value) -> &'a Value
+    requires { view none.now ≡ null }
+    ensures { view result.now ≡ unwrap_or (seen params.entry) null }
 {
-    match text {
-        Some(text) => {
-            let answer = answer(
-                compiler,
-                alloc,
-                notation,
-                method,
-                uri,
-                text.as_bytes(),
-                params,
-            )?;
-            said(alloc, id, answer)
-        }
-        None => failure(alloc, Some(id), Refusal::NotOpen),
+    match params {
+        Some(params) => params,
+        None => none,
     }
 }
 
@@ -209,79 +189,42 @@ impl Server {
         }
     }
 
-    // What it says to a request on a text, by its name.
+    // What it says to a request on the text of a name.
     fn answer_on_text<K: Compile>(
         &self,
         compiler: &K,
         alloc: Global,
         id: &Value,
-        method: Method,
-        params: &Value,
         uri: &str,
+        request: Request,
     ) -> Result<Vec<u8>, AllocError>
-        ensures { IfOk result (λ content. AnswersOnText K.own self.now.notation method (view id.now) uri.now (view params.now)
+        ensures { IfOk result (λ content. AnswersOnText K.own self.now.notation request (view id.now) uri.now
             (text_of uri.now self.now.texts.all.items) content.items) }
     {
-        let text = self.texts.text(uri);
-        answer_found(
-            compiler,
-            alloc,
-            self.notation,
-            id,
-            method,
-            params,
-            uri,
-            text,
-        )
-    }
-
-    // What it says to a request on a text, by the name that params give.
-    fn answer_named<K: Compile>(
-        &self,
-        compiler: &K,
-        alloc: Global,
-        id: &Value,
-        method: Method,
-        params: &Value,
-        uri: Option<&str>,
-    ) -> Result<Vec<u8>, AllocError>
-        ensures { IfOk result (λ content. AnswersParams K.own self.now.notation method (view id.now) (view params.now) (option_map (λ t. t.now) uri.entry)
-            self.now.texts.all.items content.items) }
-    {
-        match uri {
-            Some(uri) => self.answer_on_text(compiler, alloc, id, method, params, uri),
-            None => failure(alloc, Some(id), Refusal::BadParams),
+        match self.texts.text(uri) {
+            Some(text) => {
+                let text = text.as_bytes();
+                let answer = answer(compiler, alloc, self.notation, uri, text, request)?;
+                said(alloc, id, answer)
+            }
+            None => failure(alloc, Some(id), Refusal::NotOpen),
         }
     }
 
-    // What it says to a request on a text, by its params.
-    fn answer_params<K: Compile>(
-        &self,
-        compiler: &K,
-        alloc: Global,
-        id: &Value,
-        method: Method,
-        params: &Value,
-    ) -> Result<Vec<u8>, AllocError>
-        ensures { IfOk result (λ content. AnswersParams K.own self.now.notation method (view id.now) (view params.now) (uri_in (view params.now))
-            self.now.texts.all.items content.items) }
-    {
-        self.answer_named(compiler, alloc, id, method, params, uri_in(params))
-    }
-
-    // What it says to a request on a text.
+    // What it says to a request on a text, if its name is given.
     fn answer_text<K: Compile>(
         &self,
         compiler: &K,
         alloc: Global,
         id: &Value,
-        method: Method,
-        params: Option<&Value>,
+        uri: Option<&str>,
+        request: Request,
     ) -> Result<Vec<u8>, AllocError>
-        ensures { IfOk result (λ content. AnswersText K.own self.now.notation method (view id.now) (seen params.entry) self.now.texts.all.items content.items) }
+        ensures { IfOk result (λ content. AnswersText K.own self.now.notation request (view id.now)
+            (option_map (λ t. t.now) uri.entry) self.now.texts.all.items content.items) }
     {
-        match params {
-            Some(params) => self.answer_params(compiler, alloc, id, method, params),
+        match uri {
+            Some(uri) => self.answer_on_text(compiler, alloc, id, uri, request),
             None => failure(alloc, Some(id), Refusal::BadParams),
         }
     }
@@ -293,12 +236,12 @@ impl Server {
         alloc: Global,
         id: &Value,
         method: &str,
-        params: Option<&Value>,
+        params: &Value,
     ) -> Result<Vec<u8>, AllocError>
-        ensures { IfOk result (λ content. AnswersBy K.own (decision_of self.old.stage method.now) (view id.now) (seen params.entry)
-            self.old content self.new) }
+        ensures { IfOk result (λ content. AnswersBy K.own (decision_of self.old.stage method.now (view params.now)) (view id.now)
+            (uri_in (view params.now)) self.old content self.new) }
     {
-        match decide(self.stage, method) {
+        match decide(self.stage, method, params) {
             Decision::Begin => {
                 self.stage = Stage::Ready;
                 success(alloc, id, initialized_value(alloc, self.version)?)
@@ -307,7 +250,9 @@ impl Server {
                 self.stage = Stage::Shut;
                 success(alloc, id, Value::Null)
             }
-            Decision::Answer(method) => self.answer_text(compiler, alloc, id, method, params),
+            Decision::Answer(request) => {
+                self.answer_text(compiler, alloc, id, uri_in(params), request)
+            }
             Decision::Refuse(refusal) => failure(alloc, Some(id), refusal),
         }
     }
@@ -400,6 +345,8 @@ impl Server {
     {
         match message {
             Message::Request { id, method, params } => {
+                let null = Value::Null;
+                let params = given(params, &null);
                 Ok(Reply::Content(self.answer_request(compiler, alloc, id, method, params)?))
             }
             Message::Notification { method, params } => {

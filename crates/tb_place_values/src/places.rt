@@ -9,16 +9,17 @@ use serde_json::Value;
 #[derive(Clone, Copy, Drop)]
 pub struct Place {
     /// The line, from 0.
-    pub line: u64,
+    pub line: usize,
     /// How many units of UTF-16 are before it.
-    pub character: u64,
+    pub character: usize,
 }
 
 // A number that is a member of a value.
-fn number_in(value: &Value, name: &str) -> Option<u64>
+fn number_in(value: &Value, name: &str) -> Option<usize>
     ensures { result ≡ spec.number_in (view value.now) name.now }
 {
-    value.get(name).and_then(Value::as_u64)
+    let number = value.get(name)?.as_u64()?;
+    Some(number as usize)
 }
 
 fn place_of(value: &Value) -> Option<Place>
@@ -37,7 +38,7 @@ pub fn place_in(params: &Value) -> Option<Place>
 }
 
 /// The first and the last line of the range that params name; `None` where they have not this form.
-pub fn lines_of_range(params: &Value) -> Option<(u64, u64)>
+pub fn lines_of_range(params: &Value) -> Option<(usize, usize)>
     ensures { result ≡ spec.lines_of_range (view params.now) }
 {
     let range = params.get("range")?;

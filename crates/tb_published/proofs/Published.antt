@@ -12,14 +12,18 @@ use Rattle.tb_messages.specs.declared.messages.Message.{Message}
 use Rattle.tb_messages.specs.declared.messages.Message.TheVariants as message
 use Rattle.tb_messages.specs.declared.refusals.Refusal.{Refusal}
 use Rattle.tb_messages.specs.declared.refusals.Refusal.TheVariants.{NoJson, TooLarge, NoMessage, NotOpen, BadParams}
-use Rattle.tb_answers.specs.declared.methods.Method.{Method}
-use Rattle.tb_frames.specs.declared.reading.Frame.{Frame}
-use Rattle.tb_frames.specs.declared.reading.Frame.TheVariants as frame
-use Rattle.tb_language_server.specs.Dialogue.{Leads, Moment, TakesContent, TakesOne, TakesOneOf, Talks, Written, more as goes_on, none as begins, streams}
-use Rattle.tb_published.specs.LastPublished.{IsAnswer, OpenTextsArePublished, Publication, Publishing, Tells, answers, closes, ends, finds, is_silent, last_of, more, none, opens, with_one}
+use Rattle.tb_answers.specs.declared.requests.Request.{Request}
+use Rattle.tb_dialogue.specs.Dialogue.{Moment, Talks, more as goes_on, none as begins}
+use Rattle.tb_dialogue.specs.Dialogue as dialogue
+use Rattle.tb_dialogue.specs.declared.hearing.Heard.{Heard}
+use Rattle.tb_dialogue.specs.declared.hearing.Heard.TheVariants as heard
+use Rattle.tb_dialogue.specs.declared.talking.Turn.{Turn}
+use Rattle.tb_language_server.specs.Dialogue.{Answers, IsTurn, RepliesTo}
+use Rattle.tb_language_server.specs.declared.outcome.Served.{Served}
+use Rattle.tb_published.specs.LastPublished.{IsAnswer, IsReplied, OpenTextsArePublished, Publication, Publishing, Tells, answers, closes, ends, finds, is_silent, last_of, more, none, opens, with_one}
 use Rattle.tb_language_server.specs.Life.{decision_of}
 use Rattle.tb_language_server.specs.Notices.{Told, open_text, change_text, close_text, notice_of, uri_in}
-use Rattle.tb_language_server.specs.Replies.{AnswersBy, AnswersOnText, AnswersParams, AnswersText, DropsText, Exits, Ignores, IsNew, Refuses, TakesAt, TakesChange, TakesClose, TakesMessage, TakesNotice, TakesOther, TakesRequest, TakesText, TakesTold, initialized, said}
+use Rattle.tb_language_server.specs.Replies.{AnswersBy, AnswersOnText, AnswersText, DropsText, Exits, Ignores, IsNew, Refuses, TakesAt, TakesChange, TakesClose, TakesMessage, TakesNotice, TakesOther, TakesRequest, TakesText, TakesTold, initialized, said}
 use Rattle.tb_language_server.specs.Texts.{has, text_of}
 use Rattle.tb_language_server.specs.declared.texts.OpenText.{OpenText}
 use Rattle.tb_language_server.specs.declared.life.Decision.{Decision}
@@ -97,48 +101,40 @@ said_so : (id : Data) (r : Result Value Refusal) (content : List ℕ) → Says c
 said_so id (Ok v) content says = (id, inl (view v, says))
 said_so id (Err why) content says = (id, inr (why, says))
 
-on_text : (own : Own) (notation : Notation) (m : Method) (id : Data) (uri : List ℕ) (params : Data) (text : Option (List ℕ)) (content : List ℕ) → AnswersOnText own notation m id uri params text content
+on_text : (own : Own) (notation : Notation) (asked : Request) (id : Data) (uri : List ℕ) (text : Option (List ℕ)) (content : List ℕ) → AnswersOnText own notation asked id uri text content
     → IsAnswer content
-on_text own notation m id uri params (Some text) content (r, found, says) = said_so id r content says
-on_text own notation m id uri params None content says = (id, inr (NotOpen, says))
+on_text own notation asked id uri (Some text) content (r, found, says) = said_so id r content says
+on_text own notation asked id uri None content says = (id, inr (NotOpen, says))
 
-by_params : (own : Own) (notation : Notation) (m : Method) (id params : Data) (uri : Option (List ℕ)) (texts : List OpenText) (content : List ℕ) → AnswersParams own notation m id params uri texts content
-    → IsAnswer content
-by_params own notation m id params (Some uri) texts content h = on_text own notation m id uri params (text_of uri texts) content h
-by_params own notation m id params None texts content says = (id, inr (BadParams, says))
+by_name : (own : Own) (notation : Notation) (asked : Request) (id : Data) (uri : Option (List ℕ)) (texts : List OpenText) (content : List ℕ)
+    → AnswersText own notation asked id uri texts content → IsAnswer content
+by_name own notation asked id (Some uri) texts content h = on_text own notation asked id uri (text_of uri texts) content h
+by_name own notation asked id None texts content says = (id, inr (BadParams, says))
 
-by_text : (own : Own) (notation : Notation) (m : Method) (id : Data) (params : Option Data) (texts : List OpenText) (content : List ℕ)
-    → AnswersText own notation m id params texts content → IsAnswer content
-by_text own notation m id (Some params) texts content h = by_params own notation m id params (uri_in params) texts content h
-by_text own notation m id None texts content says = (id, inr (BadParams, says))
-
-decided : (own : Own) (d : Decision) (id : Data) (params : Option Data) (old : Server) (content : Vec ℕ Global) (new : Server) → AnswersBy own d id params old content new
+decided : (own : Own) (d : Decision) (id : Data) (uri : Option (List ℕ)) (old : Server) (content : Vec ℕ Global) (new : Server) → AnswersBy own d id uri old content new
     → Publishing own old.notation old new (Content content) None × (new.notation ≡ old.notation)
-decided own Begin id params old content new (became, says) = (answers content became.texts (id, inl (initialized old.version.now, says)), became.notation)
-decided own End id params old content new (became, says) = (answers content became.texts (id, inl (null, says)), became.notation)
-decided own (Answer m) id params old content new (same, h) = (answers content same.texts (by_text own old.notation m id params old.texts.all.items content.items h), same.notation)
-decided own (Refuse why) id params old content new (same, says) = (answers content same.texts (id, inr (why, says)), same.notation)
+decided own Begin id uri old content new (became, says) = (answers content became.texts (id, inl (initialized old.version.now, says)), became.notation)
+decided own End id uri old content new (became, says) = (answers content became.texts (id, inl (null, says)), became.notation)
+decided own (Answer asked) id uri old content new (same, h) = (answers content same.texts (by_name own old.notation asked id uri old.texts.all.items content.items h), same.notation)
+decided own (Refuse why) id uri old content new (same, says) = (answers content same.texts (id, inr (why, says)), same.notation)
 
-requests : (own : Own) (id : Data) (method : List ℕ) (params : Option Data) (old : Server) (reply : Reply) (new : Server) → TakesRequest own id method params old reply new
+requests : (own : Own) (id : Data) (method : List ℕ) (params : Data) (old : Server) (reply : Reply) (new : Server) → TakesRequest own id method params old reply new
     → PublishesIf own old reply new
 requests own id method params old Nothing new never = absurd never
 requests own id method params old (Content content) new h =
-    let (published, kept) = decided own (decision_of old.stage method) id params old content new h in (None, published, kept)
+    let (published, kept) = decided own (decision_of old.stage method params) id (uri_in params) old content new h in (None, published, kept)
 requests own id method params old Exit new never = absurd never
 
 messages : (own : Own) (m : Message) (old : Server) (reply : Reply) (new : Server) → TakesMessage own m old reply new → PublishesIf own old reply new
-messages own (message.Request id method params) old reply new h = requests own (view id.now) method.now (seen params) old reply new h
+messages own (message.Request id method params) old reply new h = requests own (view id.now) method.now (unwrap_or (seen params) null) old reply new h
 messages own (message.Notification method params) old reply new h = others own (bytes_eq method.now (codes "exit")) method.now (seen params) old reply new h
 messages own message.Answer old reply new h = ignores own old reply new h
 messages own (message.NoMessage id) old reply new h = refuses own (unwrap_or (seen id) null) NoMessage old reply new h
 
-contents : (own : Own) (content : List ℕ) (old : Server) (reply : Reply) (new : Server) → TakesContent own content old reply new → PublishesIf own old reply new
-contents own content old reply new (inl (d, is, (m, tells, h))) = messages own m old reply new h
-contents own content old reply new (inr (not, h)) = refuses own null NoJson old reply new h
-
-frames : (own : Own) (f : Frame) (old : Server) (reply : Reply) (new : Server) → TakesOne own f old reply new → PublishesIf own old reply new
-frames own (frame.Content content) old reply new h = contents own content.items old reply new h
-frames own (frame.TooLong n) old reply new h = refuses own null TooLarge old reply new h
+heard_so : (own : Own) (h : Heard) (old : Server) (reply : Reply) (new : Server) → RepliesTo own h old reply new → PublishesIf own old reply new
+heard_so own (heard.Value v) old reply new (m, tells, taken) = messages own m old reply new taken
+heard_so own heard.NoJson old reply new refused = refuses own null NoJson old reply new refused
+heard_so own heard.TooLarge old reply new refused = refuses own null TooLarge old reply new refused
 
 -- ── over the dialogue ──
 once_after : {notation : Notation} (own : Own) (old new : Server) (reply : Reply) (p : Option Publication) → Publishing own notation old new reply p → Once old.texts.all.items → Once new.texts.all.items
@@ -158,34 +154,37 @@ last_after own old new _ _ ps v (is_silent same) once is = ap (λ ts. text_of v 
 
 -- what was told up to a moment: all texts are open once, what is open was published last, and the notation is the first
 -- one
-abbrev TellsTo : Own → Notation → Moment → Moment → Type 0
+abbrev TellsTo : Own → Notation → Moment Server → Moment Server → Type 0
 TellsTo own notation a b = (ps : List Publication) × Tells own notation a b ps
-    × (Once b.server.texts.all.items × ((uri : List ℕ) → text_of uri b.server.texts.all.items ≡ last_of uri ps)) × (b.server.notation ≡ notation)
+    × (Once b.talker.texts.all.items × ((uri : List ℕ) → text_of uri b.talker.texts.all.items ≡ last_of uri ps)) × (b.talker.notation ≡ notation)
 
-further : (own : Own) (notation : Notation) (a b c : Moment) (reply : Reply) → TellsTo own notation a b
-    → TakesOneOf own (streams b.left c.left b.read c.read b.written c.written b.wrote c.wrote) b.server reply c.server
-    → Written reply b.written c.written → PublishesIf own b.server reply c.server → TellsTo own notation a c
-further own notation a b c Nothing (ps, tells, (once, is), same) taken written (p, publishing, kept) =
-    let now = subst (λ n. Publishing own n b.server c.server Nothing p) same publishing in (
+-- a dialogue that goes on was not ended
+not_ended : {A : Type 0} (end : Option A) (x : A) → end ≡ None → end ≡ Some x → ⊥
+not_ended end x goes is = let both : Some x ≡ None = sym is ∙ goes in cc
+
+further : (own : Own) (notation : Notation) (a b c : Moment Server) (reply : Reply) (p : Option Publication) → TellsTo own notation a b
+    → IsReplied own b reply c → Publishing own b.talker.notation b.talker c.talker reply p → c.talker.notation ≡ b.talker.notation → TellsTo own notation a c
+further own notation a b c reply p (ps, tells, (once, is), same) replied publishing kept =
+    let now = subst (λ n. Publishing own n b.talker c.talker reply p) same publishing in (
       with_one p ps,
-      more a b c ps Nothing p tells taken written now,
-      (once_after own b.server c.server Nothing p now once, λ uri. last_after own b.server c.server Nothing p ps uri now once (is uri)),
+      more a b c ps reply p tells replied now,
+      (once_after own b.talker c.talker reply p now once, λ uri. last_after own b.talker c.talker reply p ps uri now once (is uri)),
       kept ∙ same,
     )
-further own notation a b c (Content content) (ps, tells, (once, is), same) taken written (p, publishing, kept) =
-    let now = subst (λ n. Publishing own n b.server c.server (Content content) p) same publishing in (
-      with_one p ps,
-      more a b c ps (Content content) p tells taken written now,
-      (once_after own b.server c.server (Content content) p now once, λ uri. last_after own b.server c.server (Content content) p ps uri now once (is uri)),
-      kept ∙ same,
-    )
-further own notation a b c Exit told taken written publishing = absurd written
 
-one_more : (own : Own) (notation : Notation) (a b c : Moment) (done : Unit {0}) → TellsTo own notation a b → Leads own b (Ok done) c → TellsTo own notation a c
-one_more own notation a b c done told (reply, (f, reads, takes), written, sound) =
-    further own notation a b c reply told (f, reads, takes) written (frames own f b.server reply c.server takes)
+replied_so : (own : Own) (notation : Notation) (a b c : Moment Server) (reply : Reply) (turn : Turn Served) → TellsTo own notation a b
+    → IsReplied own b reply c → IsTurn reply c.talker.stage turn → turn.end ≡ None → PublishesIf own b.talker reply c.talker → TellsTo own notation a c
+replied_so own notation a b c Nothing turn told replied is_turn goes (p, publishing, kept) = further own notation a b c Nothing p told replied publishing kept
+replied_so own notation a b c (Content content) turn told replied is_turn goes (p, publishing, kept) =
+    further own notation a b c (Content content) p told replied publishing kept
+replied_so own notation a b c Exit turn told replied (silent, ended) goes published = absurd (not_ended turn.end _ goes ended)
 
-talked : (own : Own) (version : List ℕ) (notation : Notation) (a b : Moment) → IsNew version notation a.server → Talks own a b → TellsTo own notation a b
+one_more : (own : Own) (notation : Notation) (a b c : Moment Server) (done : Unit {0}) → TellsTo own notation a b → dialogue.Answers (Answers own) b (Ok done) c
+    → TellsTo own notation a c
+one_more own notation a b c done told (h, is_heard, (turn, (reply, replies, is_turn), goes, wrote)) =
+    replied_so own notation a b c reply turn told (h, turn, is_heard, replies, is_turn, wrote) is_turn goes (heard_so own h b.talker reply c.talker replies)
+
+talked : (own : Own) (version : List ℕ) (notation : Notation) (a b : Moment Server) → IsNew version notation a.talker → Talks (Answers own) a b → TellsTo own notation a b
 talked own version notation a _ new (begins _) = ([], none a, (subst Once (sym new.texts) tt, λ uri. ap (λ ts. text_of uri ts) new.texts), new.reads)
 talked own version notation a _ new (goes_on _ b c done talks leads) = one_more own notation a b c done (talked own version notation a b new talks) leads
 

@@ -8,7 +8,11 @@ use Rattle.tb_text.specs.declared.notation.Notation.{Notation}
 use Rattle.tb_messages.specs.Messages.{Says, failure_of, success_of}
 use Rattle.tb_messages.specs.declared.refusals.Refusal.{Refusal}
 use Rattle.tb_diagnostics.specs.Published.{Publishes, published_of}
-use Rattle.tb_language_server.specs.Dialogue.{Moment, TakesOneOf, Talks, Written, streams}
+use Rattle.tb_dialogue.specs.Dialogue.{IsHeard, Moment, Talks, Writes}
+use Rattle.tb_dialogue.specs.declared.hearing.Heard.{Heard}
+use Rattle.tb_dialogue.specs.declared.talking.Turn.{Turn}
+use Rattle.tb_language_server.specs.Dialogue.{Answers, IsTurn, RepliesTo}
+use Rattle.tb_language_server.specs.declared.outcome.Served.{Served}
 use Rattle.tb_language_server.specs.Replies.{IsNew}
 use Rattle.tb_language_server.specs.Texts.{Opens, text_of, without}
 use Rattle.tb_language_server.specs.declared.server.Reply.{Reply}
@@ -41,13 +45,17 @@ abbrev pub with_one : Option Publication → List Publication → List Publicati
 with_one None ps = ps
 with_one (Some p) ps = p ∷ ps
 
+-- a frame was read, what it holds was replied to, and the reply was written
+abbrev pub IsReplied : Own → Moment Server → Reply → Moment Server → Type 0
+IsReplied own a reply b =
+    (h : Heard) × (turn : Turn Served) × IsHeard h a.at b.at × RepliesTo own h a.talker reply b.talker × IsTurn reply b.talker.stage turn
+    × Writes turn.frames a.at.written b.at.written a.at.wrote b.at.wrote
+
 -- Frames lead from one moment to another, each answered before the next one is read, and this was published, the last first.
-pub data Tells (own : Own) (notation : Notation) : Moment → Moment → List Publication → Type 0 where
-  none : (a : Moment) → Tells own notation a a []
-  more : (a b c : Moment) (ps : List Publication) (reply : Reply) (p : Option Publication) → Tells own notation a b ps
-      → TakesOneOf own (streams b.left c.left b.read c.read b.written c.written b.wrote c.wrote) b.server reply c.server
-      → Written reply b.written c.written → Publishing own notation b.server c.server reply p
-      → Tells own notation a c (with_one p ps)
+pub data Tells (own : Own) (notation : Notation) : Moment Server → Moment Server → List Publication → Type 0 where
+  none : (a : Moment Server) → Tells own notation a a []
+  more : (a b c : Moment Server) (ps : List Publication) (reply : Reply) (p : Option Publication) → Tells own notation a b ps
+      → IsReplied own b reply c → Publishing own notation b.talker c.talker reply p → Tells own notation a c (with_one p ps)
 
 -- the source of a text whose findings were published last, if nothing else of it was after that
 abbrev pub last_of : List ℕ → List Publication → Option (List ℕ)
@@ -58,5 +66,5 @@ last_of uri (ends u ∷ ps) = if bytes_eq u uri then None else last_of uri ps
 -- In a dialogue of a new server the findings of each text that is open were published last, in its notation, and of no
 -- other text any.
 abbrev pub OpenTextsArePublished : Own → Type 0
-OpenTextsArePublished own = (version : List ℕ) (notation : Notation) (a b : Moment) → IsNew version notation a.server → Talks own a b
-    → (ps : List Publication) × Tells own notation a b ps × ((uri : List ℕ) → text_of uri b.server.texts.all.items ≡ last_of uri ps)
+OpenTextsArePublished own = (version : List ℕ) (notation : Notation) (a b : Moment Server) → IsNew version notation a.talker → Talks (Answers own) a b
+    → (ps : List Publication) × Tells own notation a b ps × ((uri : List ℕ) → text_of uri b.talker.texts.all.items ≡ last_of uri ps)

@@ -4,10 +4,13 @@ use Rattle.std.proofs.lemmas.List.{drop_all, length-take, take-append-drop}
 use Rattle.std.proofs.lemmas.Bool.Decides.{nat_tests}
 use Rattle.std.specs.Io.KnownBytes.{Appends}
 use Rattle.std.specs.Prelude.{◌≢◌, nat_le}
+use Rattle.std.specs.declared.alloc.AllocError.{AllocError}
+use Rattle.std.specs.declared.alloc.Global.{Global}
+use Rattle.std.specs.declared.vec.Vec.{Vec}
 use Rattle.serde_json.specs.View.{view}
 use Rattle.tb_adapter_messages.specs.Requests.{Asked, asked_in, no_message, passed, request}
 use Rattle.tb_adapter_messages.specs.declared.refusals.Refusal.{Refusal}
-use Rattle.tb_adapter_messages.specs.declared.refusals.Refusal.TheVariants.{NoMessage}
+use Rattle.tb_adapter_messages.specs.declared.refusals.Refusal.TheVariants.{NoJson, NoMessage, TooLarge}
 use Rattle.tb_adapter_values.specs.Requests.{command_of}
 use Rattle.tb_compiled.specs.Compiled.{prg_of}
 use Rattle.tb_debug.specs.Debuggees.{program_of}
@@ -27,28 +30,29 @@ use Rattle.tb_prg.specs.Prg.{content_of}
 use Rattle.tb_prg.specs.declared.PrgError.{PrgError}
 use Rattle.tb_text.specs.declared.notation.Notation.{Notation}
 use Rattle.tb_streams.specs.HostForm.{host_form_of}
-use Rattle.tb_debug_adapter.specs.Dialogue.{IsSession, Moment, Says, TakesHeard, TakesMessage, Talks, Written, after, given, is_end, more as goes_on, none as begins}
-use Rattle.tb_debug_adapter.specs.Dialogue as dialogue
+use Rattle.tb_dialogue.specs.Dialogue.{Answers, Moment, Talks, Writes, more as goes_on, none as begins}
+use Rattle.tb_dialogue.specs.declared.hearing.Heard.{Heard}
+use Rattle.tb_dialogue.specs.declared.hearing.Heard.TheVariants as heard
+use Rattle.tb_dialogue.specs.declared.talking.Turn.{Turn}
+use Rattle.tb_streams.specs.declared.outcome.Done.{Done}
+use Rattle.tb_debug_adapter.specs.Dialogue.{IsSession, TakesHeard, TakesMessage}
+use Rattle.tb_debug_adapter.specs.Talking.{Says, given, silence}
+use Rattle.tb_debug_adapter.specs.declared.dialogue.Debugging.{Debugging}
 use Rattle.tb_adapter_requests.specs.Said.{Saying, complaint_of, none as no_frames}
-use Rattle.tb_debug_adapter.specs.declared.dialogue.Heard.{Heard}
-use Rattle.tb_debug_adapter.specs.declared.dialogue.Heard.TheVariants as heard
 use Rattle.tb_adapter_requests.specs.declared.launching.Plan.{Plan}
-use Rattle.tb_debug_adapter.specs.Outcomes.{AdapterOutcome}
 use Rattle.tb_debug_adapter.specs.declared.session.Session.{Session}
 use Rattle.tb_debug_adapter.specs.declared.session.Stage.TheVariants.{Loaded, Started}
-use Rattle.tb_stopped.specs.Told.{SaysAsked, SaysTo, Tells, WhatIsToldIsOfTheRun, command_asked, has_rest, keys_asked, keys_of, more as tells_more, name_of, none, number_asked, number_of, output_in, rests_after, run_of, start_of}
+use Rattle.tb_stopped.specs.Told.{IsWritten, SaysAsked, SaysTo, Tells, WhatIsToldIsOfTheRun, command_asked, has_rest, keys_asked, keys_of, more as tells_more, name_of, none, number_asked, number_of, output_in, rests_after, run_of, start_of}
 use Rattle.tb_stopped.proofs.Effects.{IsPlain, Keeps, Leads, Rests, output_append}
 use Rattle.tb_stopped.proofs.Requests.{stays, takes}
 use Rattle.tb_stopped.proofs.Shown.{form_append}
 
 -- ── one frame ──
 -- what was said was written
-written_so : (ends : Bool) (asked : ℕ) (c : List ℕ) (told : List Saying) (said : Result (Unit {0}) AdapterOutcome) (end : Unit {0}) (a b : Written)
-    → Says asked c told said a b → Ok end ≡ after ends said → Says asked c told (Ok end) a b
-written_so true asked c told (Ok done) end a b wrote is = absurd (cc)
-written_so false asked c told (Ok done) end a b wrote is = wrote
-written_so true asked c told (Err e) end a b wrote is = absurd (cc)
-written_so false asked c told (Err e) end a b wrote is = absurd (cc)
+written_so : (asked : ℕ) (c : List ℕ) (told : List Saying) (frames : Option (Vec ℕ Global)) (next next' : ℕ) (old new : Option (List ℕ)) (wrote wrote' : ℕ)
+    → Says asked c told frames next next' → Writes frames old new wrote wrote' → IsWritten asked c told next next' old new wrote wrote'
+written_so asked c told None next next' old new wrote wrote' never unwritten = absurd never
+written_so asked c told (Some frames) next next' old new wrote wrote' (are, counted) (appended, sound) = (frames.items, are, appended, sound, counted)
 
 complaint_plain : (why : Refusal) → IsPlain (complaint_of why ∷ [])
 complaint_plain why = record { silent = refl; restless = refl; stopless = λ d. (tt, tt) }
@@ -60,31 +64,64 @@ nothing_added : (xs : Option (List ℕ)) → Appends xs xs []
 nothing_added None = tt
 nothing_added (Some xs) = sym (append-nil xs)
 
-nothing_written : (end : Unit {0}) (a b : Written) → b ≡ a → Says 0 [] [] (Ok end) a b
-nothing_written end a b same = subst (λ w. Says 0 [] [] (Ok end) a w) (sym same) ([], no_frames, nothing_added a.bytes, refl, omega arith)
+-- a silent turn
+same_turn : (r : Result (Turn Done) AllocError) (x y : Turn Done) → r ≡ Ok x → r ≡ Ok y → x ≡ y
+same_turn r x y a b = let is : Ok x ≡ Ok y = sym a ∙ b in cc
+
+nothing_written : (next next' : ℕ) (old new : Option (List ℕ)) (wrote wrote' : ℕ) → next' ≡ next → Writes None old new wrote wrote'
+    → IsWritten 0 [] [] next next' old new wrote wrote'
+nothing_written next next' old new wrote wrote' same (is, sound) =
+    ([], no_frames, subst (λ xs. Appends old xs []) (sym is) (nothing_added old), sound, omega (arith, same))
 
 -- what is said to a message, and what that leads to
-abbrev AskedLeads : Asked → Session → Unit {0} → Written → Session → Written → Type 0
-AskedLeads q s end a t b =
-    (one : List Saying) × SaysAsked q s one t × Says (number_asked q) (command_asked q) one (Ok end) a b × Leads (keys_asked q s) one s t
+abbrev AskedLeads : Asked → Debugging → Debugging → (old new : Option (List ℕ)) → (wrote wrote_after : ℕ) → Type 0
+AskedLeads q s t old new wrote wrote' =
+    (one : List Saying) × SaysAsked q s.session one t.session × IsWritten (number_asked q) (command_asked q) one s.next t.next old new wrote wrote'
+    × Leads (keys_asked q s.session) one s.session t.session
 
-asked_leads : (q : Asked) (s t : Session) (end : Unit {0}) (a b : Written) → TakesMessage q s (Ok end) t a b → AskedLeads q s end a t b
-asked_leads (request seq c arguments) s t end a b (inl (told, takes_it, (said, wrote, is))) =
-    (told, takes_it, written_so (is_end (command_of c)) seq c told said end a b wrote is, takes (command_of c) (given arguments) s t told takes_it)
-asked_leads (request seq c arguments) s t end a b (inr (never, same)) = absurd (cc)
-asked_leads passed s t end a b (ended, same, unwritten) =
-    ([], (refl, same), nothing_written end a b unwritten, stays s t [] nothing_plain same)
-asked_leads no_message s t end a b (wrote, same) =
-    (complaint_of NoMessage ∷ [], (refl, same), wrote, stays s t (complaint_of NoMessage ∷ []) (complaint_plain NoMessage) same)
+asked_leads : (q : Asked) (s t : Debugging) (turn : Turn Done) (old new : Option (List ℕ)) (wrote wrote' : ℕ) → TakesMessage q s (Ok turn) t
+    → Writes turn.frames old new wrote wrote' → AskedLeads q s t old new wrote wrote'
+asked_leads (request seq c arguments) s t turn old new wrote wrote' (told, takes_it, (says, end)) written = (
+  told,
+  takes_it,
+  written_so seq c told turn.frames s.next t.next old new wrote wrote' says written,
+  takes (command_of c) (given arguments) s.session t.session told takes_it,
+)
+asked_leads passed s t turn old new wrote wrote' (silent, same) written =
+    let is : turn ≡ silence = same_turn (Ok turn) turn silence refl silent in (
+      [],
+      (refl, ap (λ d. d.session) same),
+      nothing_written s.next t.next old new wrote wrote' (ap (λ d. d.next) same) (subst (λ x. Writes x.frames old new wrote wrote') is written),
+      stays s.session t.session [] nothing_plain (ap (λ d. d.session) same),
+    )
+asked_leads no_message s t turn old new wrote wrote' ((says, end), same) written = (
+  complaint_of NoMessage ∷ [],
+  (refl, same),
+  written_so 0 [] (complaint_of NoMessage ∷ []) turn.frames s.next t.next old new wrote wrote' says written,
+  stays s.session t.session (complaint_of NoMessage ∷ []) (complaint_plain NoMessage) same,
+)
 
--- the same of what a frame holds
-abbrev FrameLeads : Heard → Session → Unit {0} → Written → Session → Written → Type 0
-FrameLeads h s end a t b = (one : List Saying) × SaysTo h s one t × Says (number_of h) (name_of h) one (Ok end) a b × Leads (keys_of h s) one s t
+-- the same of what is heard
+abbrev HeardLeads : Heard → Debugging → Debugging → (old new : Option (List ℕ)) → (wrote wrote_after : ℕ) → Type 0
+HeardLeads h s t old new wrote wrote' =
+    (one : List Saying) × SaysTo h s.session one t.session × IsWritten (number_of h) (name_of h) one s.next t.next old new wrote wrote'
+    × Leads (keys_of h s.session) one s.session t.session
 
-frame_leads : (h : Heard) (s t : Session) (end : Unit {0}) (a b : Written) → TakesHeard h s (Ok end) t a b → FrameLeads h s end a t b
-frame_leads (heard.Value v) s t end a b takes_it = asked_leads (asked_in (view v)) s t end a b takes_it
-frame_leads (heard.Unheard why) s t end a b (wrote, same) =
-    (complaint_of why ∷ [], (refl, same), wrote, stays s t (complaint_of why ∷ []) (complaint_plain why) same)
+heard_leads : (h : Heard) (s t : Debugging) (turn : Turn Done) (old new : Option (List ℕ)) (wrote wrote' : ℕ) → TakesHeard s h (Ok turn) t
+    → Writes turn.frames old new wrote wrote' → HeardLeads h s t old new wrote wrote'
+heard_leads (heard.Value v) s t turn old new wrote wrote' takes_it written = asked_leads (asked_in (view v)) s t turn old new wrote wrote' takes_it written
+heard_leads heard.NoJson s t turn old new wrote wrote' ((says, end), same) written = (
+  complaint_of NoJson ∷ [],
+  (refl, same),
+  written_so 0 [] (complaint_of NoJson ∷ []) turn.frames s.next t.next old new wrote wrote' says written,
+  stays s.session t.session (complaint_of NoJson ∷ []) (complaint_plain NoJson) same,
+)
+heard_leads heard.TooLarge s t turn old new wrote wrote' ((says, end), same) written = (
+  complaint_of TooLarge ∷ [],
+  (refl, same),
+  written_so 0 [] (complaint_of TooLarge ∷ []) turn.frames s.next t.next old new wrote wrote' says written,
+  stays s.session t.session (complaint_of TooLarge ∷ []) (complaint_plain TooLarge) same,
+)
 
 -- ── numbers and lists ──
 not_after : (a b : ℕ) → b ≤ a → max a b ≡ a
@@ -250,23 +287,22 @@ module _ (source : CompiledSource) (machine : Machine) (rom : Rom) (marks : List
     goes (inr keeps) = kept keeps
 
   -- what was told up to a moment
-  abbrev ToldTo : Moment → Moment → Type 0
-  ToldTo a b = (keys : List ℕ) × (told : List Saying) × (farthest : ℕ) × Tells a b keys told farthest × Stands keys told farthest b.session
+  abbrev ToldTo : Moment Debugging → Moment Debugging → Type 0
+  ToldTo a b = (keys : List ℕ) × (told : List Saying) × (farthest : ℕ) × Tells a b keys told farthest × Stands keys told farthest b.talker.session
 
-  one_more : (a b c : Moment) (end : Unit {0}) → ToldTo a b → dialogue.Leads b (Ok end) c → ToldTo a c
-  one_more a b c end (keys, told, farthest, tells, stands) (inl (h, hears, takes_it)) =
-      let (one, says, wrote, leads) = frame_leads h b.session c.session end b.written c.written takes_it in (
-        keys ++ keys_of h b.session,
+  one_more : (a b c : Moment Debugging) (done : Unit {0}) → ToldTo a b → Answers TakesHeard b (Ok done) c → ToldTo a c
+  one_more a b c done (keys, told, farthest, tells, stands) (h, is_heard, (turn, takes_it, goes_on_then, wrote)) =
+      let (one, says, written, leads) = heard_leads h b.talker c.talker turn b.at.written c.at.written b.at.wrote c.at.wrote takes_it wrote in (
+        keys ++ keys_of h b.talker.session,
         told ++ one,
-        max farthest (rests_after one c.session),
-        tells_more a b c keys told one farthest h end tells hears says wrote leads.stops,
-        goes keys (keys_of h b.session) told one farthest b.session c.session stands leads leads.output,
+        max farthest (rests_after one c.talker.session),
+        tells_more a b c keys told one farthest h tells is_heard says written leads.stops,
+        goes keys (keys_of h b.talker.session) told one farthest b.talker.session c.talker.session stands leads leads.output,
       )
-  one_more a b c end told (inr (e, hears, never, same, unwritten)) = absurd (cc)
 
-  talked : (a b : Moment) → ToldTo a a → Talks a b → ToldTo a b
+  talked : (a b : Moment Debugging) → ToldTo a a → Talks TakesHeard a b → ToldTo a b
   talked a _ first (begins _) = first
-  talked a _ first (goes_on _ b c end talks leads) = one_more a b c end (talked a b first talks) leads
+  talked a _ first (goes_on _ b c done talks leads) = one_more a b c done (talked a b first talks) leads
 
 -- ── the law ──
 nothing_sent : (text answers file : List ℕ) (machine : Machine) → StartsPrg text answers file (Ok machine) → machine.sent ≡ []
@@ -280,11 +316,11 @@ no_keys : (machine : Machine) (rom : Rom) → first_point (state_of machine) rom
 no_keys machine rom =
     ap (λ text. record (first_point (state_of machine) rom) { state = record (state_of machine) { text = text } }) (sym (append-nil (state_of machine).text))
 
-begun_so : (source : CompiledSource) (notation : Notation) (path : List ℕ) (machine : Machine) (rom : Rom) (plan : Plan) (a : Moment) → machine.sent ≡ []
-    → IsSession path source notation machine rom plan a.session → ToldTo source machine rom a.session.debugger.starts a a
+begun_so : (source : CompiledSource) (notation : Notation) (path : List ℕ) (machine : Machine) (rom : Rom) (plan : Plan) (a : Moment Debugging) → machine.sent ≡ []
+    → IsSession path source notation machine rom plan a.talker.session → ToldTo source machine rom a.talker.session.debugger.starts a a
 begun_so source notation path machine rom plan a unsent h =
-    let first : (point_at a.session.debugger.starts (run_of machine rom []) 0).state.sent ≡ [] =
-    ap (λ p. p.state.sent) (at_start a.session.debugger.starts (run_of machine rom [])) ∙ unsent in (
+    let first : (point_at a.talker.session.debugger.starts (run_of machine rom []) 0).state.sent ≡ [] =
+    ap (λ p. p.state.sent) (at_start a.talker.session.debugger.starts (run_of machine rom [])) ∙ unsent in (
       [],
       [],
       0,
@@ -292,7 +328,7 @@ begun_so source notation path machine rom plan a unsent h =
       record {
         marked = refl;
         program = h.debugs;
-        run = subst (λ p. OnRun p a.session.debugger) (no_keys machine rom) h.run;
+        run = subst (λ p. OnRun p a.talker.session.debugger) (no_keys machine rom) h.run;
         ran = λ k below. absurd (omega (arith, below));
         output = sym (ap host_form_of first);
         shown = h.opens.bare.shown ∙ sym (ap length first);
@@ -304,7 +340,7 @@ pub what_is_told_is_of_the_run : WhatIsToldIsOfTheRun
 what_is_told_is_of_the_run path source notation text answers machine rom plan a b starts h talks =
     let unsent = nothing_sent text answers (prg_of source.program) machine starts in
     let (keys, told, farthest, tells, stands) =
-    talked source machine rom a.session.debugger.starts a b (begun_so source notation path machine rom plan a unsent h) talks in (
+    talked source machine rom a.talker.session.debugger.starts a b (begun_so source notation path machine rom plan a unsent h) talks in (
       keys,
       told,
       farthest,
@@ -312,7 +348,7 @@ what_is_told_is_of_the_run path source notation text answers machine rom plan a 
       record {
         program = stands.program;
         run = stands.run;
-        shows = λ p seed made begins_there. shows_some p seed (start_of machine keys) rom source.program b.session.debugger _
+        shows = λ p seed made begins_there. shows_some p seed (start_of machine keys) rom source.program b.talker.session.debugger _
             (record { of = stands.program; made = made; starts = begins_there; on = stands.run }) refl;
       },
       stands.output ∙ ap (λ ms. host_form_of (point_at ms (run_of machine rom keys) farthest).state.sent) (sym stands.marked),

@@ -1,11 +1,12 @@
 -- What a debug adapter tells of a run while a program is debugged.
-use Rattle.std.specs.Prelude.{ℕ, ◌≡◌, ◌-◌, ◌≤◌, ◌||◌, Bool, true, false, nat_lt, max, List, [], ◌∷◌, ◌++◌, codes, length, Option, Some, None, IfSome, Ok, unwrap_or, if◌then◌else◌}
+use Rattle.std.specs.Prelude.{ℕ, ◌≡◌, ◌+◌, ◌-◌, ◌≤◌, ◌||◌, Bool, true, false, nat_lt, max, List, [], ◌∷◌, ◌++◌, codes, length, Option, Some, None, IfSome, Ok, unwrap_or, if◌then◌else◌}
+use Rattle.std.specs.Io.KnownBytes.{Appends}
 use Rattle.std.specs.Str.{bytes_eq}
 use Rattle.serde_json.specs.Data.{Data}
 use Rattle.serde_json.specs.View.{view}
 use Rattle.tb_adapter_messages.specs.Requests.{Asked, asked_in, no_message, passed, request}
 use Rattle.tb_adapter_messages.specs.declared.refusals.Refusal.{Refusal}
-use Rattle.tb_adapter_messages.specs.declared.refusals.Refusal.TheVariants.{NoMessage}
+use Rattle.tb_adapter_messages.specs.declared.refusals.Refusal.TheVariants.{NoJson, NoMessage, TooLarge}
 use Rattle.tb_adapter_values.specs.Arguments.{text_in}
 use Rattle.tb_adapter_values.specs.Requests.{command_of}
 use Rattle.tb_adapter_values.specs.declared.requests.Command.{Command}
@@ -29,12 +30,15 @@ use Rattle.tb_text.specs.declared.notation.Notation.{Notation}
 use Rattle.tb_streams.specs.HostForm.{host_form_of}
 use Rattle.tb_syntax.specs.Source.{Program}
 use Rattle.tb_adapter_requests.specs.Asking.{Evaluation, expression, question_in, typed}
-use Rattle.tb_debug_adapter.specs.Dialogue.{Hears, IsSession, Moment, Says, Talks, given}
-use Rattle.tb_adapter_requests.specs.Said.{Saying, complaint_of, done, event, refused}
+use Rattle.tb_dialogue.specs.Dialogue.{IsHeard, Moment, Talks}
+use Rattle.tb_dialogue.specs.declared.hearing.Heard.{Heard}
+use Rattle.tb_dialogue.specs.declared.hearing.Heard.TheVariants as heard
+use Rattle.tb_debug_adapter.specs.Dialogue.{IsSession, TakesHeard}
+use Rattle.tb_debug_adapter.specs.Talking.{given}
+use Rattle.tb_debug_adapter.specs.declared.dialogue.Debugging.{Debugging}
+use Rattle.tb_adapter_requests.specs.Said.{AreFrames, Saying, complaint_of, done, event, refused}
 use Rattle.tb_debug_adapter.specs.Sessions.{Takes, barred_move, most_typed}
 use Rattle.tb_adapter_requests.specs.Stops.{stop_of}
-use Rattle.tb_debug_adapter.specs.declared.dialogue.Heard.{Heard}
-use Rattle.tb_debug_adapter.specs.declared.dialogue.Heard.TheVariants as heard
 use Rattle.tb_adapter_requests.specs.declared.launching.Plan.{Plan}
 use Rattle.tb_debug_adapter.specs.declared.session.Session.{Session}
 use Rattle.tb_debug_adapter.specs.declared.session.Stage.TheVariants.{Started}
@@ -72,7 +76,8 @@ keys_asked no_message s = []
 -- the same of what a frame holds
 abbrev pub keys_of : Heard → Session → List ℕ
 keys_of (heard.Value v) s = keys_asked (asked_in (view v)) s
-keys_of (heard.Unheard why) s = []
+keys_of heard.NoJson s = []
+keys_of heard.TooLarge s = []
 
 -- ---- what is said
 
@@ -85,7 +90,8 @@ SaysAsked no_message s told t = (told ≡ complaint_of NoMessage ∷ []) × (t �
 -- what is said to what a frame holds
 abbrev pub SaysTo : Heard → Session → List Saying → Session → Type 0
 SaysTo (heard.Value v) s told t = SaysAsked (asked_in (view v)) s told t
-SaysTo (heard.Unheard why) s told t = (told ≡ complaint_of why ∷ []) × (t ≡ s)
+SaysTo heard.NoJson s told t = (told ≡ complaint_of NoJson ∷ []) × (t ≡ s)
+SaysTo heard.TooLarge s told t = (told ≡ complaint_of TooLarge ∷ []) × (t ≡ s)
 
 -- the number of the message that is answered, and its command
 abbrev pub number_asked : Asked → ℕ
@@ -100,11 +106,13 @@ command_asked no_message = []
 
 abbrev pub number_of : Heard → ℕ
 number_of (heard.Value v) = number_asked (asked_in (view v))
-number_of (heard.Unheard why) = 0
+number_of heard.NoJson = 0
+number_of heard.TooLarge = 0
 
 abbrev pub name_of : Heard → List ℕ
 name_of (heard.Value v) = command_asked (asked_in (view v))
-name_of (heard.Unheard why) = []
+name_of heard.NoJson = []
+name_of heard.TooLarge = []
 
 -- ---- stops
 
@@ -162,14 +170,20 @@ output_in (one ∷ told) = output_by one ++ output_in told
 
 -- ---- a dialogue
 
+-- messages that say this to a request are written, numbered one after the other
+abbrev pub IsWritten : (asked : ℕ) → List ℕ → List Saying → (next next_after : ℕ) → (old new : Option (List ℕ)) → (wrote wrote_after : ℕ) → Type 0
+IsWritten asked c told next next' old new wrote wrote' =
+    (frames : List ℕ) × AreFrames next asked c told frames × Appends old new frames × (wrote' ≡ wrote) × (next' ≡ next + length told)
+
 -- Frames lead from one moment to another, each answered before the next one is read. These keys were typed, this was
 -- said, the last at the end, and the run rested after so many events at most.
-pub data Tells : Moment → Moment → (keys : List ℕ) → (told : List Saying) → (farthest : ℕ) → Type 0 where
-  none : (a : Moment) → Tells a a [] [] 0
-  more : (a b c : Moment) (keys : List ℕ) (told one : List Saying) (farthest : ℕ) (h : Heard) (end : Unit {0}) → Tells a b keys told farthest
-      → Hears (Ok h) b.left c.left b.read c.read → SaysTo h b.session one c.session
-      → Says (number_of h) (name_of h) one (Ok end) b.written c.written → AreStopsOf c.session.debugger one
-      → Tells a c (keys ++ keys_of h b.session) (told ++ one) (max farthest (rests_after one c.session))
+pub data Tells : Moment Debugging → Moment Debugging → (keys : List ℕ) → (told : List Saying) → (farthest : ℕ) → Type 0 where
+  none : (a : Moment Debugging) → Tells a a [] [] 0
+  more : (a b c : Moment Debugging) (keys : List ℕ) (told one : List Saying) (farthest : ℕ) (h : Heard) → Tells a b keys told farthest
+      → IsHeard h b.at c.at → SaysTo h b.talker.session one c.talker.session
+      → IsWritten (number_of h) (name_of h) one b.talker.next c.talker.next b.at.written c.at.written b.at.wrote c.at.wrote
+      → AreStopsOf c.talker.session.debugger one
+      → Tells a c (keys ++ keys_of h b.talker.session) (told ++ one) (max farthest (rests_after one c.talker.session))
 
 -- the machine from which a program was started, with all that was typed
 abbrev pub start_of : Machine → List ℕ → State
@@ -197,8 +211,8 @@ OutputIsTold machine rom keys told farthest s =
 -- In each dialogue with a program that was launched, what is told is of the run on all keys so far.
 abbrev pub WhatIsToldIsOfTheRun : Type 0
 WhatIsToldIsOfTheRun =
-    (path : List ℕ) (source : CompiledSource) (notation : Notation) (text answers : List ℕ) (machine : Machine) (rom : Rom) (plan : Plan) (a b : Moment)
-    → StartsPrg text answers (prg_of source.program) (Ok machine) → IsSession path source notation machine rom plan a.session → Talks a b
-    → (keys : List ℕ) × (told : List Saying) × (farthest : ℕ) × Tells a b keys told farthest × IsOnRun source machine rom keys b.session
-    × OutputIsTold machine rom keys told farthest b.session
-    × (b.session.stage ≡ Started → b.session.debugger.present.events ≤ farthest)
+    (path : List ℕ) (source : CompiledSource) (notation : Notation) (text answers : List ℕ) (machine : Machine) (rom : Rom) (plan : Plan) (a b : Moment Debugging)
+    → StartsPrg text answers (prg_of source.program) (Ok machine) → IsSession path source notation machine rom plan a.talker.session → Talks TakesHeard a b
+    → (keys : List ℕ) × (told : List Saying) × (farthest : ℕ) × Tells a b keys told farthest × IsOnRun source machine rom keys b.talker.session
+    × OutputIsTold machine rom keys told farthest b.talker.session
+    × (b.talker.session.stage ≡ Started → b.talker.session.debugger.present.events ≤ farthest)

@@ -1,16 +1,15 @@
--- The goals of `serve` in src/dialogue.rt.
-use Rattle.std.proofs.Common.{inl, inr}
-use Rattle.tb_language_server.specs.Dialogue.{more, none}
+-- The goal of `serve` in src/dialogue.rt.
+use Rattle.tb_dialogue.proofs.Parts.{converses}
+use Rattle.tb_language_server.specs.Dialogue.{Answers, EndsAs}
 use Rattle.tb_language_server.proofs.dialogue.serve.Goals as goal
 
-pub loop-init : goal.loop-init
-loop-init g c = none _
-
-pub loop-preserved : goal.loop-preserved
-loop-preserved g c = more _ _ _ c.in_default.field-0 c.loop.invariant c.in_default.ensures
-
-pub returns-in-Err : goal.returns-in-Err
-returns-in-Err g c = (c.new-server.result, c.new-server.ensures, (c.take_frame.new.server, inl (_, c.loop.invariant, c.in-Err.ensures)))
-
 pub returns : goal.returns
-returns g c = (c.new-server.result, c.new-server.ensures, (c.loop.server, inr (c.loop.invariant, c.end_of.ensures)))
+returns g c = (
+  c.new.result,
+  c.new.ensures,
+  (
+    c.converse.new.talker.server,
+    (converses (λ s. s.server) (λ s. Unit {0}) _ (Answers g.K.Compile.own) _ EndsAs (λ s h r t so takes. tt) (λ s h r t so takes. takes)
+        (λ s e so ends. ends) _ _ _ tt c.converse.ensures).1,
+  ),
+)

@@ -1,0 +1,2 @@
+-- a dialogue with one part of a talker
+pub mod Parts
