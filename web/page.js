@@ -316,9 +316,12 @@ function copyKeys() {
 
 // Keys that are pressed anywhere go to the line that is typed, but for those that a control takes.
 function keyDown(event) {
-  if (event.key === "Escape") run.stop();
-  if (event.target.matches("input, select") || event.ctrlKey || event.metaKey || event.altKey) return;
-  if (event.key.length === 1 && event.key !== " ") line.focus();
+  const { key, target } = event;
+  if (key === "Escape") run.stop();
+  if (target.matches("input, select") || event.ctrlKey || event.metaKey || event.altKey) return;
+  if (target.matches("button") && (key === " " || key === "Enter")) return;
+  if (key === "Enter") byId("typing").requestSubmit();
+  else if (key.length === 1) line.focus();
 }
 
 // On a phone this would bring up its keyboard.

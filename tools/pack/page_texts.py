@@ -4,9 +4,9 @@
     tools/pack/page_texts.py --write    writes the file
     tools/pack/page_texts.py --check    compares it with what is stored
 
-web/page.html has marks for what comes in between: the style and the script, each with its digest for the page's policy, and
-what differs from page to page, which parts the constants. The script is machine.js, screen.js and page.js one after the
-other, without their lines of imports."""
+web/page.html has marks for what comes in between: the style and the script, each with its digest for the page's policy,
+and what differs from page to page, which parts the constants. The script is machine.js, screen.js and page.js one after
+the other, without their lines of imports."""
 import base64
 import hashlib
 import re
@@ -67,7 +67,7 @@ def texts():
 
 
 def literal(text):
-    """The literal of a text: long lines go on behind a backslash, which takes away the spaces that a line begins with."""
+    """The literal of a text: a long line goes on behind a backslash, which takes away the spaces that begin a line."""
     rows = []
     for line in text.split("\n"):
         line = line.replace("\\", "\\\\").replace('"', '\\"')

@@ -2,8 +2,9 @@
 # The JavaScript machine of a page (web/machine.js) beside the proved one, under Node: after each run the registers, the
 # memory, the bytes sent, the cycles and the end are the same.
 #
-#   every documented opcode, with operand bytes, registers and memory at the edges (foreign/opcode_programs.py), and each
-#   byte as an opcode at the edges of open memory;
+#   every documented opcode, with operand bytes, registers and memory at the edges (foreign/opcode_programs.py), and
+#   each byte as an opcode at the edges of open memory;
+#   a loop that calls each service, beside hostile ROMs, up to each of its first events;
 #   every example and every program of tools/measure/bench, with keys, beside a quiet ROM and three hostile ones;
 #   random PRGs of 64 bytes in filled memory (foreign/random_programs.py), every second one beside a hostile ROM.
 #
@@ -51,11 +52,24 @@ programs() {
     done < <(find "$root/tools/measure/bench" -name '*.bas' | sort)
 }
 
+# SED; CHRIN, CHROUT, GETIN, CHROUT, PHP, PLA and CHROUT again and again; or GETIN and CHROUT, which returns.
+services() {
+    local rom limit loop=00c0f820cfff20d2ff20e4ff20d2ff086820d2ff4c01c0
+    for rom in '' ' rude=0' ' rude=1' ' rude=2'; do
+        for limit in {1..150}; do
+            echo "@ code=$loop keys=8001ff00414d7f answers=0003ff80 limit=$limit$rom"
+        done
+        for limit in {1..9}; do echo "@ code=00c020e4ff4cd2ff answers=43 limit=$limit$rom"; done
+    done
+}
+
 "$tbc" asm "$root/tools/try/foreign/opcodes.asm" opcodes.prg --at 080D
 mkdir opcodes
 python3 "$page/opcode_runs.py" opcodes.prg "$work/opcodes" >opcodes.txt
 programs >programs.txt
 python3 "$page/random_runs.py" "${1:-20000}" >random.txt
 compare 'opcodes at their edges' opcodes.txt
+services >services.txt
+compare 'calls of services' services.txt
 compare 'examples and the bench' programs.txt
 compare 'random PRGs' random.txt

@@ -10,13 +10,17 @@ pub const HEAD: &[u8] = b"<!DOCTYPE html>
 /// What comes between the title and the program's name in the heading.
 pub const STYLE: &[u8] = b"</title>
 <meta http-equiv=\"Content-Security-Policy\"
-content=\"default-src 'none'; script-src 'sha256-/qAUHpZ0TxxF3a2g7BM8bjAurk97AlD9znati+cmteo='; style-src \
-'sha256-QzL/Z6IiLP6IARkxSvqkdN6suPersUnNjDVRBYfNxlQ='; base-uri 'none'; form-action 'none'\">
+content=\"default-src 'none'; script-src 'sha256-kK56N788svfuPMpUb6hLERUnF5YL6h4E2Uv0yZotXrY='; style-src \
+'sha256-UC4owh912rDLDFrKiE6L/opz/HO7yZepSQpdc0zUesc='; base-uri 'none';
+form-action 'none'\">
 <meta name=\"viewport\" content=\"width=device-width, initial-scale=1\">
 <meta name=\"color-scheme\" content=\"light dark\">
 <style>
 :root { --zoom: 1; }
-body { margin: 0; background: Canvas; color: CanvasText; font-family: system-ui, sans-serif; }
+body {
+  margin: 0; background: Canvas; color: CanvasText; font-family: system-ui, sans-serif;
+  -webkit-text-size-adjust: 100%; text-size-adjust: 100%;
+}
 main { max-width: 60rem; margin: 0 auto; padding: 0.5rem; }
 h1 { margin: 0 0 0.5rem; font-size: 1.1rem; }
 button, input, select { padding: 0.2rem 0.5rem; font: inherit; }
@@ -52,8 +56,8 @@ button:focus-visible, input:focus-visible, select:focus-visible { outline: 2px s
 #typing { display: flex; gap: 0.5rem; max-width: 40rem; margin: 0 auto 0.5rem; }
 #line { flex: 1; min-width: 0; font-family: monospace, monospace; text-transform: uppercase; }
 #line::placeholder { text-transform: none; }
-.controls { display: flex; flex-wrap: wrap; gap: 0.5rem; align-items: center; justify-content: center; \
-margin-bottom: 0.5rem; }
+.controls { display: flex; flex-wrap: wrap; gap: 0.5rem; align-items: center; justify-content: center; }
+.controls { margin-bottom: 0.5rem; }
 #keys { width: 16rem; max-width: 100%; box-sizing: border-box; font-family: monospace, monospace; }
 
 #listing-panel, #profile-panel { max-height: calc(100vh - 17rem); min-height: 12rem; overflow: auto; }
@@ -129,13 +133,14 @@ autocapitalize=\"none\" spellcheck=\"false\">
 <option value=\"pal\">a PAL machine's</option><option value=\"most\">as fast as it goes</option></select></label>
 <label>Surroundings <select id=\"surroundings\">
 <option value=\"light dark\">the system's</option><option value=\"light\">light</option><option \
-value=\"dark\">dark</option></select></label>
+value=\"dark\">dark</option>
+</select></label>
 <button type=\"button\" id=\"smaller\">Smaller</button>
 <button type=\"button\" id=\"larger\">Larger</button>
 </div>
 <form id=\"replaying\" class=\"controls\">
 <label>What was typed, as words for <code>tbc run</code> <input id=\"keys\" autocomplete=\"off\" spellcheck=\"false\"
-pattern=\"(\\s*--(seed\\s+\\d+|keys\\s+([0-9A-Fa-f]{2})+))*\\s*\" title=\"--seed N --keys HEX\"></label>
+pattern=\"(.* )?(--(seed +\\d+|keys +([0-9A-Fa-f]{2})+) *)*\" title=\"--seed N --keys HEX\"></label>
 <button type=\"button\" id=\"copy\">Copy</button>
 <button>Replay</button>
 </form>
@@ -1135,9 +1140,12 @@ function copyKeys() {
 
 // Keys that are pressed anywhere go to the line that is typed, but for those that a control takes.
 function keyDown(event) {
-  if (event.key === \"Escape\") run.stop();
-  if (event.target.matches(\"input, select\") || event.ctrlKey || event.metaKey || event.altKey) return;
-  if (event.key.length === 1 && event.key !== \" \") line.focus();
+  const { key, target } = event;
+  if (key === \"Escape\") run.stop();
+  if (target.matches(\"input, select\") || event.ctrlKey || event.metaKey || event.altKey) return;
+  if (target.matches(\"button\") && (key === \" \" || key === \"Enter\")) return;
+  if (key === \"Enter\") byId(\"typing\").requestSubmit();
+  else if (key.length === 1) line.focus();
 }
 
 // On a phone this would bring up its keyboard.

@@ -15,7 +15,8 @@ const pause = (milliseconds) => new Promise((resolve) => { setTimeout(resolve, m
 export class Browser {
   constructor(folder) {
     const root = process.getuid() === 0 ? ["--no-sandbox"] : []; // its sandbox doesn't serve the administrator
-    this.child = spawn("chromium", [...SWITCHES, ...root, `--user-data-dir=${folder}`, "about:blank"], { stdio: PIPES });
+    const words = [...SWITCHES, ...root, `--user-data-dir=${folder}`, "about:blank"];
+    this.child = spawn("chromium", words, { stdio: PIPES });
     this.answers = new Map();
     this.pages = new Map();
     this.number = 0;
@@ -105,13 +106,14 @@ class Page {
   }
 
   async select(id, value) {
-    const set = `const it = document.getElementById("${id}"); it.value = "${value}"; it.dispatchEvent(new Event("change"));`;
-    await this.value(`{ ${set} }`);
+    const it = `document.getElementById("${id}")`;
+    await this.value(`${it}.value = "${value}"; ${it}.dispatchEvent(new Event("change"))`);
   }
 
   // The addresses of what the page asked for.
   get requests() {
-    return this.events.filter(({ method }) => method === "Network.requestWillBeSent").map(({ params }) => params.request.url);
+    const asked = this.events.filter(({ method }) => method === "Network.requestWillBeSent");
+    return asked.map(({ params }) => params.request.url);
   }
 
   // What the browser has to complain of.

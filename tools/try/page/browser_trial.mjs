@@ -2,9 +2,9 @@
 //
 //     node browser_trial.mjs FOLDER PICTURE
 //
-// FOLDER has for each game a page, NAME.html, and what tools/try/page_browser.sh got of `tbc`: NAME.lines that are typed,
-// NAME.frames of `play --screen`, NAME.sent by `run`, NAME.profile; and pages for the other trials. PICTURE is a file for a
-// picture of Star Trek.
+// FOLDER has for each game a page, NAME.html, and what tools/try/page_browser.sh got of `tbc`: NAME.lines that are
+// typed, NAME.frames of `play --screen`, NAME.sent by `run`, NAME.profile; and pages for the other trials. PICTURE is a
+// file for a picture of Star Trek.
 import { mkdirSync, readFileSync, readdirSync, writeFileSync } from "node:fs";
 import { join } from "node:path";
 
@@ -24,8 +24,14 @@ const CLOCK = `performance.now = () => 0;
 const [PICTURED, PICTURED_LINES, PICTURE_SIZE] = ["examples_startrek", 3, [1000, 830]];
 const CELLS = "Array.from(document.querySelectorAll('#screen div'), (row) => "
   + "Array.from(row.children, ({ textContent, className }) => [textContent, className]))";
-const LEFT_SCREEN = "(() => { const { left, top, right, bottom } = document.getElementById('screen').getBoundingClientRect();"
-  + " return [left, top, innerWidth - right, innerHeight - bottom, innerWidth - document.documentElement.scrollWidth]; })()";
+const ROOM_AROUND = `(() => {
+  const { left, top, right, bottom } = document.getElementById("screen").getBoundingClientRect();
+  return [left, top, innerWidth - right, innerHeight - bottom, innerWidth - document.documentElement.scrollWidth];
+})()`;
+const HEARD = "Array.from(document.getElementById('log').children, (line) => line.textContent).join('')";
+const FIGURES = "Array.from(document.querySelectorAll('#figures tr'), (row) => "
+  + "Array.from(row.cells, (cell) => cell.textContent))";
+const RUNNING_LINES = "document.querySelectorAll('#lines .runs').length";
 
 let checks = 0;
 
@@ -83,33 +89,34 @@ const byPhone = (page, line) => page.send("Input.insertText", { text: line });
 async function hears(page, { name, sent }) {
   const bytes = bytesOf(sent).filter((byte) => (byte & 0x7f) >= 0x20);
   if (bytes.some((byte) => byte >= 0x60)) return;
-  const heard = await page.value("Array.from(document.getElementById('log').children, (line) => line.textContent).join('')");
+  const heard = await page.value(HEARD);
   check(heard === bytes.toString("latin1"), `${name}: what is heard: ${heard}`);
 }
 
 // The figures are those of `tbc profile`.
 async function profiles(page, { name, profile }) {
   await page.click("profile-tab");
-  const rows = "Array.from(document.querySelectorAll('#figures tr'), (row) => Array.from(row.cells, (cell) => cell.textContent))";
   const wanted = profile.trimEnd().split("\n").slice(1).map((row) => row.trim().split(/ +/));
-  await page.until(`${name}: the figures`, async () => (await page.value(rows))[0][1] !== "");
-  const found = await page.value(rows);
+  await page.until(`${name}: the figures`, async () => (await page.value(FIGURES))[0][1] !== "");
+  const found = await page.value(FIGURES);
   check(found.length === wanted.length, `${name}: the figures have ${found.length} rows`);
   wanted.forEach(([line, times, , cycles, share], k) => {
-    const isAlike = isSame(found[k].slice(0, 3), [line, times, cycles]) && Math.abs(parseFloat(found[k][3]) - parseFloat(share)) < 0.11;
+    const isNear = Math.abs(parseFloat(found[k][3]) - parseFloat(share)) < 0.11;
+    const isAlike = isNear && isSame(found[k].slice(0, 3), [line, times, cycles]);
     check(isAlike, `${name}: the figures of ${line}: ${found[k]}`);
   });
   await page.click("screen-tab");
 }
 
-// The line that runs is marked in the listing.
-async function lists(page, { name, lines }) {
+// The line that runs is marked in the listing, and the words are those of what was typed.
+async function lists(page, { name, lines, frames }) {
   await page.click("listing-tab");
-  await page.until(`${name}: the line that runs`, () => page.value("document.querySelectorAll('#lines .runs').length === 1"));
+  await page.until(`${name}: the line that runs`, async () => await page.value(RUNNING_LINES) === 1);
   await page.click("screen-tab");
   const words = await page.value("document.getElementById('keys').value");
-  const typed = lines.length === 0 ? "" : ` --keys ${hexadecimal(lines)}`;
-  check(words === `--seed 1${typed}` || lines.length > 0 && `--seed 1${typed}`.startsWith(words), `${name}: the words ${words}`);
+  const taken = lines.slice(0, frames.length - 1);
+  const wanted = taken.length === 0 ? "--seed 1" : `--seed 1 --keys ${hexadecimal(taken)}`;
+  check(words === wanted, `${name}: the words ${words}`);
 }
 
 // Nothing was asked for but the page itself, and the browser has nothing to complain of.
@@ -140,8 +147,8 @@ async function takePicture(browser, folder, game, picture) {
 
 async function playOnPhone(browser, folder, game) {
   const page = await browser.open(join(folder, `${game.name}.html`), { size: PHONE, isPhone: true });
-  const left = await page.value(LEFT_SCREEN);
-  check(left.every((space) => space >= 0), `on a phone the screen is cut: ${left}`);
+  const room = await page.value(ROOM_AROUND);
+  check(room.every((space) => space >= 0), `on a phone the screen is cut: ${room}`);
   await page.value("document.getElementById('line').focus()");
   await play(page, game, byPhone);
   await page.close();
@@ -206,7 +213,10 @@ async function stops(browser, folder) {
   await page.press("Backspace");
   await page.type("a");
   await page.until("what is typed is shown", async () => (await page.value(textOf("screen"))).includes("? 5A "));
-  checks += 5;
+  await page.value("document.activeElement.blur()");
+  await page.press("Enter");
+  await page.until("what is typed is taken", async () => (await page.value(textOf("screen"))).includes("!6 AT 50"));
+  checks += 6;
   await page.close();
 }
 
@@ -215,7 +225,9 @@ async function goesWrong(browser, folder) {
   const page = await browser.open(join(folder, "wrong.html"));
   const state = "The machine went wrong: closed address D034 at D034";
   await page.until(state, async () => (await page.value(textOf("state"))) === state);
-  for (const id of ["tabs", "reseed"]) check(await page.value(`document.getElementById("${id}").hidden`), `${id} is shown`);
+  for (const id of ["tabs", "reseed"]) {
+    check(await page.value(`document.getElementById("${id}").hidden`), `${id} is shown`);
+  }
   await page.close();
 }
 
@@ -256,8 +268,8 @@ function gameIn(folder, name) {
 }
 
 async function main(folder, picture) {
-  const names = readdirSync(folder).filter((name) => name.endsWith(".lines")).map((name) => name.slice(0, -".lines".length));
-  const games = names.sort().map((name) => gameIn(folder, name));
+  const names = readdirSync(folder).filter((name) => name.endsWith(".lines")).sort();
+  const games = names.map((name) => gameIn(folder, name.slice(0, -".lines".length)));
   const called = (wanted) => games.find(({ name }) => name === wanted);
   const guess = called("examples_guess");
   mkdirSync(join(folder, "browser"));

@@ -2,7 +2,8 @@
 """Plays a program by `tbc play --screen` at a pseudo-terminal, and writes what each frame shows as JSON: frames.py TBC
 WORD.. FILE, with the lines that are typed on standard input.
 
-A frame is 25 rows, each an array of 40 cells; a cell is its character, its colour from 0 to 15, and whether it is reversed."""
+A frame is 25 rows, each an array of 40 cells; a cell is its character, its colour from 0 to 15, and whether it is
+reversed."""
 import json
 import re
 import sys
@@ -34,7 +35,8 @@ def cells(frame):
 
 def main(tbc, *words):
     typed = sys.stdin.read().splitlines()
-    written, said, status = at_terminal([tbc, "play", "--screen", *words], SIZE, typed, {"COLUMNS": "40", "LINES": "25"})
+    told = {"COLUMNS": "40", "LINES": "25"}
+    written, said, status = at_terminal([tbc, "play", "--screen", *words], SIZE, typed, told)
     if status not in (0, 5, 6):
         sys.exit(f"frames: status {status}, {said}")
     print(json.dumps([cells(frame) for frame in written.split(CLEAR)[1:]]))

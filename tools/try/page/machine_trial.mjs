@@ -1,10 +1,12 @@
-// Runs PRGs on the machine of `tbc` and on the page's, and compares registers, memory, what is sent, cycles and the end.
+// Runs PRGs on the machine of `tbc` and on the page's, and compares registers, memory, what is sent, cycles and the
+// end.
 //
 //     node machine_trial.mjs TBC NAME LIST
 //
-// LIST is a file with a run on each row: the path of a PRG, then words as `keys=HEX`, `rude=N`, `limit=N`. In place of the
-// path may be `@`, with `code=HEX`, a small PRG, and `fill=N`: then all of the low memory from $0010 on, or of the high one,
-// is filled by that seed around it, and begins with CLD or SED and a jump to it. NAME is what is compared, for the summary.
+// LIST is a file with a run on each row: the path of a PRG, then words as `keys=HEX`, `answers=HEX`, `rude=N`,
+// `limit=N`. In place of the path may be `@`, with `code=HEX`, a small PRG, and `fill=N`: then all of the low memory
+// from $0010 on, or of the high one, is filled by that seed around it, and begins with CLD or SED and a jump to it.
+// NAME is what is compared, for the summary.
 import { readFileSync, writeFileSync } from "node:fs";
 import { join } from "node:path";
 
@@ -34,7 +36,7 @@ function runOf(row) {
   const run = { row, path };
   for (const word of words) {
     const [name, value] = word.split("=");
-    run[name] = ["keys", "code"].includes(name) ? value : Number(value);
+    run[name] = ["keys", "answers", "code"].includes(name) ? value : Number(value);
   }
   return run;
 }
@@ -65,9 +67,9 @@ const SPOILT = {
 };
 
 // The negative case: in each part something wrong is found, and nothing else.
-function findsWhatIsWrong({ theirs, ours }) {
+function findsWhatIsWrong({ theirs }) {
   return Object.entries(SPOILT).every(([part, spoil]) => {
-    const found = differences(theirs, { ...ours, [part]: spoil(ours[part]) });
+    const found = differences(theirs, { ...theirs, [part]: spoil(theirs[part]) });
     return found.length === 1 && found[0] === part;
   });
 }

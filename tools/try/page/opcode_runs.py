@@ -1,9 +1,9 @@
 #!/usr/bin/env python3
-"""Writes the PRGs of tools/try/foreign/opcode_programs.py, which do every documented opcode at its edges, and a list for
-machine_trial.mjs: opcode_runs.py DRIVER FOLDER
+"""Writes the PRGs of tools/try/foreign/opcode_programs.py, which do every documented opcode at its edges, and a list
+for machine_trial.mjs: opcode_runs.py DRIVER FOLDER
 
-In the list are also small PRGs with each byte as an opcode, where open memory ends, and with operands that lead to closed
-memory."""
+In the list are also small PRGs with each byte as an opcode, where open memory ends, and with operands that lead to
+closed memory."""
 import sys
 from pathlib import Path
 

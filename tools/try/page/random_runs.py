@@ -1,6 +1,6 @@
 #!/usr/bin/env python3
-"""Writes a list of random PRGs for machine_trial.mjs, those of tools/try/foreign/random_programs.py; every second one has
-a hostile ROM: random_runs.py COUNT"""
+"""Writes a list of random PRGs for machine_trial.mjs, those of tools/try/foreign/random_programs.py; every second one
+has a hostile ROM: random_runs.py COUNT"""
 import random
 import sys
 from pathlib import Path

@@ -1,5 +1,5 @@
-// Prints the bytes of trials/tb_screen_golden on the page's screen (web/screen.js), and compares the cursor and the frame of
-// each with what tools/screen_model.py says, by the characters of a page: node screen_trial.mjs GOLDEN PAGE
+// Prints the bytes of trials/tb_screen_golden on the page's screen (web/screen.js), and compares the cursor and the
+// frame of each with what tools/screen_model.py says, by the characters of a page: node screen_trial.mjs GOLDEN PAGE
 import { createHash } from "node:crypto";
 import { readFileSync } from "node:fs";
 import { join } from "node:path";
@@ -8,12 +8,11 @@ import { Screen } from "../../../web/screen.js";
 
 const TERMINAL_COLOURS = [16, 231, 88, 116, 96, 71, 19, 227, 94, 58, 167, 239, 243, 157, 63, 249];
 const [LIGHT_BLUE, BLUE] = [14, 6];
-const ENTITIES = { "&amp;": "&", "&lt;": "<", "&gt;": ">", "&quot;": '"' };
 
-// The characters that a page has for the screen codes.
+// The characters that a page has for the screen codes: each is a reference by its number.
 function charactersIn(page) {
-  const [, escaped] = /id="characters" hidden>([^]*?)<\/pre>/.exec(page);
-  return Array.from(escaped.replace(/&\w+;/g, (entity) => ENTITIES[entity]));
+  const [, references] = /id="characters" hidden>([^<]*)</.exec(page);
+  return Array.from(references.matchAll(/&#(\d+);/g), ([, number]) => String.fromCodePoint(number));
 }
 
 function pen(colour, isReversed) {
@@ -32,7 +31,8 @@ function frame(screen, characters) {
     });
     return `\x1b[${row + 1};1H${pen(LIGHT_BLUE, false)}${cells.join("")}`;
   });
-  return `\x1b[0m\x1b[2J${rows.join("")}\x1b[${screen.row + 1};${screen.column + 1}H${pen(screen.colour, screen.isReversed)}`;
+  const cursor = `\x1b[${screen.row + 1};${screen.column + 1}H${pen(screen.colour, screen.isReversed)}`;
+  return `\x1b[0m\x1b[2J${rows.join("")}${cursor}`;
 }
 
 function answer(bytes, characters) {

@@ -35,10 +35,11 @@ class Rude {
 }
 
 // What is left of a run of the page's machine, and how many events were done.
-export function own({ program, keys = "", rude, limit = LIMIT }) {
+export function own({ program, keys = "", answers = "", rude, limit = LIMIT }) {
   const sent = [];
   const machine = new Machine(program, (byte) => sent.push(byte));
   machine.type(Buffer.from(keys, "hex"));
+  machine.answers.push(...Buffer.from(answers, "hex"));
   const rom = rude === undefined ? { event: () => machine.go() } : new Rude(rude);
   let events = 0;
   while (events < limit && machine.status === "running") {
@@ -68,22 +69,23 @@ function endOf(machine) {
 
 // The commands that run a PRG on the proved machine. The profile is of so many events: it counts an instruction that is
 // refused too.
-function commands(tbc, { path, keys = "", rude, limit = LIMIT }, events, name) {
+function commands(tbc, { path, keys = "", answers = "", rude, limit = LIMIT }, events, name) {
   const hostile = rude === undefined ? "" : `--rude ${rude}`;
-  const words = (most) => `--prg '${path}' --keys '${keys}' --limit ${most} ${hostile}`;
+  const words = (most) => `--prg '${path}' --keys '${keys}' --answers '${answers}' --limit ${most} ${hostile}`;
   return `'${tbc}' run ${words(limit)} >${name}.sent 2>${name}.said; echo $? >${name}.status
 '${tbc}' debug ${words(limit)} <commands >${name}.debugged
 '${tbc}' profile ${words(Math.max(events, 1))} >${name}.profile 2>/dev/null
 `;
 }
 
-// What is left of these runs on the proved machine: of `tbc run`, `tbc debug` and `tbc profile`. `counts` has the events
-// of each.
+// What is left of these runs on the proved machine, by `tbc run`, `tbc debug` and `tbc profile`. `counts` has the
+// events of each.
 export function proved(tbc, runs, counts) {
   return inFolder((folder) => {
     const dumps = DUMPS.map((at) => `m ${hexadecimal(at, 4)} ${A_DUMP}\n`);
     writeFileSync(join(folder, "commands"), `c\nx\n${dumps.join("")}`);
-    execFileSync("sh", { cwd: folder, input: `${runs.map((run, k) => commands(tbc, run, counts[k], k)).join("")}exit 0\n` });
+    const script = runs.map((run, k) => commands(tbc, run, counts[k], k)).join("");
+    execFileSync("sh", { cwd: folder, input: `${script}exit 0\n` });
     return runs.map((_, k) => stateIn(join(folder, String(k)), counts[k]));
   });
 }
@@ -92,7 +94,8 @@ function stateIn(name, events) {
   const contents = (ending) => readFileSync(`${name}.${ending}`, "latin1");
   const debugged = readFileSync(`${name}.debugged`);
   const dump = debugged.subarray(-DUMPS.length * (A_DUMP / A_ROW) * ROW_LENGTH);
-  const [, registers] = /^(.* P=..) - \w+$/m.exec(debugged.subarray(0, -dump.length).toString("latin1").split("\n").at(-2));
+  const lines = debugged.subarray(0, -dump.length).toString("latin1").split("\n");
+  const [, registers] = /^(.* P=..) - \w+$/.exec(lines.at(-2));
   const [, cycles] = /^ +sum +\d+ +(\d+)/m.exec(contents("profile"));
   const end = ENDS[contents("status").trim()] ?? contents("said").trim().replace(/^tbc: /, "");
   return { registers, memory: dumped(dump), sent: bytesOf(contents("sent")), cycles: events && Number(cycles), end };
@@ -103,15 +106,17 @@ function dumped(dump) {
   const digit = (code) => (code > 0x40 ? code - 0x37 : Math.max(code - 0x30, 0)); // of a closed place `--`
   const rows = DUMPS.flatMap((at) => Array.from({ length: A_DUMP / A_ROW }, (_, k) => at + k * A_ROW));
   rows.forEach((address, row) => {
-    for (let k = 0, at = row * ROW_LENGTH + 5; k < A_ROW; k++, at += 3) memory[address + k] = (digit(dump[at]) << 4) | digit(dump[at + 1]);
+    for (let k = 0, at = row * ROW_LENGTH + 5; k < A_ROW; k++, at += 3) {
+      memory[address + k] = (digit(dump[at]) << 4) | digit(dump[at + 1]);
+    }
   });
   return memory;
 }
 
 // The bytes whose host form this is.
 export function bytesOf(hostForm) {
-  const plain = hostForm.replace(/\n|\{(..)\}/g, (_, digits) => (digits ? String.fromCharCode(parseInt(digits, 16)) : "\r"));
-  return Buffer.from(plain, "latin1");
+  const byteOf = (_, digits) => (digits ? String.fromCharCode(parseInt(digits, 16)) : "\r");
+  return Buffer.from(hostForm.replace(/\n|\{(..)\}/g, byteOf), "latin1");
 }
 
 // The parts of two states that differ.
