@@ -1,5 +1,5 @@
 -- What a web page is made of, and what making it does with files.
-use Rattle.std.specs.Prelude.{◌≡◌, ℕ, List, [], ◌∷◌, Option, Ok, Err, Result, Unit, tt}
+use Rattle.std.specs.Prelude.{◌≡◌, ℕ, List, [], ◌∷◌, Option, Ok, Err, Result}
 use Rattle.tb_streams.specs.declared.outcome.Outcome.{Outcome as AnyOutcome}
 use Rattle.tb_files.specs.Deeds.{Deed, OfOne, Product, Refuses, Transfers}
 use Rattle.tb_kernal.specs.Machine.{Content}
