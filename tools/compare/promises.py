@@ -16,6 +16,7 @@ PAGES = ROOT / "docs/promises"
 OWNER = re.compile(r"(?:pub )?(?:impl|trait)\b.*\{$")
 FUNCTION = re.compile(r" *(pub )?(?:const )?fn (\w+)")
 CLAUSE = re.compile(r" *(requires|ensures|ghost)\b")
+MADE = ROOT / "crates/tb_page/src/texts.rt"  # of the files in web/, and nothing is promised of it
 HEAD = "# What the public functions of these crates promise; tools/compare/promises.py writes this page.\n"
 
 
@@ -77,7 +78,7 @@ def page(crates):
     said = [HEAD]
     for crate in crates:
         source = ROOT / "crates" / crate / "src"
-        for file in sorted(source.rglob("*.rt")):
+        for file in sorted({*source.rglob("*.rt")} - {MADE}):
             lines = list(promises(file.read_text()))
             if lines:
                 said.append(f"\n## {crate}, {file.relative_to(source)}\n\n" + "".join(f"{it}\n" for it in lines))
