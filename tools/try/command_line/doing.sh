@@ -27,7 +27,7 @@ row 2 "error: unrecognized subcommand 'jump'*" '' help jump
 tips() { row 2 "error: unrecognized subcommand '$1'"$'\n\n'"  tip: $2"$'\n\n'"Usage: tbc <COMMAND>"$'\n\n'"For more information, try '--help'." '' "$1"; } # WORD TIP
 tips rnu "a similar subcommand exists: 'run'"
 tips dsi "a similar subcommand exists: 'dis'"
-tips pla "a similar subcommand exists: 'play'"
+tips pla "some similar subcommands exist: 'page', 'play'"
 tips assemlbe "a similar subcommand exists: 'assemble'"
 tips rn "a similar subcommand exists: 'renumber'"
 tips diks "a similar subcommand exists: 'disk'"

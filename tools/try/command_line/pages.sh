@@ -23,8 +23,9 @@ from=/dev/null
 same shown.html game.html
 elsewhere=
 file slip.bas '10 PRIMT\n'
-row 1 'tbc: 1:4: syntax*' '' page slip.bas out.prg --force
-row 1 'tbc: not a PRG: *' '' page --prg slip.bas out.prg --force
+row 1 'tbc: 1:7: syntax*' '' page slip.bas out.prg --force
+printf '\x00\xd0\x60' >closed.prg
+row 1 'tbc: not a PRG: not RAM*' '' page --prg closed.prg out.prg --force
 row 3 'tbc: read fault*' '' page nowhere.bas out.prg --force
 row 3 'tbc: write fault*' '' page game.bas nowhere/out.html
 row 2 'tbc: out.prg is not a page of tbc: --force replaces it' '' page game.bas out.prg
