@@ -10,7 +10,7 @@ EXAMPLES = [
     ("Debug a program forth and back; h lists the commands", "tbc debug guess.bas"),
     ("Make a PRG file for a Commodore 64 or an emulator, and a disk with it", "tbc build cave.bas && tbc disk games.d64 cave.prg"),
     ("Show what each line takes, also as a page", "tbc profile primes.bas --html primes.html"),
-    ("Make a web page of a game, for any browser", "tbc page guess.bas"),
+    ("Make a web page of a game, to be played in a browser", "tbc page guess.bas"),
     ("Assemble a text as people write it, and list what comes of it", "tbc assemble asm/sieve.asm sieve.prg && tbc dis sieve.prg"),
 ]
 
