@@ -16,7 +16,7 @@ import diagnostics
 SHUT, NOT_SHUT, BAD_FRAME = (0, b""), (1, b""), (3, b"tbc: bad frame\n")
 CHANGES = 2000
 SETTLED = 200  # changes after which memory has what the largest of these texts needs
-SCATTERED = 2048  # kilobytes that pieces of different sizes may leave between them; 2,000 texts that were kept are 14 MB
+SCATTERED = 1536  # kilobytes that pieces of different sizes may leave between them; 2,000 texts that were kept are 14 MB
 LARGEST = 1_048_576
 
 
