@@ -22,21 +22,29 @@ covered_of c = record { name = string_bytes c.name; source = c.source.items; lin
 abbrev pub share : ℕ → ℕ → ℕ
 share reached all = if nat_eq all 0 then 100 else reached * 100 / all
 
+-- so many of all lines, and their share
+abbrev pub share_words : ℕ → ℕ → ℕ → List ℕ
+share_words reached all share =
+    decimal reached ++ (codes " of " ++ (decimal all ++ (codes " lines reached (" ++ (decimal share ++ codes " %)"))))
+
 -- how many lines were reached, in words
 abbrev pub share_text : ℕ → ℕ → List ℕ
-share_text reached all =
-    decimal reached ++ codes " of " ++ decimal all ++ codes " lines reached (" ++ decimal (share reached all) ++ codes " %)"
+share_text reached all = share_words reached all (share reached all)
 
 -- the number of a line that was never begun, behind a space
 abbrev pub missed : Reach → List ℕ
 missed r = if nat_eq r.times 0 then codes " " ++ decimal r.number else []
 
--- the lines of a source that were not reached, if there are any
+-- the lines of a source that were not reached
+unfoldable pub missed_list : List Reach → List ℕ
+missed_list lines = codes "\n  not reached:" ++ flat_map missed lines
+
+-- these, if there are any
 abbrev pub missed_text : List Reach → List ℕ
-missed_text lines = if nat_lt (reached_in lines) (length lines) then codes "\n  not reached:" ++ flat_map missed lines else []
+missed_text lines = if nat_lt (reached_in lines) (length lines) then missed_list lines else []
 
 -- what is told of a source: how many of its lines were reached, and which were not
-abbrev pub source_text : Covered → List ℕ
+unfoldable pub source_text : Covered → List ℕ
 source_text c = c.name ++ codes ": " ++ share_text (reached_in c.lines) (length c.lines) ++ missed_text c.lines ++ codes "\n"
 
 -- how the row of a line begins, by how often the line was begun
@@ -49,7 +57,7 @@ line_row written r =
     opening_of r.times ++ decimal r.times ++ LINE.now ++ flat_map escaped (last_of [] r.number written) ++ LINE_END.now
 
 -- the part of a page that shows a source
-abbrev pub section : Covered → List ℕ
+unfoldable pub section : Covered → List ℕ
 section c =
     SECTION.now ++ flat_map escaped c.name ++ SHARE.now ++ share_text (reached_in c.lines) (length c.lines) ++ ROWS.now
     ++ flat_map (line_row (numbered c.source)) c.lines ++ ROWS_END.now

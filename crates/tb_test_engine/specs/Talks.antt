@@ -29,11 +29,15 @@ Rows gives o m limit None rows p n = rows ≡ []
 Rows gives o m limit (Some starts) rows p n =
     (table : Table) × Tabled gives o m (map start_pair starts.items) limit table p n × (table.rows.items ≡ rows)
 
--- a stretch: a run of at most the events that it may take, all that was sent in it as it is shown, and its rows
-pub record Goes {O : Type 0} (gives : O → Content → Event → O → Type 0) (o : O) (m : Content) (manner : Manner) (t : Status) (sent : List ℕ) (rows : List Row) (p : O) (n : Content) : Type 0 where
+-- a run of at most the events that it may take, and its rows
+pub record Takes {O : Type 0} (gives : O → Content → Event → O → Type 0) (o : O) (m : Content) (manner : Manner) (t : Status) (counted : List Row) (p : O) (n : Content) : Type 0 where
   pub ran : RanOver gives o m manner.limit (Ok t) p n
-  pub sent : sent ≡ shown_as manner.notation (sent_since m n)
-  pub rows : Rows gives o m manner.limit manner.counted rows p n
+  pub rows : Rows gives o m manner.limit manner.counted counted p n
+
+-- a stretch: a run of at most the events that it may take, all that was sent in it as it is shown, and its rows
+pub record Goes {O : Type 0} (gives : O → Content → Event → O → Type 0) (o : O) (m : Content) (manner : Manner) (t : Status) (text : List ℕ) (counted : List Row) (p : O) (n : Content) : Type 0 where
+  pub took : Takes gives o m manner t counted p n
+  pub sent : text ≡ shown_as manner.notation (sent_since m n)
 
 -- a line was typed to a machine that waits, and stands behind the turns with what was sent before it
 abbrev pub TypesLine : Content → List Turn → List ℕ → List ℕ → Content → List Turn → Type 0

@@ -39,5 +39,5 @@ told Tap number name differs = told_as_tap number name differs
 
 -- what is told last: how many passed and failed, or the protocol's plan
 abbrev pub summary : TestForm → ℕ → ℕ → List ℕ
-summary Text passed failed = decimal passed ++ codes " passed, " ++ decimal failed ++ codes " failed\n"
+summary Text passed failed = decimal passed ++ (codes " passed, " ++ (decimal failed ++ codes " failed\n"))
 summary Tap passed failed = codes "1.." ++ decimal (passed + failed) ++ codes "\n"

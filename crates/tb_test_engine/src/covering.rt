@@ -1,7 +1,7 @@
 //! Which lines no transcript reached, as a text and as a page.
-ghost use Rattle.std.specs.Prelude.{◌≡◌, ◌<◌, ◌^◌, IfOk, OnOk, flat_map, map, string_bytes};
+ghost use Rattle.std.specs.Prelude.{◌≡◌, IfOk, OnOk, flat_map, map, string_bytes};
 ghost use Rattle.tb_source_text.specs.Lines.{pair_of};
-ghost use Rattle.tb_test_engine.specs.Covering.{covered_of, coverage_page, line_row, missed, section, share, share_text, source_text};
+ghost use Rattle.tb_test_engine.specs.Covering.{covered_of, coverage_page, line_row, missed, missed_list, missed_text, section, share, share_text, share_words, source_text};
 ghost use Rattle.tb_test_engine.specs.Reaching.{plus};
 ghost use Rattle.tb_words.specs.Texts.{AppendsBytes};
 
@@ -30,23 +30,33 @@ impl Coverage {
 }
 
 // How many of a hundred lines were reached; all if there are none.
-fn share(reached: usize, all: usize) -> u64
-    requires { reached < 2 ^ 40 }
+fn share(reached: usize, all: usize) -> u128
     ensures { result ≡ share reached all }
 {
     if all == 0 {
         100
     } else {
-        (reached as u64) * 100 / (all as u64)
+        (reached as u128) * 100 / (all as u128)
     }
+}
+
+// So many of all lines, and their share.
+fn share_words(
+    alloc: Global,
+    reached: usize,
+    all: usize,
+    share: u128,
+) -> Result<String, AllocError>
+    ensures { IfOk result (λ text. string_bytes text ≡ share_words reached all share) }
+{
+    Ok(format!(in alloc; "{reached} of {all} lines reached ({share} %)")?)
 }
 
 // How many lines were reached, in words.
 fn share_text(alloc: Global, reached: usize, all: usize) -> Result<String, AllocError>
     ensures { IfOk result (λ text. string_bytes text ≡ share_text reached all) }
 {
-    let share = share(reached, all);
-    Ok(format!(in alloc; "{reached} of {all} lines reached ({share} %)")?)
+    share_words(alloc, reached, all, share(reached, all))
 }
 
 // Appends the numbers of the lines that were not reached, each behind a space.
@@ -62,20 +72,36 @@ fn push_missed(alloc: Global, text: &mut Vec<u8>, lines: &[Reach]) -> Result<(),
     Ok(())
 }
 
+// Appends which lines were not reached.
+#[tactic(auto, unfolding(crate::specs::Covering::missed_list))]
+fn push_list(alloc: Global, text: &mut Vec<u8>, lines: &[Reach]) -> Result<(), AllocError>
+    ensures { AppendsBytes result text.old text.new (missed_list lines.now) }
+{
+    text.extend_from_slice(b"\n  not reached:")?;
+    push_missed(alloc, text, lines)
+}
+
+// Appends that, if there are any.
+fn push_missed_lines(alloc: Global, text: &mut Vec<u8>, lines: &[Reach]) -> Result<(), AllocError>
+    ensures { AppendsBytes result text.old text.new (missed_text lines.now) }
+{
+    if reached_in(lines) < lines.len() {
+        push_list(alloc, text, lines)
+    } else {
+        Ok(())
+    }
+}
+
 // Appends what is told of a source: how many of its lines were reached, and which were not.
+#[tactic(auto, unfolding(crate::specs::Covering::source_text))]
 fn push_source(alloc: Global, text: &mut Vec<u8>, of: &Coverage) -> Result<(), AllocError>
     ensures { AppendsBytes result text.old text.new (source_text (covered_of of.now)) }
 {
-    let reached = reached_in(&of.lines);
-    let all = of.lines.len();
-    let share = share_text(alloc, reached, all)?;
+    let share = share_text(alloc, reached_in(&of.lines), of.lines.len())?;
     text.extend_from_slice(of.name.as_bytes())?;
     text.extend_from_slice(b": ")?;
     text.extend_from_slice(share.as_bytes())?;
-    if reached < all {
-        text.extend_from_slice(b"\n  not reached:")?;
-        push_missed(alloc, text, &of.lines)?;
-    }
+    push_missed_lines(alloc, text, &of.lines)?;
     text.extend_from_slice(b"\n")
 }
 
@@ -124,6 +150,7 @@ fn push_rows(
 }
 
 // Appends the part of a page that shows a source.
+#[tactic(auto, unfolding(crate::specs::Covering::section))]
 fn push_section(alloc: Global, text: &mut Vec<u8>, of: &Coverage) -> Result<(), AllocError>
     ensures { AppendsBytes result text.old text.new (section (covered_of of.now)) }
 {

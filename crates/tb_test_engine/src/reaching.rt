@@ -1,6 +1,6 @@
 //! How often the lines of a program were begun.
 ghost use Rattle.std.specs.Prelude.{◌≡◌, IfOk, map};
-ghost use Rattle.tb_test_engine.specs.Reaching.{as_reach, plus, reached, reached_in, times_at};
+ghost use Rattle.tb_test_engine.specs.Reaching.{as_reach, behind, first_times, plus, reached, reached_in};
 
 use std::alloc::{AllocError, Global};
 use tb_profile_table::Row;
@@ -26,13 +26,23 @@ fn reaches_of(alloc: Global, rows: &[Row]) -> Result<Vec<Reach>, AllocError>
     Ok(reaches)
 }
 
-// How often a line was begun in so many runs of one program, of which the first were counted before.
-fn times_at(counted: &[Reach], at: usize) -> u64
-    ensures { result ≡ times_at counted.now at }
+// How often the first of these lines was begun; never, if there is none.
+fn first_times(counted: &[Reach]) -> u64
+    ensures { result ≡ first_times counted.now }
 {
-    match counted.get(at) {
-        Some(reach) => reach.times,
-        None => 0,
+    match counted {
+        [first, ..] => first.times,
+        [] => 0,
+    }
+}
+
+// The lines behind the first one.
+fn behind(counted: &[Reach]) -> &[Reach]
+    ensures { result.now ≡ behind counted.now }
+{
+    match counted {
+        [_, later @ ..] => later,
+        [] => counted,
     }
 }
 
@@ -41,11 +51,13 @@ pub fn plus(alloc: Global, counted: &[Reach], more: &[Reach]) -> Result<Vec<Reac
     ensures { IfOk result (λ sum. sum.items ≡ plus counted.now more.now) }
 {
     let mut sum = Vec::new(alloc);
-    for (at, reach) in more.iter().enumerate() {
+    let mut rest = counted;
+    for reach in more {
         sum.push(Reach {
             number: reach.number,
-            times: times_at(counted, at).wrapping_add(reach.times),
+            times: first_times(rest).wrapping_add(reach.times),
         })?;
+        rest = behind(rest);
     }
     Ok(sum)
 }

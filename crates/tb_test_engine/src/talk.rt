@@ -1,7 +1,7 @@
 //! A machine that is talked to, line by line.
 ghost use Rattle.std.specs.Prelude.{◌≡◌, ◌≤◌, IfOk, OnOk, drop, length, map};
 ghost use Rattle.tb_streams.specs.HostForm.{shown_as};
-ghost use Rattle.tb_test_engine.specs.Talks.{is_waiting, Goes, TalksFrom, TypesLine};
+ghost use Rattle.tb_test_engine.specs.Talks.{is_waiting, Goes, Takes, TalksFrom, TypesLine};
 
 use std::alloc::{AllocError, Global};
 use tb_kernal::{Machine, Outside, Status, run};
@@ -66,6 +66,27 @@ fn is_waiting(status: Status) -> bool
     matches!(status, Status::Waits)
 }
 
+// Lets events happen until a machine waits, stops or has taken all that it may, and counts what its lines take, if it is to.
+fn take_events<O: Outside>(
+    alloc: Global,
+    machine: &mut Machine,
+    outside: &mut O,
+    manner: &Manner,
+) -> Result<(Status, Vec<Row>), AllocError>
+    ensures { IfOk result (λ r. Takes O.gives outside.old machine.old manner.now r.0 r.1.items outside.new machine.new) }
+{
+    match &manner.counted {
+        None => {
+            let status = run(machine, outside, u64::from(manner.limit))?;
+            Ok((status, Vec::new(alloc)))
+        }
+        Some(starts) => {
+            let table = profile(alloc, machine, outside, starts, manner.limit, &mut Unwatched)?;
+            Ok((table.status, table.rows))
+        }
+    }
+}
+
 /// Lets a machine go on until it waits, stops or has taken all events that it may.
 pub fn go_on<O: Outside>(
     alloc: Global,
@@ -76,13 +97,7 @@ pub fn go_on<O: Outside>(
     ensures { IfOk result (λ s. Goes O.gives outside.old machine.old manner.now s.status s.sent.items s.rows.items outside.new machine.new) }
 {
     let before = machine.sent().len();
-    let (status, rows) = match &manner.counted {
-        None => (run(machine, outside, u64::from(manner.limit))?, Vec::new(alloc)),
-        Some(starts) => {
-            let table = profile(alloc, machine, outside, starts, manner.limit, &mut Unwatched)?;
-            (table.status, table.rows)
-        }
-    };
+    let (status, rows) = take_events(alloc, machine, outside, manner)?;
     let sent = shown(alloc, sent_after(machine, before), manner.notation)?;
     Ok(Stretch { status, sent, rows })
 }

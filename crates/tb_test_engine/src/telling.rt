@@ -29,7 +29,7 @@ fn in_line(alloc: Global, line: Option<u16>) -> Result<String, AllocError>
 
 // What is told in words: `ok` and the name, or `not ok` with the line that was running and the difference.
 fn told_plainly(alloc: Global, name: &str, differs: Option<&Differs>) -> Result<Vec<u8>, AllocError>
-    ensures { IfOk result (λ text. text.items ≡ told_plainly name.now (option_map (λ d. d.now) differs)) }
+    ensures { IfOk result (λ text. text.items ≡ told_plainly name.now (option_map (λ d. d.now) differs.entry)) }
 {
     let mut text = Vec::new(alloc);
     match differs {
@@ -65,7 +65,7 @@ fn told_as_tap(
     name: &str,
     differs: Option<&Differs>,
 ) -> Result<Vec<u8>, AllocError>
-    ensures { IfOk result (λ text. text.items ≡ told_as_tap number name.now (option_map (λ d. d.now) differs)) }
+    ensures { IfOk result (λ text. text.items ≡ told_as_tap number name.now (option_map (λ d. d.now) differs.entry)) }
 {
     let mut text = Vec::new(alloc);
     match differs {
@@ -87,7 +87,7 @@ pub fn told(
     name: &str,
     differs: Option<&Differs>,
 ) -> Result<Vec<u8>, AllocError>
-    ensures { IfOk result (λ text. text.items ≡ told form number name.now (option_map (λ d. d.now) differs)) }
+    ensures { IfOk result (λ text. text.items ≡ told form number name.now (option_map (λ d. d.now) differs.entry)) }
 {
     match form {
         TestForm::Text => told_plainly(alloc, name, differs),
