@@ -1,0 +1,11 @@
+-- What holds at each turn of the loop of `push_last` in src/writing.rt.
+use Rattle.std.proofs.Common.{◌≡◌, ◌++◌, length}
+use Rattle.std.specs.Prelude.{flat_map}
+use Rattle.tb_transcripts.specs.Writing.{ended, last_lines, pieces}
+use Rattle.tb_transcripts.proofs.writing.push_last.Given as goal
+
+abbrev pub invariant-loop-rest : goal.invariant-loop-rest
+invariant-loop-rest l = l.text.items ++ flat_map ended (last_lines (pieces l.rest)) ≡ l.initial.text.items ++ flat_map ended (last_lines (pieces l.sent))
+
+abbrev pub decreases-loop-rest : goal.decreases-loop-rest
+decreases-loop-rest l = length l.rest
