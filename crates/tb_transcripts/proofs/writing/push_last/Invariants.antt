@@ -4,8 +4,8 @@ use Rattle.std.specs.Prelude.{flat_map}
 use Rattle.tb_transcripts.specs.Writing.{ended, last_lines, pieces}
 use Rattle.tb_transcripts.proofs.writing.push_last.Given as goal
 
-abbrev pub invariant-loop-rest : goal.invariant-loop-rest
-invariant-loop-rest l = l.text.items ++ flat_map ended (last_lines (pieces l.rest)) ≡ l.initial.text.items ++ flat_map ended (last_lines (pieces l.sent))
+abbrev pub invariant-loop-piece : goal.invariant-loop-piece
+invariant-loop-piece l = l.text.items ++ flat_map ended (last_lines (pieces l.rest)) ≡ l.initial.text.items ++ flat_map ended (last_lines (pieces l.sent))
 
-abbrev pub decreases-loop-rest : goal.decreases-loop-rest
-decreases-loop-rest l = length l.rest
+abbrev pub decreases-loop-piece : goal.decreases-loop-piece
+decreases-loop-piece l = length l.rest
