@@ -14,7 +14,6 @@ unfolding lines_from
 some_line b text = by (b == 10) (b == 13) refl refl
   where
     by : (ten thirteen : Bool) → (b == 10) ≡ ten → (b == 13) ≡ thirteen → are_none (lines_of_file (b ∷ text)) ≡ false
-    unfolding lines_from
     by true thirteen e f = rw e refl
     by false true e f = rw (e, f) refl
     by false false e f = rw (e, f) (some_longer b (lines_from false text))

@@ -1,7 +1,8 @@
 -- Where the first piece of a text ends.
-use Rattle.std.proofs.Common.{◌≡◌, ◌≢◌, ℕ, zero, suc, ◌<◌, List, [], ◌∷◌, length, get_or, take, drop, refl, arith, ◌-◌, take_all, length-drop}
+use Rattle.std.proofs.Common.{◌≡◌, ◌≢◌, ◌∙◌, ◌==◌, ℕ, zero, suc, Bool, true, false, ◌<◌, List, [], ◌∷◌, ◌++◌, length, get_or, take, drop, refl, sym, ap, arith, ◌-◌, take_all, length-drop, append_assoc}
+use Rattle.std.specs.Prelude.{flat_map}
 use Rattle.std.proofs.lemmas.Bool.{ne_eqb}
-use Rattle.tb_transcripts.specs.Writing.{pieces}
+use Rattle.tb_transcripts.specs.Writing.{ended, last_lines, longer, marked, pieces}
 
 -- the first piece ends at a byte 10
 pub first_piece : (text : List ℕ) (i : ℕ) → i < length text → ((k : ℕ) → k < i → get_or text k 0 ≢ 10)
@@ -24,3 +25,34 @@ only_piece (b ∷ text) inside =
 -- nothing of the rest is left out if a slice goes to the end
 pub rest_of : {A : Type 0} (text : List A) (i : ℕ) → take (length text - i) (drop i text) ≡ drop i text
 rest_of text i = take_all (length text - i) (drop i text) (omega (arith, length-drop i text))
+
+-- ---- what was sent last
+
+-- there is a first piece
+some_longer : (b : ℕ) (ps : List (List ℕ)) → longer b ps ≢ []
+some_longer b [] e = cc
+some_longer b (p ∷ ps) e = cc
+
+-- a text has a piece
+pub some_piece : (text : List ℕ) → pieces text ≢ []
+unfolding pieces
+some_piece [] e = cc
+some_piece (b ∷ text) e = by (b == 10) refl
+  where
+    by : (ten : Bool) → (b == 10) ≡ ten → ⊥
+    by true t = let never : [] ∷ pieces text ≡ [] = rw t at e in cc
+    by false t = some_longer b (pieces text) (rw t at e)
+
+-- a piece before others is a line before theirs
+before_others : (piece : List ℕ) (ps : List (List ℕ)) → ps ≢ [] → last_lines (piece ∷ ps) ≡ marked piece ∷ last_lines ps
+before_others piece [] some = absurd (some refl)
+before_others piece (p ∷ ps) some = refl
+
+-- one more line of what was sent last
+pub one_more : (old new goal piece below rest : List ℕ) → pieces rest ≡ piece ∷ pieces below → new ≡ old ++ ended (marked piece)
+    → old ++ flat_map ended (last_lines (pieces rest)) ≡ goal → new ++ flat_map ended (last_lines (pieces below)) ≡ goal
+one_more old new goal piece below rest cut grown same =
+    let lines : last_lines (pieces rest) ≡ marked piece ∷ last_lines (pieces below) = ap last_lines cut ∙ before_others piece (pieces below) (some_piece below) in
+    ap (λ t. t ++ flat_map ended (last_lines (pieces below))) grown
+    ∙ append_assoc old (ended (marked piece)) (flat_map ended (last_lines (pieces below)))
+    ∙ sym (ap (λ l. old ++ flat_map ended l) lines) ∙ same

@@ -35,14 +35,13 @@ equal_turns : (one other : List (List ℕ × List ℕ)) → length one ≡ lengt
 equal_turns [] [] l e = refl
 equal_turns [] (u ∷ other) l e = absurd (omega arith)
 equal_turns (t ∷ one) [] l e = absurd (omega arith)
-equal_turns (t ∷ one) (u ∷ other) l e = by (is_same_turn t u) refl
+equal_turns (t ∷ one) (u ∷ other) l e = by (is_same_turn t u) refl (equal_turns one other (omega arith))
   where
-    by : (same : Bool) → is_same_turn t u ≡ same → t ∷ one ≡ u ∷ other
-    by true s =
+    by : (same : Bool) → is_same_turn t u ≡ same → (same_turns one other ≡ length one → one ≡ other) → t ∷ one ≡ u ∷ other
+    by true s rest =
         let more : suc (same_turns one other) ≡ suc (length one) = rw s at e in
-        let rest = equal_turns one other (omega arith) (omega (arith, more)) in
-        ap (λ v. v ∷ one) (equal_turn t u s) ∙ ap (λ r. u ∷ r) rest
-    by false s = let never : 0 ≡ suc (length one) = rw s at e in absurd (omega (arith, never))
+        ap (λ v. v ∷ one) (equal_turn t u s) ∙ ap (λ r. u ∷ r) (rest (omega (arith, more)))
+    by false s rest = let never : 0 ≡ suc (length one) = rw s at e in absurd (omega (arith, never))
 
 -- turns are all the same as themselves
 turns_alike : (turns : List (List ℕ × List ℕ)) → same_turns turns turns ≡ length turns

@@ -37,11 +37,13 @@ sent_at c k = sent_in c.turns c.last k
 abbrev pub start : ℕ → ℕ → ℕ
 start before count = if count == 0 then before else before + 1
 
--- the line that a hunk begins with: in both texts, how many lines are before it, and how many it has
+-- which lines of a text a hunk has: `7,4`, by how many are before it and how many it has
+abbrev pub range_text : ℕ × ℕ → List ℕ
+range_text lines = decimal (start lines.0 lines.1) ++ codes "," ++ decimal lines.1
+
+-- the line that a hunk begins with, by the same of both texts
 abbrev pub hunk_head : ℕ × ℕ → ℕ × ℕ → List ℕ
-hunk_head wanted ran =
-    codes "@@ -" ++ decimal (start wanted.0 wanted.1) ++ codes "," ++ decimal wanted.1
-    ++ codes " +" ++ decimal (start ran.0 ran.1) ++ codes "," ++ decimal ran.1 ++ codes " @@\n"
+hunk_head wanted ran = codes "@@ -" ++ range_text wanted ++ codes " +" ++ range_text ran ++ codes " @@\n"
 
 -- a line with a mark before it
 abbrev pub marked : List ℕ → List ℕ → List ℕ

@@ -6,5 +6,5 @@ use Rattle.tb_transcripts.proofs.differing.alike_lines.Goals as goal
 
 pub returns-in_default-clause-value : goal.returns-in_default-clause-value
 returns-in_default-clause-value c =
-    let none = rw length-map c.in_default.len_below in
+    let none : length (map (λ m. m.now) c.loop-line.rest.now) < 1 = rw length-map c.in_default.len_below in
     omega (arith, c.loop-line.invariant.same, no_line (map (λ m. m.now) (drop c.loop-line.line-index c.args.one.now)) (map (λ m. m.now) c.loop-line.rest.now) none)
