@@ -1,5 +1,6 @@
 -- A text has no lines exactly if it is empty.
-use Rattle.std.proofs.Common.{◌≡◌, ℕ, Bool, true, false, List, [], ◌∷◌, length, refl, ◌==◌}
+use Rattle.std.proofs.Common.{◌≡◌, ℕ, Bool, true, false, List, [], ◌∷◌, length, refl, sym, arith, ◌∙◌, ◌==◌}
+use Rattle.std.proofs.lemmas.Bool.{ne_eqb}
 use Rattle.tb_text.specs.Lines.{lines_from, lines_of_file, longer}
 use Rattle.tb_transcripts.specs.Reading.{are_none}
 
@@ -22,4 +23,4 @@ some_line b text = by (b == 10) (b == 13) refl refl
 pub none_left : (text : List ℕ) → are_none (lines_of_file text) ≡ (length text == 0)
 unfolding lines_from
 none_left [] = refl
-none_left (b ∷ text) = some_line b text
+none_left (b ∷ text) = some_line b text ∙ sym (ne_eqb (length (b ∷ text)) 0 (λ e. absurd (omega (arith, e))))

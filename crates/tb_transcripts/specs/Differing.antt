@@ -39,7 +39,7 @@ start before count = if count == 0 then before else before + 1
 
 -- which lines of a text a hunk has: `7,4`, by how many are before it and how many it has
 abbrev pub range_text : ℕ × ℕ → List ℕ
-range_text lines = decimal (start lines.0 lines.1) ++ codes "," ++ decimal lines.1
+range_text lines = decimal (start lines.0 lines.1) ++ 44 ∷ decimal lines.1
 
 -- the line that a hunk begins with, by the same of both texts
 abbrev pub hunk_head : ℕ × ℕ → ℕ × ℕ → List ℕ

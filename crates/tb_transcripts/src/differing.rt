@@ -10,7 +10,7 @@ ghost use Rattle.tb_transcripts.specs.Writing.{ended, end_line, option_lines, ou
 
 use crate::comparing::{is_same, is_same_output, same_turns};
 use crate::transcript::{Difference, RunEnd, RunOptions, Transcript};
-use crate::writing::{push_end, push_output};
+use crate::writing::{push_end, push_output, push_pieces};
 use std::alloc::{AllocError, Global};
 use tb_text::next_line;
 
@@ -123,14 +123,18 @@ fn hunk_head(
 {
     let wanted_lines = range_text(alloc, wanted)?;
     let ran_lines = range_text(alloc, ran)?;
-    let pieces: [&[u8]; 5] = [
-        b"@@ -",
-        wanted_lines.as_bytes(),
-        b" +",
-        ran_lines.as_bytes(),
-        b" @@\n",
-    ];
-    pieces.concat(alloc)
+    let mut text = Vec::new(alloc);
+    push_pieces(
+        &mut text,
+        &[
+            b"@@ -",
+            wanted_lines.as_bytes(),
+            b" +",
+            ran_lines.as_bytes(),
+            b" @@\n",
+        ],
+    )?;
+    Ok(text)
 }
 
 // Appends lines with a byte before each.
