@@ -1,5 +1,5 @@
 -- The lines below the header that are written are read as the turns and what was sent last.
-use Rattle.std.proofs.Common.{◌≡◌, ◌≢◌, ◌≤◌, ◌+◌, ◌-◌, ◌∙◌, ◌==◌, ◌&&◌, ℕ, suc, Bool, true, false, List, [], ◌∷◌, ◌++◌, Option, Some, None, Result, Ok, map, length, take, refl, sym, ap, arith, append_assoc, length-append}
+use Rattle.std.proofs.Common.{◌≡◌, ◌≢◌, ◌+◌, ◌-◌, ◌∙◌, ◌==◌, ◌&&◌, ℕ, Bool, true, false, List, [], ◌∷◌, ◌++◌, Ok, map, length, take, refl, sym, ap, arith, append_assoc, length-append}
 use Rattle.std.specs.Prelude.{flat_map}
 use Rattle.std.specs.Str.{bytes_eq}
 use Rattle.std.proofs.Math.Bool.{and-false}
@@ -7,11 +7,10 @@ use Rattle.std.proofs.Math.Seq.{take-append_seam}
 use Rattle.std.proofs.lemmas.Bool.{eqb-true}
 use Rattle.std.proofs.lemmas.List.{append-nil}
 use Rattle.tb_transcripts.specs.Header.{header}
-use Rattle.tb_transcripts.specs.Marks.{behind}
-use Rattle.tb_transcripts.specs.Reading.{are_none, begun, below, or_bad, unescaped, with_line, with_sent, without_end, State}
-use Rattle.tb_transcripts.specs.Writing.{ended, last_lines, longer, marked, pieces, sent_lines, turn_lines}
+use Rattle.tb_transcripts.specs.Reading.{are_none, below, with_line, without_end}
+use Rattle.tb_transcripts.specs.Writing.{ended, last_lines, longer, marked, pieces, turn_lines}
 use Rattle.tb_transcripts.specs.declared.header.Header.{Header}
-use Rattle.tb_transcripts.specs.declared.marks.TheConstants.{ESCAPE, OPTION, TYPED}
+use Rattle.tb_transcripts.specs.declared.marks.TheConstants.{ESCAPE, TYPED}
 use Rattle.tb_transcripts.proofs.MarkedLines.{marked_is_sent}
 use Rattle.tb_transcripts.proofs.Pieces.{some_piece}
 

@@ -1,5 +1,5 @@
 -- The lines of a text that is written are those that it is read as.
-use Rattle.std.proofs.Common.{◌≡◌, ◌<◌, ◌≤◌, ◌+◌, ◌^◌, ◌∙◌, ◌==◌, ◌&&◌, ◌||◌, ℕ, Bool, true, false, not, List, [], ◌∷◌, ◌++◌, Option, Some, None, map, refl, sym, ap, arith, append_assoc}
+use Rattle.std.proofs.Common.{◌≡◌, ◌<◌, ◌≤◌, ◌^◌, ◌∙◌, ◌==◌, ◌&&◌, ◌||◌, ℕ, Bool, true, false, not, List, [], ◌∷◌, ◌++◌, Option, Some, None, map, refl, ap, arith, append_assoc}
 use Rattle.std.specs.Fmt.{decimal}
 use Rattle.std.specs.List.{list_all}
 use Rattle.std.specs.Prelude.{flat_map, nat_le}
@@ -10,7 +10,7 @@ use Rattle.tb_transcripts.specs.Contents.{are_writable, is_in_range, is_sent, is
 use Rattle.tb_transcripts.specs.Marks.{is_digit}
 use Rattle.tb_transcripts.specs.Writing.{end_line, ended, flag_lines, last_lines, lines_of, marked, needs_escape, number_lines, option_lines, output_lines, pieces, sent_lines, turn_lines}
 use Rattle.tb_transcripts.specs.Writing as writing
-use Rattle.tb_transcripts.specs.declared.marks.TheConstants.{ESCAPE, TYPED}
+use Rattle.tb_transcripts.specs.declared.marks.TheConstants.{TYPED}
 use Rattle.tb_transcripts.specs.declared.options.TheConstants as word
 use Rattle.tb_transcripts.specs.declared.transcript.RunEnd.{RunEnd}
 use Rattle.tb_transcripts.specs.declared.transcript.RunEnd.TheVariants.{Fault, Returned, Runs, Waits}

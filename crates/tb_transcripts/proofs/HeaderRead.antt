@@ -1,13 +1,13 @@
 -- The header that is written is read as what it asks for.
-use Rattle.std.proofs.Common.{◌≡◌, ◌≢◌, ◌<◌, ◌≤◌, ◌+◌, ◌^◌, ◌∙◌, ◌==◌, ◌&&◌, ℕ, zero, suc, Bool, true, false, IsTrue, List, [], ◌∷◌, ◌++◌, Option, Some, None, Result, Ok, Err, length, take, drop, refl, sym, ap, arith, append_assoc}
+use Rattle.std.proofs.Common.{◌≡◌, ◌≤◌, ◌+◌, ◌∙◌, ◌&&◌, ℕ, suc, Bool, true, false, List, [], ◌∷◌, ◌++◌, Option, Some, None, Ok, length, take, drop, refl, ap, arith, append_assoc}
 use Rattle.std.specs.Fmt.{decimal}
 use Rattle.std.specs.List.{list_all}
 use Rattle.std.specs.Prelude.{nat_le}
 use Rattle.std.proofs.Math.Seq.{drop-append_seam, take-append_seam}
-use Rattle.std.proofs.lemmas.Bool.{and_parts, eqb-true, leb-true, ne_eqb}
+use Rattle.std.proofs.lemmas.Bool.{and_parts, leb-true, ne_eqb}
 use Rattle.tb_transcripts.specs.Contents.{are_writable, is_in_range, is_writable_end}
-use Rattle.tb_transcripts.specs.Header.{header, nothing, or_bad, with_asked, with_line, with_read}
-use Rattle.tb_transcripts.specs.Marks.{behind, is_digit, number}
+use Rattle.tb_transcripts.specs.Header.{header, nothing, with_asked}
+use Rattle.tb_transcripts.specs.Marks.{is_digit, number}
 use Rattle.tb_transcripts.specs.Options.{asked_by, fault, fault_by, line_of, limit_by, rude_by, seed_by, space_at}
 use Rattle.tb_transcripts.specs.Writing.{end_line, end_text, flag_lines, number_lines, option_lines}
 use Rattle.tb_transcripts.specs.declared.header.Header.{Header}

@@ -1,5 +1,5 @@
 -- The lines of a hunk, where the code takes slices of lines.
-use Rattle.std.proofs.Common.{◌≡◌, ◌≤◌, ◌+◌, ◌-◌, ℕ, List, length, map, take, drop, refl, sym, ap, ◌∙◌, arith}
+use Rattle.std.proofs.Common.{◌≡◌, ◌≤◌, ◌+◌, ◌-◌, ℕ, List, length, map, take, drop, sym, ap, ◌∙◌, arith}
 use Rattle.std.proofs.lemmas.List.{drop-map, drop-take, take-map}
 use Rattle.tb_transcripts.specs.Differing.{alike_lines, hunk, hunk_at, lines_hunk}
 use Rattle.tb_transcripts.proofs.Pieces.{rest_of}

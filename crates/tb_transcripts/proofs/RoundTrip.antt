@@ -1,10 +1,9 @@
 -- The text of a transcript that can come of a run is read as that transcript.
-use Rattle.std.proofs.Common.{◌≡◌, ◌∙◌, ℕ, List, [], ◌∷◌, ◌++◌, Ok, refl, ap}
-use Rattle.std.specs.Prelude.{flat_map}
+use Rattle.std.proofs.Common.{◌≡◌, ◌∙◌, ℕ, List, [], Ok, ap}
 use Rattle.tb_transcripts.specs.Contents.{Content, IsWritable}
 use Rattle.tb_transcripts.specs.Header.{header, nothing}
-use Rattle.tb_transcripts.specs.Reading.{begun, below, from_header, read, whole}
-use Rattle.tb_transcripts.specs.Writing.{last_lines, lines_of, output_lines, pieces, text_of, turn_lines}
+use Rattle.tb_transcripts.specs.Reading.{from_header, read, whole}
+use Rattle.tb_transcripts.specs.Writing.{last_lines, lines_of, output_lines, pieces, text_of}
 use Rattle.tb_transcripts.proofs.BelowRead.{last_read, output_first, turns_read}
 use Rattle.tb_transcripts.proofs.GoodLines.{all_good, lines_read, parts_of}
 use Rattle.tb_transcripts.proofs.HeaderRead.{header_of, header_read}

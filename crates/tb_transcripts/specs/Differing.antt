@@ -5,7 +5,7 @@ use Rattle.std.specs.Str.{bytes_eq}
 use Rattle.tb_text.specs.Lines.{lines_of_file}
 use Rattle.tb_transcripts.specs.Comparing.{is_same, is_same_output, same_turns}
 use Rattle.tb_transcripts.specs.Contents.{Content}
-use Rattle.tb_transcripts.specs.Writing.{end_line, ended, option_lines, output_text}
+use Rattle.tb_transcripts.specs.Writing.{end_line, option_lines, output_text}
 use Rattle.tb_transcripts.specs.declared.transcript.Difference.{Difference}
 
 -- ---- how far two are alike

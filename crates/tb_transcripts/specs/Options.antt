@@ -1,6 +1,6 @@
 -- What a line of the header asks for.
 use Rattle.std.specs.Prelude.{ℕ, suc, ◌==◌, List, [], ◌∷◌, take, drop, Option, Some, None, Result, Ok, Err, if◌then◌else◌}
-use Rattle.std.specs.Option.{option_and_then, option_map_or}
+use Rattle.std.specs.Option.{option_and_then}
 use Rattle.std.specs.Str.{bytes_eq}
 use Rattle.tb_transcripts.specs.Marks.{behind, number}
 use Rattle.tb_transcripts.specs.declared.options.Asked.{Asked}

@@ -1,5 +1,5 @@
 -- The goals of `sent_at` in src/differing.rt.
-use Rattle.std.proofs.Common.{rules, arith, ◌∙◌, ap, sym}
+use Rattle.std.proofs.Common.{rules, ◌∙◌, ap, sym}
 use Rattle.tb_transcripts.proofs.Same.{sent_in_last, sent_in_turn}
 use Rattle.tb_transcripts.proofs.differing.sent_at.Goals as goal
 

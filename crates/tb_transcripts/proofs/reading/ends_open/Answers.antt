@@ -1,10 +1,8 @@
 -- The goals of `ends_open` in src/reading.rt.
-use Rattle.std.proofs.Common.{◌≡◌, ◌∙◌, ◌&&◌, Bool, true, false, refl, sym, ap}
-use Rattle.std.specs.Str.{bytes_eq}
+use Rattle.std.proofs.Common.{◌≡◌, ◌∙◌, true, false, sym}
 use Rattle.tb_text.specs.Lines.{lines_of_file}
 use Rattle.tb_transcripts.specs.Reading.{are_none}
 use Rattle.tb_transcripts.proofs.Lines.{none_left}
-use Rattle.tb_transcripts.specs.declared.marks.TheConstants.{ESCAPE}
 use Rattle.tb_transcripts.proofs.reading.ends_open.Goals as goal
 
 pub returns-then-is_empty : goal.returns-then-is_empty

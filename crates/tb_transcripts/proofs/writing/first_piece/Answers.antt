@@ -1,5 +1,5 @@
 -- The goals of `first_piece` in src/writing.rt.
-use Rattle.std.proofs.Common.{◌+◌, ℕ, suc, arith, add-one, length-drop}
+use Rattle.std.proofs.Common.{◌+◌, arith, length-drop}
 use native.Mathlib.Numerals.{unary_clauses}
 use Rattle.tb_transcripts.proofs.Pieces.{first_piece, only_piece, rest_of}
 use Rattle.tb_transcripts.proofs.writing.first_piece.Goals as goal
