@@ -28,6 +28,7 @@ sent_in [] last k = last
 sent_in (t ∷ turns) last zero = t.0
 sent_in (t ∷ turns) last (suc k) = sent_in turns last k
 
+-- the same of a transcript
 abbrev pub sent_at : Content → ℕ → List ℕ
 sent_at c k = sent_in c.turns c.last k
 
@@ -60,12 +61,13 @@ abbrev pub hunk_at : ℕ × ℕ → List (List ℕ) → List (List ℕ) → ℕ 
 hunk_at above wanted ran alike =
     hunk (above.0 + (alike - 3), above.1 + (alike - 3)) (drop (alike - 3) (take alike wanted)) (take 4 (drop alike wanted)) (take 4 (drop alike ran))
 
+-- the same by how many are alike at the front
 abbrev pub lines_hunk : ℕ × ℕ → List (List ℕ) → List (List ℕ) → List ℕ
 lines_hunk above wanted ran = hunk_at above wanted ran (alike_lines wanted ran)
 
 -- ---- two transcripts
 
--- the hunk of what was sent and typed
+-- the hunk of what was sent and typed: the lines below both headers, with those of the headers above them
 abbrev pub output_hunk : Content → Content → List ℕ
 output_hunk wanted ran =
     lines_hunk (length (option_lines wanted.options) + 1, length (option_lines ran.options) + 1)
