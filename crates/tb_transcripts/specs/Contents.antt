@@ -18,6 +18,7 @@ pub record Content : Type 0 where
 abbrev pub turn_of : Turn → List ℕ × List ℕ
 turn_of t = (t.sent.items, t.typed.items)
 
+-- what a transcript of the code says
 abbrev pub content_of : Transcript → Content
 content_of t = record { options = t.options; end = t.end; turns = map turn_of t.turns.items; last = t.last.items }
 
@@ -55,5 +56,6 @@ is_writable_turn t = is_sent t.0 && is_typed t.1
 abbrev pub is_writable : Content → Bool
 is_writable c = are_writable c.options && is_writable_end c.end && list_all is_writable_turn c.turns && is_sent c.last
 
+-- the same as a fact
 abbrev pub IsWritable : Content → Type 0
 IsWritable c = IsTrue (is_writable c)

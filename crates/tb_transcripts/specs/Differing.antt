@@ -1,11 +1,11 @@
 -- Where a run differs from what was wanted.
-use Rattle.std.specs.Prelude.{ℕ, ◌+◌, ◌-◌, ◌==◌, List, [], ◌∷◌, ◌++◌, length, take, drop, flat_map, Option, Some, None, if◌then◌else◌, codes}
+use Rattle.std.specs.Prelude.{ℕ, zero, suc, ◌+◌, ◌-◌, ◌==◌, List, [], ◌∷◌, ◌++◌, length, take, drop, flat_map, Option, Some, None, if◌then◌else◌, codes}
 use Rattle.std.specs.Fmt.{decimal}
 use Rattle.std.specs.Str.{bytes_eq}
 use Rattle.tb_text.specs.Lines.{lines_of_file}
 use Rattle.tb_transcripts.specs.Comparing.{is_same, is_same_output, same_turns}
 use Rattle.tb_transcripts.specs.Contents.{Content}
-use Rattle.tb_transcripts.specs.Writing.{end_line, ended, option_lines, output_text}
+use Rattle.tb_transcripts.specs.Writing.{end_line, option_lines, output_text}
 use Rattle.tb_transcripts.specs.declared.transcript.Difference.{Difference}
 
 -- ---- how far two are alike
@@ -28,6 +28,7 @@ sent_in [] last k = last
 sent_in (t ∷ turns) last zero = t.0
 sent_in (t ∷ turns) last (suc k) = sent_in turns last k
 
+-- the same of a transcript
 abbrev pub sent_at : Content → ℕ → List ℕ
 sent_at c k = sent_in c.turns c.last k
 
@@ -37,11 +38,13 @@ sent_at c k = sent_in c.turns c.last k
 abbrev pub start : ℕ → ℕ → ℕ
 start before count = if count == 0 then before else before + 1
 
--- the line that a hunk begins with: in both texts, how many lines are before it, and how many it has
+-- which lines of a text a hunk has: `7,4`, by how many are before it and how many it has
+abbrev pub range_text : ℕ × ℕ → List ℕ
+range_text lines = decimal (start lines.0 lines.1) ++ 44 ∷ decimal lines.1
+
+-- the line that a hunk begins with, by the same of both texts
 abbrev pub hunk_head : ℕ × ℕ → ℕ × ℕ → List ℕ
-hunk_head wanted ran =
-    codes "@@ -" ++ decimal (start wanted.0 wanted.1) ++ codes "," ++ decimal wanted.1
-    ++ codes " +" ++ decimal (start ran.0 ran.1) ++ codes "," ++ decimal ran.1 ++ codes " @@\n"
+hunk_head wanted ran = codes "@@ -" ++ range_text wanted ++ codes " +" ++ range_text ran ++ codes " @@\n"
 
 -- a line with a mark before it
 abbrev pub marked : List ℕ → List ℕ → List ℕ
@@ -58,12 +61,13 @@ abbrev pub hunk_at : ℕ × ℕ → List (List ℕ) → List (List ℕ) → ℕ 
 hunk_at above wanted ran alike =
     hunk (above.0 + (alike - 3), above.1 + (alike - 3)) (drop (alike - 3) (take alike wanted)) (take 4 (drop alike wanted)) (take 4 (drop alike ran))
 
+-- the same by how many are alike at the front
 abbrev pub lines_hunk : ℕ × ℕ → List (List ℕ) → List (List ℕ) → List ℕ
 lines_hunk above wanted ran = hunk_at above wanted ran (alike_lines wanted ran)
 
 -- ---- two transcripts
 
--- the hunk of what was sent and typed
+-- the hunk of what was sent and typed: the lines below both headers, with those of the headers above them
 abbrev pub output_hunk : Content → Content → List ℕ
 output_hunk wanted ran =
     lines_hunk (length (option_lines wanted.options) + 1, length (option_lines ran.options) + 1)

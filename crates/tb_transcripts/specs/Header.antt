@@ -1,5 +1,5 @@
 -- The header of a transcript: the longest beginning of lines that begin with `# `.
-use Rattle.std.specs.Prelude.{◌≡◌, ℕ, ◌+◌, Bool, true, false, List, [], ◌∷◌, Option, Some, None, Result, Ok, Err, if◌then◌else◌}
+use Rattle.std.specs.Prelude.{◌≡◌, ℕ, ◌+◌, true, false, List, [], ◌∷◌, Option, Some, None, Result, Ok, Err, if◌then◌else◌}
 use Rattle.std.specs.Option.{is_some, ok_or}
 use Rattle.tb_text.specs.Lines.{lines_of_file}
 use Rattle.tb_transcripts.specs.Marks.{behind}
@@ -12,7 +12,6 @@ use Rattle.tb_transcripts.specs.declared.options.Asked.TheVariants.{End, Fit, Li
 use Rattle.tb_transcripts.specs.declared.reasons.BadLine.{BadLine}
 use Rattle.tb_transcripts.specs.declared.reasons.Reason.{Reason}
 use Rattle.tb_transcripts.specs.declared.reasons.Reason.TheVariants.{Twice}
-use Rattle.tb_transcripts.specs.declared.transcript.RunEnd.{RunEnd}
 use Rattle.tb_transcripts.specs.declared.transcript.RunOptions.{RunOptions}
 
 -- nothing is asked for

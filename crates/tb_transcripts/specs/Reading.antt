@@ -1,6 +1,5 @@
 -- What the text of a transcript says.
 use Rattle.std.specs.Prelude.{◌≡◌, ℕ, ◌+◌, ◌-◌, ◌&&◌, Bool, true, false, List, [], ◌∷◌, ◌++◌, map, length, take, Option, Some, None, unwrap_or, Result, Ok, Err, if◌then◌else◌}
-use Rattle.std.specs.Option.{is_some}
 use Rattle.std.specs.Str.{bytes_eq}
 use Rattle.tb_text.specs.Lines.{lines_of_file}
 use Rattle.tb_transcripts.specs.Contents.{Content, turn_of}

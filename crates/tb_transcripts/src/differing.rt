@@ -10,7 +10,7 @@ ghost use Rattle.tb_transcripts.specs.Writing.{ended, end_line, option_lines, ou
 
 use crate::comparing::{is_same, is_same_output, same_turns};
 use crate::transcript::{Difference, RunEnd, RunOptions, Transcript};
-use crate::writing::{push_end, push_output};
+use crate::writing::{push_end, push_output, push_pieces};
 use std::alloc::{AllocError, Global};
 use tb_text::next_line;
 
@@ -101,21 +101,40 @@ fn start(before: usize, count: usize) -> usize
     if count == 0 { before } else { before + 1 }
 }
 
+// Which lines of a text a hunk has, by how many are before it and how many it has.
+fn range_text(alloc: Global, lines: (usize, usize)) -> Result<String, AllocError>
+    requires { lines.0 < 18446744073709551615 }
+    ensures { IfOk result (λ text. string_bytes text ≡ spec.range_text lines) }
+{
+    let first = start(lines.0, lines.1);
+    let count = lines.1;
+    format!(in alloc; "{first},{count}")
+}
+
 // The line that a hunk begins with.
 fn hunk_head(
     alloc: Global,
     wanted: (usize, usize),
     ran: (usize, usize),
-) -> Result<String, AllocError>
+) -> Result<Vec<u8>, AllocError>
     requires wanted { wanted.0 < 18446744073709551615 }
     requires ran { ran.0 < 18446744073709551615 }
-    ensures { IfOk result (λ text. string_bytes text ≡ spec.hunk_head wanted ran) }
+    ensures { IfOk result (λ text. text.items ≡ spec.hunk_head wanted ran) }
 {
-    let wanted_start = start(wanted.0, wanted.1);
-    let wanted_count = wanted.1;
-    let ran_start = start(ran.0, ran.1);
-    let ran_count = ran.1;
-    format!(in alloc; "@@ -{wanted_start},{wanted_count} +{ran_start},{ran_count} @@\n")
+    let wanted_lines = range_text(alloc, wanted)?;
+    let ran_lines = range_text(alloc, ran)?;
+    let mut text = Vec::new(alloc);
+    push_pieces(
+        &mut text,
+        &[
+            b"@@ -",
+            wanted_lines.as_bytes(),
+            b" +",
+            ran_lines.as_bytes(),
+            b" @@\n",
+        ],
+    )?;
+    Ok(text)
 }
 
 // Appends lines with a byte before each.
@@ -171,8 +190,7 @@ fn hunk(
 {
     let wanted_count = context.len() + wanted.len();
     let ran_count = context.len() + ran.len();
-    let head = hunk_head(alloc, (before.0, wanted_count), (before.1, ran_count))?;
-    let mut text = Vec::from_slice(alloc, head.as_bytes())?;
+    let mut text = hunk_head(alloc, (before.0, wanted_count), (before.1, ran_count))?;
     push_lines(&mut text, b" ", context)?;
     push_lines(&mut text, b"-", wanted)?;
     push_lines(&mut text, b"+", ran)?;

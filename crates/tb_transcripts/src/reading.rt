@@ -1,5 +1,5 @@
 //! How a transcript is read.
-ghost use Rattle.std.specs.Prelude.{◌≡◌, ◌≤◌, ◌+◌, ◌==◌, length, [], unwrap_or};
+ghost use Rattle.std.specs.Prelude.{◌≡◌, ◌<◌, ◌+◌, length, Ok};
 ghost use Rattle.tb_text.specs.Lines.{lines_of_file};
 ghost use Rattle.tb_transcripts.specs.Contents.{content_of};
 ghost use Rattle.tb_transcripts.specs.Reading as spec;
@@ -32,7 +32,7 @@ fn unescaped(line: &[u8]) -> &[u8]
 
 // Takes a line that was typed.
 fn push_typed(alloc: Global, reading: &mut Reading, typed: &[u8]) -> Result<(), Unread>
-    ensures { Takes (spec.with_typed (state_of reading.old) typed.now) result (state_of reading.new) }
+    ensures { Takes (Ok (spec.with_typed (state_of reading.old) typed.now)) result (state_of reading.new) }
 {
     let typed = Vec::from_slice(alloc, typed)?;
     reading.sent.pop();
@@ -45,7 +45,7 @@ fn push_typed(alloc: Global, reading: &mut Reading, typed: &[u8]) -> Result<(), 
 
 // Takes a line that was sent.
 fn push_sent(reading: &mut Reading, line: &[u8]) -> Result<(), Unread>
-    ensures { Takes (spec.with_sent (state_of reading.old) line.now) result (state_of reading.new) }
+    ensures { Takes (Ok (spec.with_sent (state_of reading.old) line.now)) result (state_of reading.new) }
 {
     reading.sent.extend_from_slice(unescaped(line))?;
     match reading.sent.push(b'\n') {

@@ -8,15 +8,15 @@ use std::fmt;
 // What is said, text by text.
 const UNKNOWN_OPTION: &str = "unknown option";
 
-const TWICE: &str = "an option is given twice";
+const TWICE: &str = "an option or an end is given twice";
 
-const NO_SEED: &str = "a seed is a number from 1 to 65535";
+const NO_SEED: &str = "not a number from 1 to 65535";
 
-const NO_LIMIT: &str = "a limit is a number from 1 to 1000000000";
+const NO_LIMIT: &str = "not a number from 1 to 1000000000";
 
-const NO_RUDE: &str = "the seed of a rude ROM is a number from 0 to 65535";
+const NO_RUDE: &str = "not a number from 0 to 65535";
 
-const NO_FAULT: &str = "a fault is a code from 0 to 255, `at` and a line from 0 to 65535";
+const NO_FAULT: &str = "not a code from 0 to 255 at a line from 0 to 65535";
 
 const BELOW_OUTPUT: &str = "an option below the output";
 

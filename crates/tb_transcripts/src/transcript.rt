@@ -52,6 +52,8 @@ pub struct Difference {
     pub turn: usize,
     /// How many bytes of what was sent there are alike.
     pub alike: usize,
-    /// The lines that differ, as a hunk of a unified difference of both texts.
+    /// The lines that differ, as a hunk of a unified difference of both canonical texts: at most three lines of the
+    /// output before them, then at most four that are wanted and four of the run. If the output is the same, it is
+    /// the header's line of the end.
     pub text: Vec<u8>,
 }

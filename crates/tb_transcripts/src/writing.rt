@@ -12,8 +12,8 @@ use crate::options::{AT, ENDS, FAULT, FIT, LIMIT, PETSCII, RUDE, RUNS, SEED, WAI
 use crate::transcript::{RunEnd, RunOptions, Transcript, Turn};
 use std::alloc::{AllocError, Global};
 
-// Appends pieces, one after the other.
-fn push_pieces(text: &mut Vec<u8>, pieces: &[&[u8]]) -> Result<(), AllocError>
+/// Appends pieces, one after the other.
+pub fn push_pieces(text: &mut Vec<u8>, pieces: &[&[u8]]) -> Result<(), AllocError>
     ensures { AppendsBytes result text.old text.new (flat_map (λ p. p.now) pieces.now) }
 {
     for piece in pieces {

@@ -1,6 +1,6 @@
-//! The tests of what users call: playing, debugging, disks, listings, profiles, web pages, engines over streams that
-//! fail or are cut off, and which words become which job. There is nothing else in this crate, as in tb_tests, which is
-//! proved beside it.
+//! The tests of what users call: playing, debugging, disks, listings, profiles, web pages, transcripts, engines over
+//! streams that fail or are cut off, and which words become which job. There is nothing else in this crate, as in
+//! tb_tests, which is proved beside it.
 #![tactic(auto)]
 
 #[cfg(test)]
@@ -17,6 +17,8 @@ mod pages;
 mod play;
 #[cfg(test)]
 mod profile;
+#[cfg(test)]
+mod transcripts;
 #[cfg(test)]
 mod words;
 #[cfg(test)]
