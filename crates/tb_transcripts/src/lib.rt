@@ -14,6 +14,7 @@
 
 mod comparing;
 mod differing;
+mod forms;
 mod header;
 mod marks;
 mod options;
@@ -24,6 +25,7 @@ mod writing;
 
 pub use comparing::is_same;
 pub use differing::difference;
+pub use forms::TestForm;
 pub use reading::read_transcript;
 pub use reasons::{BadLine, Reason, Unread};
 pub use transcript::{Difference, RunEnd, RunOptions, Transcript, Turn};
