@@ -151,12 +151,39 @@ pub struct PlayJob {
     pub limit: Limit,
     /// The key file that is written of all that was typed, if it is wanted.
     pub recording: Option<String>,
+    /// The transcript that is written of what was typed and sent, if it is wanted. A PRG file has none.
+    pub transcript: Option<String>,
     /// Whether the machine's screen is shown, in place of the host form of what is sent.
     pub screen: bool,
     /// Whether a file is replaced that looks like something else.
     pub force: bool,
     /// Whether a fault of the program has a status of its own.
     pub strict: bool,
+}
+
+/// How it is told which transcripts passed.
+#[derive(Clone, Copy, Debug, PartialEq, Eq)]
+pub enum TestForm {
+    /// As lines for people.
+    Text,
+    /// As lines for other programs, by the Test Anything Protocol.
+    Tap,
+}
+
+/// Transcripts that are tried.
+#[derive(Debug, Drop)]
+pub struct TestJob {
+    /// Sources, transcripts and folders, in order.
+    pub files: Vec<String>,
+    /// Whether the transcripts are written anew.
+    pub updates: bool,
+    /// Whether the lines are shown that no transcript reaches.
+    pub counts_lines: bool,
+    /// The page that is written of how often each line ran, if it is wanted.
+    pub page: Option<String>,
+    pub form: TestForm,
+    /// Whether a file is replaced that looks like something else.
+    pub force: bool,
 }
 
 /// A text that is assembled to a PRG file.
@@ -288,6 +315,7 @@ pub enum Job {
     Build(BuildJob),
     Run(RunJob),
     Play(PlayJob),
+    Test(TestJob),
     Asm(AsmJob),
     Assemble(AssembleJob),
     Dis(DisJob),
