@@ -21,8 +21,8 @@ use Rattle.tb_jobs.specs.declared.jobs.Runnable.{Runnable}
 use Rattle.tb_jobs.specs.declared.jobs.Runnable.TheVariants.{Source, Prg}
 use Rattle.tb_jobs.specs.declared.jobs.Settings.{Settings}
 use Rattle.tb_jobs.specs.declared.jobs.SourceOptions.{SourceOptions}
-use Rattle.tb_jobs.specs.declared.jobs.TestForm.{TestForm}
-use Rattle.tb_jobs.specs.declared.jobs.TestForm.TheVariants as form
+use Rattle.tb_transcripts.specs.declared.forms.TestForm.{TestForm}
+use Rattle.tb_transcripts.specs.declared.forms.TestForm.TheVariants as form
 use Rattle.tb_jobs.specs.declared.jobs.Typed.{Typed}
 use Rattle.tb_jobs.specs.declared.jobs.Typed.TheVariants.{Digits, File, Text}
 

@@ -6,6 +6,7 @@ use std::alloc::AllocError;
 use tb_dialects::Dialect;
 use tb_engines::{MOST_EVENTS, USUAL_EVENTS};
 use tb_text::Notation;
+use tb_transcripts::TestForm;
 
 /// The first new line number, and the step to the next one, if the words don't say.
 pub const USUAL_STEP: u16 = 10;
@@ -161,15 +162,6 @@ pub struct PlayJob {
     pub strict: bool,
 }
 
-/// How it is told which transcripts passed.
-#[derive(Clone, Copy, Debug, PartialEq, Eq)]
-pub enum TestForm {
-    /// As lines for people.
-    Text,
-    /// As lines for other programs, by the Test Anything Protocol.
-    Tap,
-}
-
 /// Transcripts that are tried.
 #[derive(Debug, Drop)]
 pub struct TestJob {
@@ -181,6 +173,7 @@ pub struct TestJob {
     pub counts_lines: bool,
     /// The page that is written of how often each line ran, if it is wanted.
     pub page: Option<String>,
+    /// In which form it is told which of them passed.
     pub form: TestForm,
     /// Whether a file is replaced that looks like something else.
     pub force: bool,
