@@ -377,15 +377,25 @@ def body_lines(text):
     return "".join(re.sub(r"^(> |# |\\)", r"\\\1", line) + "\n" for line in text.split("\n"))
 
 
-def transcript_of(path):
-    """The transcript of what the one at a path types, by its options."""
+def asked(path):
+    """The options of a transcript, and the lines that it types."""
     lines = path.read_text("latin-1").splitlines()
     header = [it[2:] for it in lines if it.startswith("# ")]
     options = [it for it in header if not re.match("ends$|waits$|runs$|fault ", it)]
-    seed = next((int(it.split()[1]) for it in options if it.startswith("seed ")), 1)
+    return options, [it[2:] for it in lines if it.startswith("> ")]
+
+
+def seed_of(options):
+    """The first state of RND by options of a transcript."""
+    return next((int(it.split()[1]) for it in options if it.startswith("seed ")), 1)
+
+
+def transcript_of(path):
+    """The transcript of what the one at a path types, by its options."""
+    options, typed = asked(path)
     has_signs = "petscii" in options
     program = program_of(source_beside(path).read_text("latin-1"), has_signs)
-    run = Run(program, seed, lines=[it[2:] for it in lines if it.startswith("> ")])
+    run = Run(program, seed_of(options), lines=typed)
     end = ENDS[run.run(1_000_000)]
     text = "".join(f"# {it}\n" for it in [*options, run.fault or end])
     for sent, typed in run.turns:
