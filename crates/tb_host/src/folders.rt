@@ -1,4 +1,5 @@
 //! The transcripts that are in a folder.
+use std::alloc::AllocError;
 use std::fs;
 use std::io::{self, ErrorKind};
 use std::rt::Files;
@@ -7,19 +8,21 @@ use tb_jobs::is_transcript;
 /// The most folders, one in the other, that are looked into.
 const MOST_DEEP: u32 = 64;
 
-/// Whether a path leads to a folder.
-pub fn is_folder<R: Files>(rt: &R, path: &str) -> bool {
-    match fs::metadata(rt, path) {
-        Ok(found) => found.is_dir(),
-        Err(_) => false,
-    }
+/// What is at a path, or nobody knows.
+#[derive(Clone, Copy, PartialEq, Eq, Debug, Drop)]
+pub enum Kept {
+    Nothing,
+    Folder,
+    Other,
 }
 
-/// Whether something is at a path, or nobody knows.
-pub fn is_there<R: Files>(rt: &R, path: &str) -> bool {
+/// Looks at what a path leads to, and opens nothing.
+pub fn kept_at<R: Files>(rt: &R, path: &str) -> Result<Kept, AllocError> {
     match fs::metadata(rt, path) {
-        Ok(_) => true,
-        Err(error) => error.kind() != ErrorKind::NotFound,
+        Ok(found) if found.is_dir() => Ok(Kept::Folder),
+        Err(error) if error.kind() == ErrorKind::NotFound => Ok(Kept::Nothing),
+        Err(error) if error.kind() == ErrorKind::OutOfMemory => Err(AllocError),
+        Ok(_) | Err(_) => Ok(Kept::Other),
     }
 }
 
@@ -50,7 +53,7 @@ fn gather<R: Files + AllocGlobal + Clone + Drop>(
                 return Err(io::Error::from(ErrorKind::InvalidFilename));
             }
             gather(rt, path, deep - 1, found)?;
-        } else if is_transcript(path) && is_there(rt, path) && !is_folder(rt, path) {
+        } else if is_transcript(path) && kept_at(rt, path)? == Kept::Other {
             found.push(String::from_str(rt.alloc(), path)?)?;
         }
     }

@@ -17,7 +17,7 @@ mod seeds;
 mod system;
 mod waiting;
 
-pub use folders::{is_folder, is_there, transcripts_in};
+pub use folders::{Kept, kept_at, transcripts_in};
 pub use host::{Asked, Host};
 pub use keys::keyboard;
 pub use labels::{labels_in, named_place};

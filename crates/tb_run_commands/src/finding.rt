@@ -2,7 +2,7 @@
 use std::alloc::AllocError;
 use std::io;
 use std::rt::Files;
-use tb_host::{is_folder, is_there, transcripts_in};
+use tb_host::{Kept, kept_at, transcripts_in};
 use tb_jobs::{is_transcript, source_of, transcript_of};
 
 /// The highest number that a transcript beside a source may have.
@@ -49,7 +49,7 @@ fn push_beside<R: Files + AllocGlobal>(
 ) -> Result<(), AllocError> {
     for number in 0..=MOST_NUMBER {
         let transcript = transcript_of(rt.alloc(), source, number)?;
-        if is_there(rt, transcript.as_str()) {
+        if kept_at(rt, transcript.as_str())? != Kept::Nothing {
             push_case(rt, cases, transcript, source)?;
         } else if 0 < number {
             return Ok(());
@@ -86,7 +86,7 @@ fn push_cases<R: Files + AllocGlobal + Clone + Drop>(
     file: &str,
 ) -> Result<(), AllocError> {
     let before = cases.len();
-    if is_folder(rt, file) {
+    if kept_at(rt, file)? == Kept::Folder {
         push_folder(rt, cases, file)?;
     } else if is_transcript(file) {
         push_named(rt, cases, String::from_str(rt.alloc(), file)?)?;
