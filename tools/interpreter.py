@@ -4,9 +4,11 @@
   tools/interpreter.py SOURCE [--petscii] [--keys HEX] [--answers HEX] [--seed N] [--lines N]
       writes what the source sends as `tbc run` shows it; status 0 if it ended, 5 after N lines (a million), 6 if it waits;
       with --petscii its texts may have signs, as {clr}
+  tools/interpreter.py --transcript FILE
+      types what is typed in the transcript to the source beside it, and writes the transcript as it is then
   tools/interpreter.py --check
-      plays each example with the keys of each of its rows (trials/tb_golden/data/compiler/programs.txt), and compares
-      with the stored answer (trials/tb_golden/stdout); the cost of one that is too large is worked out as well
+      does so with each transcript of the examples, which must stay as it is; each example has two at least. The cost of
+      an example that is too large is compared with the stored answer (trials/tb_golden/stdout)
 """
 import argparse, pathlib, re, sys
 
@@ -199,8 +201,9 @@ def program_of(source, has_signs=False):
 class Run:
     """A run of a program: what it has sent, and how it ended."""
 
-    def __init__(self, program, seed=1, keys=b"", answers=b""):
+    def __init__(self, program, seed=1, keys=b"", answers=b"", lines=()):
         self.program, self.numbers = program, sorted(program)
+        self.lines, self.turns, self.fault = list(lines), [], None
         self.after = dict(zip(self.numbers, self.numbers[1:]))  # None follows the highest line
         self.seed, self.keys, self.answers = seed, list(keys), list(answers)
         self.variables = dict.fromkeys("ABCDEFGHIJKLMNOPQRSTUVWXYZ", 0)
@@ -239,13 +242,23 @@ class Run:
         self.seed = (25173 * self.seed + 13849) % 0x10000
         return self.seed % bound
 
+    def type_line(self):
+        """Types the next line, and notes what was sent up to there."""
+        line = self.lines.pop(0)
+        self.turns.append((bytes(self.sent), line))
+        self.sent.clear()
+        self.keys += line.upper().encode("latin-1") + b"\r"
+
     def key(self):
         """The next key that isn't a space; it is taken off."""
-        while self.keys and self.keys[0] == ord(" "):
-            self.keys.pop(0)
-        if not self.keys:
-            raise Waits
-        return self.keys.pop(0)
+        while True:
+            while self.keys and self.keys[0] == ord(" "):
+                self.keys.pop(0)
+            if self.keys:
+                return self.keys.pop(0)
+            if not self.lines:
+                raise Waits
+            self.type_line()
 
     def input(self):
         """A number that is typed."""
@@ -328,6 +341,7 @@ class Run:
                     return "ended"
         except Fault as fault:
             self.send(f"\r!{fault} AT {line}\r")
+            self.fault = f"fault {fault} at {line}"
             return "ended"
         except Waits:
             return "waits"
@@ -346,6 +360,50 @@ def ran(path, keys=b"", answers=b"", seed=1, lines=1_000_000, has_signs=False):
     run = Run(program_of(path.read_text("latin-1"), has_signs), seed, keys, answers)
     ending = run.run(lines)
     return ending, host_form(run.sent, has_signs)
+
+
+# Transcripts: above, lines that begin with `# ` are options and the end; below, those that begin with `> ` are typed.
+
+ENDS = {"ended": "ends", "waits": "waits", "goes on": "runs"}
+
+
+def source_beside(path):
+    """The source of a transcript."""
+    return path.with_name(re.sub(r"(\.[0-9]+)?\.transcript$", ".bas", path.name))
+
+
+def body_lines(text):
+    """What was sent, as lines of a transcript."""
+    return "".join(re.sub(r"^(> |# |\\)", r"\\\1", line) + "\n" for line in text.split("\n"))
+
+
+def asked(path):
+    """The options of a transcript, and the lines that it types."""
+    lines = path.read_text("latin-1").splitlines()
+    header = [it[2:] for it in lines if it.startswith("# ")]
+    options = [it for it in header if not re.match("ends$|waits$|runs$|fault ", it)]
+    return options, [it[2:] for it in lines if it.startswith("> ")]
+
+
+def seed_of(options):
+    """The first state of RND by options of a transcript."""
+    return next((int(it.split()[1]) for it in options if it.startswith("seed ")), 1)
+
+
+def transcript_of(path):
+    """The transcript of what the one at a path types, by its options."""
+    options, typed = asked(path)
+    has_signs = "petscii" in options
+    program = program_of(source_beside(path).read_text("latin-1"), has_signs)
+    run = Run(program, seed_of(options), lines=typed)
+    end = ENDS[run.run(1_000_000)]
+    text = "".join(f"# {it}\n" for it in [*options, run.fault or end])
+    for sent, typed in run.turns:
+        text += (body_lines(host_form(sent, has_signs)) if sent else "") + f"> {typed}\n"
+    last = host_form(run.sent, has_signs)
+    if last.endswith("\n"):
+        return text + body_lines(last[:-1])
+    return text + (body_lines(last) + "\\\n" if last else "")
 
 
 # What a program costs.
@@ -375,36 +433,40 @@ def cost(statement):
 # Comparing the examples.
 
 
-def wanted_of(row):
-    """The answer to a row, as a pattern; for a size, its bytes are any."""
-    call, name, *keys = row.split()
-    path = TOP / "examples" / f"{name}.bas"
-    has_signs = call == "signs"
-    if call == "size":
-        program = program_of(path.read_text())
-        return f"costs {64 + sum(36 + cost(it) for it in program.values())} and takes [0-9]+ bytes\n"
-    ending, shown = ran(path, bytes.fromhex("".join(keys)), has_signs=has_signs)
-    end = {"ended": "Done", "waits": "WaitsForKey", "goes on": "StepLimit"}[ending]
-    return re.escape(f"Ended({end}), beside a rude ROM Ended({end}), the same text: true\n{shown}")
+def size_of(row):
+    """What is answered to a row of a size, as a pattern; its bytes are any."""
+    program = program_of((TOP / "examples" / f"{row.split()[1]}.bas").read_text())
+    return f"costs {64 + sum(36 + cost(it) for it in program.values())} and takes [0-9]+ bytes\n"
+
+
+def others():
+    """What is other than the interpreter has it."""
+    examples = TOP / "examples"
+    for path in transcripts():
+        if transcript_of(path) != path.read_text("latin-1"):
+            yield f"{path.relative_to(TOP)} is another one than the interpreter's"
+    for path in examples.rglob("*.bas"):
+        if sum(source_beside(it) == path for it in transcripts()) < 2:
+            yield f"{path.relative_to(TOP)} has no two transcripts"
+    answers = (GOLDEN / "stdout").read_text("latin-1")
+    for row in (GOLDEN / "data" / "compiler" / "programs.txt").read_text().split("\n"):
+        if row.startswith("size ") and not re.search("\n" + re.escape(f"{row} => ") + size_of(row), answers):
+            yield f"the stored answer to {row!r} is another one than the interpreter's"
+
+
+def transcripts():
+    """The transcripts of the examples."""
+    return sorted((TOP / "examples").rglob("*.transcript"))
 
 
 def check():
-    """Compares each example with its stored answers, each of which ends where the next row begins."""
-    rows = (GOLDEN / "data" / "compiler" / "programs.txt").read_text().split("\n")
-    answers = (GOLDEN / "stdout").read_text("latin-1")
-    wrong, played = 0, set()
-    for row, following in zip(rows, rows[1:]):
-        if not re.match("(run|fit|size|signs) ", row):
-            continue
-        played.add(row.split()[1])
-        if not re.search("\n" + re.escape(f"{row} => ") + wanted_of(row) + (re.escape(following) or "\n"), answers):
-            wrong += 1
-            print(f"the stored answer to {row[:60]!r} is another one than the interpreter's", file=sys.stderr)
-    sources = [*(TOP / "examples").glob("*.bas"), *(TOP / "examples").glob("colour/*.bas")]
-    for name in {str(path.relative_to(TOP / "examples").with_suffix("")) for path in sources} - played:
+    """Compares the transcripts of the examples, and what one of them costs."""
+    wrong = 0
+    for text in others():
         wrong += 1
-        print(f"no row plays {name}.bas", file=sys.stderr)
-    print(f"{len(played)} examples, {wrong} other than the interpreter has them")
+        print(text, file=sys.stderr)
+    played = {source_beside(path) for path in transcripts()}
+    print(f"{len(transcripts())} transcripts of {len(played)} examples, {wrong} other than the interpreter has them")
     return 1 if wrong or not played else 0
 
 
@@ -416,10 +478,14 @@ def main():
     parser.add_argument("--seed", type=int, default=1)
     parser.add_argument("--lines", type=int, default=1_000_000)
     parser.add_argument("--petscii", action="store_true")
+    parser.add_argument("--transcript", type=pathlib.Path)
     parser.add_argument("--check", action="store_true")
     given = parser.parse_args()
     if given.check:
         return check()
+    if given.transcript:
+        sys.stdout.write(transcript_of(given.transcript))
+        return 0
     if not given.source:
         parser.error("a source is wanted")
     try:

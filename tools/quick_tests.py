@@ -2,8 +2,8 @@
 """Tries, with no proof, what can be tried in a fresh clone in a few minutes. That is what `./tbc --test` does:
 
   - the worked rows of tb_golden, examples and checks of sources among them, by a trial run, compared with what is stored;
-  - the play-throughs of the examples, and generated programs, compiled and run in one trial run, compared with the
-    interpreter of tools/interpreter.py, which is written from docs/LANGUAGE.md alone.
+  - what is typed in the transcripts of the examples, and generated programs, compiled and run in one trial run, compared
+    with the interpreter of tools/interpreter.py, which is written from docs/LANGUAGE.md alone.
 
 Its last line is `N passed, M failed`, and its status is 1 if anything failed.
 
@@ -23,12 +23,11 @@ sys.path[:0] = [str(TOP / "tools"), str(TOP / "tools/try/foreign")]
 sys.dont_write_bytecode = True
 import interpreter
 import looping_programs
-from trials import GOLDEN, SECONDS, SLOW, Tally, memory, rows, say, try_rows
+from trials import SECONDS, SLOW, Tally, memory, rows, say, try_rows
 
 KILOBYTES_SIDE_BY_SIDE = 6_000_000
 LINES = 300  # the most that a generated program takes, since a trial run is slow
 EXAMPLE_LINES = 2_000  # the most that an example takes
-OPTIONS = {"run": [], "fit": ["--fit"], "signs": ["--petscii"]}  # of a row of an example
 LIMIT = "1000000"  # of events
 STEP = 100  # how often it is told how far the programs are
 
@@ -70,12 +69,11 @@ def jumping_program(chance):
 
 
 def examples():
-    """Each example with the keys of each of its rows, and the options that it needs."""
-    for row in (GOLDEN / "data/compiler/programs.txt").read_text().splitlines():
-        found = re.match(r"(run|fit|signs) ([\w/]+)(.*)", row)
-        if found and (TOP / f"examples/{found[2]}.bas").exists():
-            source = (TOP / "examples" / f"{found[2]}.bas").read_text()
-            yield found[2].replace("/", "_"), source, bytes.fromhex(found[3].replace(" ", "")), OPTIONS[found[1]]
+    """Each example with the keys of each of its transcripts, and the options that this asks for."""
+    for path in interpreter.transcripts():
+        options, typed = interpreter.asked(path)
+        name = "_".join(path.relative_to(TOP / "examples").parts).split(".")[0]
+        yield name, interpreter.source_beside(path).read_text(), "".join(f"{it}\r" for it in typed).encode(), options
 
 
 def generated(count):
@@ -91,11 +89,12 @@ def lay(folder, name, source, keys, options):
     path = folder / name
     path.write_text(source)
     lines = LINES if name.startswith("program_") else EXAMPLE_LINES
-    ending, shown = interpreter.ran(path, keys, b"", 1, lines, "--petscii" in options)
+    ending, shown = interpreter.ran(path, keys.upper(), b"", interpreter.seed_of(options), lines, "petscii" in options)
     if ending == "goes on":
         path.unlink()
         return None
-    words = ["run", "{}", "--limit", LIMIT, *options, *(["--keys", keys.hex()] if keys else [])]
+    words = ["run", "{}", "--limit", LIMIT, *(it for option in options for it in f"--{option}".split())]
+    words += ["--keys", keys.upper().hex()] if keys else []
     (folder / f"{name}.args").write_text("\n".join(words) + "\n")
     (folder / f"{name}.stdout").write_text(shown)
     return {"ended": "0", "waits": "6"}[ending]

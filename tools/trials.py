@@ -36,7 +36,7 @@ SHOWN = 5  # as many failures are told in full
 TOGETHER = [["tb_tool_tests", "tb_tests"], ["tb_editor_tests", "tb_source_tests", "tb_assembly_tests", "tb_screen_tests"]]
 JOINED = "tb_trials"  # what they become
 # Rows of tb_golden that take long in a trial run, by how they begin: they are left to a campaign.
-SLOW = ("fit startrek ", "random ", "repeated ", "check {104857", "check {99998", "cuts ", "kept ", "back_over_rude_up_to ",
+SLOW = ("random ", "repeated ", "check {104857", "check {99998", "cuts ", "kept ", "back_over_rude_up_to ",
         "back_over_rude 333", "back_over_rude 999", "back_over_rude 1000", "compile_gives_up_for_memory ")
 began = time.monotonic()
 

@@ -6,6 +6,7 @@ import commands
 EXAMPLES = [
     ("Compile a source, and run it on the test machine", "tbc run hello.bas"),
     ("Play a game: what you type is its keyboard", "tbc play guess.bas"),
+    ("Play the transcripts of a game again", "tbc test guess.bas"),
     ("Show what is wrong with sources, and what helps", "tbc check hello.bas guess.bas"),
     ("Debug a program forth and back; h lists the commands", "tbc debug guess.bas"),
     ("Make a PRG file for a Commodore 64 or an emulator, and a disk with it", "tbc build cave.bas && tbc disk games.d64 cave.prg"),
@@ -16,7 +17,7 @@ EXAMPLES = [
 
 STATUSES = [
     (0, "done; of a program that ran: it returned, by END or, without --strict, by a fault"),
-    (1, "a source or another input was refused"),
+    (1, "a source or another input was refused; with test, a transcript failed"),
     (2, "the command line was wrong"),
     (3, "a file could not be read or written"),
     (4, "out of memory"),

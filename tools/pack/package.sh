@@ -55,7 +55,7 @@ put "$to/$vsix" "$share/tbc/editors/$vsix"
 document README.md
 for it in "$root"/docs/*.md; do document "docs/${it##*/}"; done
 for it in "$root"/docs/pictures/*; do put "$it" "$share/doc/tbc/docs/pictures/${it##*/}"; done
-for it in "$root"/examples/*.bas "$root"/examples/colour/* "$root"/examples/asm/*; do put "$it" "$share/doc/tbc/${it#"$root/"}"; done
+for it in "$root"/examples/*.bas "$root"/examples/*.transcript "$root"/examples/colour/* "$root"/examples/asm/*; do put "$it" "$share/doc/tbc/${it#"$root/"}"; done
 "$root/tools/pack/debian_changelog.py" | packed $share/doc/tbc/changelog.gz
 put "$root/COPYRIGHT" $share/doc/tbc/copyright
 for it in LICENSE-MIT LICENSE-APACHE; do put "$root/$it" $it; done # (only for the archive: Debian has the texts)

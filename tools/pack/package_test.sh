@@ -59,7 +59,7 @@ words_of() { # COMMAND: the words with which it is tried
     case $1 in
         build) echo tried/hello.bas tried/hello.prg ;;
         run | step | debug | profile | page | check | format | renumber) echo tried/hello.bas ;;
-        play) echo tried/guess.bas ;;
+        play | test) echo tried/guess.bas ;;
         asm) echo tried/h.asm tried/h.prg --at C000 ;;
         assemble) echo tried/asm/sieve.asm tried/sieve.prg ;;
         dis) echo tried/sieve.prg ;;

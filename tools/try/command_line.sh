@@ -100,6 +100,7 @@ mkdir folder
 . "$root/tools/try/command_line/signs.sh"
 . "$root/tools/try/command_line/own.sh"
 . "$root/tools/try/command_line/pages.sh"
+. "$root/tools/try/command_line/testing.sh"
 
 echo "$rows calls of tbc, $failed other than they should be"
 [ "$failed" = 0 ]

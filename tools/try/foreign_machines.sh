@@ -97,10 +97,10 @@ program "$root/examples/lander.bas" '0\r0\r5\r10\r20\r30\r30\r20\r10\r10\r10\r10
 program "$root/examples/primes.bas" ''
 program "$root/examples/times.bas" ''
 for source in "$root"/tools/measure/bench/*.bas; do program "$source" ''; done
-# Programs that fit only by what they take: a game, with the keys of its rows, and one that calls from each line, up to
-# the last byte of a program's memory.
-for keys in $(sed -n 's/^fit startrek //p' "$root/trials/tb_golden/data/compiler/programs.txt"); do
-    program "$root/examples/startrek.bas" "$(sed 's/../\\x&/g' <<<"$keys")" --fit
+# Programs that fit only by what they take: a game, with what its transcripts type, and one that calls from each line, up
+# to the last byte of a program's memory.
+for transcript in "$root"/examples/startrek.transcript "$root"/examples/startrek.1.transcript; do
+    program "$root/examples/startrek.bas" "$(sed -n 's/^> \(.*\)/\1\\r/p' "$transcript" | tr -d '\n')" --fit
 done
 {
     printf '1 PRINT "AAAAA"\n'

@@ -4,7 +4,7 @@
     tools/try/kept_files.py [TBC]      TBC is the built program if it is missing
 
 A way is a command with one path that it writes: OUT of build, asm, assemble and disk, the files of --labels, --list, --map,
---watch, --record and --html, and the source that format and renumber write with --in-place. A place is what that path leads
+--watch, --record, --transcript and --html, and the source that format and renumber write with --in-place. A place is what that path leads
 to: nothing, a file, a link, a pipe, a full disk, what looks like something else, .. Of each row the status is compared, and
 what each file of the folder holds afterwards: the new text whole, or what it held before. Rows that need another file system
 mount one, and others run the program as nobody. Where there are no rights to do so, these rows are left out, and that is
@@ -51,6 +51,8 @@ WAYS = [
     ("assemble --list", ["assemble", "in.asm", "other.prg", "--list", "OUT"]),
     ("disk OUT", ["disk", "OUT", "in.prg"]),
     ("play --record", ["play", "in.ask.bas", "--record", "OUT"]),
+    ("play --transcript", ["play", "in.ask.bas", "--transcript", "OUT"]),
+    ("test --html", ["test", "in.bas", "--lines", "--html", "OUT"]),
     ("profile --html", ["profile", "in.bas", "--html", "OUT"]),
     ("page OUT", ["page", "in.bas", "OUT"]),
     ("page --prg", ["page", "--prg", "in.prg", "-o", "OUT"]),
@@ -96,7 +98,7 @@ def as_nobody():
 def filled(folder):
     """A folder with what the commands read."""
     folder.mkdir(exist_ok=True)
-    for name, text in (("in.bas", SOURCE), ("in.ask.bas", ASKS), ("in.s", TEXT), ("in.asm", LINES)):
+    for name, text in (("in.bas", SOURCE), ("in.transcript", "HELLO\n"), ("in.ask.bas", ASKS), ("in.s", TEXT), ("in.asm", LINES)):
         (folder / name).write_text(text)
     (folder / "in.prg").write_bytes(b"\x01\x08" + bytes(40))
     return folder
@@ -122,7 +124,7 @@ def holds(path):
 def seen(folder):
     """The names in a folder, but for the program's inputs and the other output."""
     names = {it.name for it in folder.iterdir()}
-    return sorted(names - {"in.bas", "in.ask.bas", "in.s", "in.asm", "in.prg", "other.prg"})
+    return sorted(names - {"in.bas", "in.transcript", "in.ask.bas", "in.s", "in.asm", "in.prg", "other.prg"})
 
 
 def expect(way, place, what, is_so):

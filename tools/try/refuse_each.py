@@ -15,7 +15,7 @@ from pathlib import Path
 ENDLESS = 1_000_000  # growths that no run has
 OUT_OF_MEMORY = 4  # the program's status
 CLOSING = b"\x1b[0m\x1b[25;1H\r\n"  # what leaves a terminal
-SHOWN_BEFORE = ("play", "debug", "profile", "check", "lsp", "dap")  # commands that may have shown a part of their answer
+SHOWN_BEFORE = ("play", "test", "debug", "profile", "check", "lsp", "dap")  # commands that may have shown a part of their answer
 
 Answer = namedtuple("Answer", "status said shown made")
 

@@ -197,6 +197,24 @@ check play --prg nowhere.prg
 cp hello.prg maze_1.prg
 printf '\001' >short.prg
 printf '\000\320\140' >high.prg
+printf 'HELLO\n' >hello.transcript
+printf '# seed 7\n# rude 7\n# fit\n? \n> 3,\n' >all.transcript
+printf '# sede 7\n' >bad.transcript
+mkdir -p games/deep
+cp hello.bas games/deep/x.bas
+printf 'HALLO\n' >games/deep/x.1.transcript
+cp hello.transcript games/deep/x.transcript
+check test hello.bas
+check test all.bas
+check test bad.transcript nowhere.bas
+check test games --lines --html page.html
+check test games hello.bas --format tap --lines
+cp hello.bas beside.bas
+printf 'HALLO\n' >beside.transcript
+check test hello.transcript --update
+printf '1\n2\n' >commands
+check play all.bas --transcript beside.transcript --seed 7
+: >commands
 check disk beside.d64 hello.prg maze_1.prg
 check disk beside.d64 hello.prg hello.prg
 check disk beside.d64 hello.prg bad+.prg

@@ -14,9 +14,9 @@ use Rattle.tb_jobs.specs.declared.jobs.Runnable.{Runnable}
 use Rattle.tb_jobs.specs.declared.jobs.Runnable.TheVariants.{Source, Prg}
 use Rattle.tb_jobs.specs.declared.jobs.Job.TheVariants as job
 use Rattle.tb_command_line.specs.Table.{name_of}
-use Rattle.tb_command_line.specs.Values.{AreExtras, AreOptions, AreSettings, IsFlag, IsLimit, IsNotation, IsNumber, IsOptional, IsOptionalNumber, IsRunnable, IsTarget, IsText, dialect_in, is_by_clock, or_else, text_in, texts_in}
+use Rattle.tb_command_line.specs.Values.{AreExtras, AreOptions, AreSettings, IsFlag, IsLimit, IsNotation, IsNumber, IsOptional, IsOptionalNumber, IsRunnable, IsTarget, IsText, dialect_in, form_in, is_by_clock, or_else, text_in, texts_in}
 use Rattle.tb_command_line.specs.declared.commands.CommandName.{CommandName}
-use Rattle.tb_command_line.specs.declared.commands.CommandName.TheVariants.{Build, Run, Play, Asm, Assemble, Dis, Step, Debug, Profile, Page, Disk, Check, Format, Renumber, Lsp, Dap, Version}
+use Rattle.tb_command_line.specs.declared.commands.CommandName.TheVariants.{Build, Run, Play, Test, Asm, Assemble, Dis, Step, Debug, Profile, Page, Disk, Check, Format, Renumber, Lsp, Dap, Version}
 use Rattle.tb_command_line.specs.declared.parser.TheConstants.{VERSION}
 use Rattle.tb_jobs.specs.declared.jobs.Asked.{Asked}
 
@@ -82,9 +82,17 @@ IsJob clock Play found (job.Play j) =
     × AreOptions clock found j.options
     × IsLimit found (codes "limit") MOST_EVENTS j.limit
     × IsOptional found (codes "record") j.recording
+    × IsOptional found (codes "transcript") j.transcript
     × IsFlag found (codes "screen") j.screen
     × IsFlag found (codes "force") j.force
     × IsFlag found (codes "strict") j.strict
+IsJob clock Test found (job.Test j) =
+    (map string_bytes j.files.items ≡ texts_in found (codes "FILE"))
+    × IsFlag found (codes "update") j.updates
+    × IsFlag found (codes "lines") j.counts_lines
+    × IsOptional found (codes "html") j.page
+    × (j.form ≡ form_in found)
+    × IsFlag found (codes "force") j.force
 IsJob clock Asm found (job.Asm j) =
     IsText found (codes "IN") j.text
     × (string_bytes j.out ≡ unwrap_or (out_in found) [])

@@ -4,13 +4,14 @@ use Rattle.std.specs.List.{list_all}
 use Rattle.std.specs.Str.{bytes_eq}
 use Rattle.tb_command_line.specs.declared.commands.CommandRow.{CommandRow}
 use Rattle.tb_command_line.specs.declared.commands.CommandName.{CommandName}
-use Rattle.tb_command_line.specs.declared.commands.CommandName.TheVariants.{Build, Run, Play, Asm, Assemble, Dis, Step, Debug, Profile, Page, Disk, Check, Format, Renumber, Lsp, Dap, Version}
+use Rattle.tb_command_line.specs.declared.commands.CommandName.TheVariants.{Build, Run, Play, Test, Asm, Assemble, Dis, Step, Debug, Profile, Page, Disk, Check, Format, Renumber, Lsp, Dap, Version}
 
 -- what a command is called
 abbrev pub name_of : CommandName → List ℕ
 name_of Build = codes "build"
 name_of Run = codes "run"
 name_of Play = codes "play"
+name_of Test = codes "test"
 name_of Asm = codes "asm"
 name_of Assemble = codes "assemble"
 name_of Dis = codes "dis"

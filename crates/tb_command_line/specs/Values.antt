@@ -21,6 +21,8 @@ use Rattle.tb_jobs.specs.declared.jobs.Runnable.{Runnable}
 use Rattle.tb_jobs.specs.declared.jobs.Runnable.TheVariants.{Source, Prg}
 use Rattle.tb_jobs.specs.declared.jobs.Settings.{Settings}
 use Rattle.tb_jobs.specs.declared.jobs.SourceOptions.{SourceOptions}
+use Rattle.tb_transcripts.specs.declared.forms.TestForm.{TestForm}
+use Rattle.tb_transcripts.specs.declared.forms.TestForm.TheVariants as form
 use Rattle.tb_jobs.specs.declared.jobs.Typed.{Typed}
 use Rattle.tb_jobs.specs.declared.jobs.Typed.TheVariants.{Digits, File, Text}
 
@@ -148,6 +150,15 @@ dialect_named name =
 -- the assembler that `--for` names
 abbrev pub dialect_in : Found → Option Dialect
 dialect_in found = option_and_then dialect_named (first_value found (codes "for"))
+
+-- the form of a name: that of people, unless it is `tap`
+abbrev pub form_named : Option (List ℕ) → TestForm
+form_named None = form.Text
+form_named (Some name) = if bytes_eq name (codes "tap") then form.Tap else form.Text
+
+-- the form that `--format` names
+abbrev pub form_in : Found → TestForm
+form_in found = form_named (first_value found (codes "format"))
 
 -- ── several arguments ──
 -- what is run: the PRG file of `--prg` if it is there, and else SOURCE

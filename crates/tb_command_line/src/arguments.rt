@@ -36,10 +36,14 @@ pub enum Form {
     Choice(&'static [&'static str]),
     /// An option of one of these names, which takes the option of the other name along.
     ChoiceWith(&'static [&'static str], &'static str),
+    /// An option of one of these names, and this one if it is missing.
+    ChoiceOr(&'static [&'static str], &'static str),
     /// An option that names a file.
     FileOption,
     /// An option that names a file, and excludes the argument of this name.
     FileInPlaceOf(&'static str),
+    /// An option that names a file, and takes the option of this name along.
+    FileAlong(&'static str),
     /// An option that names a file, takes the option of the first name along, and excludes the argument of the other.
     FileWith(&'static str, &'static str),
     /// An option of a text, and excludes the arguments of these names.
@@ -98,10 +102,18 @@ const SCREEN_NAME: &str = "screen";
 
 const STRICT_NAME: &str = "strict";
 
+const LINES_NAME: &str = "lines";
+
 const STRICT_HELP: &str = "End with status 8 if a fault ends the program";
 
 /// The seed that is made of the clock.
 pub const TIME: &str = "time";
+
+// The form in which it is told which transcripts passed, if the words don't say.
+const TEXT_FORM: &str = "text";
+
+/// That of other programs.
+pub const TAP_FORM: &str = "tap";
 
 /// The assemblers that listings are made for.
 pub const ASSEMBLERS: [&str; 4] = ["64tass", "ca65", "acme", "xa"];
@@ -320,6 +332,42 @@ pub const RECORD: Argument = Argument {
     name: "record",
     help: "Write all that was typed to this file at the end, for run --keys-file",
     form: Form::FileOption,
+};
+
+pub const RECORDED_TRANSCRIPT: Argument = Argument {
+    name: "transcript",
+    help: "Write all that was typed and sent to this file at the end, for test",
+    form: Form::FileInPlaceOf(PRG_NAME),
+};
+
+pub const TESTED_FILES: Argument = Argument {
+    name: "FILE",
+    help: "Sources with transcripts beside them, transcripts, and folders of these",
+    form: Form::Files,
+};
+
+pub const UPDATE: Argument = Argument {
+    name: "update",
+    help: "Write the transcripts anew, by what the programs send now",
+    form: Form::Flag,
+};
+
+pub const UNREACHED_LINES: Argument = Argument {
+    name: LINES_NAME,
+    help: "Show which lines no transcript reached",
+    form: Form::Flag,
+};
+
+pub const REACHED_PAGE: Argument = Argument {
+    name: "html",
+    help: "Write a page of how often each line ran to this file; with --lines",
+    form: Form::FileAlong(LINES_NAME),
+};
+
+pub const FORMAT_OF_TEST: Argument = Argument {
+    name: "format",
+    help: "How it is told which transcripts passed",
+    form: Form::ChoiceOr(&[TEXT_FORM, TAP_FORM], TEXT_FORM),
 };
 
 pub const SCREEN: Argument = Argument {

@@ -8,6 +8,7 @@ pub enum CommandName {
     Build,
     Run,
     Play,
+    Test,
     Asm,
     Assemble,
     Dis,
@@ -43,7 +44,7 @@ pub fn rows() -> &'static [CommandRow]
     &COMMANDS
 }
 
-static COMMANDS: [CommandRow; 17] = [
+static COMMANDS: [CommandRow; 18] = [
     CommandRow {
         command: CommandName::Build,
         name: "build",
@@ -61,6 +62,12 @@ static COMMANDS: [CommandRow; 17] = [
         name: "play",
         help: "Play a source or a PRG file: what you type is its keyboard",
         usage: Some("tbc play [OPTIONS] <SOURCE>\n       tbc play [OPTIONS] --prg <FILE>"),
+    },
+    CommandRow {
+        command: CommandName::Test,
+        name: "test",
+        help: "Run transcripts, and show where a program sends something else",
+        usage: None,
     },
     CommandRow {
         command: CommandName::Asm,

@@ -24,6 +24,6 @@ mod words;
 pub use parser::VERSION;
 pub use tb_jobs::{
     Asked, BuildExtras, Dialect, DisJob, DiskJob, Failure, FormatTarget, Job, JobError, Limit,
-    Notation, Runnable, Settings, Typed, USUAL_SEED, room_for_screen, typed_keys,
+    Notation, Runnable, Settings, TestForm, Typed, USUAL_SEED, room_for_screen, typed_keys,
 };
 pub use words::job;

@@ -26,7 +26,7 @@ fn is_named<S: AsStr>(words: &[S], name: &str) -> bool {
 pub fn parser<'a, S: AsStr>(alloc: Global, words: &[S]) -> Result<Command<'a>, AllocError> {
     let mut parser = Command::new(alloc, "tbc")
         .about(
-            "Compiles Tiny BASIC for the Commodore 64, assembles, lists, runs, plays, steps, debugs, profiles and checks",
+            "Compiles Tiny BASIC for the Commodore 64, assembles, lists, runs, plays, tests, steps, debugs, profiles and checks",
         )
         .version(VERSION)
         .no_binary_name(true)
@@ -97,9 +97,12 @@ fn clap_argument<'a>(alloc: Global, argument: &Argument) -> Result<Arg<'a>, Allo
         Form::FilesUnless(option) => plain.num_args(1..).required_unless_present(option),
         Form::Output => Ok(output_option(plain)),
         Form::OutputInPlaceOf(excluded) => output_option(plain).conflicts_with(excluded),
-        Form::Choice(names) => Ok(choice_option(plain, argument, names)),
+        Form::Choice(names) => Ok(choice_option(plain, argument, "ASSEMBLER", names)),
         Form::ChoiceWith(names, other) => {
-            choice_option(plain, argument, names).requires_arg(other)
+            choice_option(plain, argument, "ASSEMBLER", names).requires_arg(other)
+        }
+        Form::ChoiceOr(names, usual) => {
+            Ok(choice_option(plain, argument, "FORMAT", names).default_value(usual))
         }
         Form::FileOption => Ok(option(plain, argument, "FILE")),
         Form::FileWith(other, excluded) => {
@@ -108,6 +111,7 @@ fn clap_argument<'a>(alloc: Global, argument: &Argument) -> Result<Arg<'a>, Allo
                 excluded,
             )
         }
+        Form::FileAlong(other) => option(plain, argument, "FILE").requires_arg(other),
         Form::Digits => Ok(digits_option(plain, argument)),
         Form::Address => Ok(option(plain, argument, "HEX").required(true)),
         Form::AddressIfNamed => Ok(option(plain, argument, "HEX")),
@@ -137,9 +141,10 @@ fn option<'a>(plain: Arg<'a>, argument: &Argument, value: &'a str) -> Arg<'a> {
 fn choice_option<'a>(
     plain: Arg<'a>,
     argument: &Argument,
+    value: &'a str,
     names: &'static [&'static str],
 ) -> Arg<'a> {
-    option(plain, argument, "ASSEMBLER").value_parser(&*names)
+    option(plain, argument, value).value_parser(&*names)
 }
 
 fn output_option(plain: Arg<'_>) -> Arg<'_> {

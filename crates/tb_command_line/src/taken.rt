@@ -1,10 +1,11 @@
 //! The arguments that each command takes, in the order of its help text.
 use crate::arguments::{
     ANSWERS, ASSEMBLY_OUT, AT, Argument, BUILD_OUT, DISK_OUT, DISK_OUTPUT, FIRST_LINE, FIT, FOR,
-    FORCE, IN_PLACE, KEY_FILE, KEYS, LABELS, LIMIT, LINE_STEP, LIST, LIST_FOR, LONG, MAP,
-    ONLY_CHECK, ORIGIN, OUT, OUTPUT, PAGE, PAGE_OUT, PETSCII, PLAY_LIMIT, PLAY_STRICT, PRG,
-    PRG_FILE, PRG_FILES, PRG_LABELS, PRG_OF_PAGE, RECORD, RUDE, SCREEN, SEED, SOURCE,
-    SOURCE_OR_PRG, SOURCES, STRICT, TEXT, TITLE, TYPE, WATCH,
+    FORCE, FORMAT_OF_TEST, IN_PLACE, KEY_FILE, KEYS, LABELS, LIMIT, LINE_STEP, LIST, LIST_FOR,
+    LONG, MAP, ONLY_CHECK, ORIGIN, OUT, OUTPUT, PAGE, PAGE_OUT, PETSCII, PLAY_LIMIT, PLAY_STRICT,
+    PRG, PRG_FILE, PRG_FILES, PRG_LABELS, PRG_OF_PAGE, REACHED_PAGE, RECORD, RECORDED_TRANSCRIPT,
+    RUDE, SCREEN, SEED, SOURCE, SOURCE_OR_PRG, SOURCES, STRICT, TESTED_FILES, TEXT, TITLE, TYPE,
+    UNREACHED_LINES, UPDATE, WATCH,
 };
 use crate::commands::CommandName;
 
@@ -43,7 +44,7 @@ static DEBUG_ARGUMENTS: [Argument; 12] = [
     PRG_LABELS,
 ];
 
-static PLAY_ARGUMENTS: [Argument; 10] = [
+static PLAY_ARGUMENTS: [Argument; 11] = [
     SOURCE_OR_PRG,
     PRG,
     SEED,
@@ -51,9 +52,19 @@ static PLAY_ARGUMENTS: [Argument; 10] = [
     PETSCII,
     PLAY_LIMIT,
     RECORD,
+    RECORDED_TRANSCRIPT,
     SCREEN,
     FORCE,
     PLAY_STRICT,
+];
+
+static TEST_ARGUMENTS: [Argument; 6] = [
+    TESTED_FILES,
+    UPDATE,
+    UNREACHED_LINES,
+    REACHED_PAGE,
+    FORMAT_OF_TEST,
+    FORCE,
 ];
 
 static ASM_ARGUMENTS: [Argument; 5] = [TEXT, OUT, OUTPUT, AT, FORCE];
@@ -128,6 +139,7 @@ pub fn arguments_of(command: CommandName) -> &'static [Argument] {
         CommandName::Build => &BUILD_ARGUMENTS,
         CommandName::Run => &RUN_ARGUMENTS,
         CommandName::Play => &PLAY_ARGUMENTS,
+        CommandName::Test => &TEST_ARGUMENTS,
         CommandName::Asm => &ASM_ARGUMENTS,
         CommandName::Assemble => &ASSEMBLE_ARGUMENTS,
         CommandName::Dis => &DIS_ARGUMENTS,

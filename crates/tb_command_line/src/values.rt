@@ -5,14 +5,15 @@ ghost use Rattle.tb_jobs.specs.Numbers.{USUAL_STEP};
 ghost use Rattle.tb_command_line.specs.Values as spec;
 
 use crate::arguments::{
-    ANSWERS, Argument, FIT, FOR, FORCE, IN_PLACE, KEY_FILE, KEYS, LABELS, LIMIT, LIST, LONG, MAP,
-    ONLY_CHECK, PETSCII, PRG, RUDE, SCREEN, SEED, SOURCE_OR_PRG, STRICT, TIME, TYPE, WATCH,
+    ANSWERS, Argument, FIT, FOR, FORCE, FORMAT_OF_TEST, IN_PLACE, KEY_FILE, KEYS, LABELS, LIMIT,
+    LIST, LONG, MAP, ONLY_CHECK, PETSCII, PRG, RUDE, SCREEN, SEED, SOURCE_OR_PRG, STRICT, TAP_FORM,
+    TIME, TYPE, UNREACHED_LINES, UPDATE, WATCH,
 };
 use clap::ArgMatches;
 use std::alloc::{AllocError, Global};
 use tb_jobs::{
     BuildExtras, Dialect, FormatTarget, JobError, Limit, Notation, Runnable, Settings,
-    SourceOptions, Typed, USUAL_STEP,
+    SourceOptions, TestForm, Typed, USUAL_STEP,
 };
 
 /// A copy of the text of an argument, or an empty one if the parser let it be missing.
@@ -216,6 +217,33 @@ pub fn screen_of(found: &ArgMatches<'_>) -> bool
     ensures { spec.IsFlag (found_of found.now) (codes "screen") result }
 {
     found.get_flag(SCREEN.name)
+}
+
+/// Whether transcripts are written anew.
+#[tactic(auto, using(crate::proofs::Found::flag_said))]
+pub fn update_of(found: &ArgMatches<'_>) -> bool
+    ensures { spec.IsFlag (found_of found.now) (codes "update") result }
+{
+    found.get_flag(UPDATE.name)
+}
+
+/// Whether the lines are shown that no transcript reaches.
+#[tactic(auto, using(crate::proofs::Found::flag_said))]
+pub fn lines_of(found: &ArgMatches<'_>) -> bool
+    ensures { spec.IsFlag (found_of found.now) (codes "lines") result }
+{
+    found.get_flag(UNREACHED_LINES.name)
+}
+
+/// How it is told which transcripts passed. The parser lets no other name through.
+pub fn form_of(found: &ArgMatches<'_>) -> TestForm
+    ensures { result ≡ spec.form_in (found_of found.now) }
+{
+    if found.get_str(FORMAT_OF_TEST.name) == Some(TAP_FORM) {
+        TestForm::Tap
+    } else {
+        TestForm::Text
+    }
 }
 
 /// How many events a run may take.

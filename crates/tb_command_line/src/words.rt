@@ -8,16 +8,17 @@ ghost use Rattle.clap.specs.declared.parser.matches.Found.{Found};
 
 use crate::arguments::{
     ASSEMBLY_OUT, AT, BUILD_OUT, DISK_OUT, DISK_OUTPUT, FIRST_LINE, LABELS, LINE_STEP, LIST,
-    ORIGIN, OUT, OUTPUT, PAGE, PAGE_OUT, PLAY_LIMIT, PRG_FILE, PRG_FILES, PRG_LABELS, RECORD,
-    SOURCE, SOURCE_OR_PRG, SOURCES, TEXT, TITLE,
+    ORIGIN, OUT, OUTPUT, PAGE, PAGE_OUT, PLAY_LIMIT, PRG_FILE, PRG_FILES, PRG_LABELS,
+    REACHED_PAGE, RECORD, RECORDED_TRANSCRIPT, SOURCE, SOURCE_OR_PRG, SOURCES, TESTED_FILES, TEXT,
+    TITLE,
 };
 use crate::commands::{CommandName, command_named, rows};
 use crate::parser::{VERSION, parser};
 use crate::swaps::swap_text;
 use crate::values::{
-    dialect_of, extras_of, first_text, fit_of, force_of, in_place_of, is_by_clock, limit_of,
-    line_number_of, long_of, notation_of, optional_text, options_of, rude_of, runnable_of,
-    screen_of, settings_of, strict_of, target_of, text, texts,
+    dialect_of, extras_of, first_text, fit_of, force_of, form_of, in_place_of, is_by_clock,
+    limit_of, line_number_of, lines_of, long_of, notation_of, optional_text, options_of, rude_of,
+    runnable_of, screen_of, settings_of, strict_of, target_of, text, texts, update_of,
 };
 use clap::ArgMatches;
 use clap::error::ErrorKind;
@@ -27,6 +28,7 @@ use tb_files::{STANDARD, usual_out};
 use tb_jobs::{
     Asked, AsmJob, AssembleJob, BuildJob, CheckJob, DebugJob, DisJob, DiskJob, FormatJob, Job,
     JobError, Limit, PageJob, PlayJob, ProfileJob, RenumberJob, RunJob, Runnable, StepJob,
+    TestJob,
 };
 
 // What is said where a page is named twice, in the parser's form.
@@ -115,6 +117,7 @@ fn job_of(
         CommandName::Build => build_job(alloc, found, clock),
         CommandName::Run => run_job(alloc, found, clock),
         CommandName::Play => play_job(alloc, found, clock),
+        CommandName::Test => test_job(alloc, found),
         CommandName::Asm => asm_job(alloc, found),
         CommandName::Assemble => assemble_job(alloc, found),
         CommandName::Dis => dis_job(alloc, found),
@@ -172,9 +175,24 @@ fn play_job(alloc: Global, found: &ArgMatches<'_>, clock: Option<u16>) -> Result
         options: options_of(alloc, found, clock)?,
         limit: limit_of(found, &PLAY_LIMIT, Limit::most()),
         recording: optional_text(alloc, found, &RECORD)?,
+        transcript: optional_text(alloc, found, &RECORDED_TRANSCRIPT)?,
         screen: screen_of(found),
         force: force_of(found),
         strict: strict_of(found),
+    }))
+}
+
+fn test_job(alloc: Global, found: &ArgMatches<'_>) -> Result<Job, JobError>
+    ensures limit { IfOk result IsWithinLimit }
+    ensures asked { (clock : Option ℕ) → IfOk result (IsJob clock command.Test (found_of found.now)) }
+{
+    Ok(Job::Test(TestJob {
+        files: texts(alloc, found, &TESTED_FILES)?,
+        updates: update_of(found),
+        counts_lines: lines_of(found),
+        page: optional_text(alloc, found, &REACHED_PAGE)?,
+        form: form_of(found),
+        force: force_of(found),
     }))
 }
 

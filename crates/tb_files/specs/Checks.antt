@@ -8,7 +8,7 @@ use Rattle.tb_files.specs.declared.checks.Barred.TheVariants.{SameFile, Source, 
 use Rattle.tb_files.specs.declared.checks.Output.{Output}
 use Rattle.tb_files.specs.declared.checks.Seen.{Seen}
 use Rattle.tb_files.specs.declared.looks.Kind.{Kind}
-use Rattle.tb_files.specs.declared.looks.Kind.TheVariants.{Program, Code, Image, Labels, Listing, Map, Watch, Page, Keys}
+use Rattle.tb_files.specs.declared.looks.Kind.TheVariants.{Program, Code, Image, Labels, Listing, Map, Watch, Page, Keys, Transcript}
 use Rattle.tb_files.specs.declared.looks.Look.{Look}
 use Rattle.tb_files.specs.declared.places.Place.{Place}
 use Rattle.tb_files.specs.declared.places.Place.TheVariants.{File, Missing, Elsewhere}
@@ -37,6 +37,7 @@ is_listing Map = false
 is_listing Watch = false
 is_listing Page = false
 is_listing Keys = false
+is_listing Transcript = false
 
 -- a path ends as that of a text that people write, where this kind is to be written
 abbrev pub is_kept_name : Kind → List ℕ → Bool

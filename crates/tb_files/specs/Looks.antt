@@ -5,7 +5,7 @@ use Rattle.std.specs.List.{list_all, starts_with}
 use Rattle.tb_files.specs.Names.{ends_as, prg_ending}
 use Rattle.tb_files.specs.Numbers.{IMAGE_SIZE, MOST_PRG}
 use Rattle.tb_files.specs.declared.looks.Kind.{Kind}
-use Rattle.tb_files.specs.declared.looks.Kind.TheVariants.{Program, Code, Image, Labels, Listing, Map, Watch, Page, Keys}
+use Rattle.tb_files.specs.declared.looks.Kind.TheVariants.{Program, Code, Image, Labels, Listing, Map, Watch, Page, Keys, Transcript}
 use Rattle.tb_files.specs.declared.looks.Look.{Look}
 use Rattle.tb_files.specs.declared.looks.Row.{Row}
 use Rattle.tb_files.specs.declared.looks.Row.TheVariants.{Begins, Indented, Lacks, Whole}
@@ -79,6 +79,7 @@ has_look Map look = begins look (codes "part        addr   bytes    cost\n")
 has_look Watch look = begins look (codes "; For VICE's monitor: it stops where a ROM writes ")
 has_look Page look = begins look (codes "<!DOCTYPE html>\n<html lang=\"en\">\n<head>\n<meta charset=\"utf-8\">\n")
 has_look Keys look = list_all is_key_byte look.beginning.items
+has_look Transcript look = begins look (codes "# ")
 
 -- a file looks like one of a kind; an empty one does, since nothing is lost with it
 abbrev pub looks_like : Kind → Look → Bool

@@ -27,6 +27,8 @@ pub enum Kind {
     Page,
     /// A key file.
     Keys,
+    /// A transcript.
+    Transcript,
 }
 
 /// A regular file that is there: how many bytes it has, and the first of these, `MOST_LOOK` at most.
@@ -54,6 +56,8 @@ const MAP_HEAD: &[u8] = b"part        addr   bytes    cost\n";
 const WATCH_HEAD: &[u8] = b"; For VICE's monitor: it stops where a ROM writes ";
 
 const PAGE_HEAD: &[u8] = b"<!DOCTYPE html>\n<html lang=\"en\">\n<head>\n<meta charset=\"utf-8\">\n";
+
+const TRANSCRIPT_HEAD: &[u8] = b"# ";
 
 // Whether a byte may be one of a text: a character of ASCII, a tabulator or a line end.
 fn is_text_byte(byte: u8) -> bool
@@ -189,5 +193,6 @@ pub fn looks_like(kind: Kind, look: &Look) -> bool
             Kind::Watch => bytes.starts_with(WATCH_HEAD),
             Kind::Page => bytes.starts_with(PAGE_HEAD),
             Kind::Keys => are_keys(bytes),
+            Kind::Transcript => bytes.starts_with(TRANSCRIPT_HEAD),
         }
 }

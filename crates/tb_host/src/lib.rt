@@ -7,6 +7,7 @@
 //! says how a source is compiled, by the words of the command line and by its own (`specs/Settings`).
 #![tactic(auto)]
 
+mod folders;
 mod host;
 mod keys;
 mod labels;
@@ -16,6 +17,7 @@ mod seeds;
 mod system;
 mod waiting;
 
+pub use folders::{Kept, kept_at, transcripts_in};
 pub use host::{Asked, Host};
 pub use keys::keyboard;
 pub use labels::{labels_in, named_place};

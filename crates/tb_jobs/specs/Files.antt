@@ -6,7 +6,7 @@ use Rattle.hex.specs.Hex.{decode_of, is_hex_digit}
 use Rattle.std.specs.declared.string.String.{String}
 use Rattle.tb_files.specs.Looks.{code_kind}
 use Rattle.tb_files.specs.declared.looks.Kind.{Kind}
-use Rattle.tb_files.specs.declared.looks.Kind.TheVariants.{Program, Code, Image, Labels, Listing, Map, Watch, Keys}
+use Rattle.tb_files.specs.declared.looks.Kind.TheVariants.{Program, Code, Image, Labels, Listing, Map, Watch, Keys, Transcript}
 use Rattle.tb_files.specs.declared.looks.Kind.TheVariants as kind
 use Rattle.tb_jobs.specs.declared.jobs.BuildExtras.{BuildExtras}
 use Rattle.tb_jobs.specs.declared.jobs.Typed.{Typed}
@@ -14,7 +14,7 @@ use Rattle.tb_jobs.specs.declared.jobs.Typed.TheVariants.{Digits, File, Text}
 use Rattle.tb_jobs.specs.declared.jobs.Runnable.{Runnable}
 use Rattle.tb_jobs.specs.declared.jobs.Runnable.TheVariants.{Source, Prg}
 use Rattle.tb_jobs.specs.declared.jobs.Job.{Job}
-use Rattle.tb_jobs.specs.declared.jobs.Job.TheVariants.{Build, Run, Play, Asm, Assemble, Dis, Step, Debug, Profile, Page, Disk, Check, Format, Renumber, Lsp, Dap, Show}
+use Rattle.tb_jobs.specs.declared.jobs.Job.TheVariants.{Build, Run, Play, Test, Asm, Assemble, Dis, Step, Debug, Profile, Page, Disk, Check, Format, Renumber, Lsp, Dap, Show}
 
 -- where standard input is found as a file
 abbrev pub standard_input : List ℕ
@@ -62,6 +62,7 @@ path_of (Prg program) = string_bytes program
 abbrev pub kept_of : Job → List (List ℕ)
 kept_of (Build j) = input_path (string_bytes j.source) ∷ []
 kept_of (Play j) = input_path (path_of j.what) ∷ standard_input ∷ standard_output ∷ []
+kept_of (Test j) = standard_output ∷ map (λ f. input_path (string_bytes f)) j.files.items
 kept_of (Asm j) = input_path (string_bytes j.text) ∷ []
 kept_of (Assemble j) = input_path (string_bytes j.text) ∷ []
 kept_of (Profile j) = input_path (path_of j.what) ∷ standard_output ∷ keys_of j.settings.keys
@@ -82,7 +83,8 @@ kept_of (Show text) = []
 -- these: its new text takes its own place.
 abbrev pub Writes : Job → List (List ℕ × Kind) → Type 0
 Writes (Build j) puts = puts ≡ (output_path (string_bytes j.out), Program) ∷ wanted_beside j.beside
-Writes (Play j) puts = puts ≡ wanted Keys j.recording
+Writes (Play j) puts = puts ≡ wanted Keys j.recording ++ wanted Transcript j.transcript
+Writes (Test j) puts = puts ≡ wanted kind.Page j.page
 Writes (Asm j) puts =
     (address : Option ℕ) × IsAddress (string_bytes j.at) address × (puts ≡ (output_path (string_bytes j.out), code_kind (string_bytes j.out) address) ∷ [])
 Writes (Assemble j) puts =
@@ -105,6 +107,7 @@ Writes (Show text) puts = puts ≡ []
 abbrev pub is_forced : Job → Bool
 is_forced (Build j) = j.force
 is_forced (Play j) = j.force
+is_forced (Test j) = j.force
 is_forced (Asm j) = j.force
 is_forced (Assemble j) = j.force
 is_forced (Profile j) = j.force

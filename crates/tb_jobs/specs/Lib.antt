@@ -5,4 +5,5 @@ pub mod Seeds
 pub mod Statuses
 pub mod Strictness
 pub mod Terminals
+pub mod Transcripts
 pub mod Typing

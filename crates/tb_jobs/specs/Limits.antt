@@ -3,7 +3,7 @@ use Rattle.std.specs.Prelude.{◌≤◌, ⊤}
 use Rattle.tb_engines.specs.Numbers.{MOST_EVENTS}
 use Rattle.tb_jobs.specs.declared.jobs.Limit.{Limit}
 use Rattle.tb_jobs.specs.declared.jobs.Job.{Job}
-use Rattle.tb_jobs.specs.declared.jobs.Job.TheVariants.{Build, Run, Play, Asm, Assemble, Dis, Step, Debug, Profile, Page, Disk, Check, Format, Renumber, Lsp, Dap, Show}
+use Rattle.tb_jobs.specs.declared.jobs.Job.TheVariants.{Build, Run, Play, Test, Asm, Assemble, Dis, Step, Debug, Profile, Page, Disk, Check, Format, Renumber, Lsp, Dap, Show}
 
 -- a limit of 1 to MOST_EVENTS events
 abbrev pub IsWithin : Limit → Type 0
@@ -14,6 +14,7 @@ abbrev pub IsWithinLimit : Job → Type 0
 IsWithinLimit (Build j) = ⊤
 IsWithinLimit (Run j) = IsWithin j.settings.limit
 IsWithinLimit (Play j) = IsWithin j.limit
+IsWithinLimit (Test j) = ⊤
 IsWithinLimit (Asm j) = ⊤
 IsWithinLimit (Assemble j) = ⊤
 IsWithinLimit (Dis j) = ⊤

@@ -4,7 +4,7 @@ use Rattle.tb_jobs.specs.Numbers.{CLOCK_SEEDS}
 use Rattle.tb_jobs.specs.declared.jobs.Runnable.{Runnable}
 use Rattle.tb_jobs.specs.declared.jobs.Runnable.TheVariants.{Source, Prg}
 use Rattle.tb_jobs.specs.declared.jobs.Job.{Job}
-use Rattle.tb_jobs.specs.declared.jobs.Job.TheVariants.{Build, Run, Play, Asm, Assemble, Dis, Step, Debug, Profile, Page, Disk, Check, Format, Renumber, Lsp, Dap, Show}
+use Rattle.tb_jobs.specs.declared.jobs.Job.TheVariants.{Build, Run, Play, Test, Asm, Assemble, Dis, Step, Debug, Profile, Page, Disk, Check, Format, Renumber, Lsp, Dap, Show}
 
 -- the seed that is made of a time in milliseconds: one of 1 to CLOCK_SEEDS, and the next one a millisecond later
 abbrev pub clock_seed : ℕ → ℕ
@@ -24,6 +24,7 @@ seed_of (Step j) = seed_for j.what j.settings.options.seed
 seed_of (Debug j) = seed_for j.what j.settings.options.seed
 seed_of (Profile j) = seed_for j.what j.settings.options.seed
 seed_of (Page j) = seed_for j.what j.options.seed
+seed_of (Test j) = None
 seed_of (Asm j) = None
 seed_of (Assemble j) = None
 seed_of (Dis j) = None

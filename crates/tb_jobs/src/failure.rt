@@ -73,6 +73,7 @@ fn kind_text(kind: Kind) -> &'static str {
         Kind::Watch => "a watch file",
         Kind::Page => "a page of tbc",
         Kind::Keys => "a key file",
+        Kind::Transcript => "a transcript",
     }
 }
 

@@ -69,11 +69,11 @@ fn written_by_build<'a>(
     with_wanted(outputs, Kind::Watch, &beside.watch)
 }
 
-// The paths of inputs.
-fn all_inputs(alloc: Global, files: &[String]) -> Result<Vec<&str>, AllocError>
-    ensures { IfOk result (λ r. map (λ p. p.now) r.items ≡ map (λ f. input_path (string_bytes f)) files.now) }
+// Paths, and those of inputs behind them.
+fn with_inputs<'a>(mut paths: Vec<&'a str>, files: &'a [String]) -> Result<Vec<&'a str>, AllocError>
+    ensures { IfOk result (λ r. map (λ p. p.now) r.items
+        ≡ map (λ p. p.now) paths.entry.items ++ map (λ f. input_path (string_bytes f)) files.now) }
 {
-    let mut paths = Vec::new(alloc);
     for file in files {
         paths.push(input_path(file.as_str()))?;
     }
@@ -117,7 +117,8 @@ impl Job {
             Job::Asm(job) => one(alloc, input_path(job.text.as_str())),
             Job::Assemble(job) => one(alloc, input_path(job.text.as_str())),
             Job::Page(job) => one(alloc, path_of(&job.what)),
-            Job::Disk(job) => all_inputs(alloc, job.files.as_slice()),
+            Job::Disk(job) => with_inputs(Vec::new(alloc), job.files.as_slice()),
+            Job::Test(job) => with_inputs(one(alloc, STANDARD_OUTPUT)?, job.files.as_slice()),
             Job::Play(job) => {
                 let mut paths = one(alloc, path_of(&job.what))?;
                 paths.push(STANDARD_INPUT)?;
@@ -150,7 +151,11 @@ impl Job {
                 let outputs = with_wanted(outputs, Kind::Labels, &job.labels)?;
                 with_wanted(outputs, Kind::Listing, &job.listing)
             }
-            Job::Play(job) => with_wanted(Vec::new(alloc), Kind::Keys, &job.recording),
+            Job::Play(job) => {
+                let outputs = with_wanted(Vec::new(alloc), Kind::Keys, &job.recording)?;
+                with_wanted(outputs, Kind::Transcript, &job.transcript)
+            }
+            Job::Test(job) => with_wanted(Vec::new(alloc), Kind::Page, &job.page),
             Job::Profile(job) => with_wanted(Vec::new(alloc), Kind::Page, &job.html),
             _ => Ok(Vec::new(alloc)),
         }
@@ -163,6 +168,7 @@ impl Job {
         match self {
             Job::Build(job) => job.force,
             Job::Play(job) => job.force,
+            Job::Test(job) => job.force,
             Job::Asm(job) => job.force,
             Job::Assemble(job) => job.force,
             Job::Profile(job) => job.force,

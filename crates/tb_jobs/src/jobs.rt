@@ -6,6 +6,7 @@ use std::alloc::AllocError;
 use tb_dialects::Dialect;
 use tb_engines::{MOST_EVENTS, USUAL_EVENTS};
 use tb_text::Notation;
+use tb_transcripts::TestForm;
 
 /// The first new line number, and the step to the next one, if the words don't say.
 pub const USUAL_STEP: u16 = 10;
@@ -151,12 +152,31 @@ pub struct PlayJob {
     pub limit: Limit,
     /// The key file that is written of all that was typed, if it is wanted.
     pub recording: Option<String>,
+    /// The transcript that is written of what was typed and sent, if it is wanted. A PRG file has none.
+    pub transcript: Option<String>,
     /// Whether the machine's screen is shown, in place of the host form of what is sent.
     pub screen: bool,
     /// Whether a file is replaced that looks like something else.
     pub force: bool,
     /// Whether a fault of the program has a status of its own.
     pub strict: bool,
+}
+
+/// Transcripts that are tried.
+#[derive(Debug, Drop)]
+pub struct TestJob {
+    /// Sources, transcripts and folders, in order.
+    pub files: Vec<String>,
+    /// Whether the transcripts are written anew.
+    pub updates: bool,
+    /// Whether the lines are shown that no transcript reaches.
+    pub counts_lines: bool,
+    /// The page that is written of how often each line ran, if it is wanted.
+    pub page: Option<String>,
+    /// In which form it is told which of them passed.
+    pub form: TestForm,
+    /// Whether a file is replaced that looks like something else.
+    pub force: bool,
 }
 
 /// A text that is assembled to a PRG file.
@@ -288,6 +308,7 @@ pub enum Job {
     Build(BuildJob),
     Run(RunJob),
     Play(PlayJob),
+    Test(TestJob),
     Asm(AsmJob),
     Assemble(AssembleJob),
     Dis(DisJob),

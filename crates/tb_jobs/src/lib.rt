@@ -14,13 +14,14 @@ mod numbers;
 mod seeds;
 mod strictness;
 mod terminals;
+mod transcripts;
 mod typing;
 
 pub use failure::Failure;
 pub use jobs::{
     Asked, AsmJob, AssembleJob, BuildExtras, BuildJob, CheckJob, DebugJob, DisJob, DiskJob,
     FormatJob, FormatTarget, Job, JobError, Limit, PageJob, PlayJob, ProfileJob, RenumberJob,
-    RunJob, Runnable, Settings, SourceOptions, StepJob, Typed, USUAL_STEP,
+    RunJob, Runnable, Settings, SourceOptions, StepJob, TestJob, Typed, USUAL_STEP,
 };
 pub use numbers::constants_are_numbers;
 pub use seeds::{CLOCK_SEEDS, clock_seed};
@@ -28,5 +29,7 @@ pub use tb_compiled::USUAL_SEED;
 pub use tb_dialects::Dialect;
 pub use tb_engines::{MOST_EVENTS, USUAL_EVENTS};
 pub use tb_text::Notation;
+pub use tb_transcripts::TestForm;
 pub use terminals::room_for_screen;
+pub use transcripts::{is_transcript, source_of, transcript_of};
 pub use typing::typed_keys;

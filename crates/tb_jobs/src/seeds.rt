@@ -40,7 +40,8 @@ impl Job {
             Job::Step(job) => seed_for(&job.what, job.settings.options.seed),
             Job::Debug(job) => seed_for(&job.what, job.settings.options.seed),
             Job::Profile(job) => seed_for(&job.what, job.settings.options.seed),
-            Job::Asm(_)
+            Job::Test(_)
+            | Job::Asm(_)
             | Job::Assemble(_)
             | Job::Dis(_)
             | Job::Disk(_)

@@ -13,6 +13,7 @@ impl Job {
             Job::Run(job) => job.strict,
             Job::Play(job) => job.strict,
             Job::Build(_)
+            | Job::Test(_)
             | Job::Asm(_)
             | Job::Assemble(_)
             | Job::Dis(_)

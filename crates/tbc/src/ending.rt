@@ -7,7 +7,7 @@ use tb_disk_engine::DiskOutcome;
 use tb_engines::Report;
 use tb_file_engine::{FormatOutcome, RenumberOutcome};
 use tb_language_server::ServerOutcome;
-use tb_run_commands::Ran;
+use tb_run_commands::{Ran, TestOutcome};
 use tb_sources::NotedRun;
 
 /// How a job ended.
@@ -17,6 +17,8 @@ pub enum Ending {
     Report(Report),
     /// A run.
     Run(Ran),
+    /// A test of transcripts.
+    Test(TestOutcome),
     /// The making of a disk.
     Disk(DiskOutcome),
     /// A check of sources.
@@ -39,6 +41,7 @@ impl Ending {
         match self {
             Ending::Report(report) => report.status(),
             Ending::Run(ran) => ran.status(is_strict),
+            Ending::Test(outcome) => outcome.status(),
             Ending::Disk(outcome) => outcome.status(),
             Ending::Check(outcome) => outcome.status(),
             Ending::Format(outcome) => outcome.status(),
@@ -92,6 +95,7 @@ impl fmt::Display for Ending {
                 report.fmt(f)
             }
             Ending::Run(Ran::Plain(outcome, _)) => write_line(outcome, f),
+            Ending::Test(outcome) => write_line(outcome, f),
             Ending::Disk(outcome) => write_line(outcome, f),
             Ending::Check(outcome) => write_line(outcome, f),
             Ending::Format(outcome) => write_line(outcome, f),

@@ -44,7 +44,7 @@ struct Terminals {
 }
 
 // Does what the words ask for, and says how it ended: the exit status.
-fn start<R: Files + Env + Clock + Print + Eprint + Input + AllocGlobal>(
+fn start<R: Files + Env + Clock + Print + Eprint + Input + AllocGlobal + Clone + Drop>(
     rt: &R,
     terminals: Terminals,
 ) -> u8 {

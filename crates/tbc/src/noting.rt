@@ -7,7 +7,7 @@ use tb_command_line::{Asked, Failure, Job};
 use tb_engines::Outcome;
 use tb_file_engine::{FormatOutcome, RenumberOutcome, RenumberRefusal};
 use tb_host::Host;
-use tb_run_commands::Ran;
+use tb_run_commands::{Ran, TestOutcome};
 use tb_terminal_notes::{
     clash, file_note, note_disk, note_labels, note_outcome, note_place, note_seed, noted_sources,
     say,
@@ -62,6 +62,8 @@ pub fn note<R: Files + Print + Eprint + Input + AllocGlobal>(
         }
         Ok(Ending::Text(TextOutcome::ReadFault | TextOutcome::WriteFault)) => { file_note(host) }
         Ok(Ending::Text(_)) => {}
+        Ok(Ending::Test(TestOutcome::ReadFault | TestOutcome::WriteFault)) => { file_note(host) }
+        Ok(Ending::Test(_)) => {}
         Ok(Ending::Format(_) | Ending::Renumber(_) | Ending::Server(_) | Ending::Adapter(_)) => {}
         Err(Failure::SameFile) => clash(host, job),
         Err(Failure::BadLabels(line)) => note_labels(host, *line),

@@ -9,7 +9,7 @@ use tb_engines::{End, Outcome, Report};
 use tb_file_engine::{disk_file, list_file};
 use tb_files::{Barred, Output, may_write};
 use tb_host::Host;
-use tb_run_commands::{debug, play, profile, run, step};
+use tb_run_commands::{debug, play, profile, run, step, test};
 use tb_streams::{Tracked, write_output};
 use tb_text_commands::{
     assemble, assemble_at, build, check_files, format_file, page, renumber_file, serve_debugger,
@@ -18,7 +18,7 @@ use tb_text_commands::{
 
 /// Does what the words ask for, if the files that are to be written may be. A prompt is shown before a debugger's command
 /// where that is wanted.
-pub fn perform<R: Files + Env + Clock + Print + Eprint + Input + AllocGlobal>(
+pub fn perform<R: Files + Env + Clock + Print + Eprint + Input + AllocGlobal + Clone + Drop>(
     host: &mut Host<'_, R>,
     job: &Job,
     prompts: bool,
@@ -29,6 +29,7 @@ pub fn perform<R: Files + Env + Clock + Print + Eprint + Input + AllocGlobal>(
         Job::Build(job) => Ok(Ending::Report(build(host, job))),
         Job::Run(job) => Ok(Ending::Run(run(host, job)?)),
         Job::Play(job) => Ok(Ending::Run(play(host, job)?)),
+        Job::Test(job) => Ok(Ending::Test(test(host, job))),
         Job::Asm(job) => Ok(plain_ending(rt, assemble_at(host, job)?)),
         Job::Assemble(job) => Ok(Ending::Text(assemble(host, job)?)),
         Job::Dis(job) => Ok(plain_ending(rt, list(host, job))),

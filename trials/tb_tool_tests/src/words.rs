@@ -7,7 +7,7 @@ use tb_command_line::{Failure, job, room_for_screen};
 const CLOCK: u16 = 4711;
 
 /// Words, and the job that they become.
-static JOBS: [(&[&str], &str); 28] = [
+static JOBS: [(&[&str], &str); 35] = [
     (
         &["build", "a", "b"],
         "Ok(Build(BuildJob { source: \"a\", out: \"b\", options: SourceOptions { seed: None, fit: false, notation: Plain }, beside: BuildExtras { labels: None, listing: None, dialect: None, map: None, watch: None }, force: false }))",
@@ -82,21 +82,49 @@ static JOBS: [(&[&str], &str); 28] = [
     ),
     (
         &["play", "a"],
-        "Ok(Play(PlayJob { what: Source(\"a\"), options: SourceOptions { seed: None, fit: false, notation: Plain }, limit: Limit { events: 1000000000 }, recording: None, screen: false, force: false, strict: false }))",
+        "Ok(Play(PlayJob { what: Source(\"a\"), options: SourceOptions { seed: None, fit: false, notation: Plain }, limit: Limit { events: 1000000000 }, recording: None, transcript: None, screen: false, force: false, strict: false }))",
     ),
     (
         &[
             "play", "--prg=p", "--seed", "9", "--limit", "5", "--record", "r",
         ],
-        "Ok(Play(PlayJob { what: Prg(\"p\"), options: SourceOptions { seed: Some(9), fit: false, notation: Plain }, limit: Limit { events: 5 }, recording: Some(\"r\"), screen: false, force: false, strict: false }))",
+        "Ok(Play(PlayJob { what: Prg(\"p\"), options: SourceOptions { seed: Some(9), fit: false, notation: Plain }, limit: Limit { events: 5 }, recording: Some(\"r\"), transcript: None, screen: false, force: false, strict: false }))",
     ),
     (
         &["play", "a", "--fit"],
-        "Ok(Play(PlayJob { what: Source(\"a\"), options: SourceOptions { seed: None, fit: true, notation: Plain }, limit: Limit { events: 1000000000 }, recording: None, screen: false, force: false, strict: false }))",
+        "Ok(Play(PlayJob { what: Source(\"a\"), options: SourceOptions { seed: None, fit: true, notation: Plain }, limit: Limit { events: 1000000000 }, recording: None, transcript: None, screen: false, force: false, strict: false }))",
     ),
     (
         &["play", "--screen", "a"],
-        "Ok(Play(PlayJob { what: Source(\"a\"), options: SourceOptions { seed: None, fit: false, notation: Plain }, limit: Limit { events: 1000000000 }, recording: None, screen: true, force: false, strict: false }))",
+        "Ok(Play(PlayJob { what: Source(\"a\"), options: SourceOptions { seed: None, fit: false, notation: Plain }, limit: Limit { events: 1000000000 }, recording: None, transcript: None, screen: true, force: false, strict: false }))",
+    ),
+    (
+        &["play", "a", "--transcript", "t", "--record", "r"],
+        "Ok(Play(PlayJob { what: Source(\"a\"), options: SourceOptions { seed: None, fit: false, notation: Plain }, limit: Limit { events: 1000000000 }, recording: Some(\"r\"), transcript: Some(\"t\"), screen: false, force: false, strict: false }))",
+    ),
+    (
+        &["play", "a", "--transcript=t", "--screen", "--force"],
+        "Ok(Play(PlayJob { what: Source(\"a\"), options: SourceOptions { seed: None, fit: false, notation: Plain }, limit: Limit { events: 1000000000 }, recording: None, transcript: Some(\"t\"), screen: true, force: true, strict: false }))",
+    ),
+    (
+        &["test", "a"],
+        "Ok(Test(TestJob { files: [\"a\"], updates: false, counts_lines: false, page: None, form: Text, force: false }))",
+    ),
+    (
+        &["test", "--update", "a.bas", "b.1.transcript", "c"],
+        "Ok(Test(TestJob { files: [\"a.bas\", \"b.1.transcript\", \"c\"], updates: true, counts_lines: false, page: None, form: Text, force: false }))",
+    ),
+    (
+        &["test", "a", "--lines", "--html", "h", "--force"],
+        "Ok(Test(TestJob { files: [\"a\"], updates: false, counts_lines: true, page: Some(\"h\"), form: Text, force: true }))",
+    ),
+    (
+        &["test", "a", "--lines", "--format", "tap"],
+        "Ok(Test(TestJob { files: [\"a\"], updates: false, counts_lines: true, page: None, form: Tap, force: false }))",
+    ),
+    (
+        &["test", "--format=text", "a"],
+        "Ok(Test(TestJob { files: [\"a\"], updates: false, counts_lines: false, page: None, form: Text, force: false }))",
     ),
     (
         &["asm", "a", "b", "--at", "c00"],
@@ -132,7 +160,7 @@ static JOBS: [(&[&str], &str); 28] = [
     ),
     (
         &["play", "a", "--petscii", "--screen"],
-        "Ok(Play(PlayJob { what: Source(\"a\"), options: SourceOptions { seed: None, fit: false, notation: Signs }, limit: Limit { events: 1000000000 }, recording: None, screen: true, force: false, strict: false }))",
+        "Ok(Play(PlayJob { what: Source(\"a\"), options: SourceOptions { seed: None, fit: false, notation: Signs }, limit: Limit { events: 1000000000 }, recording: None, transcript: None, screen: true, force: false, strict: false }))",
     ),
 ];
 
@@ -371,12 +399,12 @@ static SCRIPT_JOBS: [(&[&str], &str); 6] = [
     ),
     (
         &["play", "a", "--strict", "--seed", "time"],
-        "Ok(Play(PlayJob { what: Source(\"a\"), options: SourceOptions { seed: Some(4711), fit: false, notation: Plain }, limit: Limit { events: 1000000000 }, recording: None, screen: false, force: false, strict: true }))",
+        "Ok(Play(PlayJob { what: Source(\"a\"), options: SourceOptions { seed: Some(4711), fit: false, notation: Plain }, limit: Limit { events: 1000000000 }, recording: None, transcript: None, screen: false, force: false, strict: true }))",
     ),
 ];
 
 /// Words that are refused.
-static REFUSED: [&[&str]; 70] = [
+static REFUSED: [&[&str]; 80] = [
     &["run", "a", "--seed", "noon"],
     &["run", "a", "--seed", "TIME"],
     &["run", "a", "--seed", ""],
@@ -443,6 +471,16 @@ static REFUSED: [&[&str]; 70] = [
     &["play", "a", "--record"],
     &["play", "a", "--screen=yes"],
     &["run", "a", "--screen"],
+    &["play", "a", "--transcript"],
+    &["play", "--prg", "p", "--transcript", "t"],
+    &["test"],
+    &["test", "a", "--html", "h"],
+    &["test", "a", "--html"],
+    &["test", "a", "--lines=yes"],
+    &["test", "a", "--format"],
+    &["test", "a", "--format", "TAP"],
+    &["test", "a", "--seed", "7"],
+    &["run", "a", "--transcript", "t"],
     &["dap", "a"],
     &["lsp", "a"],
     &["check"],

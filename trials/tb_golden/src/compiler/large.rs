@@ -1,14 +1,7 @@
-//! Programs that only `compile_to_fit` compiles: their sizes, and what they show.
-use crate::notation::bytes_of;
+//! Programs that only `compile_to_fit` compiles: their sizes.
 use crate::page::Page;
-use std::alloc::Global;
 use tb_codegen::{Options, compile, compile_to_fit};
 use tb_compiled::{CompileError, Compiled};
-use tb_driver::{Outcome, Tracked, run_prg};
-use tb_kernal::{Keyboard, Outside, Quiet, Rude};
-
-/// More events than a play-through takes.
-const LIMIT: u64 = 100_000_000;
 
 // A source, compiled whatever it costs.
 fn fitted(page: &mut Page, source: &[u8]) -> Option<Compiled> {
@@ -32,34 +25,4 @@ pub fn put_size(page: &mut Page, source: &[u8]) {
         page.put(size);
         page.put(" bytes\n");
     }
-}
-
-// How a program ends with these keys, and what it shows.
-fn ran<O: Outside>(
-    page: &mut Page,
-    program: &Compiled,
-    keys: &str,
-    outside: &mut O,
-    screen: &mut Tracked<Vec<u8>>,
-) -> Outcome {
-    let alloc = page.alloc();
-    let keyboard = Keyboard {
-        text: bytes_of(page, keys),
-        answers: Vec::new(alloc),
-    };
-    let mut file = Tracked::new(program.prg());
-    run_prg(alloc, &mut file, screen, keyboard, LIMIT, outside)
-}
-
-/// Appends how a program ends with these keys and what it shows, first with a quiet ROM and then with a rude one.
-pub fn put_played(page: &mut Page, source: &[u8], keys: &str) {
-    let Some(program) = fitted(page, source) else {
-        return;
-    };
-    let alloc: Global = page.alloc();
-    let mut screen = Tracked::new(Vec::new(alloc));
-    let outcome = ran(page, &program, keys, &mut Quiet, &mut screen);
-    let mut other = Tracked::new(Vec::new(alloc));
-    let rude = ran(page, &program, keys, &mut Rude::new(1), &mut other);
-    super::programs::put_both(page, (&outcome, &screen.stream), (&rude, &other.stream));
 }

@@ -1,13 +1,12 @@
 //! What the compiler makes: files, the addresses of lines, warnings, and what programs show.
 use crate::compiler::sources::{compiled, push_lines, source_of};
-use crate::notation::{bytes_of, cut, hex_word, number, word};
+use crate::notation::{cut, hex_word, number, word};
 use crate::page::Page;
 use std::alloc::Global;
-use tb_codegen::{Options, TinyBasic, compile};
-use tb_compiled::{CompileSettings, Compiled, Notation};
-use tb_driver::{Outcome, Tracked, build, run_prg, run_text};
-use tb_kernal::{Keyboard, Outside, Quiet, Rude};
-use tb_sources::run_within;
+use tb_codegen::{Options, compile};
+use tb_compiled::Compiled;
+use tb_driver::{Tracked, build, run_prg};
+use tb_kernal::Quiet;
 use tb_test_support::no_keys;
 
 // The file that `build` writes for a source, as its bytes.
@@ -171,86 +170,4 @@ pub fn put_cuts(page: &mut Page, row: &str) {
         }
     }
     page.put("all compile\n");
-}
-
-// A keyboard with these keys.
-fn keyboard_of(page: &mut Page, keys: &str) -> Keyboard {
-    Keyboard {
-        text: bytes_of(page, keys),
-        answers: Vec::new(page.alloc()),
-    }
-}
-
-// How a source's run ends, and what it shows.
-fn ran<O: Outside>(
-    alloc: Global,
-    source: &[u8],
-    keyboard: Keyboard,
-    outside: &mut O,
-    screen: &mut Tracked<Vec<u8>>,
-) -> Outcome {
-    let mut source = Tracked::new(source);
-    let report = run_text(alloc, &mut source, screen, 1, keyboard, 10_000_000, outside);
-    report.outcome
-}
-
-/// Appends how a source's run ends with these keys and what it shows, first with a quiet ROM and then with a rude one.
-pub fn put_runs(page: &mut Page, source: &[u8], keys: &str) {
-    let alloc = page.alloc();
-    let mut screen = Tracked::new(Vec::new(alloc));
-    let keyboard = keyboard_of(page, keys);
-    let outcome = ran(alloc, source, keyboard, &mut Quiet, &mut screen);
-    let mut other = Tracked::new(Vec::new(alloc));
-    let keyboard = keyboard_of(page, keys);
-    let rude = ran(alloc, source, keyboard, &mut Rude::new(1), &mut other);
-    put_both(page, (&outcome, &screen.stream), (&rude, &other.stream));
-}
-
-// The same of a source whose texts have signs.
-fn ran_with_signs<O: Outside>(
-    alloc: Global,
-    source: &[u8],
-    keyboard: Keyboard,
-    outside: &mut O,
-    screen: &mut Tracked<Vec<u8>>,
-) -> Outcome {
-    let mut source = Tracked::new(source);
-    let settings = CompileSettings {
-        notation: Notation::Signs,
-        ..CompileSettings::by_cost(1)
-    };
-    let report = run_within(
-        &TinyBasic,
-        alloc,
-        &mut source,
-        screen,
-        settings,
-        keyboard,
-        10_000_000,
-        outside,
-    );
-    report.outcome
-}
-
-/// Appends the same of a source whose texts have signs.
-pub fn put_runs_with_signs(page: &mut Page, source: &[u8], keys: &str) {
-    let alloc = page.alloc();
-    let mut screen = Tracked::new(Vec::new(alloc));
-    let keyboard = keyboard_of(page, keys);
-    let outcome = ran_with_signs(alloc, source, keyboard, &mut Quiet, &mut screen);
-    let mut other = Tracked::new(Vec::new(alloc));
-    let keyboard = keyboard_of(page, keys);
-    let rude = ran_with_signs(alloc, source, keyboard, &mut Rude::new(1), &mut other);
-    put_both(page, (&outcome, &screen.stream), (&rude, &other.stream));
-}
-
-/// Appends how two runs of a program ended, with a quiet ROM and with a rude one, and what they showed.
-pub fn put_both(page: &mut Page, quiet: (&Outcome, &[u8]), rude: (&Outcome, &[u8])) {
-    page.put_debug(quiet.0);
-    page.put(", beside a rude ROM ");
-    page.put_debug(rude.0);
-    page.put(", the same text: ");
-    page.put(quiet.1 == rude.1);
-    page.put("\n");
-    page.put_ascii(quiet.1);
 }

@@ -2,6 +2,9 @@
 use Rattle.clap.specs.Words.{found_of}
 use Rattle.tb_command_line.proofs.words.job_of.Goals as goal
 
+pub returns-in-Test-clause-asked : goal.returns-in-Test-clause-asked
+returns-in-Test-clause-asked c = rw c.in-Test.is (c.test_job.ensures.asked c.args.clock)
+
 pub returns-in-Asm-clause-asked : goal.returns-in-Asm-clause-asked
 returns-in-Asm-clause-asked c = rw c.in-Asm.is (c.asm_job.ensures.asked c.args.clock)
 
