@@ -1,1 +1,3 @@
 pub mod Talking
+mod Flat
+pub mod Past

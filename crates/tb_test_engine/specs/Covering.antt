@@ -5,7 +5,7 @@ use Rattle.tb_profile_table.specs.Cells.{escaped}
 use Rattle.tb_source_text.specs.Lines.{last_of, numbered}
 use Rattle.tb_test_engine.specs.Reaching.{reached_in}
 use Rattle.tb_test_engine.specs.declared.covering.Coverage.{Coverage}
-use Rattle.tb_test_engine.specs.declared.page.TheConstants.{BEGUN, FOOT, HEAD, LINE, LINE_END, NEVER, ROWS, ROWS_END, SECTION, SHARE}
+use Rattle.tb_test_engine.specs.declared.page.TheConstants.{BEGUN, FOOT, HEAD, LINE, LINE_END, NEVER, NOT_REACHED, ROWS, ROWS_END, SECTION, SHARE}
 use Rattle.tb_test_engine.specs.declared.reaching.Reach.{Reach}
 
 -- a source by its name, its text, and how often its lines were begun
@@ -35,17 +35,21 @@ share_text reached all = share_words reached all (share reached all)
 abbrev pub missed : Reach → List ℕ
 missed r = if nat_eq r.times 0 then codes " " ++ decimal r.number else []
 
--- the lines of a source that were not reached
-unfoldable pub missed_list : List Reach → List ℕ
-missed_list lines = codes "\n  not reached:" ++ flat_map missed lines
+-- pieces, one after the other
+abbrev pub joined : List (List ℕ) → List ℕ
+joined pieces = flat_map (λ p. p) pieces
 
--- these, if there are any
-abbrev pub missed_text : List Reach → List ℕ
-missed_text lines = if nat_lt (reached_in lines) (length lines) then missed_list lines else []
+-- what stands before the numbers of the lines that were not reached; nothing if there are none
+abbrev pub missed_words : List Reach → List ℕ
+missed_words lines = if nat_lt (reached_in lines) (length lines) then NOT_REACHED.now else []
+
+-- what is told of a source, by its parts
+abbrev pub source_line : (name share words missed : List ℕ) → List ℕ
+source_line name share words missed = joined (name ∷ codes ": " ∷ share ∷ words ∷ missed ∷ codes "\n" ∷ [])
 
 -- what is told of a source: how many of its lines were reached, and which were not
-unfoldable pub source_text : Covered → List ℕ
-source_text c = c.name ++ codes ": " ++ share_text (reached_in c.lines) (length c.lines) ++ missed_text c.lines ++ codes "\n"
+abbrev pub source_text : Covered → List ℕ
+source_text c = source_line c.name (share_text (reached_in c.lines) (length c.lines)) (missed_words c.lines) (flat_map missed c.lines)
 
 -- how the row of a line begins, by how often the line was begun
 abbrev pub opening_of : ℕ → List ℕ
@@ -54,14 +58,18 @@ opening_of times = if nat_eq times 0 then NEVER.now else BEGUN.now
 -- the row of a line: how often it was begun, and the line
 abbrev pub line_row : List (ℕ × List ℕ) → Reach → List ℕ
 line_row written r =
-    opening_of r.times ++ decimal r.times ++ LINE.now ++ flat_map escaped (last_of [] r.number written) ++ LINE_END.now
+    joined (opening_of r.times ∷ decimal r.times ∷ LINE.now ∷ flat_map escaped (last_of [] r.number written) ∷ LINE_END.now ∷ [])
+
+-- the rows of the lines of a source
+abbrev pub source_rows : Covered → List ℕ
+source_rows c = flat_map (line_row (numbered c.source)) c.lines
 
 -- the part of a page that shows a source
-unfoldable pub section : Covered → List ℕ
+abbrev pub section : Covered → List ℕ
 section c =
-    SECTION.now ++ flat_map escaped c.name ++ SHARE.now ++ share_text (reached_in c.lines) (length c.lines) ++ ROWS.now
-    ++ flat_map (line_row (numbered c.source)) c.lines ++ ROWS_END.now
+    joined
+    (SECTION.now ∷ flat_map escaped c.name ∷ SHARE.now ∷ share_text (reached_in c.lines) (length c.lines) ∷ ROWS.now ∷ source_rows c ∷ ROWS_END.now ∷ [])
 
 -- the page of sources
 abbrev pub coverage_page : List Covered → List ℕ
-coverage_page sources = HEAD.now ++ flat_map section sources ++ FOOT.now
+coverage_page sources = joined (HEAD.now ∷ flat_map section sources ∷ FOOT.now ∷ [])

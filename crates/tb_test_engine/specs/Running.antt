@@ -6,7 +6,8 @@ use Rattle.tb_kernal.specs.declared.outside.Quiet.{Quiet}
 use Rattle.tb_kernal.specs.declared.status.Status.{Status}
 use Rattle.tb_kernal.specs.declared.status.Status.TheVariants as machine
 use Rattle.tb_kernal.specs.Machine.{Content}
-use Rattle.tb_kernal.specs.Outsides.{rude_event, seed_after}
+use Rattle.tb_kernal.specs.Outsides.{rude_event}
+use Rattle.tb_words.specs.Words.{seed_after}
 use Rattle.tb_compiled.specs.Compiled.{loaded_of, starts_of}
 use Rattle.tb_compiled.specs.declared.compiled.Compiled.{Compiled}
 use Rattle.tb_engines.specs.Programs.{start}

@@ -34,9 +34,9 @@ AreCounted true program None = ⊥
 AreCounted false program counted = counted ≡ None
 
 -- how a program is talked to
-pub record IsManner (program : Compiled) (notation : Notation) (counting : Counting) (manner : Manner) : Type 0 where
+pub record IsManner (program : Compiled) (shown : Notation) (counting : Counting) (manner : Manner) : Type 0 where
   pub limit : manner.limit ≡ counting.limit
-  pub notation : manner.notation ≡ notation
+  pub notation : manner.notation ≡ shown
   pub counted : AreCounted counting.counts_lines program manner.counted
 
 -- the lines that are typed in a transcript
@@ -64,9 +64,9 @@ as_transcript options run = record { options = options; end = run.end; turns = r
 
 -- A program that was tested: its run on what is typed in the transcript, as a transcript of its own with the same
 -- options, where this differs from what was wanted, and how often its lines were begun.
-pub record IsTested (program : Compiled) (notation : Notation) (wanted : Transcript) (counting : Counting) (tested : Tested) : Type 0 where
+pub record IsTested (program : Compiled) (shown : Notation) (wanted : Transcript) (counting : Counting) (tested : Tested) : Type 0 where
   pub manner : Manner
-  pub is : IsManner program notation counting manner
+  pub is : IsManner program shown counting manner
   pub run : Ran
   pub runs : RunsBeside wanted.options.rude manner program (lines_of wanted) run
   pub ran : tested.ran ≡ as_transcript wanted.options run

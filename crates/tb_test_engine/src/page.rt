@@ -1,4 +1,7 @@
-//! The fixed texts of a page of reached lines. It needs nothing else, no script, and no colours to be read.
+//! The fixed texts of reached lines. Their page needs nothing else, no script, and no colours to be read.
+
+/// What comes before the numbers of lines that were not reached.
+pub const NOT_REACHED: &[u8] = b"\n  not reached:";
 
 /// What comes before the first source.
 pub const HEAD: &[u8] = b"<!DOCTYPE html>

@@ -64,13 +64,13 @@ fn go_past<O: Outside>(
     let mut left = room;
     for _ in 0..manner.limit {
         if !machine.status().is_running() {
-            break;
+            return Ok(());
         }
         let before = machine.sent().len();
         run(machine, outside, 1)?;
         let width = shown(alloc, sent_after(machine, before), manner.notation)?.len();
         if left < width {
-            break;
+            return Ok(());
         }
         left -= width;
     }

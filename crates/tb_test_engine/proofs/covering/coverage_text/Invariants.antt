@@ -1,5 +1,5 @@
 -- What holds at each turn of the loop of `coverage_text` in src/covering.rt.
-use Rattle.std.proofs.Common.{◌≡◌, ◌≤◌, ◌++◌, map, take, drop}
+use Rattle.std.proofs.Common.{◌≡◌, map, take}
 use Rattle.std.specs.Prelude.{flat_map}
 use Rattle.tb_test_engine.specs.Covering.{covered_of, source_text}
 use Rattle.tb_test_engine.proofs.covering.coverage_text.Given as goal
