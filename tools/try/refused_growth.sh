@@ -209,8 +209,6 @@ check test all.bas
 check test bad.transcript nowhere.bas
 check test games --lines --html page.html
 check test games hello.bas --format tap --lines
-cp hello.bas beside.bas
-printf 'HALLO\n' >beside.transcript
 check test hello.transcript --update
 printf '1\n2\n' >commands
 check play all.bas --transcript beside.transcript --seed 7

@@ -1,6 +1,8 @@
 //! The names of transcripts: each is beside its source, and has its name.
-ghost use Rattle.std.specs.Prelude.{◌≡◌, IfOk, codes, string_bytes};
-ghost use Rattle.tb_jobs.specs.Transcripts.{EndsAs, IsSourceOf, IsStem, IsTranscriptOf, IsUnnumbered, is_number};
+ghost use Rattle.std.specs.Char.{is_ascii_digit};
+ghost use Rattle.std.specs.List.{list_all};
+ghost use Rattle.std.specs.Prelude.{◌≡◌, ◌++◌, IfOk, codes, string_bytes};
+ghost use Rattle.tb_jobs.specs.Transcripts.{EndsAs, IsSourceOf, IsStem, IsTranscriptOf, IsUnnumbered, ending_of, is_number};
 
 use std::alloc::{AllocError, Global};
 
@@ -14,7 +16,10 @@ const SOURCE_ENDING: &str = ".bas";
 pub fn is_transcript(path: &str) -> bool
     ensures { EndsAs (codes ".transcript") path.now result }
 {
-    path.strip_suffix(".transcript").is_some()
+    match path.strip_suffix(".transcript") {
+        Some(_) => true,
+        None => false,
+    }
 }
 
 // A path without this ending, if it has that.
@@ -24,11 +29,18 @@ fn stem_of<'a>(path: &'a str, ending: &str) -> &'a str
     path.strip_suffix(ending).unwrap_or(path)
 }
 
+// Whether all bytes are digits.
+fn are_digits(bytes: &[u8]) -> bool
+    ensures { result ≡ list_all is_ascii_digit bytes.now }
+{
+    bytes.iter().all(|byte| byte.is_ascii_digit())
+}
+
 // Whether a text is a number: digits alone, at least one.
 fn is_number(text: &str) -> bool
     ensures { result ≡ is_number text.now }
 {
-    !text.is_empty() && text.as_bytes().iter().all(|byte| byte.is_ascii_digit())
+    !text.is_empty() && are_digits(text.as_bytes())
 }
 
 // A name without the number behind a dot at its end, if it has one.
@@ -36,8 +48,8 @@ fn unnumbered(name: &str) -> &str
     ensures { IsUnnumbered name.now result.now }
 {
     match name.rsplit_once(".") {
-        Some((front, number)) if is_number(number) => front,
-        _ => name,
+        Some((front, number)) => if is_number(number) { front } else { name },
+        None => name,
     }
 }
 
@@ -54,7 +66,13 @@ pub fn source_of(alloc: Global, transcript: &str) -> Result<String, AllocError>
 pub fn transcript_of(alloc: Global, source: &str, number: u16) -> Result<String, AllocError>
     ensures { IfOk result (λ name. IsTranscriptOf source.now number (string_bytes name)) }
 {
-    let stem = stem_of(source, SOURCE_ENDING);
+    numbered(alloc, stem_of(source, SOURCE_ENDING), number)
+}
+
+// A name with the ending of the transcript of a number.
+fn numbered(alloc: Global, stem: &str, number: u16) -> Result<String, AllocError>
+    ensures { IfOk result (λ name. string_bytes name ≡ stem.now ++ ending_of number) }
+{
     if number == 0 {
         format!(in alloc; "{stem}.transcript")
     } else {

@@ -87,7 +87,7 @@ row 1 'tbc: bad.transcript: line 2*' $'ok wait.transcript\nok wait.1.transcript\
     test wait.bas bad.transcript drawn.transcript
 file refused.bas '10 PRIMT\n'
 file refused.transcript ''
-row 1 'tbc: refused.bas: 1:4: syntax' $'not ok refused.transcript\n0 passed, 1 failed' test refused.bas
+row 1 'tbc: refused.bas: 1:7: syntax' $'not ok refused.transcript\n0 passed, 1 failed' test refused.bas
 file alone.transcript ''
 row 3 'tbc: alone.bas: read fault' $'not ok alone.transcript\n0 passed, 1 failed' test alone.transcript
 row 3 'tbc: nowhere.transcript: read fault' $'not ok nowhere.transcript\n0 passed, 1 failed' test nowhere.transcript
@@ -122,16 +122,17 @@ holds drawn.3.transcript '# seed 7\n# ends\n47\n'
 row 5 'tbc: step limit' A play forever.bas --limit 1000 --transcript forever.transcript
 holds forever.transcript '# limit 1000\n# runs\nA\n'
 row 0 '' '*1 passed, 0 failed' test forever.bas
+rm signs.transcript
 row 0 '' '{93}A' play signs.bas --petscii --transcript signs.transcript
 holds signs.transcript '# petscii\n# ends\n{clr}A\n'
 file notes.txt 'B\n'
 row 2 'tbc: notes.txt is not a transcript: --force replaces it' '' play drawn.bas --transcript notes.txt
-row 0 '' 27 play drawn.bas --transcript notes.txt --force
-holds notes.txt '# ends\n27\n'
+row 0 '' 61 play drawn.bas --transcript notes.txt --force
+holds notes.txt '# ends\n61\n'
 row 2 'tbc: drawn.bas is a source' '' play hello.bas --transcript drawn.bas
 row 2 'tbc: same file twice' '' play drawn.bas --transcript drawn.bas
 row 2 'tbc: same file twice' '' play drawn.bas --transcript out.keys --record out.keys
 row 3 'tbc: write fault' HELLO play hello.bas --transcript nowhere/out.transcript
-row 1 'tbc: 1:4: syntax' '' play refused.bas --transcript new.transcript
+row 1 'tbc: 1:7: syntax' '' play refused.bas --transcript new.transcript
 row 2 'error: *' '' play --prg once.prg --transcript new.transcript
 [ ! -e new.transcript ] || failed=$((failed + 1))
