@@ -6,7 +6,9 @@ ghost use Rattle.tb_source_text.specs.Lines.{pair_of};
 ghost use Rattle.tb_test_engine.specs.Covering.{covered_of, coverage_page, line_row, missed, missed_words, opening_of, section, share, share_text, share_words, source_line, source_rows, source_text};
 ghost use Rattle.tb_test_engine.specs.Reaching.{plus};
 
-use crate::page::{BEGUN, FOOT, HEAD, LINE, LINE_END, NEVER, NOT_REACHED, ROWS, ROWS_END, SECTION, SHARE};
+use crate::page::{
+    BEGUN, FOOT, HEAD, LINE, LINE_END, NEVER, NOT_REACHED, ROWS, ROWS_END, SECTION, SHARE,
+};
 use crate::reaching::{Reach, plus, reached_in};
 use std::alloc::{AllocError, Global};
 use tb_profile_table::push_all_escaped;
@@ -42,12 +44,7 @@ fn share(reached: usize, all: usize) -> u128
 }
 
 // So many of all lines, and their share.
-fn share_words(
-    alloc: Global,
-    reached: usize,
-    all: usize,
-    share: u128,
-) -> Result<String, AllocError>
+fn share_words(alloc: Global, reached: usize, all: usize, share: u128) -> Result<String, AllocError>
     ensures { IfOk result (λ text. string_bytes text ≡ share_words reached all share) }
 {
     Ok(format!(in alloc; "{reached} of {all} lines reached ({share} %)")?)
@@ -151,11 +148,7 @@ fn times_text(alloc: Global, times: u64) -> Result<String, AllocError>
 }
 
 // The row of a line: how often it was begun, and the line.
-fn line_row(
-    alloc: Global,
-    written: &[Numbered<'_>],
-    line: Reach,
-) -> Result<Vec<u8>, AllocError>
+fn line_row(alloc: Global, written: &[Numbered<'_>], line: Reach) -> Result<Vec<u8>, AllocError>
     ensures { IfOk result (λ row. row.items ≡ line_row (map pair_of written.now) line) }
 {
     let times = times_text(alloc, line.times)?;

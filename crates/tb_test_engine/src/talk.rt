@@ -81,7 +81,14 @@ fn take_events<O: Outside>(
             Ok((status, Vec::new(alloc)))
         }
         Some(starts) => {
-            let table = profile(alloc, machine, outside, starts, manner.limit, &mut Unwatched)?;
+            let table = profile(
+                alloc,
+                machine,
+                outside,
+                starts,
+                manner.limit,
+                &mut Unwatched,
+            )?;
             Ok((table.status, table.rows))
         }
     }

@@ -16,8 +16,8 @@ returns-then-left-width g c =
     let (events, many, gave, longer, sizes, first) = past_more g.O.Outside.gives _ _ _ _ _ _ _ _ _ _ _ c.loop.invariant (runs _ running) c.in_ok-run.ensures.ran in
     let size : c.len-width.result ≡ length c.in_ok-shown.field-0.items = search rules in
     let width : c.len-width.result ≡ length (shown_as c.args.manner.now.notation (sent_since c.loop.machine c.run.new.machine)) =
-        size ∙ ap length c.in_ok-shown.ensures ∙ ap (λ b. length (shown_as c.args.manner.now.notation b)) c.sent_after.ensures
-        ∙ ap (λ b. length (shown_as c.args.manner.now.notation (drop (length b) c.run.new.machine.sent))) c.sent-before.ensures in
+    size ∙ ap length c.in_ok-shown.ensures ∙ ap (λ b. length (shown_as c.args.manner.now.notation b)) c.sent_after.ensures
+    ∙ ap (λ b. length (shown_as c.args.manner.now.notation (drop (length b) c.run.new.machine.sent))) c.sent-before.ensures in
     let below = c.loop-test.true in
     let more = c.if-left-width.true in
     record { events = events; few = omega (arith, many, below); gave = gave; ends = inl (omega (arith, sizes, width, more)); first = inr first }
@@ -28,7 +28,7 @@ loop-preserved g c =
     let (events, many, gave, longer, sizes, first) = past_more g.O.Outside.gives _ _ _ _ _ _ _ _ _ _ _ c.loop.invariant (runs _ running) c.in_ok-run.ensures.ran in
     let size : c.len-width.result ≡ length c.in_ok-shown.field-0.items = search rules in
     let width : c.len-width.result ≡ length (shown_as c.args.manner.now.notation (sent_since c.loop.machine c.run.new.machine)) =
-        size ∙ ap length c.in_ok-shown.ensures ∙ ap (λ b. length (shown_as c.args.manner.now.notation b)) c.sent_after.ensures
-        ∙ ap (λ b. length (shown_as c.args.manner.now.notation (drop (length b) c.run.new.machine.sent))) c.sent-before.ensures in
+    size ∙ ap length c.in_ok-shown.ensures ∙ ap (λ b. length (shown_as c.args.manner.now.notation b)) c.sent_after.ensures
+    ∙ ap (λ b. length (shown_as c.args.manner.now.notation (drop (length b) c.run.new.machine.sent))) c.sent-before.ensures in
     let fits = c.if-left-width.false in
     record { events = events; counted = many; gave = gave; longer = longer; shown = omega (arith, sizes, width, fits); first = inr first }

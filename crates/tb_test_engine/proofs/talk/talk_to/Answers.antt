@@ -16,10 +16,10 @@ loop-line-preserved g c =
     let waiting : is_waiting c.in_ok-now.now.status ≡ true = search rules in
     let pushed : c.push.new.self.items ≡ c.loop-line.rows.items ++ c.in_ok-now.now.rows ∷ [] = search rules in
     let split : map (λ v. v.items) (drop c.loop-line.line-index c.args.lines.now) ≡ c.line-item.result.items ∷ map (λ v. v.items) (drop (c.loop-line.line-index + 1) c.args.lines.now) = at_drop_more (map (λ v. v.items)) c.args.lines.now c.loop-line.line-index c.line-item.result c.loop-line-test.true
-        ∙ ap (λ y. y.items ∷ map (λ v. v.items) (drop (c.loop-line.line-index + 1) c.args.lines.now)) (sym c.line-item.is) in
+    ∙ ap (λ y. y.items ∷ map (λ v. v.items) (drop (c.loop-line.line-index + 1) c.args.lines.now)) (sym c.line-item.is) in
     let (turn, more, grown, sent, typed) = c.in_ok-type_line.ensures in
     let here = subst (λ r. GoesOn g.O.Outside.gives c.args.outside.now c.args.machine.now c.args.manner.now (map (λ v. v.items) c.args.lines.now)
-        c.loop-line.outside c.loop-line.machine r c.loop-line.turns.items c.loop-line.rows.items) split c.loop-line.invariant in
+    c.loop-line.outside c.loop-line.machine r c.loop-line.turns.items c.loop-line.rows.items) split c.loop-line.invariant in
     let went = subst (λ t. Goes g.O.Outside.gives c.loop-line.outside c.loop-line.machine c.args.manner.now t c.in_ok-now.now.sent.items c.in_ok-now.now.rows.items c.go_on.new.outside c.go_on.new.machine) (waits _ waiting) c.in_ok-now.ensures in
     let goes = subst (λ x. Goes g.O.Outside.gives c.loop-line.outside c.loop-line.machine c.args.manner.now _ x c.in_ok-now.now.rows.items c.go_on.new.outside c.go_on.new.machine) (sym sent) went in
     rw grown (rw pushed (one_more g.O.Outside.gives _ _ _ _ _ _ c.line-item.result.items _ _ _ turn c.in_ok-now.now.rows _ _ _ here goes (search rules) (search rules)))
@@ -30,5 +30,5 @@ returns g c =
     let past : length c.args.lines.now ≤ c.loop-line.line-index = search rules in
     let none : map (λ v. v.items) (drop c.loop-line.line-index c.args.lines.now) ≡ [] = at_drop_all (map (λ v. v.items)) c.args.lines.now c.loop-line.line-index past in
     let here = subst (λ r. GoesOn g.O.Outside.gives c.args.outside.now c.args.machine.now c.args.manner.now (map (λ v. v.items) c.args.lines.now)
-        c.loop-line.outside c.loop-line.machine r c.loop-line.turns.items c.loop-line.rows.items) none c.loop-line.invariant in
+    c.loop-line.outside c.loop-line.machine r c.loop-line.turns.items c.loop-line.rows.items) none c.loop-line.invariant in
     rw pushed (ends_here g.O.Outside.gives _ _ _ _ _ _ _ _ _ _ _ _ _ _ here c.in_ok-now-2.ensures (stops_last _))

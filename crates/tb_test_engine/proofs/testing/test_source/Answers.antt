@@ -4,6 +4,7 @@ use Rattle.tb_compiled.specs.Answers.{IsAnswer}
 use Rattle.tb_test_engine.specs.Reaching.{reached}
 use Rattle.tb_test_engine.specs.Running.{RunsBeside}
 use Rattle.tb_test_engine.specs.Testing.{IsDiffers, lines_of}
+use Rattle.tb_transcripts.specs.declared.transcript.Transcript.{Transcript}
 use Rattle.tb_test_engine.proofs.testing.test_source.Goals as goal
 
 pub returns : goal.returns
@@ -12,7 +13,7 @@ returns g c =
     let manner = c.in_ok-manner.manner in
     let run = c.in_ok-turns.field-0 in
     let wanted = c.args.wanted.now in
-    let ran = record { options = wanted.options; end = run.end; turns = run.turns; last = run.last } in
+    let ran : Transcript = record { options = wanted.options; end = run.end; turns = run.turns; last = run.last } in
     let typed : map (λ v. v.items) c.deref.result.now ≡ lines_of wanted = ap (map (λ v. v.items)) c.deref.ensures.value ∙ c.in_ok-lines.ensures in
     let again : map (λ v. v.items) c.deref-2.result.now ≡ lines_of wanted = ap (map (λ v. v.items)) c.deref-2.ensures.value ∙ c.in_ok-lines.ensures in (
       program,
@@ -24,7 +25,7 @@ returns g c =
         runs = subst (λ ls. RunsBeside wanted.options.rude manner program ls run) typed c.in_ok-turns.ensures;
         ran = refl;
         differs = subst (λ ls. IsDiffers program wanted ran ls manner c.in_ok-differs.differs) again c.in_ok-differs.ensures;
-        reached = c.in_ok-reached.ensures ∙ ap (λ rs. reached (map (λ rows. rows.items) rs)) (c.deref-3.ensures.value ∙ ap (λ v. v.items) c.in_ok-turns.rows-is);
+        reached = c.in_ok-reached.ensures ∙ ap (λ rs. reached (map (λ rows. rows.items) rs)) c.deref-3.ensures.value;
         warnings = c.into_warnings.ensures;
       },
     )
