@@ -5,8 +5,8 @@ use std::io::{self, ErrorKind};
 use std::rt::Files;
 use tb_jobs::is_transcript;
 
-/// The most folders, one in the other, that are looked into.
-const MOST_DEEP: u32 = 64;
+/// The most folders that are looked into.
+const MOST_FOLDERS: u32 = 65536;
 
 /// What is at a path, or nobody knows.
 #[derive(Clone, Copy, PartialEq, Eq, Debug, Drop)]
@@ -26,22 +26,11 @@ pub fn kept_at<R: Files>(rt: &R, path: &str) -> Result<Kept, AllocError> {
     }
 }
 
-/// The transcripts of a folder and of those in it, in the order of their names. A link to a folder is not followed.
-pub fn transcripts_in<R: Files + AllocGlobal + Clone + Drop>(
+// What is in a folder: its own folders, and transcripts. A link to a folder is neither.
+fn look_into<R: Files + AllocGlobal + Clone + Drop>(
     rt: &R,
     folder: &str,
-) -> io::Result<Vec<String>> {
-    let mut found = Vec::new(rt.alloc());
-    gather(rt, folder, MOST_DEEP, &mut found)?;
-    found.sort_unstable();
-    Ok(found)
-}
-
-// Those of a folder, behind those that were found before.
-fn gather<R: Files + AllocGlobal + Clone + Drop>(
-    rt: &R,
-    folder: &str,
-    deep: u32,
+    folders: &mut Vec<String>,
     found: &mut Vec<String>,
 ) -> io::Result<()> {
     for entry in fs::read_dir(rt, folder)? {
@@ -49,13 +38,28 @@ fn gather<R: Files + AllocGlobal + Clone + Drop>(
         let path = entry.path();
         let path = path.as_os_str();
         if entry.file_type()?.is_dir() {
-            if deep == 0 {
-                return Err(io::Error::from(ErrorKind::InvalidFilename));
-            }
-            gather(rt, path, deep - 1, found)?;
+            folders.push(String::from_str(rt.alloc(), path)?)?;
         } else if is_transcript(path) && kept_at(rt, path)? == Kept::Other {
             found.push(String::from_str(rt.alloc(), path)?)?;
         }
     }
     Ok(())
+}
+
+/// The transcripts of a folder and of those in it, in the order of their names. A link to a folder is not followed.
+pub fn transcripts_in<R: Files + AllocGlobal + Clone + Drop>(
+    rt: &R,
+    folder: &str,
+) -> io::Result<Vec<String>> {
+    let mut found = Vec::new(rt.alloc());
+    let mut folders = Vec::new(rt.alloc());
+    folders.push(String::from_str(rt.alloc(), folder)?)?;
+    for _ in 0..MOST_FOLDERS {
+        let Some(next) = folders.pop() else {
+            found.sort_unstable();
+            return Ok(found);
+        };
+        look_into(rt, next.as_str(), &mut folders, &mut found)?;
+    }
+    Err(io::Error::from(ErrorKind::InvalidFilename))
 }

@@ -1,11 +1,11 @@
 -- A machine that goes on until more is sent than a place allows.
-use Rattle.std.proofs.Common.{◌≡◌, ◌≢◌, ◌⊎◌, inl, inr, ◌≤◌, ◌<◌, ◌+◌, ◌-◌, ℕ, Ok, List, [], ◌∷◌, ◌++◌, length, drop, refl, sym, ap, subst, ◌∙◌, arith, length-append}
+use Rattle.std.proofs.Common.{zero, suc, true, map, min, take, ◌≡◌, ◌≢◌, ◌⊎◌, inl, inr, ◌≤◌, ◌<◌, ◌+◌, ◌-◌, ℕ, Ok, List, [], ◌∷◌, ◌++◌, length, drop, refl, sym, ap, subst, ◌∙◌, arith, length-append}
 use Rattle.std.specs.Prelude.{Result}
 use Rattle.std.specs.declared.alloc.AllocError.{AllocError}
 use Rattle.tb_kernal.specs.declared.events.Event.{Event}
 use Rattle.tb_kernal.specs.declared.status.Status.{Status}
-use Rattle.tb_kernal.specs.declared.status.Status.TheVariants.{Running}
-use Rattle.tb_kernal.specs.Machine.{Content, state_of, status}
+use Rattle.tb_kernal.specs.declared.status.Status.TheVariants.{Running, Waits, Returned, Wrong}
+use Rattle.tb_kernal.specs.Machine.{Content, is_running, state_of, status}
 use Rattle.tb_kernal.specs.Runs.{Answered, Gave, RanOver}
 use Rattle.tb_kernal.proofs.Giving.{gave_all}
 use Rattle.tb_engines.specs.Writing.{sent_since}
@@ -77,3 +77,18 @@ past_more gives o m manner room q k left count t p n before running ran =
       omega (arith, sizes, shown),
       (before.events, q, k, before.gave, omega (arith, many, counted), omega (arith, shown)),
     )
+
+-- a machine that runs has the status of that name
+pub runs : (t : Status) → is_running t ≡ true → t ≡ Running
+runs Running h = refl
+runs Waits h = absurd (cc)
+runs Returned h = absurd (cc)
+runs (Wrong w) h = absurd (cc)
+
+-- the first lines of a list, as many as there are
+pub typed_before : {A B : Type 0} (f : A → B) (xs : List A) (turn : ℕ) → map f (take (min turn (length xs)) xs) ≡ take turn (map f xs)
+typed_before f xs zero = let none : min zero (length xs) ≡ zero = omega arith in ap (λ k. map f (take k xs)) none
+typed_before f [] (suc turn) = let none : min (suc turn) 0 ≡ 0 = omega arith in ap (λ k. map f (take k [])) none
+typed_before f (x ∷ xs) (suc turn) =
+    let on : min (suc turn) (length (x ∷ xs)) ≡ suc (min turn (length xs)) = omega arith in
+    ap (λ k. map f (take k (x ∷ xs))) on ∙ ap (λ rest. f x ∷ rest) (typed_before f xs turn)

@@ -5,7 +5,7 @@ use Rattle.tb_kernal.specs.declared.events.Event.{Event}
 use Rattle.tb_kernal.specs.declared.outside.Quiet.{Quiet}
 use Rattle.tb_kernal.specs.declared.status.Status.{Status}
 use Rattle.tb_kernal.specs.declared.status.Status.TheVariants as machine
-use Rattle.tb_kernal.specs.Machine.{Content}
+use Rattle.tb_kernal.specs.Machine.{Content, state_of, status as status_of}
 use Rattle.tb_kernal.specs.Outsides.{rude_event}
 use Rattle.tb_words.specs.Words.{seed_after}
 use Rattle.tb_compiled.specs.Compiled.{loaded_of, starts_of}
@@ -42,7 +42,7 @@ pub record RunsLines {O : Type 0} (gives : O → Content → Event → O → Typ
   pub machine : Content
   pub status : Status
   pub talked : TalksFrom gives o (start BASIC_START (loaded_of program) [] []) manner lines ran.turns.items ran.rows.items ran.last.items status outside machine
-  pub end : ran.end ≡ run_end status (end_note program status machine)
+  pub end : ran.end ≡ run_end status (end_note program (status_of (state_of machine)) machine)
 
 -- what a rude ROM with this seed does
 abbrev pub gives_rude : ℕ → Content → Event → ℕ → Type 0

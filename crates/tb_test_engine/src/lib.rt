@@ -1,8 +1,8 @@
 //! Tests of programs: a source's program is run on what is typed in a transcript, and compared with it.
 //!
-//! - `test_source` compiles a source, types each line of the transcript when the program waits, and answers the run as a
-//!   transcript (`TalksFrom`: each stretch is a run, and what is sent in it is shown as `tbc run` shows it), how it ended,
-//!   and where it differs. It doesn't exactly if what was sent and typed and the end are the transcript's (`differs`).
+//! - `test_source` compiles a source, and types each line of the transcript when the program waits. It answers the run as
+//!   a transcript, with its end, and where it differs. Each stretch is a run, of which all that is sent is shown as
+//!   `tbc run` shows it (`TalksFrom`). Nothing differs exactly if what was sent and typed and the end are the transcript's.
 //! - Where it differs, `line` is the line that the program was in when it sent what differs first (`LineBeside`).
 //! - `reached` has how often each line was begun: the sum of its times over all stretches (`Tabled` of tb_profile_table).
 //! - `record` answers the transcript of a play: what was typed is run again.

@@ -134,7 +134,7 @@ pub fn record<K: Compile>(
     settings: CompileSettings,
     play: Play<'_>,
 ) -> Result<Transcript, Failure>
-    ensures { Records K.own source.items settings play result }
+    ensures { Records K.own source.items settings play.entry result }
 {
     let source = compile_source(compiler, alloc, source, settings)?;
     let lines = lines_typed(alloc, play.typed)?;
