@@ -1,3 +1,4 @@
 pub mod Talking
 mod Flat
 pub mod Past
+pub mod Writable

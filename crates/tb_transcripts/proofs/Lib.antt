@@ -14,6 +14,8 @@ pub mod Lines
 pub mod MarkedLines
 -- where the first piece of a text ends
 pub mod Pieces
+-- what is read can come of a run
+pub mod ReadWritable
 -- a transcript that is written is read as it was
 pub mod RoundTrip
 -- whether two transcripts are the same, and how far

@@ -1,7 +1,8 @@
 //! Transcripts: what a program sends, as it is shown, with what is typed, and above it what is asked for and the end
 //! that is wanted.
 //!
-//! - `read_transcript` answers what a text says, or its first line that is bad and why (`specs/Reading`).
+//! - `read_transcript` answers what a text says, or its first line that is bad and why (`specs/Reading`). What it answers
+//!   can come of a run (`IsWritable`).
 //! - `transcript_text` is the canonical text of a transcript (`specs/Writing`). Read again it is the same transcript, if
 //!   this one can come of a run: nothing sent has a byte 13, nothing typed a byte 10 or 13, and numbers are in range
 //!   (`IsWritable`).

@@ -1,7 +1,7 @@
 //! How a transcript is read.
-ghost use Rattle.std.specs.Prelude.{◌≡◌, ◌<◌, ◌+◌, length, Ok};
+ghost use Rattle.std.specs.Prelude.{◌≡◌, ◌<◌, ◌+◌, length, IfOk, Ok};
 ghost use Rattle.tb_text.specs.Lines.{lines_of_file};
-ghost use Rattle.tb_transcripts.specs.Contents.{content_of};
+ghost use Rattle.tb_transcripts.specs.Contents.{content_of, IsWritable};
 ghost use Rattle.tb_transcripts.specs.Reading as spec;
 ghost use Rattle.tb_transcripts.specs.Reading.{Reads, Takes, state_of};
 
@@ -102,7 +102,9 @@ fn read_below(alloc: Global, number: usize, text: &[u8]) -> Result<Reading, Unre
 
 /// What a transcript says: the one of a text, or its first line that is bad and why.
 pub fn read_transcript(alloc: Global, text: &[u8]) -> Result<Transcript, Unread>
-    ensures { Reads (spec.read text.now) content_of result }
+    ensures value { Reads (spec.read text.now) content_of result }
+    // It can come of a run.
+    ensures writable { IfOk result (λ t. IsWritable (content_of t)) }
 {
     let begun = match read_header(text) {
         Ok(begun) => begun,
