@@ -8,9 +8,8 @@ ghost use Rattle.clap.specs.declared.parser.matches.Found.{Found};
 
 use crate::arguments::{
     ASSEMBLY_OUT, AT, BUILD_OUT, DISK_OUT, DISK_OUTPUT, FIRST_LINE, LABELS, LINE_STEP, LIST,
-    ORIGIN, OUT, OUTPUT, PAGE, PAGE_OUT, PLAY_LIMIT, PRG_FILE, PRG_FILES, PRG_LABELS,
-    REACHED_PAGE, RECORD, RECORDED_TRANSCRIPT, SOURCE, SOURCE_OR_PRG, SOURCES, TESTED_FILES, TEXT,
-    TITLE,
+    ORIGIN, OUT, OUTPUT, PAGE, PAGE_OUT, PLAY_LIMIT, PRG_FILE, PRG_FILES, PRG_LABELS, REACHED_PAGE,
+    RECORD, RECORDED_TRANSCRIPT, SOURCE, SOURCE_OR_PRG, SOURCES, TESTED_FILES, TEXT, TITLE,
 };
 use crate::commands::{CommandName, command_named, rows};
 use crate::parser::{VERSION, parser};
@@ -27,8 +26,7 @@ use std::convert::AsStr;
 use tb_files::{STANDARD, usual_out};
 use tb_jobs::{
     Asked, AsmJob, AssembleJob, BuildJob, CheckJob, DebugJob, DisJob, DiskJob, FormatJob, Job,
-    JobError, Limit, PageJob, PlayJob, ProfileJob, RenumberJob, RunJob, Runnable, StepJob,
-    TestJob,
+    JobError, Limit, PageJob, PlayJob, ProfileJob, RenumberJob, RunJob, Runnable, StepJob, TestJob,
 };
 
 // What is said where a page is named twice, in the parser's form.

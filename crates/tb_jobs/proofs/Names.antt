@@ -21,7 +21,7 @@ and_false false = refl
 dotted : (before behind : List ℕ) → is_number (before ++ 46 ∷ behind) ≡ false
 dotted before behind =
     let digits : list_all is_ascii_digit (before ++ 46 ∷ behind) ≡ false =
-        list_all-append is_ascii_digit before (46 ∷ behind) ∙ and_false (list_all is_ascii_digit before) in
+    list_all-append is_ascii_digit before (46 ∷ behind) ∙ and_false (list_all is_ascii_digit before) in
     ap (λ b. not (length (before ++ 46 ∷ behind) == 0) && b) digits ∙ and_false (not (length (before ++ 46 ∷ behind) == 0))
 
 -- where one split has no dot behind it, and no number, none has a number
@@ -40,7 +40,7 @@ plain name front back lacks is xs ys e =
     let size : length (front ++ 46 ∷ xs) ≡ length front + length (46 ∷ xs) = length-append front (46 ∷ xs) in
     let all : length name ≡ length (front ++ 46 ∷ xs) + length (46 ∷ ys) = ap length whole ∙ length-append (front ++ 46 ∷ xs) (46 ∷ ys) in
     lacks (length (front ++ 46 ∷ xs)) (omega (arith, size)) (omega (arith, all)) ys
-      (ap (drop (length (front ++ 46 ∷ xs))) whole ∙ drop-append_seam (front ++ 46 ∷ xs) (46 ∷ ys))
+    (ap (drop (length (front ++ 46 ∷ xs))) whole ∙ drop-append_seam (front ++ 46 ∷ xs) (46 ∷ ys))
 
 -- a name without a dot has no number behind one
 pub dotless : (name : List ℕ) → ((k : ℕ) → k ≤ length name → LacksTextAt (46 ∷ []) name k) → (other number : List ℕ)
@@ -54,6 +54,6 @@ pub last : (name front back : List ℕ) → SplitsAroundMatch (RFindsText (46 �
     → (other number : List ℕ) → name ≡ other ++ 46 ∷ number → is_number number ≡ false
 last name front back (i, j, found, before, behind, order, size, rest) is other number e =
     let whole : name ≡ front ++ 46 ∷ back =
-        sym (take-append-drop i name) ∙ ap (λ f. f ++ drop i name) (sym before)
-          ∙ ap (λ d. front ++ d) (found.1.split ∙ ap (λ b. 46 ∷ b) (sym behind)) in
+    sym (take-append-drop i name) ∙ ap (λ f. f ++ drop i name) (sym before)
+    ∙ ap (λ d. front ++ d) (found.1.split ∙ ap (λ b. 46 ∷ b) (sym behind)) in
     none front back other number (plain name front back (λ k less. found.0 k (omega (arith, less, size))) whole) is (sym whole ∙ e)

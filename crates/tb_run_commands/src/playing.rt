@@ -195,7 +195,13 @@ fn write_transcript<R: Files + Print + Input + AllocGlobal>(
     let mut transcript = recorded(alloc, copy, settings, played, options)?;
     if transcript.end == RunEnd::Runs && options.limit.is_none() {
         let limit = Some(MOST_EVENTS);
-        transcript = recorded(alloc, source, settings, played, RunOptions { limit, ..options })?;
+        transcript = recorded(
+            alloc,
+            source,
+            settings,
+            played,
+            RunOptions { limit, ..options },
+        )?;
     }
     let text = transcript_text(alloc, &transcript)?;
     saved(host, path, text.as_slice())

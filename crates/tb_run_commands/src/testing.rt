@@ -4,9 +4,8 @@ ghost use Rattle.std.specs.Prelude.{◌≡◌};
 use crate::finding::{Case, cases_of};
 use crate::telling::{remarks, updated};
 use std::alloc::{AllocError, Global};
-use std::fmt;
-use std::io;
 use std::rt::Files;
+use std::{fmt, io};
 use tb_codegen::TinyBasic;
 use tb_engines::Outcome;
 use tb_file_engine::{opened, save};
@@ -421,7 +420,10 @@ fn try_all<R: Files + Print + Eprint + Input + AllocGlobal + Clone + Drop>(
     tell_lines(host, job, &mut tally)?;
     let passed = tally.passed.min(MOST_COUNTED);
     let failed = tally.failed.min(MOST_COUNTED);
-    show(rt, summary(rt.alloc(), tally.form, passed, failed)?.as_bytes())?;
+    show(
+        rt,
+        summary(rt.alloc(), tally.form, passed, failed)?.as_bytes(),
+    )?;
     Ok(tally.end())
 }
 
