@@ -16,7 +16,7 @@ A statement|Goto|tb_gate|tb_refutations|tb_bench
 A cleverer piece of code|Remains|
 A new command|Renumber|tb_file_engine
 A command of the debugger|Registers|tb_adapter_values|tb_commands|tb_cpu|tb_inspection
-A request of the language server|Folds|tb_check_engine|tb_disk|tb_jobs|tb_transcripts|tb_outline
+A request of the language server|Folds|tb_check_engine|tb_disk|tb_jobs|tb_test_engine|tb_transcripts|tb_outline
 A request of the debug adapter|Disassemble|
 A refusal|Unnumbered|
 An assembler that listings are for|Acme|
