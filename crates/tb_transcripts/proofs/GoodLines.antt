@@ -94,8 +94,8 @@ flag_good name true ok = one_line (35 ∷ 32 ∷ name) ok
 -- the lines of options
 options_good : (o : RunOptions) → are_writable o ≡ true → list_all is_typed (option_lines o) ≡ true
 options_good o ok =
-    let both = and_parts (is_in_range 1 65535 o.seed && is_in_range 1 1000000000 o.limit) (is_in_range 0 65535 o.rude) ok in
-    let first = and_parts (is_in_range 1 65535 o.seed) (is_in_range 1 1000000000 o.limit) both.0 in
+    let both = and_parts (is_in_range 0 65535 o.seed && is_in_range 1 1000000000 o.limit) (is_in_range 0 65535 o.rude) ok in
+    let first = and_parts (is_in_range 0 65535 o.seed) (is_in_range 1 1000000000 o.limit) both.0 in
     let a = number_lines word.SEED.now o.seed in
     let b = flag_lines word.FIT.now o.fits in
     let c = flag_lines word.PETSCII.now o.signs in
@@ -104,7 +104,7 @@ options_good o ok =
     both_lines (a ++ b ++ c ++ d) f
     (both_lines (a ++ b ++ c) d
     (both_lines (a ++ b) c
-    (both_lines a b (number_good word.SEED.now 1 65535 o.seed (omega arith) refl first.0) (flag_good word.FIT.now o.fits refl))
+    (both_lines a b (number_good word.SEED.now 0 65535 o.seed (omega arith) refl first.0) (flag_good word.FIT.now o.fits refl))
     (flag_good word.PETSCII.now o.signs refl))
     (number_good word.LIMIT.now 1 1000000000 o.limit (omega arith) refl first.1))
     (number_good word.RUDE.now 0 65535 o.rude (omega arith) refl both.1)

@@ -28,11 +28,10 @@ in_range least most n e =
     let parts = and_parts (nat_le least n) (nat_le n most) e in (leb-true least n parts.0, leb-true n most parts.1)
 
 -- a seed
-seed_read : (n : ℕ) → is_in_range 1 65535 (Some n) ≡ true → asked_by (word.SEED.now ++ decimal n) ≡ Ok (Seed n)
+seed_read : (n : ℕ) → is_in_range 0 65535 (Some n) ≡ true → asked_by (word.SEED.now ++ decimal n) ≡ Ok (Seed n)
 seed_read n e =
-    let range = in_range 1 65535 n e in
-    let read : number 65535 (decimal n) ≡ Some n = number_read 65535 n range.1 (omega arith) in
-    ap seed_by read ∙ (rw (ne_eqb n 0 (λ z. omega (arith, range.0, z))) refl)
+    let range = in_range 0 65535 n e in
+    ap seed_by (number_read 65535 n range.1 (omega arith))
 
 -- a limit
 limit_read : (n : ℕ) → is_in_range 1 1000000000 (Some n) ≡ true → asked_by (word.LIMIT.now ++ decimal n) ≡ Ok (Limit n)
@@ -102,7 +101,7 @@ abbrev LeadsOn : ℕ → Header → List (List ℕ) → Header → List (List �
 LeadsOn n h lines more rest = (m : ℕ) × (header n h lines ≡ header m more rest)
 
 -- the line of a seed
-seed_lines : (n : ℕ) (s : Option ℕ) (rest : List (List ℕ)) → is_in_range 1 65535 s ≡ true
+seed_lines : (n : ℕ) (s : Option ℕ) (rest : List (List ℕ)) → is_in_range 0 65535 s ≡ true
     → LeadsOn n nothing (number_lines word.SEED.now s ++ rest) (asking s false false None None) rest
 seed_lines n None rest ok = (n, refl)
 seed_lines n (Some x) rest ok = (n + 1, one_line n nothing (asking (Some x) false false None None) (word.SEED.now ++ decimal x) (Seed x) rest (seed_read x ok) refl)
@@ -141,8 +140,8 @@ header_of o e = record { options = o; end = Some e }
 pub header_read : (o : RunOptions) (e : RunEnd) (rest : List (List ℕ)) → are_writable o ≡ true → is_writable_end e ≡ true
     → (m : ℕ) × (header 1 nothing (option_lines o ++ end_line e ∷ rest) ≡ header m (header_of o e) rest)
 header_read o e rest ok ends =
-    let both = and_parts (is_in_range 1 65535 o.seed && is_in_range 1 1000000000 o.limit) (is_in_range 0 65535 o.rude) ok in
-    let first = and_parts (is_in_range 1 65535 o.seed) (is_in_range 1 1000000000 o.limit) both.0 in
+    let both = and_parts (is_in_range 0 65535 o.seed && is_in_range 1 1000000000 o.limit) (is_in_range 0 65535 o.rude) ok in
+    let first = and_parts (is_in_range 0 65535 o.seed) (is_in_range 1 1000000000 o.limit) both.0 in
     let a = number_lines word.SEED.now o.seed in
     let b = flag_lines word.FIT.now o.fits in
     let c = flag_lines word.PETSCII.now o.signs in

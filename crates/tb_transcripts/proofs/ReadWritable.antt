@@ -118,7 +118,7 @@ number_within most (b ∷ c ∷ digits) =
 
 -- what can be asked for
 abbrev is_good : Asked → Bool
-is_good (Seed n) = is_in_range 1 65535 (Some n)
+is_good (Seed n) = is_in_range 0 65535 (Some n)
 is_good Fit = true
 is_good Petscii = true
 is_good (Limit n) = is_in_range 1 1000000000 (Some n)
@@ -128,8 +128,7 @@ is_good (End e) = is_writable_end e
 -- a seed
 seed_good : (n : Option ℕ) → if_some (λ n. nat_le n 65535) n ≡ true → if_ok is_good (seed_by n) ≡ true
 seed_good None few = refl
-seed_good (Some zero) few = refl
-seed_good (Some (suc n)) few = rw (ne_eqb (suc n) 0 (λ e. cc)) (and_from (nat_le 1 (suc n)) (nat_le (suc n) 65535) (le-leb 1 (suc n) (omega arith)) few)
+seed_good (Some n) few = and_from (nat_le 0 n) (nat_le n 65535) (le-leb 0 n (omega arith)) few
 
 -- a limit
 limit_good : (n : Option ℕ) → if_some (λ n. nat_le n 1000000000) n ≡ true → if_ok is_good (limit_by n) ≡ true
@@ -206,21 +205,21 @@ is_good_with o e = are_writable o && if_some is_writable_end e
 
 -- a header, part by part
 header_parts : (h : Header) → is_good_header h ≡ true
-    → (is_in_range 1 65535 h.options.seed ≡ true) × (is_in_range 1 1000000000 h.options.limit ≡ true) × (is_in_range 0 65535 h.options.rude ≡ true) × (if_some is_writable_end h.end ≡ true)
+    → (is_in_range 0 65535 h.options.seed ≡ true) × (is_in_range 1 1000000000 h.options.limit ≡ true) × (is_in_range 0 65535 h.options.rude ≡ true) × (if_some is_writable_end h.end ≡ true)
 header_parts h ok =
     let whole = and_parts (are_writable h.options) (if_some is_writable_end h.end) ok in
-    let both = and_parts (is_in_range 1 65535 h.options.seed && is_in_range 1 1000000000 h.options.limit) (is_in_range 0 65535 h.options.rude) whole.0 in
-    let first = and_parts (is_in_range 1 65535 h.options.seed) (is_in_range 1 1000000000 h.options.limit) both.0 in
+    let both = and_parts (is_in_range 0 65535 h.options.seed && is_in_range 1 1000000000 h.options.limit) (is_in_range 0 65535 h.options.rude) whole.0 in
+    let first = and_parts (is_in_range 0 65535 h.options.seed) (is_in_range 1 1000000000 h.options.limit) both.0 in
     (first.0, first.1, both.1, whole.1)
 
 -- a header by its parts
-header_from : (seed limit rude : Option ℕ) (e : Option RunEnd) → is_in_range 1 65535 seed ≡ true → is_in_range 1 1000000000 limit ≡ true → is_in_range 0 65535 rude ≡ true
+header_from : (seed limit rude : Option ℕ) (e : Option RunEnd) → is_in_range 0 65535 seed ≡ true → is_in_range 1 1000000000 limit ≡ true → is_in_range 0 65535 rude ≡ true
     → if_some is_writable_end e ≡ true
-    → ((is_in_range 1 65535 seed && is_in_range 1 1000000000 limit && is_in_range 0 65535 rude) && if_some is_writable_end e) ≡ true
+    → ((is_in_range 0 65535 seed && is_in_range 1 1000000000 limit && is_in_range 0 65535 rude) && if_some is_writable_end e) ≡ true
 header_from seed limit rude e a b c d =
-    and_from (is_in_range 1 65535 seed && is_in_range 1 1000000000 limit && is_in_range 0 65535 rude) (if_some is_writable_end e)
-    (and_from (is_in_range 1 65535 seed && is_in_range 1 1000000000 limit) (is_in_range 0 65535 rude)
-    (and_from (is_in_range 1 65535 seed) (is_in_range 1 1000000000 limit) a b) c) d
+    and_from (is_in_range 0 65535 seed && is_in_range 1 1000000000 limit && is_in_range 0 65535 rude) (if_some is_writable_end e)
+    (and_from (is_in_range 0 65535 seed && is_in_range 1 1000000000 limit) (is_in_range 0 65535 rude)
+    (and_from (is_in_range 0 65535 seed) (is_in_range 1 1000000000 limit) a b) c) d
 
 -- with what a line asks for
 with_asked_good : (h : Header) (asked : Asked) → is_good_header h ≡ true → is_good asked ≡ true → if_some is_good_header (with_asked h asked) ≡ true

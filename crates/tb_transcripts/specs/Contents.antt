@@ -31,7 +31,7 @@ is_in_range least most (Some n) = nat_le least n && nat_le n most
 
 -- options that can be asked for
 abbrev pub are_writable : RunOptions → Bool
-are_writable o = is_in_range 1 65535 o.seed && is_in_range 1 1000000000 o.limit && is_in_range 0 65535 o.rude
+are_writable o = is_in_range 0 65535 o.seed && is_in_range 1 1000000000 o.limit && is_in_range 0 65535 o.rude
 
 -- an end that can be
 abbrev pub is_writable_end : RunEnd → Bool

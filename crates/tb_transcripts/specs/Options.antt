@@ -21,10 +21,10 @@ plain text =
     else if bytes_eq text word.RUNS.now then Some (End Runs)
     else None
 
--- a seed that is not 0
+-- a seed of RND
 abbrev pub seed_by : Option ℕ → Result Asked Reason
 seed_by None = Err NoSeed
-seed_by (Some n) = if n == 0 then Err NoSeed else Ok (Seed n)
+seed_by (Some n) = Ok (Seed n)
 
 -- the same of its digits
 abbrev pub seed : List ℕ → Result Asked Reason

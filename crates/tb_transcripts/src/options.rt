@@ -89,8 +89,8 @@ fn seed(digits: &[u8]) -> Result<Asked, Reason>
     ensures { result ≡ spec.seed digits.now }
 {
     match number(MOST_WORD, digits) {
-        Some(n) if 0 < n => Ok(Asked::Seed(n as u16)),
-        _ => Err(Reason::NoSeed),
+        Some(n) => Ok(Asked::Seed(n as u16)),
+        None => Err(Reason::NoSeed),
     }
 }
 

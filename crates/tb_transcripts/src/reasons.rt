@@ -10,7 +10,7 @@ const UNKNOWN_OPTION: &str = "unknown option";
 
 const TWICE: &str = "an option or an end is given twice";
 
-const NO_SEED: &str = "not a number from 1 to 65535";
+const NO_SEED: &str = "not a number from 0 to 65535";
 
 const NO_LIMIT: &str = "not a number from 1 to 1000000000";
 

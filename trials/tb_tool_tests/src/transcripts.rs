@@ -15,7 +15,7 @@ const NOTHING: RunOptions = RunOptions {
 };
 
 /// Texts, and the canonical texts of what they say.
-static TEXTS: [(&str, &str); 21] = [
+static TEXTS: [(&str, &str); 22] = [
     ("", "# ends\n"),
     ("# ends\n", "# ends\n"),
     ("HELLO", "# ends\nHELLO\n"),
@@ -30,6 +30,7 @@ static TEXTS: [(&str, &str); 21] = [
         "# fault 3 at 120\n# seed 7\n",
         "# seed 7\n# fault 3 at 120\n",
     ),
+    ("# seed 0", "# seed 0\n# ends\n"),
     ("# fault 0 at 0", "# fault 0 at 0\n"),
     ("# fault 255 at 65535", "# fault 255 at 65535\n"),
     (
@@ -46,7 +47,7 @@ static TEXTS: [(&str, &str); 21] = [
 ];
 
 /// Texts that are refused, and why.
-static REFUSED: [(&str, usize, Reason); 23] = [
+static REFUSED: [(&str, usize, Reason); 22] = [
     ("# ", 1, Reason::UnknownOption),
     ("# fits", 1, Reason::UnknownOption),
     ("# Fit", 1, Reason::UnknownOption),
@@ -55,7 +56,6 @@ static REFUSED: [(&str, usize, Reason); 23] = [
     ("# fit\n# petscii\n# fit", 3, Reason::Twice),
     ("# seed 1\n# seed 1", 2, Reason::Twice),
     ("# ends\n# waits", 2, Reason::Twice),
-    ("# seed 0", 1, Reason::NoSeed),
     ("# seed 65536", 1, Reason::NoSeed),
     ("# seed 07", 1, Reason::NoSeed),
     ("# seed ", 1, Reason::NoSeed),
