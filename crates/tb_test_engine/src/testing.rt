@@ -1,7 +1,8 @@
 //! A source that is tested by a transcript.
-ghost use Rattle.std.specs.Prelude.{◌≡◌, IfOk, map};
+ghost use Rattle.std.specs.Prelude.{◌≡◌, IfOk, map, true};
 ghost use Rattle.tb_test_engine.specs.Testing.{IsManner, Records, Tests, lines_of};
 ghost use Rattle.tb_text.specs.Lines.{lines_of_file};
+ghost use Rattle.tb_transcripts.specs.Contents.{content_of, is_writable_end, IsWritable};
 
 use crate::places::{Differs, compare};
 use crate::reaching::{Reach, reached};
@@ -13,7 +14,7 @@ use tb_engines::Failure;
 use tb_meaning::Warning;
 use tb_sources::compile_source;
 use tb_text::{Notation, next_line};
-use tb_transcripts::{RunOptions, Transcript};
+use tb_transcripts::{RunEnd, RunOptions, Transcript};
 
 /// The most events of each stretch of a run, and whether its lines are counted.
 #[derive(Clone, Copy, Drop)]
@@ -66,6 +67,11 @@ fn lines_of(alloc: Global, transcript: &Transcript) -> Result<Vec<Vec<u8>>, Allo
     Ok(lines)
 }
 
+// The end of a run has a code below 256 and a line below 65,536.
+fn end_fits(end: RunEnd)
+    ensures { is_writable_end end ≡ true }
+{}
+
 /// Compiles a source, and runs its program on what is typed in a transcript, beside the ROM that this asks for. The answer
 /// has what the run was, where it first differs from the transcript, and which lines it reached.
 pub fn test_source<K: Compile>(
@@ -76,7 +82,9 @@ pub fn test_source<K: Compile>(
     wanted: &Transcript,
     counting: Counting,
 ) -> Result<Tested, Failure>
-    ensures { Tests K.own source.items settings wanted.now counting result }
+    ensures tests { Tests K.own source.items settings wanted.now counting result }
+    // The run can be written, if what was wanted can.
+    ensures writable { IfOk result (λ t. IsWritable (content_of wanted.now) → IsWritable (content_of t.ran)) }
 {
     let source = compile_source(compiler, alloc, source, settings)?;
     let program = &source.program;
@@ -88,6 +96,7 @@ pub fn test_source<K: Compile>(
         end,
         rows,
     } = run_beside(alloc, program, wanted.options.rude, &lines, &manner)?;
+    end_fits(end);
     let ran = Transcript {
         options: wanted.options,
         end,

@@ -1,14 +1,16 @@
--- The goal of `test_source` in src/testing.rt.
-use Rattle.std.proofs.Common.{rules, ◌≡◌, ◌∙◌, Ok, map, refl, ap, subst}
+-- The goals of `test_source` in src/testing.rt.
+use Rattle.std.proofs.Common.{◌≡◌, ◌∙◌, true, Ok, map, refl, ap, subst}
 use Rattle.tb_compiled.specs.Answers.{IsAnswer}
 use Rattle.tb_test_engine.specs.Reaching.{reached}
 use Rattle.tb_test_engine.specs.Running.{RunsBeside}
 use Rattle.tb_test_engine.specs.Testing.{IsDiffers, lines_of}
+use Rattle.tb_transcripts.specs.Contents.{is_writable_end}
 use Rattle.tb_transcripts.specs.declared.transcript.Transcript.{Transcript}
+use Rattle.tb_test_engine.proofs.Writable.{run_as_transcript}
 use Rattle.tb_test_engine.proofs.testing.test_source.Goals as goal
 
-pub returns : goal.returns
-returns g c =
+pub returns-clause-tests : goal.returns-clause-tests
+returns-clause-tests g c =
     let program = c.in_ok-source.source.program in
     let manner = c.in_ok-manner.manner in
     let run = c.in_ok-turns.field-0 in
@@ -29,3 +31,15 @@ returns g c =
         warnings = c.into_warnings.ensures;
       },
     )
+
+pub returns-clause-writable : goal.returns-clause-writable
+returns-clause-writable g c =
+    let program = c.in_ok-source.source.program in
+    let manner = c.in_ok-manner.manner in
+    let run = c.in_ok-turns.field-0 in
+    let wanted = c.args.wanted.now in
+    let ran : Transcript = record { options = wanted.options; end = run.end; turns = run.turns; last = run.last } in
+    let typed : map (λ v. v.items) c.deref.result.now ≡ lines_of wanted = ap (map (λ v. v.items)) c.deref.ensures.value ∙ c.in_ok-lines.ensures in
+    let runs = subst (λ ls. RunsBeside wanted.options.rude manner program ls run) typed c.in_ok-turns.ensures in
+    let ends : is_writable_end run.end ≡ true = c.end_fits.ensures in
+    run_as_transcript wanted ran manner program run runs refl ends
