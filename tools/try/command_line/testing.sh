@@ -75,12 +75,12 @@ unread() { # SAID TEXT: a row: a transcript that is none
 }
 cp hello.bas bad.bas
 unread 'line 1: unknown option' '# sede 7\n'
-unread 'line 2: an option is given twice' '# seed 7\n# seed 8\n'
-unread 'line 2: an option is given twice' '# ends\n# waits\n'
-unread 'line 1: a seed is a number from 1 to 65535' '# seed 65536\n'
-unread 'line 1: a limit is a number from 1 to 1000000000' '# limit 0\n'
-unread 'line 1: the seed of a rude ROM is a number from 0 to 65535' '# rude x\n'
-unread 'line 1: a fault is *' '# fault 6\n'
+unread 'line 2: an option or an end is given twice' '# seed 7\n# seed 8\n'
+unread 'line 2: an option or an end is given twice' '# ends\n# waits\n'
+unread 'line 1: not a number from 0 to 65535' '# seed 65536\n'
+unread 'line 1: not a number from 1 to 1000000000' '# limit 0\n'
+unread 'line 1: not a number from 0 to 65535' '# rude x\n'
+unread 'line 1: not a code from 0 to 255 at a line from 0 to 65535' '# fault 6\n'
 unread 'line 2: an option below the output' 'HELLO\n# ends\n'
 row 0 '' '*2 passed, 0 failed' test wait.bas
 row 1 'tbc: bad.transcript: line 2*' $'ok wait.transcript\nok wait.1.transcript\nnot ok bad.transcript\nok drawn.transcript\n3 passed, 1 failed' \
