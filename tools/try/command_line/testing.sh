@@ -72,6 +72,8 @@ row 3 'tbc: write fault' '*' test typed.bas --lines --html nowhere/page.html
 unread() { # SAID TEXT: a row: a transcript that is none
     file bad.transcript "$2"
     row 1 "tbc: bad.transcript: $1" $'not ok bad.transcript\n0 passed, 1 failed' test bad.transcript
+    row 1 "tbc: bad.transcript: $1" $'not ok bad.transcript\n0 passed, 1 failed' test --update bad.transcript
+    holds bad.transcript "$2"
 }
 cp hello.bas bad.bas
 unread 'line 1: unknown option' '# sede 7\n'
