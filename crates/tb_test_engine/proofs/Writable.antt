@@ -1,5 +1,5 @@
--- What a talk comes to can be written as a transcript.
-use Rattle.std.proofs.Common.{◌≡◌, ◌∙◌, ◌==◌, ◌&&◌, ◌||◌, ◌+◌, ◌/◌, ◌%◌, ℕ, Bool, true, false, not, List, [], ◌∷◌, Option, Some, None, map, refl, sym, ap, arith, if◌then◌else◌}
+-- What a talk of lines without ends comes to can be written as a transcript.
+use Rattle.std.proofs.Common.{◌≡◌, ◌∙◌, ◌==◌, ◌&&◌, ◌||◌, ◌+◌, ◌/◌, ◌%◌, ℕ, Bool, true, false, not, List, [], ◌∷◌, Option, Some, None, map, refl, ap, arith, if◌then◌else◌}
 use Rattle.std.specs.List.{list_all}
 use Rattle.std.specs.Prelude.{nat_eq, nat_le, nat_lt}
 use Rattle.std.specs.declared.alloc.Global.{Global}
@@ -23,11 +23,9 @@ use Rattle.tb_words.specs.Hexadecimal.{hex_digit, two_digits}
 use Rattle.tb_play.specs.Talks.{gives_quiet}
 use Rattle.tb_test_engine.specs.Running.{gives_rude, RunsBeside}
 use Rattle.tb_test_engine.specs.Talks.{Goes, TalksFrom}
-use Rattle.tb_test_engine.specs.Testing.{as_transcript, lines_of, IsTested}
+use Rattle.tb_test_engine.specs.Testing.{as_transcript, lines_of}
 use Rattle.tb_test_engine.specs.declared.running.Ran.{Ran}
 use Rattle.tb_test_engine.specs.declared.talk.Manner.{Manner}
-use Rattle.tb_test_engine.specs.declared.testing.Counting.{Counting}
-use Rattle.tb_test_engine.specs.declared.testing.Tested.{Tested}
 
 -- ---- bytes
 
@@ -177,10 +175,3 @@ run_as_transcript wanted ran manner program run runs is ends ok =
     ∙ and_from (are_writable wanted.options && is_writable_end run.end && list_all is_writable_turn (map turn_of run.turns.items)) (is_sent run.last.items)
     (and_from (are_writable wanted.options && is_writable_end run.end) (list_all is_writable_turn (map turn_of run.turns.items))
     (and_from (are_writable wanted.options) (is_writable_end run.end) options.0 ends) ran_turns.0) ran_turns.1
-
--- a program's test, as it is told, can be written if what was wanted can
-pub test_is_writable : (program : Compiled) (notation : Notation) (wanted : Transcript) (counting : Counting) (tested : Tested)
-    → IsTested program notation wanted counting tested → is_writable_end tested.ran.end ≡ true
-    → IsWritable (content_of wanted) → IsWritable (content_of tested.ran)
-test_is_writable program notation wanted counting tested is ends ok =
-    run_as_transcript wanted tested.ran is.manner program is.run is.runs is.ran (sym (ap (λ t. is_writable_end t.end) is.ran) ∙ ends) ok

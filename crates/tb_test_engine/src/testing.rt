@@ -67,7 +67,7 @@ fn lines_of(alloc: Global, transcript: &Transcript) -> Result<Vec<Vec<u8>>, Allo
     Ok(lines)
 }
 
-// The end of a run has a code below 256 and a line below 65,536.
+// A law: an end can be written, for its code is below 256 and its line below 65,536. It does nothing.
 fn end_fits(end: RunEnd)
     ensures { is_writable_end end ≡ true }
 {}
