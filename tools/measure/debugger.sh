@@ -4,7 +4,8 @@
 #   tools/measure/debugger.sh [EVENTS]        default: 100000000 events; needs the built program
 #   tools/measure/debugger.sh --instructions  how many instructions of this processor `debug` (going on) and `profile`
 #                                             take for an event, beside `run`; needs valgrind, and ends with status 1
-#                                             if one of them takes more than 2.0 times as many as `run`
+#                                             if one of them takes more than 2.0 times as many as `run`, or `test` more
+#                                             than 900 million for the transcripts of the examples
 . "$(dirname "${BASH_SOURCE[0]}")/../setup.sh"
 needs_program
 events=${1:-100000000}
@@ -22,6 +23,7 @@ if [ "$events" = --instructions ]; then
     run=$(each_event "$tbc" run count.bas)
     status=0
     most=2.0
+    most_of_tests=900
     for tool in debug profile; do
         own=$(each_event "$tbc" "$tool" count.bas)
         awk -v tool="$tool" -v most="$most" -v own="$own" -v run="$run" 'BEGIN {
@@ -29,6 +31,10 @@ if [ "$events" = --instructions ]; then
             exit own > most * run
         }' || status=1
     done
+    awk -v most="$most_of_tests" -v own="$(counted "$tbc" test "$root/examples")" 'BEGIN {
+        printf "test: %.0f million instructions for the transcripts of the examples\n", own / 1e6
+        exit own > most * 1e6
+    }' || status=1
     exit "$status"
 fi
 
