@@ -5,7 +5,7 @@
 #   tools/measure/debugger.sh --instructions  how many instructions of this processor `debug` (going on) and `profile`
 #                                             take for an event, beside `run`; needs valgrind, and ends with status 1
 #                                             if one of them takes more than 2.0 times as many as `run`, or `test` more
-#                                             than 900 million for the transcripts of the examples
+#                                             than 300 million for the transcripts of the examples
 . "$(dirname "${BASH_SOURCE[0]}")/../setup.sh"
 needs_program
 events=${1:-100000000}
@@ -23,7 +23,7 @@ if [ "$events" = --instructions ]; then
     run=$(each_event "$tbc" run count.bas)
     status=0
     most=2.0
-    most_of_tests=900
+    most_of_tests=300
     for tool in debug profile; do
         own=$(each_event "$tbc" "$tool" count.bas)
         awk -v tool="$tool" -v most="$most" -v own="$own" -v run="$run" 'BEGIN {
