@@ -9,7 +9,7 @@
 needs_program
 needs rt python3
 clocked=${1-}
-largest=28000 # lines of Rust that the trial run of a command may compile
+largest=29000 # lines of Rust that the trial run of a command may compile
 
 rows=0
 failed=0
