@@ -1,7 +1,5 @@
 -- A machine that goes on until more is sent than a place allows.
-use Rattle.std.proofs.Common.{zero, suc, true, map, min, take, ◌≡◌, ◌≢◌, ◌⊎◌, inl, inr, ◌≤◌, ◌<◌, ◌+◌, ◌-◌, ℕ, Ok, List, [], ◌∷◌, ◌++◌, length, drop, refl, sym, ap, subst, ◌∙◌, arith, length-append}
-use Rattle.std.specs.Prelude.{Result}
-use Rattle.std.specs.declared.alloc.AllocError.{AllocError}
+use Rattle.std.proofs.Common.{zero, suc, true, map, min, take, ◌≡◌, ◌⊎◌, ◌≤◌, ◌+◌, ℕ, Ok, List, [], ◌∷◌, ◌++◌, length, refl, ap, ◌∙◌, arith, length-append}
 use Rattle.tb_kernal.specs.declared.events.Event.{Event}
 use Rattle.tb_kernal.specs.declared.status.Status.{Status}
 use Rattle.tb_kernal.specs.declared.status.Status.TheVariants.{Running, Waits, Returned, Wrong}
@@ -14,7 +12,7 @@ use Rattle.tb_kernal.specs.Typing.{with_more}
 use Rattle.tb_play.specs.Lines.{keys_of_text}
 use Rattle.tb_profile_table.specs.declared.rows.Row.{Row}
 use Rattle.tb_streams.specs.HostForm.{shown_as}
-use Rattle.tb_test_engine.specs.Places.{GoesPast, TypedTo}
+use Rattle.tb_test_engine.specs.Places.{TypedTo}
 use Rattle.tb_test_engine.specs.Talks.{Goes}
 use Rattle.tb_test_engine.specs.declared.talk.Manner.{Manner}
 

@@ -1,14 +1,13 @@
 -- Running a program on the lines of a transcript.
-use Rattle.std.specs.Prelude.{ℕ, ◌≡◌, List, [], Option, Some, None, Result, Ok, Err}
+use Rattle.std.specs.Prelude.{ℕ, ◌≡◌, List, [], Option, Some, None, Result}
 use Rattle.tb_memmap.specs.Regions.{BASIC_START}
 use Rattle.tb_kernal.specs.declared.events.Event.{Event}
-use Rattle.tb_kernal.specs.declared.outside.Quiet.{Quiet}
 use Rattle.tb_kernal.specs.declared.status.Status.{Status}
 use Rattle.tb_kernal.specs.declared.status.Status.TheVariants as machine
 use Rattle.tb_kernal.specs.Machine.{Content, state_of, status as status_of}
 use Rattle.tb_kernal.specs.Outsides.{rude_event}
 use Rattle.tb_words.specs.Words.{seed_after}
-use Rattle.tb_compiled.specs.Compiled.{loaded_of, starts_of}
+use Rattle.tb_compiled.specs.Compiled.{loaded_of}
 use Rattle.tb_compiled.specs.declared.compiled.Compiled.{Compiled}
 use Rattle.tb_engines.specs.Programs.{start}
 use Rattle.tb_engines.specs.declared.delivery.NoText.{NoText}

@@ -1,5 +1,5 @@
 -- What is told of transcripts that were run.
-use Rattle.std.specs.Prelude.{ℕ, ◌+◌, ◌++◌, Bool, true, false, List, [], ◌∷◌, codes, nat_eq, Option, Some, None, if◌then◌else◌}
+use Rattle.std.specs.Prelude.{ℕ, ◌+◌, ◌++◌, Bool, true, false, List, [], ◌∷◌, codes, nat_eq, Option, Some, None}
 use Rattle.std.specs.Fmt.{decimal}
 use Rattle.tb_transcripts.specs.declared.forms.TestForm.{TestForm}
 use Rattle.tb_transcripts.specs.declared.forms.TestForm.TheVariants.{Text, Tap}

@@ -1,5 +1,5 @@
 -- A source that is tested by a transcript.
-use Rattle.std.specs.Prelude.{ℕ, ◌≡◌, Bool, true, false, List, map, option_map, take, Option, Some, None, Result, Ok, Err}
+use Rattle.std.specs.Prelude.{ℕ, ◌≡◌, Bool, true, false, List, map, take, Option, Some, None, Result, Ok, Err}
 use Rattle.std.specs.declared.alloc.Global.{Global}
 use Rattle.std.specs.declared.vec.Vec.{Vec}
 use Rattle.tb_compiled.specs.Answers.{Compiles}
@@ -13,7 +13,7 @@ use Rattle.tb_profile_table.specs.declared.rows.Start.{Start}
 use Rattle.tb_sources.specs.Reading.{CompilesText}
 use Rattle.tb_text.specs.Lines.{lines_of_file}
 use Rattle.tb_text.specs.declared.notation.Notation.{Notation}
-use Rattle.tb_transcripts.specs.Contents.{Content, content_of, turn_of}
+use Rattle.tb_transcripts.specs.Contents.{content_of}
 use Rattle.tb_transcripts.specs.Differing.{difference}
 use Rattle.tb_transcripts.specs.declared.transcript.RunOptions.{RunOptions}
 use Rattle.tb_transcripts.specs.declared.transcript.Transcript.{Transcript}

@@ -1,5 +1,5 @@
 -- What holds at each turn of the loop of `missed_numbers` in src/covering.rt.
-use Rattle.std.proofs.Common.{◌≡◌, map, take}
+use Rattle.std.proofs.Common.{◌≡◌, take}
 use Rattle.std.specs.Prelude.{flat_map}
 use Rattle.tb_test_engine.specs.Covering.{missed}
 use Rattle.tb_test_engine.proofs.covering.missed_numbers.Given as goal

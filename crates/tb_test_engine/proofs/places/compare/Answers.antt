@@ -1,5 +1,5 @@
 -- The goal of `compare` in src/places.rt.
-use Rattle.std.proofs.Common.{rules, ◌≡◌, ◌∙◌, Some, map, refl, sym, ap, subst}
+use Rattle.std.proofs.Common.{rules, ◌≡◌, ◌∙◌, Some, refl, sym, ap, subst}
 use Rattle.std.specs.Prelude.{option_map}
 use Rattle.tb_transcripts.specs.Contents.{content_of}
 use Rattle.tb_transcripts.specs.Differing.{difference, found}

@@ -1,5 +1,5 @@
 -- What holds at each turn of the loop of `reached` in src/reaching.rt.
-use Rattle.std.proofs.Common.{◌≡◌, ◌≤◌, ◌++◌, map, take, drop}
+use Rattle.std.proofs.Common.{◌≡◌, map, drop}
 use Rattle.tb_test_engine.specs.Reaching.{reached, reached_from}
 use Rattle.tb_test_engine.proofs.reaching.reached.Given as goal
 

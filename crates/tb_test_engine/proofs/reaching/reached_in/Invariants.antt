@@ -1,5 +1,5 @@
 -- What holds at each turn of the loop of `reached_in` in src/reaching.rt.
-use Rattle.std.proofs.Common.{◌≡◌, ◌≤◌, ◌++◌, map, take, drop}
+use Rattle.std.proofs.Common.{◌≡◌, ◌≤◌, take}
 use Rattle.tb_test_engine.specs.Reaching.{reached_in}
 use Rattle.tb_test_engine.proofs.reaching.reached_in.Given as goal
 

@@ -1,5 +1,5 @@
 -- What holds at each turn of the loop of `reaches_of` in src/reaching.rt.
-use Rattle.std.proofs.Common.{◌≡◌, ◌≤◌, ◌++◌, map, take, drop}
+use Rattle.std.proofs.Common.{◌≡◌, map, take}
 use Rattle.tb_test_engine.specs.Reaching.{as_reach}
 use Rattle.tb_test_engine.proofs.reaching.reaches_of.Given as goal
 

@@ -1,5 +1,5 @@
 -- The goal of `run_lines` in src/running.rt.
-use Rattle.std.proofs.Common.{rules, ◌≡◌, ◌∙◌, [], ap, map, subst}
+use Rattle.std.proofs.Common.{◌∙◌, ap, map, subst}
 use Rattle.tb_test_engine.specs.Running.{run_end}
 use Rattle.tb_test_engine.specs.Talks.{TalksFrom}
 use Rattle.tb_test_engine.proofs.running.run_lines.Goals as goal

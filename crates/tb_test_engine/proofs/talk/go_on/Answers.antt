@@ -1,5 +1,4 @@
 -- The goals of `go_on` in src/talk.rt: no run takes back what was sent.
-use Rattle.std.proofs.Common.{rules}
 use Rattle.tb_engines.proofs.Stretched.{run_longer}
 use Rattle.tb_test_engine.proofs.talk.go_on.Goals as goal
 

@@ -1,6 +1,6 @@
 -- The goals of `talk_to` in src/talk.rt.
 use Rattle.std.proofs.lemmas.List.{at_drop_all, at_drop_more}
-use Rattle.std.proofs.Common.{rules, ap, length, ◌≤◌, ◌≡◌, false, true, [], ◌∷◌, ◌++◌, ◌+◌, ◌∙◌, map, drop, refl, sym, subst}
+use Rattle.std.proofs.Common.{rules, ap, length, ◌≤◌, ◌≡◌, false, true, [], ◌∷◌, ◌++◌, ◌+◌, ◌∙◌, map, drop, sym, subst}
 use Rattle.tb_test_engine.specs.Talks.{is_waiting, Goes}
 use Rattle.tb_test_engine.proofs.Talking.{GoesOn, ends_here, one_more, stops_early, stops_last, waits}
 use Rattle.tb_test_engine.proofs.talk.talk_to.Goals as goal

@@ -1,5 +1,5 @@
 -- What holds at each turn of the loop of `push_remarks` in src/telling.rt.
-use Rattle.std.proofs.Common.{◌≡◌, ◌≤◌, ◌++◌, map, take, drop}
+use Rattle.std.proofs.Common.{◌≡◌, ◌++◌, drop}
 use Rattle.tb_test_engine.specs.Telling.{remarks}
 use Rattle.std.specs.Prelude.{true}
 use Rattle.tb_test_engine.proofs.telling.push_remarks.Given as goal

@@ -1,5 +1,5 @@
 -- The goal of `record` in src/testing.rt.
-use Rattle.std.proofs.Common.{rules, ◌≡◌, ◌∙◌, Ok, None, map, refl, ap, subst}
+use Rattle.std.proofs.Common.{◌≡◌, ◌∙◌, Ok, None, map, refl, ap, subst}
 use Rattle.tb_compiled.specs.Answers.{IsAnswer}
 use Rattle.tb_text.specs.Lines.{lines_of_file}
 use Rattle.tb_test_engine.specs.Running.{RunsBeside}
