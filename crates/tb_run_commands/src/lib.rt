@@ -10,7 +10,6 @@ mod finding;
 mod playing;
 mod profiling;
 mod running;
-mod telling;
 mod testing;
 
 pub use debugging::debug;

@@ -2,7 +2,6 @@
 ghost use Rattle.std.specs.Prelude.{◌≡◌};
 
 use crate::finding::{Case, cases_of};
-use crate::telling::{remarks, updated};
 use std::alloc::{AllocError, Global};
 use std::rt::Files;
 use std::{fmt, io};
@@ -13,8 +12,8 @@ use tb_host::{Host, settings_for};
 use tb_jobs::{Notation, SourceOptions, TestForm, TestJob, USUAL_EVENTS};
 use tb_streams::{ExitStatus, NoRefusal, Tracked, read_input, status, write_output};
 use tb_test_engine::{
-    Counting, Coverage, Differs, Tested, coverage_page, coverage_text, opening, summary,
-    test_source, told,
+    Counting, Coverage, Differs, Tested, coverage_page, coverage_text, opening, remarks, summary,
+    test_source, told, updated,
 };
 use tb_transcripts::{BadLine, RunOptions, Transcript, Unread, read_transcript, transcript_text};
 
@@ -294,13 +293,12 @@ fn passes<R: Print + AllocGlobal>(
     is_updated: bool,
 ) -> Result<(), TestOutcome> {
     let alloc = rt.alloc();
-    let text = if is_updated {
-        updated(alloc, tally.form, tally.number(), name)?
-    } else {
-        told(alloc, tally.form, tally.number(), name, None)?
-    };
+    let number = tally.number();
     tally.passed = tally.passed.saturating_add(1);
-    show(rt, text.as_slice())
+    if is_updated {
+        return show(rt, updated(alloc, tally.form, number, name)?.as_bytes());
+    }
+    show(rt, told(alloc, tally.form, number, name, None)?.as_slice())
 }
 
 // Tells that a transcript was not run, or not written; why is told already.

@@ -37,6 +37,11 @@ abbrev pub told : TestForm → ℕ → List ℕ → Option Differs → List ℕ
 told Text number name differs = told_plainly name differs
 told Tap number name differs = told_as_tap number name differs
 
+-- what is told of a transcript that was written anew
+abbrev pub updated : TestForm → ℕ → List ℕ → List ℕ
+updated Text number name = codes "updated " ++ (name ++ codes "\n")
+updated Tap number name = codes "ok " ++ (decimal number ++ (codes " - " ++ (name ++ codes " # updated\n")))
+
 -- what is told last: how many passed and failed, or the protocol's plan
 abbrev pub summary : TestForm → ℕ → ℕ → List ℕ
 summary Text passed failed = decimal passed ++ (codes " passed, " ++ (decimal failed ++ codes " failed\n"))

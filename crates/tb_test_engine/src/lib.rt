@@ -22,5 +22,5 @@ mod testing;
 pub use covering::{Coverage, coverage_page, coverage_text};
 pub use places::Differs;
 pub use reaching::Reach;
-pub use telling::{opening, summary, told};
+pub use telling::{opening, remarks, summary, told, updated};
 pub use testing::{Counting, Play, Tested, record, test_source};

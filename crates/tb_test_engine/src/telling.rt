@@ -1,6 +1,6 @@
 //! What is told of transcripts that were run.
 ghost use Rattle.std.specs.Prelude.{◌≡◌, ◌+◌, ◌<◌, ◌^◌, true, IfOk, option_map, string_bytes};
-ghost use Rattle.tb_test_engine.specs.Telling.{in_line, opening, remarks, summary, told, told_as_tap, told_plainly};
+ghost use Rattle.tb_test_engine.specs.Telling.{in_line, opening, remarks, summary, told, told_as_tap, told_plainly, updated};
 ghost use Rattle.tb_words.specs.Texts.{AppendsBytes};
 
 use crate::places::Differs;
@@ -93,6 +93,30 @@ pub fn told(
         TestForm::Text => told_plainly(alloc, name, differs),
         TestForm::Tap => told_as_tap(alloc, number, name, differs),
     }
+}
+
+/// What is told of a transcript that was written anew.
+pub fn updated(
+    alloc: Global,
+    form: TestForm,
+    number: usize,
+    name: &str,
+) -> Result<String, AllocError>
+    ensures { IfOk result (λ text. string_bytes text ≡ updated form number name.now) }
+{
+    match form {
+        TestForm::Text => Ok(format!(in alloc; "updated {name}\n")?),
+        TestForm::Tap => Ok(format!(in alloc; "ok {number} - {name} # updated\n")?),
+    }
+}
+
+/// Lines as remarks of the Test Anything Protocol.
+pub fn remarks(alloc: Global, lines: &[u8]) -> Result<Vec<u8>, AllocError>
+    ensures { IfOk result (λ text. text.items ≡ remarks true lines.now) }
+{
+    let mut text = Vec::new(alloc);
+    push_remarks(&mut text, lines)?;
+    Ok(text)
 }
 
 /// What is told last: how many passed and failed, or the protocol's plan.
