@@ -1,5 +1,5 @@
 #!/usr/bin/env python3
-"""Writes the images of tb_refutations: specs/Compiled, which are what tbc makes of a few sources, and specs/Changed, which
+"""Writes the images of tb_gate_refutations: specs/Compiled, which are what tbc makes of a few sources, and specs/Changed, which
 are these with some bytes changed. What the sources mean as programs stands in specs/Programs, by hand.
 
     tools/refutations.py                    writes both files
@@ -28,7 +28,7 @@ import tempfile
 from typing import NamedTuple
 
 ROOT = pathlib.Path(__file__).resolve().parent.parent
-SPECS = ROOT / "crates/tb_refutations/specs"
+SPECS = ROOT / "crates/tb_gate_refutations/specs"
 BASIC_START = 0x0801
 LINES_AT = 0x0C00
 POLL = "20 e4 ff c9 03 f0 .."  # of a line that ends away
@@ -300,7 +300,7 @@ def changes(images):
         "use Rattle.tb_memmap.specs.Regions.{BASIC_START}",
     ]
     while words:
-        line = "use Rattle.tb_refutations.specs.Compiled.{" + words.pop(0)
+        line = "use Rattle.tb_gate_refutations.specs.Compiled.{" + words.pop(0)
         while words and len(line) + len(words[0]) < 136:
             line += ", " + words.pop(0)
         out.append(line + "}")
@@ -335,7 +335,7 @@ def main():
     for name, text in (("Compiled", compiled(images)), ("Changed", changes(images))):
         path = SPECS / f"{name}.antt"
         if check and path.read_text() != text:
-            print(f"crates/tb_refutations/specs/{name}.antt is not what tools/refutations.py writes")
+            print(f"crates/tb_gate_refutations/specs/{name}.antt is not what tools/refutations.py writes")
             bad = 1
         if not check:
             path.write_text(text)

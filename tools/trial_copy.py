@@ -23,7 +23,7 @@ MATCH = re.compile(r"(?m)^ {4}match job \{\n")
 PERFORM = "pub fn perform<"  # the function with the match of jobs
 OTHER = "Err(Failure::NoMemory)"  # what all other commands do there
 AT_A_TERMINAL = {"hinting", "noting"}  # modules of what is said to a person
-PARTS = ("tb_run_commands", "tb_text_commands", "tb_file_engine")  # the crates of the program's commands, from above
+PARTS = ("tb_program_runs", "tb_program_texts", "tb_program_files")  # the crates of the program's commands, from above
 # What takes the place of the function that makes a job of words, where they are `run FILE`.
 RUN_FILE = """fn job_of_words<R: Env + AllocGlobal>(rt: &R) -> Result<Asked, Failure> {
     let mut words = words(rt)?;
@@ -208,11 +208,11 @@ def is_plain(words):
 
 def without_reader(files, main):
     """The files of the program without the reader of the command line, for the words `run FILE`."""
-    moved = {"use tb_command_line::{Asked, Failure, job};": "use tb_jobs::{Asked, Failure, Job};", "use tb_command_line::": "use tb_jobs::"}
+    moved = {"use tb_program_command_line::{Asked, Failure, job};": "use tb_program_jobs::{Asked, Failure, Job};", "use tb_program_command_line::": "use tb_program_jobs::"}
     for old, new in moved.items():
         files = {file: [(above, it.replace(old, new)) for above, it in items] for file, items in files.items()}
     files[main] = [("", RUN_FILE) if it.startswith("fn job_of_words<") else (above, it) for above, it in files[main]]
-    files[main].insert(1, ("", "use tb_jobs::{Limit, Notation, RunJob, Runnable, Settings, SourceOptions, Typed};\n"))
+    files[main].insert(1, ("", "use tb_program_jobs::{Limit, Notation, RunJob, Runnable, Settings, SourceOptions, Typed};\n"))
     return files
 
 
@@ -223,7 +223,7 @@ def main(folder, program, *command):
         files = files_of(program)
         if is_plain(command):
             files = without_reader(files, source / "main.rt")
-            table[program].append("tb_jobs")
+            table[program].append("tb_program_jobs")
         files = with_one_command(files, source / "tasks.rt", command[0])
         kept = {program: files}
         used = all_names(files)

@@ -1,7 +1,7 @@
 #!/usr/bin/env bash
 # Compares docs/CHANGING.md with the code.
-#  - Each file or folder that the page names between backticks is there: from crates/ or trials/ on, as `tb_meaning/src/needs.rt` or
-#    (without `.antt`) `tb_meaning/specs/Need`, or else from the top.
+#  - Each file or folder that the page names between backticks is there: from crates/ or trials/ on, as `tb_basic_meaning/src/needs.rt` or
+#    (without `.antt`) `tb_basic_meaning/specs/Need`, or else from the top.
 #  - After a colon come names that the file defines, as in `tb_lower/src/lowering.rt:lower,lower_line`.
 #  - Each name alone between backticks is a word of the code, of the definitions or of the proofs.
 #  - A section on a kind of change names each file that names an example of it, as `Return` for a statement; or the folder
@@ -11,12 +11,12 @@
 page=$root/docs/CHANGING.md
 
 # Sections, each with the name of an example, and the crates and files that mean something else by it, or need no place.
-examples='A statement|Return|tb_opcodes|tb_gate|tb_refutations|tb_bench
-A statement|Goto|tb_gate|tb_refutations|tb_bench
+examples='A statement|Return|tb_opcodes|tb_gate|tb_gate_refutations|tb_tools_bench
+A statement|Goto|tb_gate|tb_gate_refutations|tb_tools_bench
 A cleverer piece of code|Remains|
-A new command|Renumber|tb_file_engine
-A command of the debugger|Registers|tb_adapter_values|tb_commands|tb_cpu|tb_inspection
-A request of the language server|Folds|tb_check_engine|tb_disk|tb_jobs|tb_test_engine|tb_transcripts|tb_outline
+A new command|Renumber|tb_program_files
+A command of the debugger|Registers|tb_dap_values|tb_debug_stepping|tb_cpu|tb_debug_inspection
+A request of the language server|Folds|tb_engine_check|tb_machine_disk|tb_program_jobs|tb_engine_test|tb_engine_transcripts|tb_editor_navigation
 A request of the debug adapter|Disassemble|
 A refusal|Unnumbered|
 An assembler that listings are for|Acme|

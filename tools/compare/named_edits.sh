@@ -1,6 +1,6 @@
 #!/usr/bin/env bash
 # Asks for the wrong bodies that a user would miss first. Each name of the list is that of an edit in a folder must-fail/, or
-# of a refutation, a function of tb_refutations. Says which one is gone, and then ends with status 1.
+# of a refutation, a function of tb_gate_refutations. Says which one is gone, and then ends with status 1.
 set -euo pipefail
 cd "$(dirname "${BASH_SOURCE[0]}")/../.."
 
@@ -13,7 +13,7 @@ names='division_rounds_down comparison_by_wrapped_difference silent_loop_without
     back_restores_registers_alone store_one_line_late poll_inside_if'
 bad=0
 for name in $names; do
-    compgen -G "crates/*/must-fail/$name.edit" >/dev/null || grep -rqE "^pub fn $name\(\)" crates/tb_refutations/src ||
+    compgen -G "crates/*/must-fail/$name.edit" >/dev/null || grep -rqE "^pub fn $name\(\)" crates/tb_gate_refutations/src ||
         { echo "named_edits: $name is gone: write it anew, as an edit of must-fail/ or as a refutation" >&2; bad=1; }
 done
 exit "$bad"

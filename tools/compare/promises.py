@@ -16,7 +16,7 @@ PAGES = ROOT / "docs/promises"
 OWNER = re.compile(r"(?:pub )?(?:impl|trait)\b.*\{$")
 FUNCTION = re.compile(r" *(pub )?(?:const )?fn (\w+)")
 CLAUSE = re.compile(r" *(requires|ensures|ghost)\b")
-MADE = ROOT / "crates/tb_page/src/texts.rt"  # of the files in web/, and nothing is promised of it
+MADE = ROOT / "crates/tb_engine_page/src/texts.rt"  # of the files in web/, and nothing is promised of it
 HEAD = "# What the public functions of these crates promise; tools/compare/promises.py writes this page.\n"
 
 

@@ -17,7 +17,7 @@ PAGE = (ROOT / "docs/PROVED.md").read_text()
 FUNCTION = re.compile(r"^(?P<indent> *)pub fn (?P<name>\w+)(?P<rest>(?s:.*?))^(?P=indent)\{", re.M)
 OWNER = re.compile(r"^impl(?:<[^{]*?>)? (?:\w+ for )?(\w+)", re.M)
 SPAN = re.compile(r"`([^`]*)`|([()])")
-OTHERS = ("tb_gate", "tb_refutations", "tb_bench")
+OTHERS = ("tb_gate", "tb_gate_refutations", "tb_tools_bench")
 
 
 def section(heading, end):

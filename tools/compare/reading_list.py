@@ -18,7 +18,7 @@ PAGE = TOP / "docs" / "BELIEVE.md"
 CLAUSES = [
     ("keeps", [("tb_codegen/src/compiler.rt", "compile")]),
     ("marks", [("tb_codegen/src/compiler.rt", "compile")]),
-    ("output", [("tb_driver/src/engines.rt", "run_text"), ("tb_sources/src/playing.rt", "play_compiled")]),
+    ("output", [("tb_driver/src/engines.rt", "run_text"), ("tb_engine_sources/src/playing.rt", "play_compiled")]),
 ]
 # What no clause of these calls reaches: `run_text` is the instance at the limit of the cost, and these are of the other.
 NOT_REACHED = {("tb_compiled.specs.Refusals", "TakesTooMuch"), ("tb_codegen.specs.Templates", "templates")}

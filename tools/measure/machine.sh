@@ -12,11 +12,11 @@
 # is built, by the command line (`tbc run --prg`).
 # The runs go in turn, and the best round of each counts, since other load only ever makes a round longer.
 . "$(dirname "${BASH_SOURCE[0]}")/../setup.sh"
-trials=$root/crates/tb_bench/out/tb_bench
-[ -x "$trials" ] || { echo "build the trials first: cd crates/tb_bench && rt run <stdin" >&2; exit 1; }
+trials=$root/crates/tb_tools_bench/out/tb_tools_bench
+[ -x "$trials" ] || { echo "build the trials first: cd crates/tb_tools_bench && rt run <stdin" >&2; exit 1; }
 
 # A program for sim65: its mark, version 2, a 6502, stack pointer at 0, load address and start $0C00, and the bytes of
-# the program in tb_bench.
+# the program in tb_tools_bench.
 mark='sim65\x02\x00\x00\x00\x0c\x00\x0c'
 high='sim65\x02\x00\x00\x00\xc0\x00\xc0'
 printf "$mark"'\xe8\xd0\xfd\xc8\xd0\xfa\xee\x00\xc0\x4c\x00\x0c' >loop

@@ -1,5 +1,5 @@
 #!/usr/bin/env python3
-"""Makes the constant texts of a page, crates/tb_page/src/texts.rt, of the files in web/.
+"""Makes the constant texts of a page, crates/tb_engine_page/src/texts.rt, of the files in web/.
 
     tools/pack/page_texts.py --write    writes the file
     tools/pack/page_texts.py --check    compares it with what is stored
@@ -15,7 +15,7 @@ from pathlib import Path
 
 ROOT = Path(__file__).resolve().parents[2]
 WEB = ROOT / "web"
-TEXTS = ROOT / "crates/tb_page/src/texts.rt"
+TEXTS = ROOT / "crates/tb_engine_page/src/texts.rt"
 MARK = re.compile(r"\{\{(.*?)\}\}")
 LONGEST = 112
 
@@ -95,7 +95,7 @@ def main(words):
         TEXTS.write_text(file_text())
     elif words == ["--check"]:
         if not TEXTS.exists() or TEXTS.read_text() != file_text():
-            sys.exit("page_texts: crates/tb_page/src/texts.rt is not what web/ says: tools/pack/page_texts.py --write")
+            sys.exit("page_texts: crates/tb_engine_page/src/texts.rt is not what web/ says: tools/pack/page_texts.py --write")
     else:
         sys.exit(__doc__)
 

@@ -15,8 +15,8 @@
 #   tools/try/foreign_machines.sh [COUNT]    how many random PRGs; 20,000 by default
 . "$(dirname "${BASH_SOURCE[0]}")/../setup.sh"
 needs_program
-trials=$root/crates/tb_bench/out/tb_bench
-[ -x "$trials" ] || { echo "build the trials first: cd crates/tb_bench && rt run <stdin" >&2; exit 1; }
+trials=$root/crates/tb_tools_bench/out/tb_tools_bench
+[ -x "$trials" ] || { echo "build the trials first: cd crates/tb_tools_bench && rt run <stdin" >&2; exit 1; }
 needs python3
 installs sim65 cc65
 foreign=$root/tools/try/foreign

@@ -4,7 +4,7 @@
 # `tbc: out of memory` and nothing written (of a program that is played, debugged or profiled, its warnings and a prefix
 # of what it shows; of sources that are checked, a prefix of what is said of them; of a server, of its answers; of a build
 # of several files, some of them whole), or answer exactly what the command answers with ample memory; if no growth was refused, it must not run out of memory.
-# The same holds for the calls that no command makes or shows, each a name after `tb_bench call`. The refusing malloc is
+# The same holds for the calls that no command makes or shows, each a name after `tb_tools_bench call`. The refusing malloc is
 # preloaded, so this needs a C compiler (cc) and glibc.
 #
 #   tools/try/refused_growth.sh [PART OF]     (each OF-th command alone, from the PARTth on: parts can run side by side)
@@ -12,8 +12,8 @@ part=${1:-1}
 parts=${2:-1}
 . "$(dirname "${BASH_SOURCE[0]}")/../setup.sh"
 needs_program
-trials=$root/crates/tb_bench/out/tb_bench
-[ -x "$trials" ] || { echo "build the trials first: cd crates/tb_bench && rt run <stdin" >&2; exit 1; }
+trials=$root/crates/tb_tools_bench/out/tb_tools_bench
+[ -x "$trials" ] || { echo "build the trials first: cd crates/tb_tools_bench && rt run <stdin" >&2; exit 1; }
 needs cc python3
 with_step=yes
 
@@ -71,7 +71,7 @@ check_shown() { # WORD..: the same, at a terminal
 check_call() { # NAME: a call, whose answer is a text
     is_of_this_part || return 0
     refuse_each "$trials" call "$1"
-    [ -s shown.wanted ] || { echo "tb_bench call $1: no answer" >&2; failed=$((failed + 1)); }
+    [ -s shown.wanted ] || { echo "tb_tools_bench call $1: no answer" >&2; failed=$((failed + 1)); }
 }
 
 : >commands

@@ -1,7 +1,7 @@
 #!/usr/bin/env python3
 """Shows frames of the machine's screen in panes of tmux, and compares what stands there with the model's screen: the
 characters of all rows, which cells are reversed, where the cursor is, and that nothing stands elsewhere. The frames are
-those of tools/screen_model.py, which are tb_terminal's by the digests of tb_screen_golden. What was typed between two
+those of tools/screen_model.py, which are tb_machine_screen's by the digests of tb_screen_golden. What was typed between two
 frames must be gone. Needs tmux.
 
     tools/try/screen_terminal.py [COUNT]     COUNT frames in each of three sizes of pane, 40 if it is missing"""

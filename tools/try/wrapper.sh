@@ -244,7 +244,7 @@ row 3 '' "tbc: step at a keyboard $beyond"* at_terminal unbuilt/tbc step hello.b
 # files that are gone or new; and nothing else
 mkdir -p built/crates/tb_words/proofs
 echo >>built/crates/tb_words/proofs/Lib.antt
-echo >>built/crates/tb_bench/src/main.rt
+echo >>built/crates/tb_tools_bench/src/main.rt
 touch built/crates/tb_words/src/lib.rt
 row 0 '' HELLO built/tbc run hello.bas
 stale() { row 5 "tbc: the proved program was made from another $1 (./tbc --build): *" SHOWN built/tbc run hello.bas; } # FILE

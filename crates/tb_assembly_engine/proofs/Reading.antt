@@ -7,7 +7,7 @@ use Rattle.std.specs.Prelude.{MatchResult, OnErr, option_map}
 use Rattle.std.specs.declared.alloc.Global.{Global}
 use Rattle.std.specs.declared.vec.Vec.{Vec}
 use Rattle.std.specs.Str.{IsUtf8, is_utf8}
-use Rattle.tb_files.specs.Deeds.{Deed, ReadsFile}
+use Rattle.tb_engine_files.specs.Deeds.{Deed, ReadsFile}
 use Rattle.tb_assembly_files.specs.declared.library.SourceFile.{SourceFile}
 use Rattle.tb_assembly_files.specs.Expansion.{expansion}
 use Rattle.tb_assembly_files.specs.Libraries.{Source, source_of}
@@ -16,8 +16,8 @@ use Rattle.tb_assembly_output.specs.declared.assembling.Assembled.{Assembled}
 use Rattle.tb_assembly_output.specs.declared.assembling.Assembled.TheVariants.{Wants}
 use Rattle.tb_assembly_output.specs.declared.assembling.Manner.{Manner}
 use Rattle.tb_assembly_engine.specs.Outcomes.{TextFailure}
-use Rattle.tb_streams.specs.declared.outcome.Outcome.TheVariants.{NoMemory}
-use Rattle.tb_streams.specs.declared.stream.InputError.TheVariants.{NoMemory as NoText}
+use Rattle.tb_engine_streams.specs.declared.outcome.Outcome.TheVariants.{NoMemory}
+use Rattle.tb_engine_streams.specs.declared.stream.InputError.TheVariants.{NoMemory as NoText}
 use Rattle.tb_assembly_engine.specs.Deeds.{Stops}
 use Rattle.tb_assembly_engine.specs.Gathering.{AsksFor, Gathers, GivesText, LacksMemory, Takes}
 

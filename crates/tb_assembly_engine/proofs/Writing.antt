@@ -1,9 +1,9 @@
 -- Files that are written one after the other.
 use Rattle.std.proofs.Common.{◌≡◌, inr, List, [], ◌∷◌, ◌++◌, ℕ, Option, subst, sym, Result, Ok, Err}
-use Rattle.tb_files.specs.Deeds.{Deed, Saves}
-use Rattle.tb_files.proofs.Orders.{breaks_front}
+use Rattle.tb_engine_files.specs.Deeds.{Deed, Saves}
+use Rattle.tb_engine_files.proofs.Orders.{breaks_front}
 use Rattle.tb_assembly_engine.specs.Outcomes.{TextFailure}
-use Rattle.tb_streams.specs.declared.outcome.Outcome.TheVariants.{Ended, Refused, ReadFault, WriteFault, NoMemory}
+use Rattle.tb_engine_streams.specs.declared.outcome.Outcome.TheVariants.{Ended, Refused, ReadFault, WriteFault, NoMemory}
 use Rattle.tb_assembly_engine.specs.Deeds.{Puts, save_of}
 
 module _ {F : Type 0} (does : F → Deed → F → Type 0) where

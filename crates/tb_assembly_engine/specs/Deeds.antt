@@ -1,16 +1,16 @@
 -- What assembling does with files.
 use Rattle.std.specs.Prelude.{◌≡◌, ◌⊎◌, ℕ, ◌+◌, ◌*◌, Bool, List, [], ◌∷◌, ◌++◌, length, map, Option, Some, None, option_map, Result, Ok, Err, ⊤, string_bytes}
 use Rattle.std.specs.Borrow.{Bor}
-use Rattle.tb_files.specs.Checks.{Judges, put_of}
-use Rattle.tb_files.specs.Deeds.{BreaksOff, Deed, Saves, Did}
-use Rattle.tb_files.specs.declared.checks.Barred.TheVariants as barred
-use Rattle.tb_files.specs.declared.checks.Output.{Output}
-use Rattle.tb_files.specs.Looks.{code_kind}
-use Rattle.tb_files.specs.declared.looks.Kind.{Kind}
-use Rattle.tb_files.specs.declared.looks.Kind.TheVariants.{Labels, Listing}
-use Rattle.tb_files.specs.declared.looks.Look.{Look}
-use Rattle.tb_files.specs.declared.places.Place.{Place}
-use Rattle.tb_files.specs.declared.system.Trouble.TheVariants as trouble
+use Rattle.tb_engine_files.specs.Checks.{Judges, put_of}
+use Rattle.tb_engine_files.specs.Deeds.{BreaksOff, Deed, Saves, Did}
+use Rattle.tb_engine_files.specs.declared.checks.Barred.TheVariants as barred
+use Rattle.tb_engine_files.specs.declared.checks.Output.{Output}
+use Rattle.tb_engine_files.specs.Looks.{code_kind}
+use Rattle.tb_engine_files.specs.declared.looks.Kind.{Kind}
+use Rattle.tb_engine_files.specs.declared.looks.Kind.TheVariants.{Labels, Listing}
+use Rattle.tb_engine_files.specs.declared.looks.Look.{Look}
+use Rattle.tb_engine_files.specs.declared.places.Place.{Place}
+use Rattle.tb_engine_files.specs.declared.system.Trouble.TheVariants as trouble
 use Rattle.tb_assembly_files.specs.Libraries.{Source}
 use Rattle.tb_assembly_output.specs.Assembled.{Answers}
 use Rattle.tb_assembly_output.specs.declared.assembling.Assembly.{Assembly}
@@ -20,7 +20,7 @@ use Rattle.tb_assembly_output.specs.declared.assembling.AssemblyError.TheVariant
 use Rattle.tb_assembly_engine.specs.Gathering.{AsksFor, Gathers, LacksMemory, kept_of}
 use Rattle.tb_assembly_engine.specs.Outcomes.{TextFailure}
 use Rattle.tb_assembly_engine.specs.declared.outcome.TextRefusal.TheVariants.{Said, Item, TooManyFiles, SameFile, IsSource, Unlike}
-use Rattle.tb_streams.specs.declared.outcome.Outcome.TheVariants.{Ended, Refused, ReadFault, WriteFault, NoMemory}
+use Rattle.tb_engine_streams.specs.declared.outcome.Outcome.TheVariants.{Ended, Refused, ReadFault, WriteFault, NoMemory}
 use Rattle.tb_assembly_engine.specs.declared.saving.TextNames.{TextNames}
 
 -- the load address of a PRG file, if it has one

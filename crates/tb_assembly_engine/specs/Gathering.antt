@@ -1,9 +1,9 @@
 -- Which files are read, and where the texts are from.
 use Rattle.std.specs.Prelude.{◌≡◌, ◌⊎◌, ℕ, Bool, not, ◌&&◌, List, [], ◌∷◌, ◌++◌, map, filter, Option, Some, None, Err, MatchBool}
 use Rattle.std.specs.Str.{bytes_eq, is_utf8}
-use Rattle.tb_files.specs.Deeds.{CantRead, Deed, Did, Holds, ReadsFile, read_with}
-use Rattle.tb_files.specs.Names.{standard}
-use Rattle.tb_streams.specs.declared.stream.InputError.TheVariants.{NoMemory}
+use Rattle.tb_engine_files.specs.Deeds.{CantRead, Deed, Did, Holds, ReadsFile, read_with}
+use Rattle.tb_engine_files.specs.Names.{standard}
+use Rattle.tb_engine_streams.specs.declared.stream.InputError.TheVariants.{NoMemory}
 use Rattle.tb_assembly_files.specs.Libraries.{Source}
 use Rattle.tb_assembly_files.specs.Expansion.{expansion}
 

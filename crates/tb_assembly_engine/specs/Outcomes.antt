@@ -1,10 +1,10 @@
 -- How assembling fails.
 use Rattle.std.specs.Prelude.{ℕ}
-use Rattle.tb_streams.specs.Numbers.{REFUSED, BAD_WORDS}
-use Rattle.tb_streams.specs.Outcomes.{Failure}
-use Rattle.tb_streams.specs.declared.outcome.Outcome.TheVariants.{WriteFault, NoMemory}
-use Rattle.tb_files.specs.declared.system.Trouble.{Trouble}
-use Rattle.tb_files.specs.declared.system.Trouble.TheVariants as trouble
+use Rattle.tb_engine_streams.specs.Numbers.{REFUSED, BAD_WORDS}
+use Rattle.tb_engine_streams.specs.Outcomes.{Failure}
+use Rattle.tb_engine_streams.specs.declared.outcome.Outcome.TheVariants.{WriteFault, NoMemory}
+use Rattle.tb_engine_files.specs.declared.system.Trouble.{Trouble}
+use Rattle.tb_engine_files.specs.declared.system.Trouble.TheVariants as trouble
 use Rattle.tb_assembly_engine.specs.declared.outcome.TextRefusal.{TextRefusal}
 use Rattle.tb_assembly_engine.specs.declared.outcome.TextRefusal.TheVariants.{Said, Item, TooManyFiles, SameFile, IsSource, Unlike}
 

@@ -9,7 +9,7 @@ use crate::outcome::{TextFailure, TextRefusal};
 use crate::saving::{TextNames, outputs_of, save_all};
 use std::alloc::{AllocError, Global};
 use tb_assembly_output::{Assembly, Manner, SourceFile};
-use tb_files::{Barred, FileSystem, Output, STANDARD, may_write};
+use tb_engine_files::{Barred, FileSystem, Output, STANDARD, may_write};
 
 // The path of a file that must be kept: one that leads to a file, but for that of standard input.
 #[tactic(auto, using(crate::proofs::Reading::paths))]

@@ -1,7 +1,7 @@
 //! A text with all that it includes, file by file.
 ghost use Rattle.std.specs.Prelude.{◌≡◌, ◌∷◌, ◌++◌, [], Err, MatchResult, Ok, OnErr, OnOk, map, option_map};
-ghost use Rattle.tb_files.specs.Deeds.{ReadsFile};
-ghost use Rattle.tb_streams.specs.declared.stream.InputError.TheVariants.{NoMemory};
+ghost use Rattle.tb_engine_files.specs.Deeds.{ReadsFile};
+ghost use Rattle.tb_engine_streams.specs.declared.stream.InputError.TheVariants.{NoMemory};
 ghost use Rattle.tb_assembly_files.specs.Libraries.{Source, source_of};
 ghost use Rattle.tb_assembly_output.specs.Assembled.{Answers};
 ghost use Rattle.tb_assembly_engine.specs.Gathering.{GivesText, LacksMemory, Takes};
@@ -10,8 +10,8 @@ ghost use Rattle.tb_assembly_engine.specs.Deeds.{Fails, IsMade, Stops};
 use crate::outcome::{TextFailure, TextRefusal};
 use std::alloc::{AllocError, Global};
 use tb_assembly_output::{Assembled, Assembly, AssemblyError, Manner, SourceFile, assemble_texts};
-use tb_files::{FileSystem, read_file};
-use tb_streams::InputError;
+use tb_engine_files::{FileSystem, read_file};
+use tb_engine_streams::InputError;
 
 /// The most files that a text and all that it includes may be in.
 pub const MOST_FILES: usize = 256;

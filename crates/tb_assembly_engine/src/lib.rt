@@ -1,10 +1,10 @@
 //! Assembling a text as people write it, over any system of files: the text is opened first, then each file that it
 //! includes, and nothing is written before all is made.
 //!
-//! - `assemble_source` reads the file at the path that the command names, and then, one by one, the file that a line
-//!   of those before it includes, at the path that `expansion` wants (`Gathers`, `AsksFor`). The text of each is all
-//!   that the file holds, as far as its reader tells. One without a text can't be read, as `read_file` of tb_files says
-//!   it (`GivesText`).
+//! - `assemble_source` reads the file at the path that the command names, and then, one by one, the file that a line of
+//!   those before it includes, at the path that `expansion` wants (`Gathers`, `AsksFor`). The text of each is all that
+//!   the file holds, as far as its reader tells. One without a text can't be read, as `read_file` of tb_engine_files
+//!   says it (`GivesText`).
 //! - What is made or refused is what `assemble_texts` answers of these files (`IsMade`, `Stops`). More than 256 are
 //!   told of if 257 were read.
 //! - Then the PRG file is written to OUT, the labels to their path and the listing to its path, in this order, up to

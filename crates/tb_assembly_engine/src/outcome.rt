@@ -5,9 +5,9 @@ ghost use Rattle.tb_assembly_engine.specs.Outcomes.{unwritten};
 use crate::gathering::MOST_FILES;
 use std::fmt;
 use tb_asm::AsmError;
+use tb_engine_files::{Kind, Trouble};
+use tb_engine_streams::{Done, ExitStatus, Failure, Outcome, status};
 use tb_engines::Refusal;
-use tb_files::{Kind, Trouble};
-use tb_streams::{Done, ExitStatus, Failure, Outcome, status};
 
 /// Why a text is not assembled.
 #[derive(Debug, Drop)]

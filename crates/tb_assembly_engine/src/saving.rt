@@ -1,13 +1,13 @@
 //! Writing what was made.
 ghost use Rattle.std.specs.Prelude.{◌≡◌, ◌∷◌, ◌++◌, [], IfOk, Ok, map, option_map};
-ghost use Rattle.tb_files.specs.Checks.{put_of};
-ghost use Rattle.tb_files.specs.Deeds.{Saves};
+ghost use Rattle.tb_engine_files.specs.Checks.{put_of};
+ghost use Rattle.tb_engine_files.specs.Deeds.{Saves};
 ghost use Rattle.tb_assembly_engine.specs.Deeds.{Puts, load_address, outputs_of, save_of, saves_of, wanted};
 
 use crate::outcome::{TextFailure, unwritten};
 use std::alloc::{AllocError, Global};
 use tb_assembly_output::Assembly;
-use tb_files::{FileSystem, Kind, Output, code_kind};
+use tb_engine_files::{FileSystem, Kind, Output, code_kind};
 
 /// What assembling writes: the PRG file, and the label file and the listing, if they are wanted.
 #[derive(Clone, Copy)]

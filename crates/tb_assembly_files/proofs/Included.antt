@@ -1,7 +1,7 @@
 -- What an include makes of what was read.
 use Rattle.std.proofs.Common.{◌≡◌, ℕ, zero, suc, ◌-◌, ◌∷◌, [], List, length, map, take, refl, sym, ap, subst, ◌∙◌, arith, Option, Some, None, Result, Ok, Err}
 use Rattle.std.proofs.lemmas.List.{take-map, length-map}
-use Rattle.tb_text.specs.Lines.{lines_from, lines_of_file}
+use Rattle.tb_basic_text.specs.Lines.{lines_from, lines_of_file}
 use Rattle.tb_assembly_files.specs.declared.faults.Place.{Place}
 use Rattle.tb_assembly_files.specs.declared.faults.IncludeFault.{IncludeFault}
 use Rattle.tb_assembly_files.specs.declared.faults.IncludeFault.TheVariants.{Unread}

@@ -1,7 +1,7 @@
 -- The statements of a text with those of the files that it includes, line by line, or all that is wrong with the lines.
 use Rattle.std.specs.Prelude.{◌≡◌, ℕ, zero, suc, ◌+◌, ◌-◌, Bool, Option, Some, None, Result, Ok, Err, List, [], ◌∷◌, ◌++◌, map, length, take, replicate, nat_le, eqb, if◌then◌else◌}
 use Rattle.std.specs.List.{list_any, slice_get}
-use Rattle.tb_text.specs.Lines.{lines_of_file}
+use Rattle.tb_basic_text.specs.Lines.{lines_of_file}
 use Rattle.tb_assembly_text.specs.declared.faults.Fault.{Fault}
 use Rattle.tb_assembly_text.specs.Tokens.{Placed, tokens_of}
 use Rattle.tb_assembly_text.specs.Statements.{Said, said_of, includes}

@@ -1,7 +1,7 @@
 //! A text with the texts of the files that it includes, line by line.
 ghost use Rattle.std.specs.Prelude.{◌≡◌, ◌∷◌, IfOk, Ok, Some, eqb, map, option_map};
 ghost use Rattle.std.specs.List.{list_any};
-ghost use Rattle.tb_text.specs.Lines.{lines_of_file};
+ghost use Rattle.tb_basic_text.specs.Lines.{lines_of_file};
 ghost use Rattle.tb_assembly_text.specs.Statements.{said_of};
 ghost use Rattle.tb_assembly_files.specs.Libraries.{source_of};
 ghost use Rattle.tb_assembly_files.specs.Expansion.{by_include, expansion, file_fault, front, include_in, included_of, including, last_include, line_read, lines_read, read_of};
@@ -12,7 +12,7 @@ use crate::library::{SourceFile, file_with, path_at, text_at};
 use crate::paths::beside;
 use std::alloc::{AllocError, Global};
 use tb_assembly_text::{Clause, Fault, LineError, Statement, read_line};
-use tb_text::next_line;
+use tb_basic_text::next_line;
 
 /// What was read: the last plain label, the statements, the line of each, all that is wrong with lines, and how many
 /// lines it were.

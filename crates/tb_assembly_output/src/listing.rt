@@ -9,9 +9,9 @@ use tb_asm::{AsmErrorKind, Image, Item, TextError, assemble, read_text};
 use tb_assembly_files::{Place, SourceFile, text_at};
 use tb_assembly_meaning::{Laid, Spot};
 use tb_assembly_text::Clause;
+use tb_basic_source::{cut, push_shown};
+use tb_basic_text::next_line;
 use tb_disasm::{disassemble, first_line, write_byte, write_item, write_word};
-use tb_source_text::{cut, push_shown};
-use tb_text::next_line;
 
 // How many bytes of data are in a row.
 const ROW: usize = 16;

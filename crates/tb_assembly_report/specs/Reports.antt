@@ -2,8 +2,8 @@
 use Rattle.std.specs.Prelude.{ℕ, ◌+◌, ◌-◌, Bool, Option, Some, None, unwrap_or, List, [], ◌∷◌, ◌++◌, map, codes, nat_lt}
 use Rattle.std.specs.List.{slice_get}
 use Rattle.std.specs.Fmt.{decimal}
-use Rattle.tb_text.specs.Lines.{lines_of_file}
-use Rattle.tb_check_engine.specs.Rows.{caret_row, line_row}
+use Rattle.tb_basic_text.specs.Lines.{lines_of_file}
+use Rattle.tb_engine_check.specs.Rows.{caret_row, line_row}
 use Rattle.tb_assembly_files.specs.declared.faults.Place.{Place}
 use Rattle.tb_assembly_files.specs.Libraries.{Source, path_at}
 use Rattle.tb_assembly_report.specs.declared.causes.Finding.{Finding}

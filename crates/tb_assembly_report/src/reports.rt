@@ -3,8 +3,8 @@ ghost use Rattle.std.specs.Prelude.{◌≡◌, ◌-◌, ◌++◌, [], IfOk, map,
 ghost use Rattle.std.specs.List.{slice_get};
 ghost use Rattle.std.specs.Fmt.{decimal};
 ghost use Rattle.tb_words.specs.Texts.{AppendsBytes};
-ghost use Rattle.tb_text.specs.Lines.{lines_of_file};
-ghost use Rattle.tb_check_engine.specs.Rows.{caret_row, line_row};
+ghost use Rattle.tb_basic_text.specs.Lines.{lines_of_file};
+ghost use Rattle.tb_engine_check.specs.Rows.{caret_row, line_row};
 ghost use Rattle.tb_assembly_files.specs.Libraries.{path_at, source_of};
 ghost use Rattle.tb_assembly_report.specs.Reports.{all_lines, line_at, lines_in, lines_of, note_row, report, row_at, rows};
 
@@ -12,8 +12,8 @@ use crate::causes::{Finding, cause_text};
 use crate::notes::{NOTED, note};
 use std::alloc::{AllocError, Global};
 use tb_assembly_files::{Place, SourceFile, path_at};
-use tb_check_engine::{push_caret, push_line};
-use tb_text::next_line;
+use tb_basic_text::next_line;
+use tb_engine_check::{push_caret, push_line};
 
 // The lines of a file, as they were written.
 #[derive(Drop)]

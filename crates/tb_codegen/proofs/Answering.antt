@@ -1,12 +1,12 @@
 -- What linking answers is what the compiler answers.
 use Rattle.std.proofs.Common.{ℕ, ◌≡◌, Some, None, Result, Ok, Err, subst}
 use Rattle.std.specs.Prelude.{IfErr, IfOk}
-use Rattle.tb_syntax.specs.Source.{Program}
+use Rattle.tb_basic_syntax.specs.Source.{Program}
 use Rattle.tb_lower.specs.Lowered as lowered
 use Rattle.tb_lower.specs.Slots.{SlotCode}
 use Rattle.tb_parser.specs.Files.{AreStated}
-use Rattle.tb_compile_errors.specs.declared.refusals.CompileError.{CompileError}
-use Rattle.tb_compile_errors.specs.declared.refusals.CompileError.TheVariants.{Source, Lower, TooLarge, NoMemory}
+use Rattle.tb_compiled_errors.specs.declared.refusals.CompileError.{CompileError}
+use Rattle.tb_compiled_errors.specs.declared.refusals.CompileError.TheVariants.{Source, Lower, TooLarge, NoMemory}
 use Rattle.tb_compiled.specs.declared.compiled.Compiled.{Compiled}
 use Rattle.tb_compiled.specs.declared.settings.CompileSettings.{CompileSettings}
 use Rattle.tb_compiled.specs.declared.settings.SizeLimit.{SizeLimit}

@@ -6,18 +6,18 @@ use Rattle.tb_asm.specs.Layout.{size}
 use Rattle.tb_lower.specs.Follows.{Follows}
 use Rattle.tb_lower.specs.Lowered as lowered
 use Rattle.tb_lower.specs.Slots.{SlotCode}
-use Rattle.tb_text.specs.declared.notation.Notation.{Notation}
+use Rattle.tb_basic_text.specs.declared.notation.Notation.{Notation}
 use Rattle.tb_parser.specs.Files.{LinesIn, Outcome, edited, end, bad, good}
 use Rattle.tb_prg.specs.Prg.{header}
 use Rattle.tb_runtime16.specs.Addresses.{PROLOGUE_AT}
-use Rattle.tb_syntax.specs.Source.{Program, numbers}
-use Rattle.tb_selection.specs.Laws.{AreClosed}
-use Rattle.tb_selection.proofs.Closed.{all_closed}
-use Rattle.tb_settling.specs.Settled.{IsLaid}
-use Rattle.tb_program_code.specs.Program.{program_code}
-use Rattle.tb_kept.specs.Keeps.{Keeps}
-use Rattle.tb_correctness.specs.Laid.{ArePolled}
-use Rattle.tb_correctness.proofs.Whole.Compiled.{image_keeps}
+use Rattle.tb_basic_syntax.specs.Source.{Program, numbers}
+use Rattle.tb_compiler_selection.specs.Laws.{AreClosed}
+use Rattle.tb_compiler_selection.proofs.Closed.{all_closed}
+use Rattle.tb_assembly_settling.specs.Settled.{IsLaid}
+use Rattle.tb_compiler_program.specs.Program.{program_code}
+use Rattle.tb_compiled_kept.specs.Keeps.{Keeps}
+use Rattle.tb_proof_correctness.specs.Laid.{ArePolled}
+use Rattle.tb_proof_correctness.proofs.Whole.Compiled.{image_keeps}
 use Rattle.tb_codegen.specs.Coded.{IsListed}
 use Rattle.tb_codegen.proofs.Sized.{same_numbers}
 use Rattle.tb_compiled.proofs.SmallPrograms.{count_numbers}

@@ -5,23 +5,23 @@ use Rattle.std.proofs.lemmas.Bool.{eqb-true}
 use Rattle.tb_memmap.specs.Regions.{BASIC_START}
 use Rattle.tb_asm.specs.declared.names.Name.{Name}
 use Rattle.tb_asm.specs.Layout.{labels_from, size}
-use Rattle.tb_meaning.specs.Control.{has_line}
+use Rattle.tb_basic_meaning.specs.Control.{has_line}
 use Rattle.tb_lower.specs.Follows.{Follows}
 use Rattle.tb_lower.specs.Lowered as lowered
 use Rattle.tb_lower.specs.Slots.{SlotCode}
 use Rattle.tb_prg.specs.Prg.{header}
 use Rattle.tb_runtime16.specs.Addresses.{PROLOGUE_AT}
-use Rattle.tb_syntax.specs.Source.{Program, numbers}
-use Rattle.tb_templates.specs.declared.labels.Target.TheVariants.{Line}
-use Rattle.tb_selection.specs.Laws.{AreClosed}
-use Rattle.tb_selection.proofs.Closed.{all_closed}
-use Rattle.tb_settling.specs.Settled.{IsLaid}
-use Rattle.tb_program_code.specs.Program.{program_code}
-use Rattle.tb_simulation.specs.Layout.{label_address}
-use Rattle.tb_kept.specs.LineStarts.{MarksLines}
-use Rattle.tb_correctness.specs.Laid.{ArePolled}
-use Rattle.tb_correctness.proofs.Whole.Compiled.{image_marks}
-use Rattle.tb_simulation.proofs.Numbers.{start_of_line}
+use Rattle.tb_basic_syntax.specs.Source.{Program, numbers}
+use Rattle.tb_compiler_templates.specs.declared.labels.Target.TheVariants.{Line}
+use Rattle.tb_compiler_selection.specs.Laws.{AreClosed}
+use Rattle.tb_compiler_selection.proofs.Closed.{all_closed}
+use Rattle.tb_assembly_settling.specs.Settled.{IsLaid}
+use Rattle.tb_compiler_program.specs.Program.{program_code}
+use Rattle.tb_proof_simulation.specs.Layout.{label_address}
+use Rattle.tb_compiled_kept.specs.LineStarts.{MarksLines}
+use Rattle.tb_proof_correctness.specs.Laid.{ArePolled}
+use Rattle.tb_proof_correctness.proofs.Whole.Compiled.{image_marks}
+use Rattle.tb_proof_simulation.proofs.Numbers.{start_of_line}
 use Rattle.tb_compiled.specs.Compiled.{start_in}
 use Rattle.tb_codegen.specs.Compiled.{starts_in}
 use Rattle.tb_codegen.proofs.Kept.{all_polled}

@@ -3,16 +3,16 @@ use Rattle.std.proofs.Common.{◌≡◌, ℕ, ◌+◌, ◌≤◌, List, [], ◌�
 use Rattle.std.specs.Prelude.{unwrap_or}
 use Rattle.tb_asm.specs.declared.names.Name.{Name}
 use Rattle.tb_asm.specs.Settle.{Form, items_from}
-use Rattle.tb_syntax.specs.Source.{Numbered, Program, numbers}
+use Rattle.tb_basic_syntax.specs.Source.{Numbered, Program, numbers}
 use Rattle.tb_lower.specs.Lowered as lowered
 use Rattle.tb_lower.specs.Slots.{Instr, SlotCode}
-use Rattle.tb_settling.specs.Settled.{AreFormsOf}
-use Rattle.tb_settling.proofs.Forms.{forms_size, split}
-use Rattle.tb_templates.specs.declared.labels.Target.TheVariants.{Line}
-use Rattle.tb_templates.specs.Labels.{label_of}
-use Rattle.tb_program_code.specs.Layout.{LabelsAt}
-use Rattle.tb_program_code.specs.Program.{line_code, lines_code}
-use Rattle.tb_program_code.proofs.Settled.{labels_behind, line_at, some_bytes}
+use Rattle.tb_assembly_settling.specs.Settled.{AreFormsOf}
+use Rattle.tb_assembly_settling.proofs.Forms.{forms_size, split}
+use Rattle.tb_compiler_templates.specs.declared.labels.Target.TheVariants.{Line}
+use Rattle.tb_compiler_templates.specs.Labels.{label_of}
+use Rattle.tb_compiler_program.specs.Layout.{LabelsAt}
+use Rattle.tb_compiler_program.specs.Program.{line_code, lines_code}
+use Rattle.tb_compiler_program.proofs.Settled.{labels_behind, line_at, some_bytes}
 use Rattle.tb_codegen.specs.Compiled.{starts_in, stands_at, AreKnown}
 use Rattle.tb_compiled.specs.Compiled.{AddressesRise}
 

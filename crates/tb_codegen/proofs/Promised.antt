@@ -4,14 +4,14 @@ use Rattle.tb_asm.specs.declared.names.Name.{Name}
 use Rattle.tb_asm.specs.Layout.{labels_from, image_of, size}
 use Rattle.tb_asm.specs.Settle.{Form, Settles, items_from, kept}
 use Rattle.tb_asm.proofs.Laws.{all_size}
-use Rattle.tb_syntax.specs.Source.{Program, numbers}
+use Rattle.tb_basic_syntax.specs.Source.{Program, numbers}
 use Rattle.tb_lower.specs.Lowered as lowered
-use Rattle.tb_kept.specs.Addresses.{LINES_AT}
+use Rattle.tb_compiled_kept.specs.Addresses.{LINES_AT}
 use Rattle.tb_runtime16.specs.Addresses.{PROLOGUE_AT}
-use Rattle.tb_settling.proofs.Rounds.{one_way, rounds_end}
-use Rattle.tb_templates.specs.declared.labels.Target.TheVariants.{Line, Past}
-use Rattle.tb_templates.specs.Labels.{label_of}
-use Rattle.tb_program_code.specs.Program.{program_code}
+use Rattle.tb_assembly_settling.proofs.Rounds.{one_way, rounds_end}
+use Rattle.tb_compiler_templates.specs.declared.labels.Target.TheVariants.{Line, Past}
+use Rattle.tb_compiler_templates.specs.Labels.{label_of}
+use Rattle.tb_compiler_program.specs.Program.{program_code}
 use Rattle.tb_compiled.specs.Compiled.{IsCompiled}
 use Rattle.tb_compiled.specs.Refusals.{TakesTooMuch, told_of}
 use Rattle.tb_compiled.specs.declared.compiled.Compiled.{Compiled}

@@ -1,25 +1,25 @@
 -- What both calls compile is the same.
 use Rattle.std.proofs.Common.{◌≡◌, ℕ, List, ◌++◌, map, Option, Some, None, Result, Ok, Err, sym, ap, ◌∙◌, arith, is_some, true≢false}
-use Rattle.tb_syntax.specs.Source.{Program, numbers}
+use Rattle.tb_basic_syntax.specs.Source.{Program, numbers}
 use Rattle.tb_asm.specs.Layout.{Entry, size, labels_from, image_of, address_in}
 use Rattle.tb_asm.specs.Settle.{kept, items_from, SettlesTo}
 use Rattle.tb_lower.specs.Lowered as lowered
-use Rattle.tb_meaning.specs.declared.needs.LowerError.TheVariants as deep
+use Rattle.tb_basic_meaning.specs.declared.needs.LowerError.TheVariants as deep
 use Rattle.tb_parser.specs.Files.{Outcome}
 use Rattle.tb_prg.specs.Prg.{header}
-use Rattle.tb_compile_errors.specs.declared.refusals.CompileError.{CompileError}
-use Rattle.tb_compile_errors.specs.declared.refusals.CompileError.TheVariants.{Source, Lower, TooLarge, NoMemory}
+use Rattle.tb_compiled_errors.specs.declared.refusals.CompileError.{CompileError}
+use Rattle.tb_compiled_errors.specs.declared.refusals.CompileError.TheVariants.{Source, Lower, TooLarge, NoMemory}
 use Rattle.tb_runtime16.specs.Addresses.{PROLOGUE_AT}
-use Rattle.tb_templates.specs.declared.labels.Target.TheVariants.{Table}
-use Rattle.tb_templates.specs.Labels.{label_of}
-use Rattle.tb_program_code.specs.Program.{program_code}
+use Rattle.tb_compiler_templates.specs.declared.labels.Target.TheVariants.{Table}
+use Rattle.tb_compiler_templates.specs.Labels.{label_of}
+use Rattle.tb_compiler_program.specs.Program.{program_code}
 use Rattle.tb_compiled.specs.declared.compiled.Compiled.{Compiled}
 use Rattle.tb_codegen.specs.Templates.{templates}
 use Rattle.tb_codegen.specs.Compiled.{IsLinked, starts_in}
 use Rattle.tb_compiled.specs.Compiled.{IsCompiled, table_of}
 use Rattle.tb_compiled.specs.Answers.{HasOutcome, OutcomeAnswer, LinesMake, ProgramAnswer, AreSame, GivesSame}
 use Rattle.tb_compiled.specs.Settings.{by_cost, by_memory}
-use Rattle.tb_settling.proofs.Rounds.{one_way}
+use Rattle.tb_assembly_settling.proofs.Rounds.{one_way}
 
 same_items : (at : ℕ) (es items others : List Entry) → SettlesTo at es items → SettlesTo at es others → items ≡ others
 same_items at es items others a b = a.are ∙ ap (items_from at) (one_way at (map kept es) a.forms b.forms a.settled b.settled) ∙ sym b.are

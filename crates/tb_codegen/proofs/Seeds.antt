@@ -2,22 +2,22 @@
 use Rattle.std.proofs.Common.{◌≡◌, ℕ, ◌+◌, Bool, true, false, List, [], ◌∷◌, ◌++◌, refl, sym, ap, ◌∙◌, map}
 use Rattle.std.proofs.lemmas.List.{map-append}
 use Rattle.tb_asm.specs.Layout.{Entry}
-use Rattle.tb_syntax.specs.Source.{Numbered, numbers}
+use Rattle.tb_basic_syntax.specs.Source.{Numbered, numbers}
 use Rattle.tb_lower.specs.Slots.{Instr, Poll, SlotCode}
-use Rattle.tb_selection.specs.Groups.{Group, Convert, Drawn}
-use Rattle.tb_selection.specs.Groups.{slot_of}
-use Rattle.tb_selection.specs.Select.{select}
+use Rattle.tb_compiler_selection.specs.Groups.{Group, Convert, Drawn}
+use Rattle.tb_compiler_selection.specs.Groups.{slot_of}
+use Rattle.tb_compiler_selection.specs.Select.{select}
 use Rattle.tb_runtime16.specs.Addresses.{RANDOM_AT}
-use Rattle.tb_kept.specs.Addresses.{RESULT}
-use Rattle.tb_templates.specs.Breaks.{some_leaves, polled, behind}
-use Rattle.tb_templates.specs.GroupTemplates.{group_template, handed, lined, may_have_none}
-use Rattle.tb_program_code.specs.Search.{compares, find_code}
-use Rattle.tb_program_code.specs.Program.{block_code, line_code, lines_code, list_code, past_code, program_code, rest_code, table_code}
-use Rattle.tb_templates.specs.Sources.{destination_at, source_of}
-use Rattle.tb_templates.specs.Templates.{here}
-use Rattle.tb_templates.specs.declared.labels.Target.TheVariants.{Line}
-use Rattle.tb_templates.specs.declared.sources.Source.{Source}
-use Rattle.tb_templates.specs.declared.sources.Source.TheVariants.{FixedWord}
+use Rattle.tb_compiled_kept.specs.Addresses.{RESULT}
+use Rattle.tb_compiler_templates.specs.Breaks.{some_leaves, polled, behind}
+use Rattle.tb_compiler_templates.specs.GroupTemplates.{group_template, handed, lined, may_have_none}
+use Rattle.tb_compiler_program.specs.Search.{compares, find_code}
+use Rattle.tb_compiler_program.specs.Program.{block_code, line_code, lines_code, list_code, past_code, program_code, rest_code, table_code}
+use Rattle.tb_compiler_templates.specs.Sources.{destination_at, source_of}
+use Rattle.tb_compiler_templates.specs.Templates.{here}
+use Rattle.tb_compiler_templates.specs.declared.labels.Target.TheVariants.{Line}
+use Rattle.tb_compiler_templates.specs.declared.sources.Source.{Source}
+use Rattle.tb_compiler_templates.specs.declared.sources.Source.TheVariants.{FixedWord}
 use Rattle.tb_codegen.proofs.Shapes.{shape}
 
 -- lists of items of the same shapes

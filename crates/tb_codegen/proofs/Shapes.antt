@@ -6,7 +6,7 @@ use Rattle.tb_asm.specs.declared.names.Name.{Name}
 use Rattle.tb_asm.specs.declared.items.Operand.TheVariants.{Byte, Label}
 use Rattle.tb_asm.specs.Layout.{Entry, instr, size_of, size, label_at, labels_from}
 use Rattle.tb_asm.specs.Settle.{Form, kept, long, branch_to, far_to, form_size, form_far, items_from, long_of, lengthened, some_far, some_far_in, widen, round, round_labels, Settles, done, more}
-use Rattle.tb_settling.proofs.Rounds.{rounds_end, one_way}
+use Rattle.tb_assembly_settling.proofs.Rounds.{rounds_end, one_way}
 
 -- an item with 0 in place of its operand's byte
 abbrev pub shape : Entry → Entry

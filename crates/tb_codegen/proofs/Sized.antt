@@ -5,36 +5,36 @@ use Rattle.tb_asm.specs.declared.names.Name.{Name}
 use Rattle.tb_asm.specs.Layout.{Entry, size, address_in, labels_from, image_of, bytes_from}
 use Rattle.tb_asm.specs.Settle.{kept, items_from, SettlesTo}
 use Rattle.tb_asm.proofs.Laws.{all_size, bytes_append}
-use Rattle.tb_syntax.specs.Source.{Program, numbers, Rises}
-use Rattle.tb_syntax.specs.Texts.{HasShortTexts}
-use Rattle.tb_meaning.specs.Cost.{cost}
+use Rattle.tb_basic_syntax.specs.Source.{Program, numbers, Rises}
+use Rattle.tb_basic_syntax.specs.Texts.{HasShortTexts}
+use Rattle.tb_basic_meaning.specs.Cost.{cost}
 use Rattle.tb_lower.specs.Lowered as lowered
-use Rattle.tb_meaning.specs.Missing.{missing_targets}
-use Rattle.tb_meaning.specs.Need.{too_deep}
+use Rattle.tb_basic_meaning.specs.Missing.{missing_targets}
+use Rattle.tb_basic_meaning.specs.Need.{too_deep}
 use Rattle.tb_lower.specs.Ranges.{IsCodeInRange}
 use Rattle.tb_lower.specs.Slots.{Instr, Put, Load, Store, Negate, Compute, Random, SendText, SendNumber, SendZone, SendNewline, Input, Poll, Hold, LeaveUnless}
 use Rattle.tb_lower.specs.Slots.{Jump, Call, JumpTo, CallTo, Return, End, SlotCode}
 use Rattle.tb_parser.specs.Files.{AreStated}
 use Rattle.tb_prg.specs.Prg.{header}
 use Rattle.tb_runtime16.specs.Addresses.{PROLOGUE_AT}
-use Rattle.tb_kept.specs.Addresses.{LINES_AT}
-use Rattle.tb_settling.specs.Settled.{IsLaid}
-use Rattle.tb_settling.proofs.Forms.{forms_most, items_size, kept_forms, settled_forms}
-use Rattle.tb_templates.specs.declared.labels.Target.TheVariants.{Past, Table}
-use Rattle.tb_templates.specs.Labels.{label_of}
-use Rattle.tb_program_code.specs.Sizes.{room, list_room}
-use Rattle.tb_program_code.specs.Program.{past_code, table_code, block_code, program_code, AreCodable}
-use Rattle.tb_program_code.specs.Search.{compares, find_code}
-use Rattle.tb_program_code.proofs.Fitting.{statement_room, program_fits}
-use Rattle.tb_program_code.proofs.Prices.{program_price}
-use Rattle.tb_program_code.proofs.Taken.{block_size, program_most}
+use Rattle.tb_compiled_kept.specs.Addresses.{LINES_AT}
+use Rattle.tb_assembly_settling.specs.Settled.{IsLaid}
+use Rattle.tb_assembly_settling.proofs.Forms.{forms_most, items_size, kept_forms, settled_forms}
+use Rattle.tb_compiler_templates.specs.declared.labels.Target.TheVariants.{Past, Table}
+use Rattle.tb_compiler_templates.specs.Labels.{label_of}
+use Rattle.tb_compiler_program.specs.Sizes.{room, list_room}
+use Rattle.tb_compiler_program.specs.Program.{past_code, table_code, block_code, program_code, AreCodable}
+use Rattle.tb_compiler_program.specs.Search.{compares, find_code}
+use Rattle.tb_compiler_program.proofs.Fitting.{statement_room, program_fits}
+use Rattle.tb_compiler_program.proofs.Prices.{program_price}
+use Rattle.tb_compiler_program.proofs.Taken.{block_size, program_most}
 use Rattle.tb_words.specs.Words.{word_of}
 use Rattle.tb_compiled.specs.declared.compiled.Compiled.{Compiled}
 use Rattle.tb_compiled.specs.Compiled.{prg_of, starts_of, table_of, warnings_of, AddressesRise, most_cost}
 use Rattle.tb_codegen.specs.Compiled.{IsLinked, starts_in, stands_at, AreKnown}
 use Rattle.tb_codegen.specs.Coded.{IsListed, SettlesTooLong}
 use Rattle.tb_compiled.specs.Texts.{LinesHoldTexts, offset_of}
-use Rattle.tb_program_code.proofs.Settled.{Sections, sections}
+use Rattle.tb_compiler_program.proofs.Settled.{Sections, sections}
 use Rattle.tb_codegen.proofs.Placed.{lines_known, lines_begin_in_order, start_numbers}
 use Rattle.tb_codegen.proofs.Texts.{lines_texts}
 use Rattle.tb_compiled.proofs.SmallPrograms.{AreSmall, are_small, small_spaced, small_short, few_lines, count_numbers}

@@ -4,9 +4,9 @@ use Rattle.std.proofs.Common.{arith, append_assoc, length-append, Bool, Option, 
 use Rattle.std.specs.Prelude.{◌/◌, ◌%◌, ◌<◌, unwrap_or}
 use Rattle.std.specs.List.{list_all}
 use Rattle.tb_words.specs.declared.Rel.{Rel}
-use Rattle.tb_syntax.specs.declared.expressions.Operator.{Operator}
-use Rattle.tb_syntax.specs.declared.expressions.Operator.TheVariants.{Subtract}
-use Rattle.tb_templates.specs.Labels.{label_of}
+use Rattle.tb_basic_syntax.specs.declared.expressions.Operator.{Operator}
+use Rattle.tb_basic_syntax.specs.declared.expressions.Operator.TheVariants.{Subtract}
+use Rattle.tb_compiler_templates.specs.Labels.{label_of}
 use Rattle.tb_runtime16.specs.Addresses.{PROLOGUE_AT, SEND_AT}
 use Rattle.tb_asm.specs.declared.names.Name.{Name}
 use Rattle.tb_asm.specs.Layout.{Entry, bytes, size, bytes_from}
@@ -14,32 +14,32 @@ use Rattle.tb_asm.specs.Settle as settle
 use Rattle.tb_asm.specs.Settle.{Form, items_from}
 use Rattle.tb_asm.proofs.Settled.{items_kept}
 use Rattle.tb_asm.proofs.Laws.{all_size, bytes_append}
-use Rattle.tb_syntax.specs.Source.{Program, Statement, Numbered, numbers}
+use Rattle.tb_basic_syntax.specs.Source.{Program, Statement, Numbered, numbers}
 use Rattle.tb_lower.specs.Lowered as lowered
 use Rattle.tb_lower.specs.Slots.{Instr, Put, Load, Store, Negate, Compute, Random, SendText, SendNumber, SendZone, SendNewline, Input, Poll, Hold, LeaveUnless, Jump, Call, JumpTo, CallTo, Return, End}
 use Rattle.tb_lower.specs.Weights.{instr_texts}
-use Rattle.tb_syntax.specs.Texts.{statement_texts}
+use Rattle.tb_basic_syntax.specs.Texts.{statement_texts}
 use Rattle.tb_lower.proofs.Weighed.{same_texts}
-use Rattle.tb_templates.specs.declared.labels.Inner.TheVariants as inner
-use Rattle.tb_templates.specs.declared.labels.Target.TheVariants as target
-use Rattle.tb_kept.specs.Addresses.{POINTER}
+use Rattle.tb_compiler_templates.specs.declared.labels.Inner.TheVariants as inner
+use Rattle.tb_compiler_templates.specs.declared.labels.Target.TheVariants as target
+use Rattle.tb_compiled_kept.specs.Addresses.{POINTER}
 use Rattle.tb_opcodes.specs.Opcodes as opcodes
-use Rattle.tb_templates.specs.Templates.{address, byte_sent, only_byte, sent, text_call, jump, here}
-use Rattle.tb_program_code.proofs.Sent.{IsOnly, only, only_is, other}
-use Rattle.tb_templates.specs.GroupTemplates.{group_template}
-use Rattle.tb_templates.specs.Breaks.{polled, behind, some_leaves}
-use Rattle.tb_program_code.specs.Layout.{LabelsAt}
-use Rattle.tb_program_code.specs.Program.{rest_code, line_code, lines_code}
-use Rattle.tb_settling.specs.Settled.{AreFormsOf}
-use Rattle.tb_settling.proofs.Forms.{forms_size, items_append, items_size, size_append, split, is_straight, straight_forms}
-use Rattle.tb_selection.specs.Groups.{Operand, Constant, Variable, InSlot, Home, IntoVariable, IntoHeld, Destination, IntoSlot, IntoHome, Tested, HeldBefore}
-use Rattle.tb_selection.specs.Groups.{HeldNow, Conversion, Negated, Drawn, Usage, AsNumber, AsLine, AsSubroutine, Divisibility, Group, Calculate, Convert, Move}
-use Rattle.tb_selection.specs.Groups.{Use, Test, TestGo, Divides, Single, fetch, keep, kept, held, convert, use_of, slot_of, expand, expand_all, Side, OnLeft}
-use Rattle.tb_selection.specs.Groups.{OnRight, Remains, Stepped, multiple, compared}
-use Rattle.tb_selection.specs.Select.{select}
-use Rattle.tb_selection.proofs.Bracketed.{brackets}
+use Rattle.tb_compiler_templates.specs.Templates.{address, byte_sent, only_byte, sent, text_call, jump, here}
+use Rattle.tb_compiler_program.proofs.Sent.{IsOnly, only, only_is, other}
+use Rattle.tb_compiler_templates.specs.GroupTemplates.{group_template}
+use Rattle.tb_compiler_templates.specs.Breaks.{polled, behind, some_leaves}
+use Rattle.tb_compiler_program.specs.Layout.{LabelsAt}
+use Rattle.tb_compiler_program.specs.Program.{rest_code, line_code, lines_code}
+use Rattle.tb_assembly_settling.specs.Settled.{AreFormsOf}
+use Rattle.tb_assembly_settling.proofs.Forms.{forms_size, items_append, items_size, size_append, split, is_straight, straight_forms}
+use Rattle.tb_compiler_selection.specs.Groups.{Operand, Constant, Variable, InSlot, Home, IntoVariable, IntoHeld, Destination, IntoSlot, IntoHome, Tested, HeldBefore}
+use Rattle.tb_compiler_selection.specs.Groups.{HeldNow, Conversion, Negated, Drawn, Usage, AsNumber, AsLine, AsSubroutine, Divisibility, Group, Calculate, Convert, Move}
+use Rattle.tb_compiler_selection.specs.Groups.{Use, Test, TestGo, Divides, Single, fetch, keep, kept, held, convert, use_of, slot_of, expand, expand_all, Side, OnLeft}
+use Rattle.tb_compiler_selection.specs.Groups.{OnRight, Remains, Stepped, multiple, compared}
+use Rattle.tb_compiler_selection.specs.Select.{select}
+use Rattle.tb_compiler_selection.proofs.Bracketed.{brackets}
 use Rattle.tb_codegen.specs.Compiled.{stands_at, starts_in}
-use Rattle.tb_program_code.proofs.Settled.{joined_items, labels_behind, line_at, total_size}
+use Rattle.tb_compiler_program.proofs.Settled.{joined_items, labels_behind, line_at, total_size}
 use Rattle.tb_compiled.specs.Texts.{TextsStand, none, text, offset_of, end_before, LinesHoldTexts}
 
 lower : (image : List ℕ) (to from from' : ℕ) (texts : List (List ℕ)) → from ≤ from' → TextsStand image to from' texts → TextsStand image to from texts

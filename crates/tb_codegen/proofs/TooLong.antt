@@ -7,8 +7,8 @@ use Rattle.tb_asm.specs.Settle.{items_from}
 use Rattle.tb_asm.proofs.Laws.{all_size}
 use Rattle.tb_lower.specs.Slots.{SlotCode}
 use Rattle.tb_runtime16.specs.Addresses.{PROLOGUE_AT}
-use Rattle.tb_settling.specs.Settled.{EndsFrom, IsLaid}
-use Rattle.tb_program_code.specs.Program.{program_code}
+use Rattle.tb_assembly_settling.specs.Settled.{EndsFrom, IsLaid}
+use Rattle.tb_compiler_program.specs.Program.{program_code}
 use Rattle.tb_codegen.specs.Coded.{SettlesTooLong}
 use Rattle.tb_compiled.specs.Refusals.{told_of}
 

@@ -1,17 +1,17 @@
 -- A program's slot code, and when its code and line table are too long.
 use Rattle.std.specs.Prelude.{◌≡◌, ℕ, ◌+◌, ◌≤◌, ◌<◌, List, length, map, None}
-use Rattle.tb_syntax.specs.Source.{Program, numbers, Rises}
+use Rattle.tb_basic_syntax.specs.Source.{Program, numbers, Rises}
 use Rattle.tb_asm.specs.Layout.{size}
 use Rattle.tb_asm.specs.Settle.{Form, kept, items_from, Settles}
 use Rattle.tb_lower.specs.Follows.{Follows}
 use Rattle.tb_lower.specs.Lowered.{program_code as slots_of}
-use Rattle.tb_meaning.specs.Need.{too_deep}
+use Rattle.tb_basic_meaning.specs.Need.{too_deep}
 use Rattle.tb_lower.specs.Slots.{SlotCode}
-use Rattle.tb_compile_errors.specs.declared.refusals.CompileError.{CompileError}
-use Rattle.tb_compile_errors.specs.declared.refusals.CompileError.TheVariants.{Source, Lower, TooLarge, NoMemory}
+use Rattle.tb_compiled_errors.specs.declared.refusals.CompileError.{CompileError}
+use Rattle.tb_compiled_errors.specs.declared.refusals.CompileError.TheVariants.{Source, Lower, TooLarge, NoMemory}
 use Rattle.tb_runtime16.specs.Addresses.{PROLOGUE_AT}
-use Rattle.tb_kept.specs.Addresses.{LINES_AT}
-use Rattle.tb_program_code.specs.Program.{AreCodable, program_code}
+use Rattle.tb_compiled_kept.specs.Addresses.{LINES_AT}
+use Rattle.tb_compiler_program.specs.Program.{AreCodable, program_code}
 use Rattle.tb_compiled.specs.Refusals.{told_of}
 
 -- slot code that can be laid out: its lists and lines can be counted, and its numbers rise

@@ -1,19 +1,19 @@
 -- Compiled programs: the settled items of their templates, and where the labels of lines stand.
 use Rattle.std.specs.Prelude.{◌≡◌, ℕ, ◌+◌, ◌≤◌, true, is_some, List, [], ◌∷◌, ◌++◌, map, None, Some, unwrap_or}
 use Rattle.tb_words.specs.Words.{word_of}
-use Rattle.tb_syntax.specs.Source.{Program, numbers}
+use Rattle.tb_basic_syntax.specs.Source.{Program, numbers}
 use Rattle.tb_asm.specs.declared.names.Name.{Name}
 use Rattle.tb_asm.specs.Layout.{Entry, size, image_of, labels_from, address_in}
 use Rattle.tb_asm.specs.Settle.{SettlesTo}
 use Rattle.tb_prg.specs.Prg.{header}
 use Rattle.tb_lower.specs.Lowered as lowered
-use Rattle.tb_meaning.specs.Missing.{missing_targets}
-use Rattle.tb_meaning.specs.Need.{too_deep}
+use Rattle.tb_basic_meaning.specs.Missing.{missing_targets}
+use Rattle.tb_basic_meaning.specs.Need.{too_deep}
 use Rattle.tb_runtime16.specs.Addresses.{PROLOGUE_AT}
-use Rattle.tb_kept.specs.Addresses.{LINES_AT}
-use Rattle.tb_templates.specs.declared.labels.Target.TheVariants.{Line, Past, Table}
-use Rattle.tb_templates.specs.Labels.{label_of}
-use Rattle.tb_program_code.specs.Program.{program_code}
+use Rattle.tb_compiled_kept.specs.Addresses.{LINES_AT}
+use Rattle.tb_compiler_templates.specs.declared.labels.Target.TheVariants.{Line, Past, Table}
+use Rattle.tb_compiler_templates.specs.Labels.{label_of}
+use Rattle.tb_compiler_program.specs.Program.{program_code}
 use Rattle.tb_compiled.specs.Compiled.{AddressesRise, prg_of, starts_of, table_of, warnings_of}
 use Rattle.tb_compiled.specs.Texts.{LinesHoldTexts}
 use Rattle.tb_compiled.specs.declared.compiled.Compiled.{Compiled}

@@ -2,11 +2,11 @@
 use Rattle.std.specs.Prelude.{ℕ}
 use Rattle.tb_asm.specs.Layout.{size}
 use Rattle.tb_asm.specs.Settle.{items_from}
-use Rattle.tb_syntax.specs.Source.{Program}
+use Rattle.tb_basic_syntax.specs.Source.{Program}
 use Rattle.tb_lower.specs.Lowered as lowered
 use Rattle.tb_runtime16.specs.Addresses.{PROLOGUE_AT}
-use Rattle.tb_settling.proofs.Rounds.{rounds_end}
-use Rattle.tb_program_code.specs.Program.{program_code}
+use Rattle.tb_assembly_settling.proofs.Rounds.{rounds_end}
+use Rattle.tb_compiler_program.specs.Program.{program_code}
 use Rattle.tb_codegen.specs.Compiled.{IsLinked}
 use Rattle.tb_compiled.specs.Promise.{Own}
 

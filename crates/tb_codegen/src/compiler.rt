@@ -1,12 +1,12 @@
 //! From a source text to a PRG file.
 ghost use Rattle.std.specs.Prelude.{◌≤◌, ◌<◌, Ok, IfErr, IfOk, length};
-ghost use Rattle.tb_syntax.specs.PlainData.{lines_of};
-ghost use Rattle.tb_syntax.specs.Source.{numbers, Rises};
-ghost use Rattle.tb_meaning.specs.Cost as cost;
+ghost use Rattle.tb_basic_syntax.specs.PlainData.{lines_of};
+ghost use Rattle.tb_basic_syntax.specs.Source.{numbers, Rises};
+ghost use Rattle.tb_basic_meaning.specs.Cost as cost;
 ghost use Rattle.tb_lower.specs.PlainData.{code_of};
 ghost use Rattle.tb_lower.specs.Refusals.{IsRefusal};
 ghost use Rattle.tb_parser.specs.Files.{AreStated, Outcome};
-ghost use Rattle.tb_text.specs.Lines.{lines_of_file};
+ghost use Rattle.tb_basic_text.specs.Lines.{lines_of_file};
 ghost use Rattle.tb_parser.specs.Signed.{LackSigns};
 ghost use Rattle.tb_compiled.specs.declared.compiled.Compiled.{Compiled};
 ghost use Rattle.tb_compiled.specs.Answers.{GivesSame, HasOutcome, LinesMake, OutcomeAnswer, ProgramAnswer, SourceMakes};
@@ -18,11 +18,11 @@ ghost use Rattle.tb_compiled.specs.Theorem.{KeepsItsSource, KeepsProgram, KeepsS
 
 use crate::linking::linked;
 use std::alloc::Global;
+use tb_basic_meaning::LowerError;
+use tb_basic_syntax::Program;
 use tb_compiled::{Compile, CompileError, CompileSettings, Compiled, MOST_COST, SizeLimit, cost};
 use tb_lower::{SlotCode, lower};
-use tb_meaning::LowerError;
 use tb_parser::parse_in;
-use tb_syntax::Program;
 
 /// What a program is compiled with.
 #[derive(Clone, Copy, Debug, PartialEq, Eq, Drop)]

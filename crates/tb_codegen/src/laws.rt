@@ -1,6 +1,6 @@
 //! A law about what programs take.
 ghost use Rattle.std.specs.Prelude.{◌↔◌, ℕ, ◌+◌, ◌≤◌};
-ghost use Rattle.tb_syntax.specs.Source.{Program};
+ghost use Rattle.tb_basic_syntax.specs.Source.{Program};
 ghost use Rattle.tb_memmap.specs.Regions.{CODE_START};
 ghost use Rattle.tb_lower.specs.Lowered.{program_code};
 ghost use Rattle.tb_compiled.specs.Refusals.{TakesTooMuch};

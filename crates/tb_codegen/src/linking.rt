@@ -1,13 +1,13 @@
 //! From slot code to a PRG file.
 ghost use Rattle.std.specs.Prelude.{◌≡◌, ◌≤◌, ◌+◌, IfOk, IfErr, Some, is_some, length, map, true};
 ghost use Rattle.tb_asm.specs.Layout.{address_in};
-ghost use Rattle.tb_syntax.specs.PlainData.{lines_of};
-ghost use Rattle.tb_syntax.specs.Source.{numbers};
+ghost use Rattle.tb_basic_syntax.specs.PlainData.{lines_of};
+ghost use Rattle.tb_basic_syntax.specs.Source.{numbers};
 ghost use Rattle.tb_lower.specs.PlainData.{code_of};
 ghost use Rattle.tb_runtime16.specs.Addresses.{PROLOGUE_AT};
-ghost use Rattle.tb_settling.specs.Settled.{IsLaid};
-ghost use Rattle.tb_templates.specs.Labels.{label_of};
-ghost use Rattle.tb_program_code.specs.Program.{program_code};
+ghost use Rattle.tb_assembly_settling.specs.Settled.{IsLaid};
+ghost use Rattle.tb_compiler_templates.specs.Labels.{label_of};
+ghost use Rattle.tb_compiler_program.specs.Program.{program_code};
 ghost use Rattle.tb_codegen.specs.Compiled.{AreKnown, IsLinked, starts_in};
 ghost use Rattle.tb_compiled.specs.Compiled.{pair_of};
 ghost use Rattle.tb_codegen.specs.Coded.{IsListed, IsSlotCode, IsTooLong};
@@ -16,16 +16,16 @@ ghost use Rattle.tb_compiled.specs.Theorem.{KeepsProgram, MarksProgram};
 
 use std::alloc::{AllocError, Global};
 use tb_asm::{AsmErrorKind, Image};
+use tb_assembly_settling::assemble_settled;
+use tb_basic_meaning::warnings;
+use tb_basic_syntax::Program;
 use tb_compiled::{CompileError, Compiled, LineStart};
-use tb_kept::LINES_AT;
+use tb_compiled_kept::LINES_AT;
+use tb_compiler_program::program_items;
+use tb_compiler_templates::{Target, label};
 use tb_lower::{SlotCode, SlotLine};
-use tb_meaning::warnings;
 use tb_prg::write;
-use tb_program_code::program_items;
 use tb_runtime16::BLOCK_AT;
-use tb_settling::assemble_settled;
-use tb_syntax::Program;
-use tb_templates::{Target, label};
 
 /// The bytes from the block's address on up to `$9FFF`.
 const ROOM: usize = 0xA000 - BLOCK_AT as usize;

@@ -1,16 +1,16 @@
 -- Bounds of a text: what it reads as costs no more than its length allows.
 use Rattle.std.proofs.Common.{◌≡◌, ℕ, ◌+◌, ◌*◌, ◌<◌, ◌≤◌, Bool, true, false, List, [], ◌∷◌, ◌++◌, length, ap, arith, length-append, Option}
-use Rattle.tb_syntax.specs.Source.{Expression, Item, Zone, Statement}
-use Rattle.tb_meaning.specs.Cost.{nodes, item_cost, statement_cost, items_cost}
-use Rattle.tb_syntax.specs.Texts.{AreShort}
-use Rattle.tb_syntax.specs.Texts.{statement_texts, item_texts}
+use Rattle.tb_basic_syntax.specs.Source.{Expression, Item, Zone, Statement}
+use Rattle.tb_basic_meaning.specs.Cost.{nodes, item_cost, statement_cost, items_cost}
+use Rattle.tb_basic_syntax.specs.Texts.{AreShort}
+use Rattle.tb_basic_syntax.specs.Texts.{statement_texts, item_texts}
 use Rattle.tb_words.specs.declared.Rel.{Rel}
-use Rattle.tb_grammar.specs.Grammar.{Part, Reads, number, variable, random, parentheses, factor, product, term, plus, minus, sum}
-use Rattle.tb_grammar.specs.Statements.{Relates, equal, less, greater, at_most, at_least, less_or_greater, greater_or_less, MayThen, bare, then, ReadsItem}
-use Rattle.tb_grammar.specs.Statements.{value, quotation, comma, semicolon, Prints, nothing, last, next, Variables, one, more, States, let_assign, assign}
-use Rattle.tb_grammar.specs.Statements.{print, short_print, input, conditional, goto, gosub, return, end, remark}
-use Rattle.tb_meaning.specs.Spaced.{AreApart, IsSpaced}
-use Rattle.tb_meaning.proofs.Costs.{one_node, items_pay}
+use Rattle.tb_basic_grammar.specs.Grammar.{Part, Reads, number, variable, random, parentheses, factor, product, term, plus, minus, sum}
+use Rattle.tb_basic_grammar.specs.Statements.{Relates, equal, less, greater, at_most, at_least, less_or_greater, greater_or_less, MayThen, bare, then, ReadsItem}
+use Rattle.tb_basic_grammar.specs.Statements.{value, quotation, comma, semicolon, Prints, nothing, last, next, Variables, one, more, States, let_assign, assign}
+use Rattle.tb_basic_grammar.specs.Statements.{print, short_print, input, conditional, goto, gosub, return, end, remark}
+use Rattle.tb_basic_meaning.specs.Spaced.{AreApart, IsSpaced}
+use Rattle.tb_basic_meaning.proofs.Costs.{one_node, items_pay}
 
 -- ── expressions ──
 -- each node takes a byte of the text, or more

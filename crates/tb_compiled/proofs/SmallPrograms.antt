@@ -2,12 +2,12 @@
 use Rattle.std.proofs.Common.{◌≡◌, ℕ, ◌+◌, ◌*◌, ◌<◌, ◌≤◌, List, [], ◌∷◌, length, arith, None, sum_by}
 use Rattle.std.proofs.lemmas.List.Sums.{sum_by-cons}
 use Rattle.std.proofs.lemmas.List.{length-map}
-use Rattle.tb_syntax.specs.Source.{Statement, Numbered, Program, numbers, Rises}
-use Rattle.tb_meaning.specs.Cost.{statement_cost, cost}
-use Rattle.tb_syntax.specs.Texts.{AreShort, HasShortTexts}
-use Rattle.tb_syntax.specs.Texts.{statement_texts}
+use Rattle.tb_basic_syntax.specs.Source.{Statement, Numbered, Program, numbers, Rises}
+use Rattle.tb_basic_meaning.specs.Cost.{statement_cost, cost}
+use Rattle.tb_basic_syntax.specs.Texts.{AreShort, HasShortTexts}
+use Rattle.tb_basic_syntax.specs.Texts.{statement_texts}
 use Rattle.tb_parser.specs.Files.{IsStated, AreStated}
-use Rattle.tb_meaning.specs.Spaced.{IsSpaced, AreSpaced}
+use Rattle.tb_basic_meaning.specs.Spaced.{IsSpaced, AreSpaced}
 use Rattle.tb_compiled.proofs.Reading.{Told, stated}
 
 -- ── a small statement ──

@@ -1,13 +1,13 @@
 -- What a compiler answers.
 use Rattle.std.specs.Prelude.{◌≡◌, ℕ, List, [], map, Result, Ok, Err}
 use Rattle.tb_words.specs.Words.{word_of}
-use Rattle.tb_syntax.specs.Source.{Program}
-use Rattle.tb_text.specs.declared.notation.Notation.{Notation}
-use Rattle.tb_text.specs.declared.notation.Notation.TheVariants.{Plain}
+use Rattle.tb_basic_syntax.specs.Source.{Program}
+use Rattle.tb_basic_text.specs.declared.notation.Notation.{Notation}
+use Rattle.tb_basic_text.specs.declared.notation.Notation.TheVariants.{Plain}
 use Rattle.tb_parser.specs.Files.{FileRefusal, Outcome, LinesIn}
-use Rattle.tb_text.specs.Lines.{lines_of_file}
-use Rattle.tb_compile_errors.specs.declared.refusals.CompileError.{CompileError}
-use Rattle.tb_compile_errors.specs.declared.refusals.CompileError.TheVariants.{NoMemory}
+use Rattle.tb_basic_text.specs.Lines.{lines_of_file}
+use Rattle.tb_compiled_errors.specs.declared.refusals.CompileError.{CompileError}
+use Rattle.tb_compiled_errors.specs.declared.refusals.CompileError.TheVariants.{NoMemory}
 use Rattle.tb_compiled.specs.declared.compiled.Compiled.{Compiled}
 use Rattle.tb_compiled.specs.declared.settings.CompileSettings.{CompileSettings}
 use Rattle.tb_compiled.specs.Compiled.{IsCompiled, prg_of, starts_of, table_of, warnings_of}

@@ -3,12 +3,12 @@ use Rattle.std.specs.Prelude.{◌≡◌, ℕ, ◌+◌, ◌≤◌, List, [], ◌�
 use Rattle.std.specs.Prelude.{nat_eq, if◌then◌else◌, Option, Some, None, unwrap_or}
 use Rattle.tb_words.specs.Words.{word_of}
 use Rattle.tb_memmap.specs.Regions.{CODE_START}
-use Rattle.tb_syntax.specs.Source.{Program, numbers}
+use Rattle.tb_basic_syntax.specs.Source.{Program, numbers}
 use Rattle.tb_prg.specs.Prg.{header}
-use Rattle.tb_meaning.specs.Missing.{missing_targets}
-use Rattle.tb_meaning.specs.Need.{too_deep}
-use Rattle.tb_meaning.specs.declared.missing.Warning.{Warning}
-use Rattle.tb_kept.specs.Addresses.{LINES_AT}
+use Rattle.tb_basic_meaning.specs.Missing.{missing_targets}
+use Rattle.tb_basic_meaning.specs.Need.{too_deep}
+use Rattle.tb_basic_meaning.specs.declared.missing.Warning.{Warning}
+use Rattle.tb_compiled_kept.specs.Addresses.{LINES_AT}
 use Rattle.tb_compiled.specs.Numbers.{MOST_COST}
 use Rattle.tb_compiled.specs.Promise.{Own}
 use Rattle.tb_compiled.specs.Texts.{LinesHoldTexts}

@@ -1,6 +1,6 @@
 -- What a compiler says of its own.
 use Rattle.std.specs.Prelude.{ℕ}
-use Rattle.tb_syntax.specs.Source.{Program}
+use Rattle.tb_basic_syntax.specs.Source.{Program}
 use Rattle.tb_compiled.specs.declared.compiled.Compiled.{Compiled}
 
 -- What is said of a program that was made with a first state of RND, as which bytes it has; and how many bytes a program's

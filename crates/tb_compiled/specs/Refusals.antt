@@ -1,16 +1,16 @@
 -- Why a source is refused, said of what its lines make.
 use Rattle.std.specs.Prelude.{◌≡◌, ℕ, ◌+◌, ◌-◌, ◌<◌, ◌≤◌, nat_lt, if◌then◌else◌, Option, Some, None, Ok, Err}
-use Rattle.tb_syntax.specs.Source.{Program}
-use Rattle.tb_meaning.specs.Cost.{cost}
-use Rattle.tb_meaning.specs.Need.{too_deep}
-use Rattle.tb_meaning.specs.declared.needs.LowerError.TheVariants as deep
+use Rattle.tb_basic_syntax.specs.Source.{Program}
+use Rattle.tb_basic_meaning.specs.Cost.{cost}
+use Rattle.tb_basic_meaning.specs.Need.{too_deep}
+use Rattle.tb_basic_meaning.specs.declared.needs.LowerError.TheVariants as deep
 use Rattle.tb_parser.specs.Answers.{refusal_of}
 use Rattle.tb_parser.specs.Files.{FileRefusal, Outcome, refused_at}
 use Rattle.tb_parser.specs.Readings.{Refusal}
-use Rattle.tb_compile_errors.specs.declared.refusals.CompileError.{CompileError}
-use Rattle.tb_compile_errors.specs.declared.refusals.CompileError.TheVariants.{Source, Lower, TooLarge, NoMemory}
+use Rattle.tb_compiled_errors.specs.declared.refusals.CompileError.{CompileError}
+use Rattle.tb_compiled_errors.specs.declared.refusals.CompileError.TheVariants.{Source, Lower, TooLarge, NoMemory}
 use Rattle.tb_memmap.specs.Regions.{CODE_START}
-use Rattle.tb_kept.specs.Addresses.{LINES_AT}
+use Rattle.tb_compiled_kept.specs.Addresses.{LINES_AT}
 use Rattle.tb_compiled.specs.Promise.{Own}
 use Rattle.tb_compiled.specs.Compiled.{most_cost}
 use Rattle.tb_compiled.specs.declared.settings.CompileSettings.{CompileSettings}

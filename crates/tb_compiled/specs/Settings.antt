@@ -1,6 +1,6 @@
 -- How sources are compiled by the calls that take no settings.
 use Rattle.std.specs.Prelude.{ℕ}
-use Rattle.tb_text.specs.declared.notation.Notation.TheVariants.{Plain}
+use Rattle.tb_basic_text.specs.declared.notation.Notation.TheVariants.{Plain}
 use Rattle.tb_compiled.specs.declared.settings.CompileSettings.{CompileSettings}
 use Rattle.tb_compiled.specs.declared.settings.SizeLimit.TheVariants.{Cost, Memory}
 

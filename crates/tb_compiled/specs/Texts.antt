@@ -1,7 +1,7 @@
 -- The texts of lines in a PRG file.
 use Rattle.std.specs.Prelude.{◌≡◌, ℕ, ◌+◌, ◌-◌, ◌≤◌, List, [], ◌∷◌, length, take, drop}
-use Rattle.tb_syntax.specs.Source.{Program}
-use Rattle.tb_syntax.specs.Texts.{statement_texts}
+use Rattle.tb_basic_syntax.specs.Source.{Program}
+use Rattle.tb_basic_syntax.specs.Texts.{statement_texts}
 use Rattle.tb_prg.specs.Prg.{header}
 use Rattle.tb_memmap.specs.Regions.{CODE_START}
 

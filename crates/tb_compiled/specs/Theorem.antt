@@ -1,11 +1,11 @@
 -- The theorem of a compiler: what is compiled keeps its source, and marks its lines.
 use Rattle.std.specs.Prelude.{ℕ, List, Ok}
 use Rattle.tb_memmap.specs.Regions.{BASIC_START}
-use Rattle.tb_text.specs.declared.notation.Notation.{Notation}
+use Rattle.tb_basic_text.specs.declared.notation.Notation.{Notation}
 use Rattle.tb_parser.specs.Programs.{IsProgramOf}
-use Rattle.tb_syntax.specs.Source.{Program}
-use Rattle.tb_kept.specs.LineStarts.{MarksLines}
-use Rattle.tb_kept.specs.Keeps.{Keeps}
+use Rattle.tb_basic_syntax.specs.Source.{Program}
+use Rattle.tb_compiled_kept.specs.LineStarts.{MarksLines}
+use Rattle.tb_compiled_kept.specs.Keeps.{Keeps}
 use Rattle.tb_compiled.specs.declared.compiled.Compiled.{Compiled}
 use Rattle.tb_compiled.specs.Answers.{SourceMakes}
 use Rattle.tb_compiled.specs.Compiled.{loaded_of, start_of}

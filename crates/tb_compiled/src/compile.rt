@@ -1,7 +1,7 @@
 //! What a compiler promises.
 ghost use Rattle.std.specs.Prelude.{IfOk};
 ghost use Rattle.tb_parser.specs.Files.{Outcome};
-ghost use Rattle.tb_text.specs.Lines.{lines_of_file};
+ghost use Rattle.tb_basic_text.specs.Lines.{lines_of_file};
 ghost use Rattle.tb_parser.specs.Signed.{LackSigns};
 ghost use Rattle.tb_compiled.specs.Answers.{HasOutcome, LinesMake, OutcomeAnswer, SourceMakes};
 ghost use Rattle.tb_compiled.specs.Promise.{Own};
@@ -10,7 +10,7 @@ ghost use Rattle.tb_compiled.specs.Theorem.{KeepsSourceIn, MarksLinesIn};
 use crate::compiled::Compiled;
 use crate::settings::CompileSettings;
 use std::alloc::Global;
-use tb_compile_errors::CompileError;
+use tb_compiled_errors::CompileError;
 
 /// A compiler: from a source text to a PRG file.
 pub trait Compile {

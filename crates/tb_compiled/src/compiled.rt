@@ -3,7 +3,7 @@ ghost use Rattle.std.specs.Prelude.{◌≡◌, map};
 ghost use Rattle.tb_compiled.specs.Texts.{end_before};
 ghost use Rattle.tb_compiled.specs.Compiled.{prg_of, pair_of, starts_of, table_of, warnings_of, start_in, lies, line_in};
 
-use tb_meaning::Warning;
+use tb_basic_meaning::Warning;
 
 /// Where the code of a line begins.
 #[derive(Clone, Copy, Debug, Drop)]

@@ -1,10 +1,10 @@
 //! What a program costs: a bound on the bytes of its code and line table.
 ghost use Rattle.std.specs.Prelude.{◌≡◌, ◌+◌, ◌<◌, map};
-ghost use Rattle.tb_syntax.specs.PlainData.{expression_of, item_of, statement_of, lines_of};
-ghost use Rattle.tb_meaning.specs.Cost.{items_cost};
-ghost use Rattle.tb_meaning.specs.Cost as cost;
+ghost use Rattle.tb_basic_syntax.specs.PlainData.{expression_of, item_of, statement_of, lines_of};
+ghost use Rattle.tb_basic_meaning.specs.Cost.{items_cost};
+ghost use Rattle.tb_basic_meaning.specs.Cost as cost;
 
-use tb_syntax::{Expr, PrintItem, Program, Statement};
+use tb_basic_syntax::{Expr, PrintItem, Program, Statement};
 
 /// The cost of a program in bytes, if it can be counted in 32 bits.
 pub fn cost(program: &Program) -> u32

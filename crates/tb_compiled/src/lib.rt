@@ -28,5 +28,5 @@ pub use compiled::{Compiled, LineStart, end_before};
 pub use costs::{cost, line_cost};
 pub use numbers::constants_are_numbers;
 pub use settings::{CompileSettings, MOST_COST, SizeLimit, USUAL_SEED};
-pub use tb_compile_errors::CompileError;
-pub use tb_text::Notation;
+pub use tb_basic_text::Notation;
+pub use tb_compiled_errors::CompileError;

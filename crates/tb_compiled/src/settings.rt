@@ -2,7 +2,7 @@
 ghost use Rattle.std.specs.Prelude.{◌≡◌};
 ghost use Rattle.tb_compiled.specs.Settings.{by_cost, by_memory};
 
-use tb_text::Notation;
+use tb_basic_text::Notation;
 
 /// The most that a program may cost, in bytes.
 pub const MOST_COST: u32 = 37_888;

@@ -11,7 +11,7 @@ use Rattle.tb_kernal.specs.Rom.{all_writable, service_at}
 use Rattle.tb_kernal.specs.Runs.{run, all_lawful, is_own}
 use Rattle.tb_kernal.specs.LawfulEvents.{rude_writable, lawful_at, writes_of}
 use Rattle.tb_kernal.proofs.EventLists.{run_append}
-use Rattle.tb_kept.specs.LineStarts.{is_start, begun}
+use Rattle.tb_compiled_kept.specs.LineStarts.{is_start, begun}
 use Rattle.tb_debug.specs.Roms.{event_at}
 use Rattle.tb_debug.specs.Runs.{Point, is_marked, point_at}
 use Rattle.tb_debug.specs.declared.rom.Rom.{Rom}

@@ -1,7 +1,7 @@
 -- The lines to return to, one by one.
 use Rattle.std.proofs.Common.{◌≡◌, append_assoc, ℕ, zero, suc, ◌+◌, ◌-◌, ◌<◌, List, [], ◌∷◌, ◌++◌, Option, length, refl, sym, ap, ◌∙◌, arith}
 use Rattle.tb_debug.specs.Lines.{line_at}
-use Rattle.tb_inspection.specs.Readings.{return_in}
+use Rattle.tb_debug_inspection.specs.Readings.{return_in}
 use Rattle.tb_debug.specs.Readings.{lines_of_returns}
 
 -- as many lines are told as are asked for

@@ -10,7 +10,7 @@ use Rattle.tb_words.proofs.Prefixes.{prefix_same, prefix_trans}
 use Rattle.tb_kernal.proofs.EventLists.{sends_on}
 use Rattle.std.specs.Prelude.{ℤ, ◌&&◌, true, false, if◌then◌else◌}
 use Rattle.tb_debug.specs.Roms.{after, event_at}
-use Rattle.tb_inspection.specs.Readings.{values_in}
+use Rattle.tb_debug_inspection.specs.Readings.{values_in}
 use Rattle.tb_debug.specs.Runs.{Point, RunsUpTo, behind, is_begin, next_point, point_at}
 
 -- the point after no event is the start

@@ -4,12 +4,12 @@ use Rattle.std.specs.Prelude.{if◌then◌else◌, nat_eq, map, Some, None}
 use Rattle.std.proofs.lemmas.Bool.{eqb-true, ne_eqb}
 use Rattle.std.proofs.lemmas.Bool.Decides.{nat_tests}
 use Rattle.tb_cpu.specs.Operands.{word_in}
-use Rattle.tb_meaning.specs.Control.{At, Past, Place, deepest, has_line}
-use Rattle.tb_kept.specs.Addresses.{NOTES}
-use Rattle.tb_kept.specs.LineStarts.{is_start, HoldsReturns, StandsFor}
+use Rattle.tb_basic_meaning.specs.Control.{At, Past, Place, deepest, has_line}
+use Rattle.tb_compiled_kept.specs.Addresses.{NOTES}
+use Rattle.tb_compiled_kept.specs.LineStarts.{is_start, HoldsReturns, StandsFor}
 use Rattle.tb_compiled.specs.Compiled.{AddressesRise}
 use Rattle.tb_debug.specs.Lines.{line_at}
-use Rattle.tb_inspection.specs.Readings.{return_in}
+use Rattle.tb_debug_inspection.specs.Readings.{return_in}
 use Rattle.tb_debug.specs.Readings.{lines_of_returns, depth_in}
 use Rattle.tb_debug.specs.Runs.{begins_at}
 use Rattle.tb_debug.specs.Sources.{line_of}

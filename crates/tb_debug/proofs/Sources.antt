@@ -4,9 +4,9 @@ use Rattle.std.specs.Prelude.{nat_eq, unwrap_or, Option, None, IfSome, if◌then
 use Rattle.std.proofs.lemmas.Bool.{eqb-true, or_right, eq-eqb}
 use Rattle.tb_kernal.specs.Machine.{State, state_of}
 use Rattle.tb_kernal.specs.Runs.{run}
-use Rattle.tb_kept.specs.LineStarts.{is_start, BeginsLine, begun}
-use Rattle.tb_meaning.specs.Control.{has_line}
-use Rattle.tb_syntax.specs.Source.{Program, numbers}
+use Rattle.tb_compiled_kept.specs.LineStarts.{is_start, BeginsLine, begun}
+use Rattle.tb_basic_meaning.specs.Control.{has_line}
+use Rattle.tb_basic_syntax.specs.Source.{Program, numbers}
 use Rattle.tb_compiled.specs.Compiled.{start_in, start_of, starts_of, AddressesRise}
 use Rattle.tb_compiled.specs.declared.compiled.Compiled.{Compiled}
 use Rattle.tb_debug.specs.declared.debuggee.Debuggee.{Debuggee}
@@ -18,7 +18,7 @@ use Rattle.tb_debug.specs.Runs.{begins_at, first_point, is_marked}
 use Rattle.tb_debug.specs.Lines.{line_at}
 use Rattle.std.specs.Int.{cast_signed, w16}
 use Rattle.std.specs.Prelude.{length}
-use Rattle.tb_kept.specs.Addresses.{LINES_AT}
+use Rattle.tb_compiled_kept.specs.Addresses.{LINES_AT}
 use Rattle.tb_debug.specs.Readings.{lines_of_returns, returns_of}
 use Rattle.tb_debug.specs.Sources.{Debugs, IsMadeOf, ShowsLine}
 use Rattle.tb_debug.proofs.SourceState.{all_returns, placed, returns_told}

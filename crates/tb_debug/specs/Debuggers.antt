@@ -1,6 +1,6 @@
 -- A debugger on the run of what it debugs.
 use Rattle.std.specs.Prelude.{◌≡◌, ◌⊎◌, ℕ, ◌+◌, ◌-◌, ◌<◌, ◌≤◌, Bool, true, false, List, [], ◌∷◌, length}
-use Rattle.tb_play.specs.Lines.{keys_of_text}
+use Rattle.tb_engine_play.specs.Lines.{keys_of_text}
 use Rattle.tb_debug_commands.specs.declared.command.Command.{Command}
 use Rattle.tb_debug_commands.specs.declared.command.Command.TheVariants as command
 use Rattle.tb_debug.specs.Debuggees.{begins_in}

@@ -3,14 +3,14 @@ use Rattle.std.specs.Prelude.{◌≡◌, ℕ, zero, suc, ◌+◌, ◌-◌, ◌%�
 use Rattle.tb_memmap.specs.Bytes.{peek}
 use Rattle.tb_memmap.specs.declared.memory.Closed.{Closed}
 use Rattle.tb_cpu.specs.Operands.{word_in}
-use Rattle.tb_meaning.specs.Control.{deepest}
-use Rattle.tb_inspection.specs.Readings.{return_in}
+use Rattle.tb_basic_meaning.specs.Control.{deepest}
+use Rattle.tb_debug_inspection.specs.Readings.{return_in}
 use Rattle.tb_asm.specs.Layout.{Entry, size_of}
 use Rattle.tb_disasm.specs.declared.listing.Line.{Line}
 use Rattle.tb_disasm.specs.Lines.{shown}
 use Rattle.tb_disasm.specs.Listing.{line_at as code_line}
 use Rattle.tb_debug.specs.Lines.{line_at}
-use Rattle.tb_kept.specs.Addresses.{NOTES}
+use Rattle.tb_compiled_kept.specs.Addresses.{NOTES}
 
 -- how many returns are told: as many as the return list holds, and no more than it may hold
 abbrev pub depth_in : (ℕ → ℕ) → ℕ

@@ -7,7 +7,7 @@ use Rattle.tb_kernal.specs.Machine.{State, state_of, happens, status}
 use Rattle.tb_kernal.specs.Typing.{with_more}
 use Rattle.tb_kernal.specs.Runs.{is_own}
 use Rattle.tb_debug.specs.Roms.{after, event_at}
-use Rattle.tb_inspection.specs.Readings.{values_in}
+use Rattle.tb_debug_inspection.specs.Readings.{values_in}
 use Rattle.tb_debug.specs.declared.rom.Rom.{Rom}
 use Rattle.tb_debug.specs.declared.history.Checkpoint.{Checkpoint}
 use Rattle.tb_debug.specs.declared.moment.Moment.{Moment}

@@ -2,13 +2,13 @@
 use Rattle.std.specs.Prelude.{◌≡◌, ◌<◌, ℕ, map, IfSome, Option, Some, None, slice_index}
 use Rattle.std.specs.Int.{cast_signed, w16}
 use Rattle.tb_memmap.specs.Regions.{BASIC_START}
-use Rattle.tb_meaning.specs.Control.{At, Past, Place}
+use Rattle.tb_basic_meaning.specs.Control.{At, Past, Place}
 use Rattle.tb_kernal.specs.Machine.{State, state_of}
-use Rattle.tb_kept.specs.Keeps.{Starts}
-use Rattle.tb_kept.specs.LineStarts.{BeginsLine, MarksLines}
-use Rattle.tb_syntax.specs.Source.{Program}
+use Rattle.tb_compiled_kept.specs.Keeps.{Starts}
+use Rattle.tb_compiled_kept.specs.LineStarts.{BeginsLine, MarksLines}
+use Rattle.tb_basic_syntax.specs.Source.{Program}
 use Rattle.tb_compiled.specs.Compiled.{IsBuiltFrom, loaded_of, start_of}
-use Rattle.tb_inspection.specs.Readings.{value_in}
+use Rattle.tb_debug_inspection.specs.Readings.{value_in}
 use Rattle.tb_debug.specs.Debuggees.{program_of, returns_from}
 use Rattle.tb_compiled.specs.declared.compiled.Compiled.{Compiled}
 use Rattle.tb_debug.specs.declared.rom.Rom.{Rom}

@@ -3,13 +3,13 @@ use Rattle.std.specs.Prelude.{◌≡◌, ◌⊎◌, ℕ, ◌-◌, ◌≤◌, ◌
 use Rattle.std.specs.Option.{is_some}
 use Rattle.tb_memmap.specs.Bytes.{at}
 use Rattle.tb_kernal.specs.declared.status.Status.TheVariants.{Returned}
-use Rattle.tb_faults.specs.Faults.{fault_in}
+use Rattle.tb_debug_inspection.specs.Faults.{fault_in}
 use Rattle.tb_words.specs.declared.Letter.{Letter}
 use Rattle.tb_debug.specs.Breakpoints.{breakpoints_of, watches_of, breaks, broken, differ, first_changed, stops_at_faults}
 use Rattle.tb_debug.specs.declared.breakpoints.StopPoints.{StopPoints}
 use Rattle.tb_debug.specs.Begins.{comes_to}
 use Rattle.tb_debug.specs.Debuggees.{depth_from, line_from}
-use Rattle.tb_inspection.specs.Readings.{values_in}
+use Rattle.tb_debug_inspection.specs.Readings.{values_in}
 use Rattle.tb_debug.specs.Runs.{Point, is_marked, point_at, shown}
 use Rattle.tb_debug.specs.declared.causes.Cause.{Cause}
 use Rattle.tb_debug.specs.declared.causes.Cause.TheVariants as cause

@@ -4,13 +4,13 @@ use Rattle.std.specs.Prelude.{if◌then◌else◌, slice_index_or}
 use Rattle.tb_words.specs.Words.{word_of}
 use Rattle.tb_words.specs.declared.Letter.{Letter}
 use Rattle.tb_words.specs.Letters.{letter_index}
-use Rattle.tb_meaning.specs.declared.evaluation.EvalError.{EvalError}
+use Rattle.tb_basic_meaning.specs.declared.evaluation.EvalError.{EvalError}
 use Rattle.tb_kernal.specs.declared.status.Status.{Status}
 use Rattle.tb_kernal.specs.declared.status.Status.TheVariants.{Running}
 use Rattle.tb_kernal.specs.Machine.{state_of, status}
 use Rattle.tb_asm.specs.Layout.{Entry}
 use Rattle.tb_disasm.specs.Lines.{shown as line_shown}
-use Rattle.tb_inspection.specs.Values.{IsValueOfText}
+use Rattle.tb_debug_inspection.specs.Values.{IsValueOfText}
 use Rattle.tb_debug.specs.Breakpoints.{breakpoints_of, watches_of, is_among, is_watched, stops_at_faults}
 use Rattle.tb_debug_commands.specs.declared.command.Command.{Command}
 use Rattle.tb_debug_commands.specs.declared.command.Command.TheVariants as command
@@ -28,7 +28,7 @@ use Rattle.tb_debug.specs.Begins.{StandsBy}
 use Rattle.tb_debug.specs.Leading.{Leads}
 use Rattle.tb_debug.specs.Debuggees.{code_line_of, line_from, returns_from, start_from}
 use Rattle.tb_debug.specs.Kinds.{lacks_source}
-use Rattle.tb_inspection.specs.Readings.{values_in}
+use Rattle.tb_debug_inspection.specs.Readings.{values_in}
 use Rattle.tb_debug.specs.Readings.{bytes_of, code_of, most_code}
 
 -- ---- what the machine holds

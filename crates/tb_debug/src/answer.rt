@@ -1,7 +1,7 @@
 //! What commands are answered by.
 use tb_cpu::Regs;
+use tb_debug_inspection::{Value, Variables};
 use tb_disasm::Line;
-use tb_inspection::{Value, Variables};
 use tb_kernal::Status;
 
 /// Where a run is.

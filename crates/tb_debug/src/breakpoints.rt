@@ -5,7 +5,7 @@ ghost use Rattle.tb_debug.specs.Breakpoints.{AreRising, AreSet, Turned, WatchTur
 ghost use Rattle.tb_debug.specs.Breakpoints.{is_among, is_watched, breaks, broken, differ, first_changed};
 
 use std::alloc::{AllocError, Global};
-use tb_inspection::Variables;
+use tb_debug_inspection::Variables;
 use tb_words::Letter;
 
 /// Breakpoints and watches, and whether faults stop the run.

@@ -1,6 +1,6 @@
 //! What is debugged.
 ghost use Rattle.std.specs.Prelude.{◌≡◌, ◌≤◌, IfOk};
-ghost use Rattle.tb_meaning.specs.Control.{deepest};
+ghost use Rattle.tb_basic_meaning.specs.Control.{deepest};
 ghost use Rattle.tb_memmap.specs.Bytes.{at};
 ghost use Rattle.tb_debug.specs.Debuggees.{code_line_of, depth_from, has_no_source, line_from, returns_from, start_from};
 

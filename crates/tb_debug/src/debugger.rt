@@ -2,7 +2,7 @@
 ghost use Rattle.std.specs.Prelude.{◌≡◌, Some, true, ◌+◌, ◌-◌, ◌<◌, ◌≤◌, ℕ, if◌then◌else◌, vec_len, IfOk, OnOk};
 ghost use Rattle.tb_kernal.specs.Machine.{state_of};
 ghost use Rattle.tb_debug.specs.Begins.{Advances, BeginsThere, EndsAt, GoesBy, IsLimited, StandsBy, StepsBy, standing_of};
-ghost use Rattle.tb_inspection.specs.Readings.{values_in};
+ghost use Rattle.tb_debug_inspection.specs.Readings.{values_in};
 ghost use Rattle.tb_debug.specs.Debuggees.{has_no_source, line_from, program_of};
 ghost use Rattle.tb_debug.specs.Runs.{Point, IsOfRun, first_point, is_marked, newest_events};
 ghost use Rattle.tb_debug.specs.Searching.{IsUntil};
@@ -20,9 +20,8 @@ use crate::rom::Rom;
 use crate::starts::Starts;
 use std::alloc::{AllocError, Global};
 use tb_compiled::Compiled;
-use tb_inspection::Variables;
-use tb_kernal::Machine;
-use tb_watch::{Unwatched, Watch};
+use tb_debug_inspection::Variables;
+use tb_kernal::{Machine, Unwatched, Watch};
 
 /// The most events that come before the first line.
 pub const MOST_OPENING: u64 = 1_000_000;

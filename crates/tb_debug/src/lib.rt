@@ -80,4 +80,4 @@ pub use history::{MOST_CHECKPOINTS, SPACING};
 pub use moment::Reached;
 pub use rom::Rom;
 pub use tb_debug_commands::{Command, last_move, read_after, read_without_source};
-pub use tb_inspection::{Value, Variables};
+pub use tb_debug_inspection::{Value, Variables};

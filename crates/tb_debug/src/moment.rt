@@ -3,7 +3,7 @@ ghost use Rattle.std.specs.Prelude.{◌≡◌, ◌<◌, ◌≤◌, ◌+◌, ◌=
 ghost use Rattle.tb_kernal.specs.Machine.{state_of, status};
 ghost use Rattle.tb_kernal.specs.declared.status.Status.TheVariants as status;
 ghost use Rattle.tb_debug.specs.Begins.{Advances, EndsAt, GoesBetween, IsLimited, StandsBy, StepsBy, at_limit, own_at, standing_of};
-ghost use Rattle.tb_inspection.specs.Readings.{values_in};
+ghost use Rattle.tb_debug_inspection.specs.Readings.{values_in};
 ghost use Rattle.tb_debug.specs.Runs.{Point, IsOfRun, IsTyped, StaysOnRun, first_point, is_marked};
 
 use crate::events::take_quickly;
@@ -11,7 +11,7 @@ use crate::readings::variables_in;
 use crate::rom::Rom;
 use crate::starts::Starts;
 use std::alloc::{AllocError, Global};
-use tb_inspection::Variables;
+use tb_debug_inspection::Variables;
 use tb_kernal::{Machine, Status};
 use tb_memmap::PROGRAM_END;
 

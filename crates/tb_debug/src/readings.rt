@@ -3,18 +3,18 @@ ghost use Rattle.std.specs.Prelude.{◌≡◌, ◌++◌, ◌≤◌, map, min, If
 ghost use Rattle.tb_memmap.specs.Bytes.{at, peek};
 ghost use Rattle.tb_disasm.specs.Lines.{shown};
 ghost use Rattle.tb_kernal.specs.Machine.{state_of};
-ghost use Rattle.tb_meaning.specs.Control.{deepest};
+ghost use Rattle.tb_basic_meaning.specs.Control.{deepest};
 ghost use Rattle.tb_compiled.specs.Compiled.{pair_of, starts_of};
-ghost use Rattle.tb_inspection.specs.Readings.{values_in};
+ghost use Rattle.tb_debug_inspection.specs.Readings.{values_in};
 ghost use Rattle.tb_debug.specs.Readings.{IsCodeLine, as_read, bytes_of, code_bytes, code_of, depth_in, returns_of};
 ghost use Rattle.tb_debug.specs.Lines.{line_at};
 
 use std::alloc::{AllocError, Global};
+use tb_basic_meaning::DEEPEST;
 use tb_compiled::{Compiled, LineStart};
+use tb_debug_inspection::{Variables, depth, return_address, variables};
 use tb_disasm::{Line, first_line};
-use tb_inspection::{Variables, depth, return_address, variables};
 use tb_kernal::Machine;
-use tb_meaning::DEEPEST;
 use tb_memmap::Memory;
 
 /// How many addresses there are.

@@ -4,7 +4,7 @@ ghost use Rattle.tb_words.specs.Letters.{letter_index};
 ghost use Rattle.tb_kernal.specs.Machine.{state_of};
 ghost use Rattle.tb_disasm.specs.Lines.{shown};
 ghost use Rattle.tb_debug.specs.Debuggees.{start_from};
-ghost use Rattle.tb_play.specs.Lines.{keys_of_text};
+ghost use Rattle.tb_engine_play.specs.Lines.{keys_of_text};
 ghost use Rattle.tb_debug.specs.Breakpoints.{breakpoints_of, is_among, is_watched, stops_at_faults, watches_of};
 ghost use Rattle.tb_debug.specs.Debuggers.{KeepsRun, KeepsRunTyped, Responds};
 ghost use Rattle.tb_debug.specs.Leaving.{Leaves, LeavesAnswered, LeavesPoint, TurnsBreakpoint, TurnsFaults, TurnsWatch};
@@ -23,11 +23,10 @@ use crate::moment::Reached;
 use crate::readings::{bytes_from, code_from};
 use std::alloc::{AllocError, Global};
 use tb_debug_commands::Command;
+use tb_debug_inspection::value_of_text;
 use tb_disasm::Line;
-use tb_inspection::value_of_text;
-use tb_kernal::Status;
-use tb_play::keys_of_text;
-use tb_watch::Watch;
+use tb_engine_play::keys_of_text;
+use tb_kernal::{Status, Watch};
 use tb_words::Letter;
 
 /// How many lines of code are shown.

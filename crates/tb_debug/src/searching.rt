@@ -1,6 +1,6 @@
 //! Going on and back to a breakpoint or a watch.
 ghost use Rattle.std.specs.Prelude.{◌≡◌, ◌⊎◌, ◌≤◌, IfOk, OnOk};
-ghost use Rattle.tb_meaning.specs.Control.{deepest};
+ghost use Rattle.tb_basic_meaning.specs.Control.{deepest};
 ghost use Rattle.tb_debug.specs.Debuggers.{KeepsRun, OnRun, StandsAt};
 ghost use Rattle.tb_debug.specs.Begins.{StandsBy};
 ghost use Rattle.tb_debug.specs.Leading.{Continues, GoesOn, GoesOut, GoesOver, ReverseContinues, RunsUntil, depth_here};
@@ -15,9 +15,8 @@ use crate::history::Checkpoint;
 use crate::moment::{Moment, Reached};
 use crate::readings::variables_in;
 use std::alloc::{AllocError, Global};
-use tb_faults::fault_in;
-use tb_kernal::Status;
-use tb_watch::Watch;
+use tb_debug_inspection::fault_in;
+use tb_kernal::{Status, Watch};
 
 /// What a run goes on to.
 #[derive(Clone, Copy, Debug, Drop)]

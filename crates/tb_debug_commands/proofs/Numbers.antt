@@ -3,7 +3,7 @@ use Rattle.std.proofs.Common.{◌≡◌, ℕ, ◌+◌, ◌-◌, ◌*◌, ◌<◌
 use Rattle.std.specs.Prelude.{nat_le}
 use Rattle.std.proofs.lemmas.Bool.Decides.{nat_tests}
 use Rattle.std.specs.List.{list_all}
-use Rattle.tb_grammar.specs.Grammar.{value_after, is_digit}
+use Rattle.tb_basic_grammar.specs.Grammar.{value_after, is_digit}
 use Rattle.tb_debug_commands.specs.Parts.{number_behind}
 
 -- more digits make no number smaller

@@ -5,7 +5,7 @@ use Rattle.tb_words.specs.Letters.{letter_index}
 use Rattle.tb_debug_commands.specs.Parts.{number_of, variable_in}
 use Rattle.tb_debug_commands.specs.declared.command.Command.{Command}
 use Rattle.tb_debug_commands.specs.declared.command.Command.TheVariants as command
-use Rattle.tb_grammar.specs.Grammar.{word_of}
+use Rattle.tb_basic_grammar.specs.Grammar.{word_of}
 
 -- what a line asks for: a variable is said by its index in the alphabet, a text by its bytes
 pub data Asked : Type 0 where

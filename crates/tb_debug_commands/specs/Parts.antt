@@ -3,7 +3,7 @@ use Rattle.std.specs.Prelude.{ℕ, ◌-◌, ◌&&◌, nat_le, List, [], ◌∷�
 use Rattle.std.specs.List.{list_all}
 use Rattle.tb_words.specs.Letters.{letter_index}
 use Rattle.tb_words.specs.declared.Letter.{Letter}
-use Rattle.tb_grammar.specs.Grammar.{value_after, is_digit, is_letter}
+use Rattle.tb_basic_grammar.specs.Grammar.{value_after, is_digit, is_letter}
 
 -- the number of digits that follow those of a number, up to the largest one of 64 bits
 abbrev pub number_behind : ℕ → List ℕ → Option ℕ

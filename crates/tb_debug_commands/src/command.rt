@@ -1,7 +1,7 @@
 //! The debugger's commands, as lines spell them.
 ghost use Rattle.std.specs.Prelude.{◌≡◌, ◌≤◌, ◌<◌, length, option_map, IfSome};
 ghost use Rattle.tb_debug_commands.specs.Parts.{number_of};
-ghost use Rattle.tb_grammar.specs.Grammar.{word_of};
+ghost use Rattle.tb_basic_grammar.specs.Grammar.{word_of};
 ghost use Rattle.tb_debug_commands.specs.Commands.{asked_of, asked_in, alone, words, with_text, with_number, counting};
 ghost use Rattle.tb_debug_commands.specs.Commands.{spelled, letter_for, behind};
 ghost use Rattle.tb_debug_commands.specs.Commands.{memory_in, memory_at, address_of, digit_of, most_digits};

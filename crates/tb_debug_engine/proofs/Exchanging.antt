@@ -4,7 +4,7 @@ use Rattle.std.specs.Prelude.{Err, Ok, ℤ, min}
 use Rattle.std.proofs.KnownBytes.{Appends-kept, Appends-trans}
 use Rattle.std.proofs.Math.Seq.{take-append-add}
 use Rattle.std.specs.Io.KnownBytes.{Appends}
-use Rattle.tb_streams.specs.Lines.{TakesLine, TakesPart, without_return}
+use Rattle.tb_engine_streams.specs.Lines.{TakesLine, TakesPart, without_return}
 use Rattle.tb_debug_commands.specs.Commands.{asked_of, last_move}
 use Rattle.tb_debug_commands.specs.declared.command.Command.{Command}
 use Rattle.tb_debug.specs.Debuggees.{has_no_source}
@@ -12,13 +12,13 @@ use Rattle.tb_debug.specs.Debuggers.{Responds}
 use Rattle.tb_debug.specs.Kinds.{IsWalk}
 use Rattle.tb_debug.specs.Leaving.{Leaves}
 use Rattle.tb_debug.specs.Telling.{Tells}
-use Rattle.tb_streams.specs.Streams.{AppendsPrefix}
+use Rattle.tb_engine_streams.specs.Streams.{AppendsPrefix}
 use Rattle.tb_engines.specs.Outcomes.{Outcome}
-use Rattle.tb_streams.specs.declared.outcome.Outcome.TheVariants.{Ended, Refused, ReadFault, WriteFault, NoMemory}
+use Rattle.tb_engine_streams.specs.declared.outcome.Outcome.TheVariants.{Ended, Refused, ReadFault, WriteFault, NoMemory}
 use Rattle.tb_debug.specs.declared.answer.Answer.{Answer}
 use Rattle.tb_debug_engine.specs.Dialogue.{Answers, Exchanges, Says, prompt, repeated, spelled_by}
 use Rattle.tb_debug_engine.specs.Streams.{Streams, Stream, Takes, Writes}
-use Rattle.tb_inspection.specs.Texts.{value_text}
+use Rattle.tb_debug_inspection.specs.Texts.{value_text}
 use Rattle.tb_debug_engine.specs.Labels.{translated}
 use Rattle.tb_debug_engine.specs.Sources.{labels_of, shown_of}
 use Rattle.tb_debug_engine.specs.declared.dialogue.Dialogue.{Dialogue}

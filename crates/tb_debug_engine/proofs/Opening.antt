@@ -8,17 +8,17 @@ use Rattle.tb_kernal.specs.declared.status.Status.{Status}
 use Rattle.tb_kernal.specs.declared.status.Status.TheVariants.{Returned, Running, Waits, Wrong}
 use Rattle.tb_prg.specs.Prg.{content_of}
 use Rattle.tb_opcodes.specs.Bytes.{AreBytes}
-use Rattle.tb_syntax.specs.Source.{Program}
-use Rattle.tb_kept.specs.Keeps.{Starts}
+use Rattle.tb_basic_syntax.specs.Source.{Program}
+use Rattle.tb_compiled_kept.specs.Keeps.{Starts}
 use Rattle.tb_prg.specs.declared.PrgError.{PrgError}
 use Rattle.tb_engines.specs.Programs.{StartsContent, StartsPrg, start}
 use Rattle.tb_engines.specs.Delivery.{outcome_without}
 use Rattle.tb_engines.specs.declared.delivery.NoText.{NoText}
 use Rattle.tb_engines.specs.declared.delivery.NoText.TheVariants.{NoMemory as NoMachine, Refused as CantLoad}
-use Rattle.tb_sources.proofs.Loadable.{machine_at_start, starts_loadable}
-use Rattle.tb_sources.proofs.Output.{bytes_behind, compiled_loads, in_ram, starts}
+use Rattle.tb_engine_sources.proofs.Loadable.{machine_at_start, starts_loadable}
+use Rattle.tb_engine_sources.proofs.Output.{bytes_behind, compiled_loads, in_ram, starts}
 use Rattle.tb_engines.specs.Outcomes.{Outcome}
-use Rattle.tb_streams.specs.declared.outcome.Outcome.TheVariants.{Ended, Refused, ReadFault, WriteFault, NoMemory}
+use Rattle.tb_engine_streams.specs.declared.outcome.Outcome.TheVariants.{Ended, Refused, ReadFault, WriteFault, NoMemory}
 use Rattle.tb_compiled.specs.Compiled.{loaded_of, prg_of}
 use Rattle.tb_compiled.specs.declared.compiled.Compiled.{Compiled}
 use Rattle.tb_debug.specs.Begins.{standing_by, standing_of}

@@ -4,15 +4,15 @@ use Rattle.std.specs.declared.alloc.Global.{Global}
 use Rattle.std.specs.declared.vec.Vec.{Vec}
 use Rattle.tb_kernal.specs.Machine.{State, state_of}
 use Rattle.tb_kernal.specs.declared.machine.Keyboard.{Keyboard}
-use Rattle.tb_streams.specs.Lines.{without_return}
+use Rattle.tb_engine_streams.specs.Lines.{without_return}
 use Rattle.tb_prg.specs.Prg.{content_of}
 use Rattle.tb_engines.specs.Programs.{StartsPrg, start}
 use Rattle.tb_engines.specs.declared.delivery.NoText.TheVariants.{Refused as CantLoad}
 use Rattle.tb_engines.specs.declared.outcome.End.TheVariants.{Done}
 use Rattle.tb_engines.specs.Outcomes.{Outcome}
 use Rattle.tb_engines.specs.declared.outcome.Refusal.{Refusal}
-use Rattle.tb_streams.specs.declared.outcome.Outcome.TheVariants.{Ended, Refused, ReadFault, WriteFault, NoMemory}
-use Rattle.tb_play.specs.Lines.{TakesLines}
+use Rattle.tb_engine_streams.specs.declared.outcome.Outcome.TheVariants.{Ended, Refused, ReadFault, WriteFault, NoMemory}
+use Rattle.tb_engine_play.specs.Lines.{TakesLines}
 use Rattle.tb_compiled.specs.Compiled.{prg_of}
 use Rattle.tb_compiled.specs.declared.compiled.Compiled.{Compiled}
 use Rattle.tb_debug_commands.specs.Commands.{Asked, asked_after, asked_of, asked_without_source, last_move}
@@ -21,7 +21,7 @@ use Rattle.tb_debug.specs.Debuggees.{has_no_source, program_of}
 use Rattle.tb_debug.specs.Debuggers.{IsAtStart, IsOpening, KeepsRun, OnRun, Responds}
 use Rattle.tb_debug.specs.Sources as sources
 use Rattle.tb_debug.specs.Sources.{IsMadeOf}
-use Rattle.tb_syntax.specs.Source.{Program}
+use Rattle.tb_basic_syntax.specs.Source.{Program}
 use Rattle.tb_debug.specs.Runs.{first_point}
 use Rattle.tb_debug.specs.Telling.{Tells, TellsStop}
 use Rattle.tb_debug.specs.declared.answer.Answer.{Answer}
@@ -34,8 +34,8 @@ use Rattle.tb_debug_engine.specs.declared.dialogue.Setting.{Setting}
 use Rattle.tb_debug_engine.specs.Labels.{translated}
 use Rattle.tb_debug_engine.specs.Sources.{AreWritten, IsUnwritten, labels_of, shown_of}
 use Rattle.tb_debug_engine.specs.Streams.{Stream, Streams, Takes, TakesNone, TakesSome, FailsToTake, Writes, WritesNone, FailsToWrite}
-use Rattle.tb_labels.specs.declared.labels.Label.{Label}
-use Rattle.tb_sources.specs.declared.reading.CompiledSource.{CompiledSource}
+use Rattle.tb_assembly_labels.specs.declared.labels.Label.{Label}
+use Rattle.tb_engine_sources.specs.declared.reading.CompiledSource.{CompiledSource}
 use Rattle.tb_debug_engine.specs.declared.sources.Written.{Written}
 
 -- ---- one line

@@ -4,8 +4,8 @@ use Rattle.std.specs.Option.{option_and_then}
 use Rattle.tb_kernal.specs.declared.status.Status.{Status}
 use Rattle.tb_kernal.specs.declared.status.Status.TheVariants.{Wrong}
 use Rattle.tb_disasm.specs.declared.listing.Line.{Line as CodeLine}
-use Rattle.tb_labels.specs.Places.{address_of, place_of, place_text}
-use Rattle.tb_inspection.specs.Texts.{address_text}
+use Rattle.tb_assembly_labels.specs.Places.{address_of, place_of, place_text}
+use Rattle.tb_debug_inspection.specs.Texts.{address_text}
 use Rattle.tb_debug.specs.declared.answer.Answer.{Answer}
 use Rattle.tb_debug.specs.declared.answer.Answer.TheVariants as answer
 use Rattle.tb_debug.specs.declared.answer.Location.{Location}

@@ -1,8 +1,8 @@
 -- Lines of a source, as the debugger shows them.
 use Rattle.std.specs.Prelude.{ℕ, suc, ◌+◌, ◌-◌, ◌==◌, Bool, false, if◌then◌else◌}
 use Rattle.std.specs.Prelude.{List, [], ◌∷◌, ◌++◌, codes, drop, flat_map, map, take, Option, Some, None}
-use Rattle.tb_source_text.specs.Lines.{last_of}
-use Rattle.tb_source_text.specs.ShownBytes.{shown}
+use Rattle.tb_basic_source.specs.Lines.{last_of}
+use Rattle.tb_basic_source.specs.ShownBytes.{shown}
 
 -- the line of a number, as it is written; the lines are given with the numbers that they begin with, the last of a number counts
 abbrev pub written : List (ℕ × List ℕ) → ℕ → List ℕ

@@ -1,13 +1,13 @@
 -- A source that is debugged.
 use Rattle.std.specs.Prelude.{◌≡◌, ℕ, Bool, List, [], ◌++◌, map}
 use Rattle.tb_compiled.specs.Compiled.{starts_of}
-use Rattle.tb_source_text.specs.Lines.{numbered, pair_of}
+use Rattle.tb_basic_source.specs.Lines.{numbered, pair_of}
 use Rattle.tb_debug.specs.declared.answer.Answer.{Answer}
-use Rattle.tb_labels.specs.Lines.{pair_of as label_of}
-use Rattle.tb_labels.specs.declared.labels.Label.{Label}
+use Rattle.tb_assembly_labels.specs.Lines.{pair_of as label_of}
+use Rattle.tb_assembly_labels.specs.declared.labels.Label.{Label}
 use Rattle.tb_debug_engine.specs.Labels.{place_line, standing}
 use Rattle.tb_debug_engine.specs.Texts.{text_of}
-use Rattle.tb_sources.specs.declared.reading.CompiledSource.{CompiledSource}
+use Rattle.tb_engine_sources.specs.declared.reading.CompiledSource.{CompiledSource}
 use Rattle.tb_debug_engine.specs.declared.sources.Written.{Written}
 
 -- the labels of a PRG file

@@ -1,10 +1,10 @@
 -- What a dialogue reads and writes.
 use Rattle.std.specs.Prelude.{ℕ, ◌≡◌, ◌≢◌, ◌⊎◌, ◌<◌, List, length, Option}
 use Rattle.std.specs.Io.KnownBytes.{Appends, Keeps}
-use Rattle.tb_streams.specs.Failures.{failures_of}
-use Rattle.tb_streams.specs.Lines as lines
-use Rattle.tb_streams.specs.Streams.{AppendsPrefix, most_input}
-use Rattle.tb_streams.specs.declared.tracked.Tracked.{Tracked}
+use Rattle.tb_engine_streams.specs.Failures.{failures_of}
+use Rattle.tb_engine_streams.specs.Lines as lines
+use Rattle.tb_engine_streams.specs.Streams.{AppendsPrefix, most_input}
+use Rattle.tb_engine_streams.specs.declared.tracked.Tracked.{Tracked}
 
 -- a reader or a writer: what is left of its bytes or was written to it, if it tells that, and how many of its calls failed
 pub record Stream : Type 0 where

@@ -5,13 +5,13 @@ use Rattle.std.specs.Ordering.{int_eq}
 use Rattle.hex.specs.Hex.{encode_upper}
 use Rattle.tb_kernal.specs.declared.status.Status.{Status}
 use Rattle.tb_kernal.specs.declared.status.Status.TheVariants.{Wrong}
-use Rattle.tb_streams.specs.HostForm.{host_form_of}
+use Rattle.tb_engine_streams.specs.HostForm.{host_form_of}
 use Rattle.tb_engines.specs.Programs.{end_of}
 use Rattle.tb_engines.specs.Texts.{end_text}
 use Rattle.tb_disasm.specs.declared.listing.Line.{Line as CodeLine}
 use Rattle.tb_disasm.specs.Lines.{shown}
 use Rattle.tb_disasm.specs.ListingText.{text_of as listing_text}
-use Rattle.tb_inspection.specs.Texts.{address_text, limit, no_such_line, registers_text, status_text, value_text, what}
+use Rattle.tb_debug_inspection.specs.Texts.{address_text, limit, no_such_line, registers_text, status_text, value_text, what}
 use Rattle.tb_debug.specs.declared.answer.Answer.{Answer}
 use Rattle.tb_debug.specs.declared.answer.Answer.TheVariants as answer
 use Rattle.tb_debug.specs.declared.answer.Location.{Location}

@@ -1,8 +1,8 @@
 //! The dialogue.
 ghost use Rattle.std.specs.Prelude.{◌≡◌, OnErr, OnOk, is_err, option_map};
 ghost use Rattle.std.specs.Io.KnownBytes.{Appends};
-ghost use Rattle.tb_streams.specs.Failures.{failures_of};
-ghost use Rattle.tb_streams.specs.Streams.{AppendsPrefix, counted};
+ghost use Rattle.tb_engine_streams.specs.Failures.{failures_of};
+ghost use Rattle.tb_engine_streams.specs.Streams.{AppendsPrefix, counted};
 ghost use Rattle.tb_debug_engine.specs.Dialogue.{Asks, Begins, BeginsPrg, Converses, Debugs, DebugsPrg, Exchanges, Opens};
 ghost use Rattle.tb_debug_engine.specs.Dialogue.{Says, Talks, prompt, spelled_by};
 ghost use Rattle.tb_debug_commands.specs.Commands.{asked_of};
@@ -14,13 +14,14 @@ use crate::sources::Written;
 use crate::texts::push_answer;
 use std::alloc::Global;
 use std::io::{Read, Write};
+use tb_assembly_labels::Label;
 use tb_debug::{Answer, Command, Debugger, Rom, last_move, read_after, read_without_source};
+use tb_engine_sources::{CompiledSource, are_bytes, start_program};
+use tb_engine_streams::{
+    MOST_INPUT, StreamFailure, Tracked, read_line, without_return, write_output,
+};
 use tb_engines::{End, Outcome, start_file};
-use tb_kernal::Keyboard;
-use tb_labels::Label;
-use tb_sources::{CompiledSource, are_bytes, start_program};
-use tb_streams::{MOST_INPUT, StreamFailure, Tracked, read_line, without_return, write_output};
-use tb_watch::Watch;
+use tb_kernal::{Keyboard, Watch};
 
 /// What is shown before a command that is typed at a terminal.
 const PROMPT: &[u8] = b"> ";

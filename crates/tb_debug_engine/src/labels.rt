@@ -1,15 +1,15 @@
 //! Labels in a dialogue: their names in commands, and the place by a label in answers.
 ghost use Rattle.std.specs.Prelude.{◌≡◌, ◌≤◌, IfOk, length, map};
 ghost use Rattle.tb_words.specs.Texts.{AppendsBytes};
-ghost use Rattle.tb_labels.specs.Lines.{pair_of};
+ghost use Rattle.tb_assembly_labels.specs.Lines.{pair_of};
 ghost use Rattle.tb_debug_engine.specs.Labels as spec;
 
 use std::alloc::{AllocError, Global};
+use tb_assembly_labels::{Label, address_of, place_of};
 use tb_debug::{Answer, Location};
+use tb_debug_inspection::push_address;
 use tb_disasm::Line;
-use tb_inspection::push_address;
 use tb_kernal::Status;
-use tb_labels::{Label, address_of, place_of};
 
 // How long the word is with which a text begins.
 fn word_length(text: &[u8]) -> usize

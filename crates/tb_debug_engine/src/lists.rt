@@ -1,11 +1,11 @@
 //! Lines of a source, as they are shown.
 ghost use Rattle.std.specs.Prelude.{◌≡◌, ◌+◌, ◌^◌, ◌<◌, drop, length, map, take};
 ghost use Rattle.tb_words.specs.Texts.{AppendsBytes};
-ghost use Rattle.tb_source_text.specs.Lines.{pair_of};
+ghost use Rattle.tb_basic_source.specs.Lines.{pair_of};
 ghost use Rattle.tb_debug_engine.specs.Lists.{index_from, index_of, list_text, marked, written};
 
 use std::alloc::AllocError;
-use tb_source_text::{Numbered, push_shown, text_of};
+use tb_basic_source::{Numbered, push_shown, text_of};
 
 /// How many lines are shown before a line, and after it.
 const AROUND: usize = 5;

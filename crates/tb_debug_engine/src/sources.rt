@@ -4,10 +4,10 @@ ghost use Rattle.tb_compiled.specs.Compiled.{pair_of};
 ghost use Rattle.tb_debug_engine.specs.Sources.{AreWritten, IsUnwritten};
 
 use std::alloc::{AllocError, Global};
+use tb_assembly_labels::Label;
+use tb_basic_source::{Numbered, numbered_lines};
 use tb_compiled::LineStart;
-use tb_labels::Label;
-use tb_source_text::{Numbered, numbered_lines};
-use tb_sources::CompiledSource;
+use tb_engine_sources::CompiledSource;
 
 /// The lines of a source as they are written.
 #[derive(Drop)]

@@ -1,8 +1,8 @@
 //! The texts of answers.
 ghost use Rattle.std.specs.Prelude.{◌≡◌, ◌+◌, ◌^◌, ◌<◌, flat_map, length, map, min, true, IfOk};
 ghost use Rattle.tb_words.specs.Texts.{AppendsBytes};
-ghost use Rattle.tb_source_text.specs.Lines.{pair_of};
-ghost use Rattle.tb_inspection.specs.Texts.{registers_text, value_text};
+ghost use Rattle.tb_basic_source.specs.Lines.{pair_of};
+ghost use Rattle.tb_debug_inspection.specs.Texts.{registers_text, value_text};
 ghost use Rattle.tb_debug_engine.specs.Lists.{written};
 ghost use Rattle.tb_debug_engine.specs.Sources.{shown_of};
 ghost use Rattle.tb_debug_engine.specs.Texts as texts;
@@ -15,16 +15,16 @@ use crate::lists::{push_list, push_written};
 use crate::sources::Written;
 use hex::encode_upper;
 use std::alloc::{AllocError, Global};
+use tb_basic_source::Numbered;
 use tb_cpu::Regs;
 use tb_debug::{Answer, Location, Stand, Value};
-use tb_disasm::{Line, Listing};
-use tb_engines::end_of;
-use tb_inspection::{
+use tb_debug_inspection::{
     LIMIT, NO_SUCH_LINE, WHAT, push_address, push_registers, push_value, status_text,
 };
+use tb_disasm::{Line, Listing};
+use tb_engine_streams::host_form;
+use tb_engines::end_of;
 use tb_kernal::Status;
-use tb_source_text::Numbered;
-use tb_streams::host_form;
 
 // What is said, text by text.
 const STOPS_AT_FAULTS: &[u8] = b"stops at faults";

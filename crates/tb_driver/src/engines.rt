@@ -1,22 +1,22 @@
 //! The engines of sources that take a first state of RND alone.
-ghost use Rattle.tb_streams.specs.Uses.{use_of, TakesInput};
+ghost use Rattle.tb_engine_streams.specs.Uses.{use_of, TakesInput};
 ghost use Rattle.tb_engines.specs.Outcomes.{AnswersInput, Faults};
 ghost use Rattle.tb_engines.specs.Programs.{plain_settings_of};
-ghost use Rattle.tb_play.specs.Plays.{quietly};
+ghost use Rattle.tb_engine_play.specs.Plays.{quietly};
 ghost use Rattle.tb_compiled.specs.Settings.{by_cost};
 ghost use Rattle.tb_codegen.specs.Templates.{templates};
-ghost use Rattle.tb_sources.specs.Sources.{IsFile, FromSource, RunsText, WarnsOfRead};
-ghost use Rattle.tb_sources.specs.Output.{RunsSource};
-ghost use Rattle.tb_sources.specs.Stepping.{AnswersBoth, FaultsOfBoth, StepsThrough};
+ghost use Rattle.tb_engine_sources.specs.Sources.{IsFile, FromSource, RunsText, WarnsOfRead};
+ghost use Rattle.tb_engine_sources.specs.Output.{RunsSource};
+ghost use Rattle.tb_engine_sources.specs.Stepping.{AnswersBoth, FaultsOfBoth, StepsThrough};
 
 use std::alloc::Global;
 use std::io::{Read, Write};
 use tb_codegen::TinyBasic;
 use tb_compiled::CompileSettings;
+use tb_engine_sources::{build_within, run_within, step_within};
+use tb_engine_streams::Tracked;
 use tb_engines::Report;
 use tb_kernal::{Keyboard, Outside};
-use tb_sources::{build_within, run_within, step_within};
-use tb_streams::Tracked;
 
 /// Compiles a source with a first state of RND, and writes its PRG file. A source is refused by its cost.
 pub fn build<R: Read, W: Write>(

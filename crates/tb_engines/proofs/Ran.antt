@@ -5,12 +5,12 @@ use Rattle.tb_kernal.specs.declared.events.Event.{Event}
 use Rattle.tb_kernal.specs.declared.status.Status.{Status}
 use Rattle.tb_kernal.specs.Machine.{Content, state_of, status}
 use Rattle.tb_kernal.specs.Sending.{with_earlier}
-use Rattle.tb_watch.specs.Hearing.{Hearing, Telling, hearing_of}
-use Rattle.tb_text.specs.declared.notation.Notation.{Notation}
-use Rattle.tb_streams.specs.HostForm.{shown_as}
-use Rattle.tb_streams.specs.Streams.{AppendsPrefix, Reads}
-use Rattle.tb_streams.specs.Uses.{Use}
-use Rattle.tb_streams.specs.declared.outcome.Outcome.TheVariants.{Ended, Refused, ReadFault, WriteFault, NoMemory}
+use Rattle.tb_kernal.specs.Hearing.{Hearing, Telling, hearing_of}
+use Rattle.tb_basic_text.specs.declared.notation.Notation.{Notation}
+use Rattle.tb_engine_streams.specs.HostForm.{shown_as}
+use Rattle.tb_engine_streams.specs.Streams.{AppendsPrefix, Reads}
+use Rattle.tb_engine_streams.specs.Uses.{Use}
+use Rattle.tb_engine_streams.specs.declared.outcome.Outcome.TheVariants.{Ended, Refused, ReadFault, WriteFault, NoMemory}
 use Rattle.tb_engines.specs.Ends.{ByOutcome, LeavesRun, OfRun, RestsOfRun, TellsFile, end_place}
 use Rattle.tb_engines.specs.Outcomes.{Answers, Outcome, Product}
 use Rattle.tb_engines.specs.Programs.{Settings, RunsOn, StartsPrg, end_of}

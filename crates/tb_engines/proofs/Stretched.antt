@@ -17,13 +17,13 @@ use Rattle.tb_kernal.specs.Runs.{Answered, Gave, KeepsRoom, RanOver, run}
 use Rattle.tb_kernal.specs.Sending.{KnowsLast, last_of, with_earlier}
 use Rattle.tb_kernal.proofs.Giving.{gave_room}
 use Rattle.tb_kernal.proofs.Sending.{ran_alike, run_sends}
-use Rattle.tb_text.specs.declared.notation.Notation.{Notation}
-use Rattle.tb_streams.specs.HostForm.{shown_as, shown_byte}
-use Rattle.tb_streams.specs.Streams.{AppendsPrefix}
-use Rattle.tb_streams.specs.Uses.{Use}
-use Rattle.tb_streams.proofs.Written.{cut}
-use Rattle.tb_watch.specs.Hearing.{Began, STRETCH, Telling}
-use Rattle.tb_watch.proofs.Stretches.{Taken, begins}
+use Rattle.tb_basic_text.specs.declared.notation.Notation.{Notation}
+use Rattle.tb_engine_streams.specs.HostForm.{shown_as, shown_byte}
+use Rattle.tb_engine_streams.specs.Streams.{AppendsPrefix}
+use Rattle.tb_engine_streams.specs.Uses.{Use}
+use Rattle.tb_engine_streams.proofs.Written.{cut}
+use Rattle.tb_kernal.specs.Hearing.{Began, STRETCH, Telling}
+use Rattle.tb_kernal.proofs.Stretches.{Taken, begins}
 use Rattle.tb_engines.specs.Writing.{IsWritten, RanStretch, WritesMore, kept_sent, sent_since}
 
 module _ {O : Type 0} (gives : O → Content → Event → O → Type 0) where

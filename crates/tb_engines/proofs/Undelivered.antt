@@ -1,7 +1,7 @@
 -- What is delivered where there is no text.
 use Rattle.std.proofs.Common.{◌≡◌, ℕ, List, Option, Some, None, Result, Err, refl, sym, subst}
 use Rattle.std.specs.Io.KnownBytes.{Keeps}
-use Rattle.tb_streams.specs.Uses.{Use}
+use Rattle.tb_engine_streams.specs.Uses.{Use}
 use Rattle.tb_engines.specs.Outcomes.{Outcome, Answers, Product}
 use Rattle.tb_engines.specs.Delivery.{Makes, Shows, DeliveryFaults, outcome_without}
 use Rattle.tb_engines.specs.declared.delivery.Text.{Text}

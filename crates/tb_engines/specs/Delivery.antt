@@ -1,11 +1,11 @@
 -- The steps of an engine: what it made, and how that is delivered.
 use Rattle.std.specs.Prelude.{◌≡◌, Result, Ok, Err}
-use Rattle.tb_streams.specs.Uses.{Use, Fails, NeverFails}
+use Rattle.tb_engine_streams.specs.Uses.{Use, Fails, NeverFails}
 use Rattle.tb_engines.specs.declared.delivery.Text.{Text}
 use Rattle.tb_engines.specs.declared.delivery.NoText.{NoText}
 use Rattle.tb_engines.specs.declared.delivery.NoText.TheVariants.{Refused as NoTextRefused, NoMemory as NoTextNoMemory}
-use Rattle.tb_streams.specs.declared.outcome.Outcome.{Outcome as AnyOutcome}
-use Rattle.tb_streams.specs.declared.outcome.Outcome.TheVariants.{Ended, Refused, ReadFault, WriteFault, NoMemory}
+use Rattle.tb_engine_streams.specs.declared.outcome.Outcome.{Outcome as AnyOutcome}
+use Rattle.tb_engine_streams.specs.declared.outcome.Outcome.TheVariants.{Ended, Refused, ReadFault, WriteFault, NoMemory}
 use Rattle.tb_engines.specs.declared.outcome.Refusal.{Refusal}
 use Rattle.tb_engines.specs.Outcomes.{Outcome, Product}
 

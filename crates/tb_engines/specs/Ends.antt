@@ -5,10 +5,10 @@ use Rattle.tb_kernal.specs.Machine.{Content, state_of, status}
 use Rattle.tb_kernal.specs.Sending.{KnowsLast, with_earlier}
 use Rattle.tb_kernal.specs.declared.status.Status.{Status}
 use Rattle.tb_kernal.specs.declared.status.Status.TheVariants.{Returned}
-use Rattle.tb_watch.specs.Hearing.{Hearing, RanWatched}
-use Rattle.tb_streams.specs.Streams.{Reads}
-use Rattle.tb_streams.specs.Uses.{Use}
-use Rattle.tb_streams.specs.declared.outcome.Outcome.TheVariants.{Ended, Refused, ReadFault, WriteFault, NoMemory}
+use Rattle.tb_kernal.specs.Hearing.{Hearing, RanWatched}
+use Rattle.tb_engine_streams.specs.Streams.{Reads}
+use Rattle.tb_engine_streams.specs.Uses.{Use}
+use Rattle.tb_engine_streams.specs.declared.outcome.Outcome.TheVariants.{Ended, Refused, ReadFault, WriteFault, NoMemory}
 use Rattle.tb_engines.specs.Programs.{Settings, StartsPrg, end_of}
 use Rattle.tb_engines.specs.Writing.{kept_sent}
 use Rattle.tb_engines.specs.declared.outcome.End.{End}

@@ -1,15 +1,15 @@
 -- The exit statuses, and what an engine writes and answers.
 use Rattle.std.specs.Prelude.{ℕ, List, Option, Result, Ok, Err}
 use Rattle.std.specs.Io.KnownBytes.{Appends, Keeps}
-use Rattle.tb_streams.specs.Streams.{Reads, AppendsPrefix}
-use Rattle.tb_streams.specs.Uses.{Use, Fails, NeverFails, MayFault}
-use Rattle.tb_streams.specs.Numbers.{DONE, REFUSED, STEP_LIMIT, WAITS_FOR_KEY, WENT_WRONG}
-use Rattle.tb_streams.specs.Outcomes as streams
+use Rattle.tb_engine_streams.specs.Streams.{Reads, AppendsPrefix}
+use Rattle.tb_engine_streams.specs.Uses.{Use, Fails, NeverFails, MayFault}
+use Rattle.tb_engine_streams.specs.Numbers.{DONE, REFUSED, STEP_LIMIT, WAITS_FOR_KEY, WENT_WRONG}
+use Rattle.tb_engine_streams.specs.Outcomes as streams
 use Rattle.tb_engines.specs.declared.outcome.End.{End}
 use Rattle.tb_engines.specs.declared.outcome.End.TheVariants.{Done, StepLimit, WaitsForKey, WentWrong}
 use Rattle.tb_engines.specs.declared.outcome.Refusal.{Refusal}
-use Rattle.tb_streams.specs.declared.outcome.Outcome.{Outcome as AnyOutcome}
-use Rattle.tb_streams.specs.declared.outcome.Outcome.TheVariants.{Ended, Refused, ReadFault, WriteFault, NoMemory}
+use Rattle.tb_engine_streams.specs.declared.outcome.Outcome.{Outcome as AnyOutcome}
+use Rattle.tb_engine_streams.specs.declared.outcome.Outcome.TheVariants.{Ended, Refused, ReadFault, WriteFault, NoMemory}
 
 -- the exit status if the whole text was written
 abbrev pub status_of_end : End → ℕ

@@ -7,7 +7,7 @@ use Rattle.tb_engines.specs.declared.outcome.End.{End}
 use Rattle.tb_engines.specs.declared.outcome.End.TheVariants as end
 use Rattle.tb_parser.specs.declared.errors.SourceErrorKind.{SourceErrorKind}
 use Rattle.tb_parser.specs.declared.errors.SourceErrorKind.TheVariants.{LineTooLong, BadByte, Unnumbered, BadLineNumber, NotCompiled, Syntax, NumberTooLarge, Empty, NoMemory}
-use Rattle.tb_streams.specs.declared.outcome.TheConstants.{OUT_OF_MEMORY}
+use Rattle.tb_engine_streams.specs.declared.outcome.TheConstants.{OUT_OF_MEMORY}
 use Rattle.tb_engines.specs.declared.texts.TheConstants.{BAD_BYTE, BAD_DECIMAL, BAD_LINE_NUMBER, EMPTY, LINE_TOO_LONG, NOT_COMPILED}
 use Rattle.tb_engines.specs.declared.texts.TheConstants.{NUMBER_TOO_LARGE, STEP_LIMIT, TOO_DEEP, UNKNOWN_OPCODE, UNNUMBERED, WAITS_FOR_KEY}
 

@@ -6,11 +6,11 @@ use Rattle.tb_kernal.specs.declared.status.Status.{Status}
 use Rattle.tb_kernal.specs.Machine.{Content}
 use Rattle.tb_kernal.specs.Runs.{KeepsRoom, RanOver}
 use Rattle.tb_kernal.specs.Sending.{KnowsLast, last_of, with_earlier}
-use Rattle.tb_watch.specs.Hearing.{RanWatched, Telling}
-use Rattle.tb_text.specs.declared.notation.Notation.{Notation}
-use Rattle.tb_streams.specs.HostForm.{shown_as}
-use Rattle.tb_streams.specs.Streams.{AppendsPrefix}
-use Rattle.tb_streams.specs.Uses.{Use, Fails, NeverFails}
+use Rattle.tb_kernal.specs.Hearing.{RanWatched, Telling}
+use Rattle.tb_basic_text.specs.declared.notation.Notation.{Notation}
+use Rattle.tb_engine_streams.specs.HostForm.{shown_as}
+use Rattle.tb_engine_streams.specs.Streams.{AppendsPrefix}
+use Rattle.tb_engine_streams.specs.Uses.{Use, Fails, NeverFails}
 
 -- how many of the last bytes that were sent a machine keeps after they were written
 abbrev pub kept_sent : ℕ

@@ -1,5 +1,5 @@
 //! Assembling a text, and listing a PRG file.
-ghost use Rattle.tb_streams.specs.Uses.{use_of, TakesInput};
+ghost use Rattle.tb_engine_streams.specs.Uses.{use_of, TakesInput};
 ghost use Rattle.tb_engines.specs.Outcomes.{AnswersInput, Faults};
 ghost use Rattle.tb_engines.specs.Delivery.{Makes};
 ghost use Rattle.tb_engines.specs.Assembly.{Assembles, ListsPrg};
@@ -10,8 +10,8 @@ use std::alloc::Global;
 use std::io::{Read, Write};
 use tb_asm::{AsmErrorKind, TextError, assemble, read_text};
 use tb_disasm::{ListError, disassemble};
+use tb_engine_streams::{Tracked, read_input};
 use tb_prg::PrgError;
-use tb_streams::{Tracked, read_input};
 
 /// The load address, low byte first, and the image of an assembler text.
 pub fn assemble_prg(alloc: Global, at: u16, text: &[u8]) -> Result<Text, NoText>

@@ -1,13 +1,13 @@
 //! What an engine made, and how it is written.
 ghost use Rattle.std.specs.Prelude.{◌≡◌};
-ghost use Rattle.tb_streams.specs.Uses.{use_of};
+ghost use Rattle.tb_engine_streams.specs.Uses.{use_of};
 ghost use Rattle.tb_engines.specs.Outcomes.{Answers};
 ghost use Rattle.tb_engines.specs.Delivery.{Shows, DeliveryFaults};
 
 use crate::outcome::{End, Outcome, Refusal};
 use std::alloc::AllocError;
 use std::io::Write;
-use tb_streams::{Tracked, write_output};
+use tb_engine_streams::{Tracked, write_output};
 
 /// A text that is to be written, and how the engine ends after it.
 #[derive(Drop)]
@@ -34,15 +34,15 @@ impl From<AllocError> for NoText {
 }
 
 /// How a call ends if there is no text.
-impl<E> From<NoText> for tb_streams::Outcome<E, Refusal> {
+impl<E> From<NoText> for tb_engine_streams::Outcome<E, Refusal> {
     ghost use Rattle.tb_engines.specs.Delivery.{outcome_without};
 
     ghost from_gives = { λ stop outcome. outcome ≡ outcome_without stop };
 
-    fn from(stop: NoText) -> tb_streams::Outcome<E, Refusal> {
+    fn from(stop: NoText) -> tb_engine_streams::Outcome<E, Refusal> {
         match stop {
-            NoText::Refused(refusal) => tb_streams::Outcome::Refused(refusal),
-            NoText::NoMemory => tb_streams::Outcome::NoMemory,
+            NoText::Refused(refusal) => tb_engine_streams::Outcome::Refused(refusal),
+            NoText::NoMemory => tb_engine_streams::Outcome::NoMemory,
         }
     }
 }

@@ -1,9 +1,9 @@
 //! How a call of an engine ended.
 use tb_asm::AsmError;
-use tb_compile_errors::CompileError;
+use tb_compiled_errors::CompileError;
 use tb_cpu::Wrong;
+use tb_engine_streams::{ExitStatus, status};
 use tb_prg::PrgError;
-use tb_streams::{ExitStatus, status};
 
 /// How an engine ended whose whole text was written.
 #[derive(Clone, Copy, PartialEq, Eq, Debug, Drop)]
@@ -34,10 +34,10 @@ pub enum Refusal {
 }
 
 /// How a call of an engine ended.
-pub type Outcome = tb_streams::Outcome<End, Refusal>;
+pub type Outcome = tb_engine_streams::Outcome<End, Refusal>;
 
 /// Why a call of an engine made nothing that can be written.
-pub type Failure = tb_streams::Failure<Refusal>;
+pub type Failure = tb_engine_streams::Failure<Refusal>;
 
 impl ExitStatus for End {
     ghost use Rattle.tb_engines.specs.Outcomes.{status_of_end};

@@ -1,8 +1,8 @@
 //! Running a PRG file.
 ghost use Rattle.std.specs.Prelude.{◌≡◌, []};
 ghost use Rattle.tb_kernal.specs.Machine.{state_of, status};
-ghost use Rattle.tb_watch.specs.Hearing.{hearing_of};
-ghost use Rattle.tb_streams.specs.Uses.{use_of, TakesInput};
+ghost use Rattle.tb_kernal.specs.Hearing.{hearing_of};
+ghost use Rattle.tb_engine_streams.specs.Uses.{use_of, TakesInput};
 ghost use Rattle.tb_engines.specs.Outcomes.{Answers, AnswersInput, Faults};
 ghost use Rattle.tb_engines.specs.Delivery.{DeliveryFaults};
 ghost use Rattle.tb_engines.specs.Ends.{ByOutcome, LeavesRun, OfRun, TellsFile, end_place};
@@ -13,10 +13,9 @@ use crate::outcome::{End, Outcome};
 use crate::writing::run_writing;
 use std::alloc::Global;
 use std::io::{Read, Write};
-use tb_kernal::{Keyboard, Machine, Outside, Status};
-use tb_streams::{Tracked, read_input};
-use tb_text::Notation;
-use tb_watch::{Unwatched, Watch};
+use tb_basic_text::Notation;
+use tb_engine_streams::{Tracked, read_input};
+use tb_kernal::{Keyboard, Machine, Outside, Status, Unwatched, Watch};
 
 /// A run of a PRG file: how it ended, and where the program counter was then, unless the program returned.
 #[derive(Debug, Drop)]

@@ -5,7 +5,7 @@ ghost use Rattle.tb_engines.specs.Outcomes.{status_of};
 use crate::outcome::Outcome;
 use std::alloc::Global;
 use std::fmt;
-use tb_meaning::Warning;
+use tb_basic_meaning::Warning;
 
 /// How a call of an engine ended, and what there is to warn of.
 #[derive(Debug, Drop)]

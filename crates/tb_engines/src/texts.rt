@@ -5,12 +5,12 @@ ghost use Rattle.tb_engines.specs.Texts.{end_text, source_text, too_large_text, 
 use crate::outcome::{End, Refusal};
 use std::fmt;
 use tb_asm::AsmErrorKind;
-use tb_compile_errors::CompileError;
+use tb_basic_meaning::LowerError;
+use tb_compiled_errors::CompileError;
 use tb_cpu::Wrong;
-use tb_meaning::LowerError;
+use tb_engine_streams::OUT_OF_MEMORY;
 use tb_parser::{SourceError, SourceErrorKind};
 use tb_prg::PrgError;
-use tb_streams::OUT_OF_MEMORY;
 
 // What is said, text by text.
 const UNKNOWN_OPCODE: &str = "unknown opcode";

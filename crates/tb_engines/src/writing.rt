@@ -2,15 +2,14 @@
 ghost use Rattle.std.specs.Prelude.{◌≡◌, ◌≤◌, IfOk, OnErr, drop, length};
 ghost use Rattle.std.specs.Io.KnownBytes.{Keeps};
 ghost use Rattle.tb_kernal.specs.Machine.{state_of};
-ghost use Rattle.tb_streams.specs.Uses.{use_of, NeverFails};
+ghost use Rattle.tb_engine_streams.specs.Uses.{use_of, NeverFails};
 ghost use Rattle.tb_engines.specs.Writing.{RanStretch, RanWriting};
 
 use std::alloc::AllocError;
 use std::io::Write;
-use tb_kernal::{Machine, Outside, Status, run};
-use tb_streams::{Tracked, write_shown};
-use tb_text::Notation;
-use tb_watch::{STRETCH, Watch};
+use tb_basic_text::Notation;
+use tb_engine_streams::{Tracked, write_shown};
+use tb_kernal::{Machine, Outside, STRETCH, Status, Watch, run};
 
 /// How many of the last bytes that were sent a machine keeps after they were written: more than a fault's text has.
 const KEPT_SENT: usize = 16;

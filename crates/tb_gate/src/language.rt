@@ -2,10 +2,10 @@
 ghost use Rattle.std.specs.Prelude.{◌≡◌, ◌≢◌, ◌↔◌, ℕ, ℤ, pos, IsTrue, IfOk, IfErr, MatchOption, OnOk, Option};
 ghost use Rattle.tb_words.specs.Signed.{Holds, IsDivision, wrapped};
 ghost use Rattle.tb_words.specs.Words.{holds as holds_on, quotient, word_of};
-ghost use Rattle.tb_syntax.specs.PlainData.{lines_of, statement_of};
-ghost use Rattle.tb_syntax.specs.Source.{Statement as SourceStatement};
-ghost use Rattle.tb_grammar.specs.ReadValues as shown;
-ghost use Rattle.tb_grammar.specs.Statements.{States};
+ghost use Rattle.tb_basic_syntax.specs.PlainData.{lines_of, statement_of};
+ghost use Rattle.tb_basic_syntax.specs.Source.{Statement as SourceStatement};
+ghost use Rattle.tb_basic_grammar.specs.ReadValues as shown;
+ghost use Rattle.tb_basic_grammar.specs.Statements.{States};
 ghost use Rattle.tb_parser.specs.Answers.{edit_of};
 ghost use Rattle.tb_parser.specs.Files.{edited};
 ghost use Rattle.tb_parser.specs.Refusals.{out_of_memory};
@@ -13,9 +13,9 @@ ghost use Rattle.tb_lower.specs.Follows.{Follows};
 ghost use Rattle.tb_lower.specs.PlainData.{code_of};
 
 use std::alloc::Global;
-use tb_grammar::{ReadError, ReadStatement, read_statement};
+use tb_basic_grammar::{ReadError, ReadStatement, read_statement};
+use tb_basic_meaning::LowerError;
 use tb_lower::{SlotLine, lower};
-use tb_meaning::LowerError;
 use tb_parser::{LineEdit, Program, SourceError, apply};
 use tb_words::{Rel, div_rem, holds};
 

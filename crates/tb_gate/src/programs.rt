@@ -6,20 +6,20 @@ ghost use Rattle.tb_compiled.specs.Answers.{HasOutcome, LinesMake, OutcomeAnswer
 ghost use Rattle.tb_compiled.specs.Settings.{by_cost};
 ghost use Rattle.tb_compiled.specs.Theorem.{KeepsItsSource, MarksItsLines};
 ghost use Rattle.tb_codegen.specs.Templates.{templates};
-ghost use Rattle.tb_streams.specs.Uses.{use_of, TakesInput};
+ghost use Rattle.tb_engine_streams.specs.Uses.{use_of, TakesInput};
 ghost use Rattle.tb_engines.specs.Outcomes.{AnswersInput, Faults};
 ghost use Rattle.tb_engines.specs.Programs.{plain_settings_of};
-ghost use Rattle.tb_sources.specs.Output.{RunsSource};
-ghost use Rattle.tb_sources.specs.Sources.{RunsText, WarnsOfRead};
+ghost use Rattle.tb_engine_sources.specs.Output.{RunsSource};
+ghost use Rattle.tb_engine_sources.specs.Sources.{RunsText, WarnsOfRead};
 
 use std::alloc::Global;
 use std::io::{Read, Write};
 use tb_codegen::{Options, compile};
 use tb_compiled::{CompileError, Compiled};
 use tb_driver::run_text;
+use tb_engine_streams::Tracked;
 use tb_engines::Report;
 use tb_kernal::{Event, EventError, Keyboard, Machine, Outside, Status};
-use tb_streams::Tracked;
 
 /// Calls `compile`.
 pub fn source_compiled(

@@ -1,8 +1,8 @@
 -- The code of a constant is one instruction.
 use Rattle.std.proofs.Common.{◌≡◌, ℕ, List, [], ◌∷◌, Option, Some, ap}
-use Rattle.tb_syntax.specs.Source.{Expression, Number, Variable, Negate, Binary, Random}
+use Rattle.tb_basic_syntax.specs.Source.{Expression, Number, Variable, Negate, Binary, Random}
 use Rattle.tb_lower.specs.Slots.{Instr, Put}
-use Rattle.tb_meaning.specs.Values.{constant}
+use Rattle.tb_basic_meaning.specs.Values.{constant}
 use Rattle.tb_lower.specs.Lowered.{or_constant, value_code}
 
 -- a constant is one instruction

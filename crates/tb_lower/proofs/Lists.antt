@@ -4,20 +4,20 @@ use Rattle.std.proofs.Common.{◌++◌, length, Option, Some, None, option_map, 
 use Rattle.std.proofs.Common.{zero-add, suc-add, add_assoc, ⊎_elim, leb-true}
 use Rattle.std.proofs.lemmas.Bool.{cases_lt}
 use Rattle.tb_words.specs.Words.{holds}
-use Rattle.tb_syntax.specs.Source.{Statement, Numbered, Program, numbers}
-use Rattle.tb_meaning.specs.Steps.{and_then, End, Step, Goes, Stops, after_sending, Run, GoesOn, Over, joined, advance, advance_by, sent_by}
-use Rattle.tb_meaning.specs.Control.{Place, At, Past, State, content_at, poll, fall, past}
-use Rattle.tb_meaning.specs.Input.{input}
-use Rattle.tb_meaning.specs.Values.{Valued, Gives, Fails}
-use Rattle.tb_meaning.specs.Meaning.{does, does_at, does_found, line, start}
-use Rattle.tb_meaning.specs.Need.{statement_need, too_deep}
+use Rattle.tb_basic_syntax.specs.Source.{Statement, Numbered, Program, numbers}
+use Rattle.tb_basic_meaning.specs.Steps.{and_then, End, Step, Goes, Stops, after_sending, Run, GoesOn, Over, joined, advance, advance_by, sent_by}
+use Rattle.tb_basic_meaning.specs.Control.{Place, At, Past, State, content_at, poll, fall, past}
+use Rattle.tb_basic_meaning.specs.Input.{input}
+use Rattle.tb_basic_meaning.specs.Values.{Valued, Gives, Fails}
+use Rattle.tb_basic_meaning.specs.Meaning.{does, does_at, does_found, line, start}
+use Rattle.tb_basic_meaning.specs.Need.{statement_need, too_deep}
 use Rattle.tb_lower.specs.Slots.{Instr, Put, Load, Store, Negate, Compute, Random, SendText, SendNumber, SendZone, SendNewline, Input, Poll, Hold, LeaveUnless}
 use Rattle.tb_lower.specs.Slots.{Jump, Call, JumpTo, CallTo, Return, SlotCode, Rest, Whole, Left, Slots, SlotState, After, Stays, Leaves, staying, leaving}
 use Rattle.tb_lower.specs.Slots.{with_word, into, act, settled, instr, instr_found, instr_at, slot_step, slot_start, slot_run, begins, begins_in, beginnings}
 use Rattle.tb_lower.specs.Slots as slots
 use Rattle.tb_lower.specs.Lowered.{list_code, program_code}
 use Rattle.tb_lower.specs.Follows.{longest, Meets, Agrees, IsListOf, Follows}
-use Rattle.tb_meaning.proofs.Runs.{joined_after, over_stays, advance_sum, grows}
+use Rattle.tb_basic_meaning.proofs.Runs.{joined_after, over_stays, advance_sum, grows}
 use Rattle.tb_lower.proofs.Values.{stay_then, perform}
 use Rattle.tb_lower.proofs.Statements.{polled_runs}
 use Rattle.tb_lower.proofs.Weighed.{bounded_list, same_texts}

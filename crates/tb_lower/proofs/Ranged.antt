@@ -1,17 +1,17 @@
 -- The operands of slot code are in their ranges.
 use Rattle.std.proofs.Common.{◌≡◌, ℕ, ◌+◌, ◌≤◌, ◌<◌, true, false, List, [], ◌∷◌, ◌++◌, Option, Some, None, refl, sym, subst, arith}
-use Rattle.tb_syntax.specs.declared.statements.Statement.{Statement as RustStatement}
-use Rattle.tb_syntax.specs.Source.{Expression, Number, Variable, Binary, Item, Text, Value, Zone, Statement, Let, Print, If, Goto, Gosub, Remark}
-use Rattle.tb_syntax.specs.Source as source
-use Rattle.tb_syntax.specs.PlainData.{statement_of, lines_of}
-use Rattle.tb_meaning.specs.Need.{need, items_need, statement_need, too_deep}
+use Rattle.tb_basic_syntax.specs.declared.statements.Statement.{Statement as RustStatement}
+use Rattle.tb_basic_syntax.specs.Source.{Expression, Number, Variable, Binary, Item, Text, Value, Zone, Statement, Let, Print, If, Goto, Gosub, Remark}
+use Rattle.tb_basic_syntax.specs.Source as source
+use Rattle.tb_basic_syntax.specs.PlainData.{statement_of, lines_of}
+use Rattle.tb_basic_meaning.specs.Need.{need, items_need, statement_need, too_deep}
 use Rattle.tb_lower.specs.Slots.{Instr, Store, Negate, Compute, Random, SendNumber, SendNewline, Jump, Call, JumpTo, CallTo, SlotCode}
-use Rattle.tb_meaning.specs.Values.{constant}
+use Rattle.tb_basic_meaning.specs.Values.{constant}
 use Rattle.tb_lower.specs.Lowered.{or_constant, target_code, value_code, items_code, inputs_code, statement_code, program_code}
-use Rattle.tb_syntax.specs.Texts.{item_texts, statement_texts, AreShort, HasShortTexts}
+use Rattle.tb_basic_syntax.specs.Texts.{item_texts, statement_texts, AreShort, HasShortTexts}
 use Rattle.tb_lower.specs.Ranges.{AreInRange, IsCodeInRange}
-use Rattle.tb_meaning.proofs.Constants.{constant_small}
-use Rattle.tb_meaning.proofs.Lettered.{IsLettered, AreLettered, AreLetters, DoesLettered, statement_letters}
+use Rattle.tb_basic_meaning.proofs.Constants.{constant_small}
+use Rattle.tb_basic_meaning.proofs.Lettered.{IsLettered, AreLettered, AreLetters, DoesLettered, statement_letters}
 use Rattle.tb_lower.proofs.Values.{need_pos}
 use Rattle.tb_lower.proofs.Lists.{IsShallow, more, shallow}
 

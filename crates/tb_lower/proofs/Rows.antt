@@ -1,13 +1,13 @@
 -- Worked rows: what small programs send and how they end, by the meaning and by the slot code.
 use Rattle.std.specs.Prelude.{◌≡◌, ℕ, ◌*◌, ◌+◌, true, false, List, [], ◌∷◌, ◌++◌, refl, codes, replicate, Some, None, suc, zero}
 use Rattle.tb_words.specs.declared.Rel.TheVariants.{Eq, Lt}
-use Rattle.tb_syntax.specs.declared.expressions.Operator.TheVariants.{Add, Subtract, Multiply, Divide}
-use Rattle.tb_syntax.specs.Source.{Expression, Number, Variable, Binary, Random, Text, Value, Zone, Statement, Let, Print, Input, If, Goto, Gosub, Return, End, Remark, Numbered, Program}
-use Rattle.tb_meaning.specs.Steps as steps
-use Rattle.tb_meaning.specs.Steps.{Over, Ended, Faulted, Waits, sent_by}
-use Rattle.tb_meaning.specs.Meaning.{source_run}
-use Rattle.tb_meaning.specs.Need.{need, too_deep}
-use Rattle.tb_meaning.specs.Cost.{cost}
+use Rattle.tb_basic_syntax.specs.declared.expressions.Operator.TheVariants.{Add, Subtract, Multiply, Divide}
+use Rattle.tb_basic_syntax.specs.Source.{Expression, Number, Variable, Binary, Random, Text, Value, Zone, Statement, Let, Print, Input, If, Goto, Gosub, Return, End, Remark, Numbered, Program}
+use Rattle.tb_basic_meaning.specs.Steps as steps
+use Rattle.tb_basic_meaning.specs.Steps.{Over, Ended, Faulted, Waits, sent_by}
+use Rattle.tb_basic_meaning.specs.Meaning.{source_run}
+use Rattle.tb_basic_meaning.specs.Need.{need, too_deep}
+use Rattle.tb_basic_meaning.specs.Cost.{cost}
 use Rattle.tb_lower.specs.Slots as slots
 use Rattle.tb_lower.specs.Slots.{slot_run, Slots}
 use Rattle.tb_lower.specs.Lowered.{program_code}

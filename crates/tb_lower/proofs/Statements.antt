@@ -2,18 +2,18 @@
 use Rattle.std.proofs.Common.{◌≡◌, ℕ, ◌≤◌, Bool, true, false, if◌then◌else◌, List, [], ◌∷◌, ◌++◌, length, Option, Some, None}
 use Rattle.std.proofs.Common.{slice_index, refl, sym, ap, ap₂, ◌∙◌, append_assoc, arith}
 use Rattle.tb_words.specs.Words.{digits_of, holds}
-use Rattle.tb_syntax.specs.Source.{Expression, Item, Text, Value, Zone, Statement, Let, Print, If, Goto, Gosub, Remark}
-use Rattle.tb_syntax.specs.Source as source
-use Rattle.tb_meaning.specs.Steps.{Step, Goes, Stops, after_sending, and_then}
-use Rattle.tb_meaning.specs.Control.{State, poll, fall, send, zone, go_to, go_sub, go_back}
-use Rattle.tb_meaning.specs.Input.{input}
-use Rattle.tb_meaning.specs.Values.{Valued, Gives, Fails, constant}
-use Rattle.tb_meaning.specs.Meaning.{with_value, valued, print_item, print_items, inputs, stored, does}
-use Rattle.tb_meaning.specs.Need.{need, item_need, items_need, statement_need}
+use Rattle.tb_basic_syntax.specs.Source.{Expression, Item, Text, Value, Zone, Statement, Let, Print, If, Goto, Gosub, Remark}
+use Rattle.tb_basic_syntax.specs.Source as source
+use Rattle.tb_basic_meaning.specs.Steps.{Step, Goes, Stops, after_sending, and_then}
+use Rattle.tb_basic_meaning.specs.Control.{State, poll, fall, send, zone, go_to, go_sub, go_back}
+use Rattle.tb_basic_meaning.specs.Input.{input}
+use Rattle.tb_basic_meaning.specs.Values.{Valued, Gives, Fails, constant}
+use Rattle.tb_basic_meaning.specs.Meaning.{with_value, valued, print_item, print_items, inputs, stored, does}
+use Rattle.tb_basic_meaning.specs.Need.{need, item_need, items_need, statement_need}
 use Rattle.tb_lower.specs.Slots.{Instr, Store, SendNumber, SendNewline, Hold, LeaveUnless, Jump, Call, JumpTo, CallTo, Slots, Stays, staying, leaving}
 use Rattle.tb_lower.specs.Lowered.{target_code, list_code, value_code, item_code, items_code, inputs_code, statement_code}
-use Rattle.tb_meaning.proofs.Constants.{constant_value}
-use Rattle.tb_meaning.proofs.Runs.{after_nothing, then_assoc}
+use Rattle.tb_basic_meaning.proofs.Constants.{constant_value}
+use Rattle.tb_basic_meaning.proofs.Runs.{after_nothing, then_assoc}
 use Rattle.tb_lower.proofs.Values.{stay_then, perform, value_runs}
 
 valued_then_step : (n : ℕ) (w : Valued) (s : State) (f : ℕ → State → Step State) (g : State → Step State)

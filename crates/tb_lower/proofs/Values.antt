@@ -2,19 +2,19 @@
 use Rattle.std.proofs.Common.{◌≡◌, ℕ, ◌+◌, ◌≤◌, ◌<◌, ◌≢◌, List, [], ◌∷◌, ◌++◌, length, Option, Some, None, slice_index}
 use Rattle.std.proofs.Common.{refl, sym, ap, ap₂, ◌∙◌, append_assoc, arith, length-set, get_or-set_same, get_or-set_other}
 use Rattle.tb_words.specs.Words.{word, negated}
-use Rattle.tb_syntax.specs.Source.{Expression, Number, Variable, Binary}
-use Rattle.tb_syntax.specs.Source as source
-use Rattle.tb_syntax.specs.declared.expressions.Operator.{Operator}
-use Rattle.tb_meaning.specs.Steps.{Step, Goes, Stops, after_sending}
-use Rattle.tb_meaning.specs.Control.{State, fall}
-use Rattle.tb_meaning.specs.Values.{Valued, Gives, Fails, valued_then, apply, given, random, value, constant}
-use Rattle.tb_meaning.specs.Meaning.{with_value, valued}
-use Rattle.tb_meaning.specs.Need.{need}
+use Rattle.tb_basic_syntax.specs.Source.{Expression, Number, Variable, Binary}
+use Rattle.tb_basic_syntax.specs.Source as source
+use Rattle.tb_basic_syntax.specs.declared.expressions.Operator.{Operator}
+use Rattle.tb_basic_meaning.specs.Steps.{Step, Goes, Stops, after_sending}
+use Rattle.tb_basic_meaning.specs.Control.{State, fall}
+use Rattle.tb_basic_meaning.specs.Values.{Valued, Gives, Fails, valued_then, apply, given, random, value, constant}
+use Rattle.tb_basic_meaning.specs.Meaning.{with_value, valued}
+use Rattle.tb_basic_meaning.specs.Need.{need}
 use Rattle.tb_lower.specs.Slots.{Instr, Compute, Slots, After, Stays, Leaves, with_word, into, act}
 use Rattle.tb_lower.specs.Slots as slots
 use Rattle.tb_lower.specs.Lowered.{or_constant, value_code}
-use Rattle.tb_meaning.proofs.Constants.{constant_value, constant_word}
-use Rattle.tb_meaning.proofs.Runs.{after_nothing}
+use Rattle.tb_basic_meaning.proofs.Constants.{constant_value, constant_word}
+use Rattle.tb_basic_meaning.proofs.Runs.{after_nothing}
 
 -- on with what is next, if an instruction stays in the line
 abbrev pub stay_then : Step After → (State → Slots → Step State) → Step State

@@ -1,13 +1,13 @@
 -- The slot code of a statement has no more instructions of a kind than it may, and its texts in order.
 use Rattle.std.proofs.Common.{◌≡◌, ℕ, ◌+◌, ◌*◌, ◌≤◌, true, false, List, [], ◌∷◌, ◌++◌, length, Option, Some, None, refl, sym, ap, ap₂, ◌∙◌, arith, append-nil}
-use Rattle.tb_syntax.specs.Source.{Expression, Number, Variable, Binary, Item, Text, Value, Zone, Statement, Let, Print, If, Goto, Gosub, Remark}
-use Rattle.tb_syntax.specs.Source as source
-use Rattle.tb_meaning.specs.Cost.{nodes}
+use Rattle.tb_basic_syntax.specs.Source.{Expression, Number, Variable, Binary, Item, Text, Value, Zone, Statement, Let, Print, If, Goto, Gosub, Remark}
+use Rattle.tb_basic_syntax.specs.Source as source
+use Rattle.tb_basic_meaning.specs.Cost.{nodes}
 use Rattle.tb_lower.specs.Slots.{Instr, Store, Negate, Compute, Random, SendText, SendNumber, SendNewline, Hold, LeaveUnless, Jump, Call, JumpTo, CallTo}
-use Rattle.tb_meaning.specs.Values.{constant}
+use Rattle.tb_basic_meaning.specs.Values.{constant}
 use Rattle.tb_lower.specs.Lowered.{or_constant, target_code, list_code, value_code, item_code, items_code, inputs_code, statement_code}
 use Rattle.tb_lower.specs.Weights.{share, Weights, weigh, item_share, items_share, IsBounded, instr_texts}
-use Rattle.tb_syntax.specs.Texts.{item_texts, statement_texts}
+use Rattle.tb_basic_syntax.specs.Texts.{item_texts, statement_texts}
 
 weigh_append : (w : Weights) (xs ys : List Instr) → weigh w (xs ++ ys) ≡ weigh w xs + weigh w ys
 weigh_append w [] ys = omega arith

@@ -1,12 +1,12 @@
 -- What it means that slot code has the runs of a program.
 use Rattle.std.specs.Prelude.{◌≡◌, ℕ, ◌+◌, ◌*◌, ◌≤◌, max, List, [], ◌∷◌, length, Option, Some, None}
-use Rattle.tb_syntax.specs.Source.{Statement, Program, numbers}
-use Rattle.tb_syntax.specs.Texts.{statement_texts}
+use Rattle.tb_basic_syntax.specs.Source.{Statement, Program, numbers}
+use Rattle.tb_basic_syntax.specs.Texts.{statement_texts}
 use Rattle.tb_lower.specs.Weights.{IsBounded, instr_texts}
-use Rattle.tb_meaning.specs.Steps.{Run, GoesOn, Over, sent_by}
+use Rattle.tb_basic_meaning.specs.Steps.{Run, GoesOn, Over, sent_by}
 use Rattle.tb_words.specs.Prefixes.{IsPrefix}
-use Rattle.tb_meaning.specs.Control.{State, content_at}
-use Rattle.tb_meaning.specs.Meaning.{source_run}
+use Rattle.tb_basic_meaning.specs.Control.{State, content_at}
+use Rattle.tb_basic_meaning.specs.Meaning.{source_run}
 use Rattle.tb_lower.specs.Slots.{Instr, SlotCode, Whole, Slots, SlotState, slot_start, slot_run, beginnings}
 
 -- the length of the longest list

@@ -1,7 +1,7 @@
 -- The crate's slot code as plain data.
 use Rattle.std.specs.Prelude.{List, map}
 use Rattle.tb_words.specs.Letters.{letter_index}
-use Rattle.tb_syntax.specs.Source.{Numbered}
+use Rattle.tb_basic_syntax.specs.Source.{Numbered}
 use Rattle.tb_lower.specs.declared.slot_code.SlotInstr.{SlotInstr}
 use Rattle.tb_lower.specs.declared.slot_code.SlotInstr.TheVariants as instr
 use Rattle.tb_lower.specs.declared.slot_code.SlotLine.{SlotLine}

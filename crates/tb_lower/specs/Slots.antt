@@ -2,13 +2,13 @@
 use Rattle.std.specs.Prelude.{ℕ, zero, suc, ◌+◌, List, [], ◌∷◌, if◌then◌else◌, Option, Some, None, slice_index, slice_set}
 use Rattle.tb_words.specs.Words.{word, negated, holds, digits_of}
 use Rattle.tb_words.specs.declared.Rel.{Rel}
-use Rattle.tb_syntax.specs.Source.{Numbered, numbers}
-use Rattle.tb_syntax.specs.declared.expressions.Operator.{Operator}
-use Rattle.tb_meaning.specs.Steps.{Ended, Step, Goes, Stops, Run, GoesOn, Over, advance, advance_by}
-use Rattle.tb_meaning.specs.Control.{Place, At, Past, State, content_at, send, zone, fall, go_to, go_sub, go_back, poll, past}
-use Rattle.tb_meaning.specs.Input.{input}
-use Rattle.tb_meaning.specs.Values.{Valued, apply, given, random}
-use Rattle.tb_meaning.specs.Meaning.{with_value, stored, start}
+use Rattle.tb_basic_syntax.specs.Source.{Numbered, numbers}
+use Rattle.tb_basic_syntax.specs.declared.expressions.Operator.{Operator}
+use Rattle.tb_basic_meaning.specs.Steps.{Ended, Step, Goes, Stops, Run, GoesOn, Over, advance, advance_by}
+use Rattle.tb_basic_meaning.specs.Control.{Place, At, Past, State, content_at, send, zone, fall, go_to, go_sub, go_back, poll, past}
+use Rattle.tb_basic_meaning.specs.Input.{input}
+use Rattle.tb_basic_meaning.specs.Values.{Valued, apply, given, random}
+use Rattle.tb_basic_meaning.specs.Meaning.{with_value, stored, start}
 
 -- k is a slot, a letter a variable; Jump and Call go to the line that slot 0 names, JumpTo and CallTo to a constant one
 pub data Instr : Type 0 where

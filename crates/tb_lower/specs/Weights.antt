@@ -1,10 +1,10 @@
 -- How many instructions of each kind a line's list has, as a bound on its weight under any weights.
 use Rattle.std.specs.Prelude.{ℕ, ◌+◌, ◌*◌, ◌≤◌, List, [], ◌∷◌, length}
-use Rattle.tb_syntax.specs.Source.{Item, Text, Value, Zone, Statement, Let, Print, If, Goto, Gosub, Remark}
-use Rattle.tb_syntax.specs.Source as source
+use Rattle.tb_basic_syntax.specs.Source.{Item, Text, Value, Zone, Statement, Let, Print, If, Goto, Gosub, Remark}
+use Rattle.tb_basic_syntax.specs.Source as source
 use Rattle.tb_lower.specs.Slots.{Instr, Put, Load, Store, Negate, Compute, Random, SendText, SendNumber, SendZone, SendNewline, Input, Hold, Poll, LeaveUnless, Jump, Call, JumpTo, CallTo, Return}
 use Rattle.tb_lower.specs.Slots as slots
-use Rattle.tb_meaning.specs.Cost.{nodes}
+use Rattle.tb_basic_meaning.specs.Cost.{nodes}
 
 -- a weight for each kind of instruction: work is put, load, negation, arithmetic and RND, an item is one send of a
 -- text or a number, a byte one of a text, a move one GOTO, GOSUB or RETURN

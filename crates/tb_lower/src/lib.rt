@@ -13,4 +13,4 @@ mod slot_code;
 
 pub use lowering::lower;
 pub use slot_code::{SlotCode, SlotInstr, SlotLine};
-pub use tb_meaning::{LowerError, SLOT_COUNT, statement_need};
+pub use tb_basic_meaning::{LowerError, SLOT_COUNT, statement_need};

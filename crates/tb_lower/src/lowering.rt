@@ -1,19 +1,19 @@
 //! From programs to slot code.
 ghost use Rattle.std.specs.Prelude.{◌≡◌, ◌+◌, ◌≤◌, Some, None, IfOk, IfErr, OnOk, [], ◌∷◌, ◌++◌, ℕ, map};
-ghost use Rattle.tb_syntax.specs.PlainData.{expression_of, item_of, letters_of, statement_of, lines_of};
-ghost use Rattle.tb_syntax.specs.Source as source;
-ghost use Rattle.tb_meaning.specs.Need.{need, item_need, items_need, statement_need, too_deep};
+ghost use Rattle.tb_basic_syntax.specs.PlainData.{expression_of, item_of, letters_of, statement_of, lines_of};
+ghost use Rattle.tb_basic_syntax.specs.Source as source;
+ghost use Rattle.tb_basic_meaning.specs.Need.{need, item_need, items_need, statement_need, too_deep};
 ghost use Rattle.tb_lower.specs.Lowered.{value_code, item_code, items_code, inputs_code, statement_code, list_code, program_code};
 ghost use Rattle.tb_lower.specs.Follows.{Follows};
-ghost use Rattle.tb_syntax.specs.Texts.{HasShortTexts};
+ghost use Rattle.tb_basic_syntax.specs.Texts.{HasShortTexts};
 ghost use Rattle.tb_lower.specs.Ranges.{IsCodeInRange};
 ghost use Rattle.tb_lower.specs.Refusals.{IsRefusal};
 ghost use Rattle.tb_lower.specs.PlainData.{instr_of, slot_line_of, code_of};
 
 use crate::slot_code::{SlotCode, SlotInstr, SlotLine};
 use std::alloc::{AllocError, Global};
-use tb_meaning::{LowerError, SLOT_COUNT, constant, statement_need};
-use tb_syntax::{Expr, PrintItem, Program, Statement};
+use tb_basic_meaning::{LowerError, SLOT_COUNT, constant, statement_need};
+use tb_basic_syntax::{Expr, PrintItem, Program, Statement};
 use tb_words::Letter;
 
 // No shorter than the lists of most lines.

@@ -5,7 +5,7 @@ ghost use Rattle.tb_lower.specs.declared.slot_code.SlotLine.{SlotLine};
 ghost use Rattle.tb_lower.specs.contracts.slot_code.SlotLine as line;
 
 use std::marker::Model;
-use tb_syntax::Operator;
+use tb_basic_syntax::Operator;
 use tb_words::{Letter, Rel};
 
 /// An instruction. Slots are 0 to 15.

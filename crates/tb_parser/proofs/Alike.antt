@@ -1,9 +1,9 @@
 -- Lines whose texts have no brace and no bracket are read alike in each notation.
 use Rattle.std.proofs.Common.{◌≡◌, ℕ, ◌+◌, Bool, true, false, ◌||◌, List, [], ◌∷◌, ◌++◌, None, Result, refl, sym, ◌∙◌, subst, if◌then◌else◌}
-use Rattle.tb_syntax.specs.Source.{Program}
+use Rattle.tb_basic_syntax.specs.Source.{Program}
 use Rattle.tb_parser.specs.declared.errors.SourceErrorKind.TheVariants.{LineTooLong}
-use Rattle.tb_text.specs.declared.notation.Notation.{Notation}
-use Rattle.tb_text.specs.declared.notation.Notation.TheVariants.{Plain, Signs}
+use Rattle.tb_basic_text.specs.declared.notation.Notation.{Notation}
+use Rattle.tb_basic_text.specs.declared.notation.Notation.TheVariants.{Plain, Signs}
 use Rattle.tb_parser.specs.declared.squeeze.Mode.{Mode}
 use Rattle.tb_parser.specs.declared.squeeze.Mode.TheVariants.{Code}
 use Rattle.tb_parser.specs.declared.squeeze.Placed.{Placed}

@@ -2,10 +2,10 @@
 use Rattle.std.proofs.Common.{◌≡◌, ℕ, zero, suc, ◌<◌, ◌≤◌, inl, inr, Bool, true, false, List, [], ◌∷◌, ◌++◌, length, get_or, is_some, refl, sym, ap, subst, ◌∙◌, arith, ◌&&◌, not}
 use Rattle.std.specs.Prelude.{codes}
 use Rattle.std.proofs.lemmas.Bool.{cases_order, cases_lt, and_parts, not-true, true≢false, eq-eqb}
-use Rattle.tb_grammar.specs.Reading.{behind_word}
-use Rattle.tb_grammar.specs.StatementReading.{spelled, keywords}
-use Rattle.tb_grammar.specs.declared.keywords.Keyword.{Keyword}
-use Rattle.tb_grammar.specs.declared.keywords.Keyword.TheVariants.{Let, Print, Pr, Input, If, Goto, Gosub, Return, End, Rem}
+use Rattle.tb_basic_grammar.specs.Reading.{behind_word}
+use Rattle.tb_basic_grammar.specs.StatementReading.{spelled, keywords}
+use Rattle.tb_basic_grammar.specs.declared.keywords.Keyword.{Keyword}
+use Rattle.tb_basic_grammar.specs.declared.keywords.Keyword.TheVariants.{Let, Print, Pr, Input, If, Goto, Gosub, Return, End, Rem}
 use Rattle.tb_parser.specs.declared.lexer.TokenKind.{TokenKind}
 use Rattle.tb_parser.specs.Kinds.{IsWord, LacksWord, IsLongest, LacksWords, WordAt, then, first_word}
 use Rattle.tb_parser.proofs.Written.{word_one, word_front, word_moves_by, word_within}

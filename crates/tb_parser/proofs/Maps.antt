@@ -7,9 +7,9 @@ use Rattle.std.specs.declared.cmp.Ordering.TheVariants.{Less, Equal, Greater}
 use Rattle.std.specs.BTreeMap.{insert_entry, is_at}
 use Rattle.std.specs.Map.{remove_entry}
 use Rattle.std.proofs.lemmas.Bool.{eqb-true}
-use Rattle.tb_syntax.specs.declared.statements.Statement.{Statement}
-use Rattle.tb_syntax.specs.Source.{Program}
-use Rattle.tb_syntax.specs.PlainData.{statement_of, line_of, lines_of}
+use Rattle.tb_basic_syntax.specs.declared.statements.Statement.{Statement}
+use Rattle.tb_basic_syntax.specs.Source.{Program}
+use Rattle.tb_basic_syntax.specs.PlainData.{statement_of, line_of, lines_of}
 use Rattle.tb_parser.specs.Files.{line_at, with_line, without_line}
 
 not_same : (a b : ℕ) → nat_lt a b ≡ true → (a == b) ≡ false

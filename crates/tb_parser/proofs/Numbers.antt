@@ -1,6 +1,6 @@
 -- Digits at the front.
 use Rattle.std.proofs.Common.{◌≡◌, ℕ, ◌+◌, ◌-◌, ◌*◌, ◌≤◌, Bool, true, false, List, [], ◌∷◌, Some, None, refl, arith, ap, ◌==◌, if◌then◌else◌}
-use Rattle.tb_grammar.specs.Grammar.{is_digit}
+use Rattle.tb_basic_grammar.specs.Grammar.{is_digit}
 use Rattle.tb_parser.specs.declared.squeeze.Placed.{Placed}
 use Rattle.tb_parser.specs.declared.squeeze.Mode.TheVariants.{Code}
 use Rattle.tb_parser.specs.Scans.{first_written, starts_with_digit, Counted, number_at}

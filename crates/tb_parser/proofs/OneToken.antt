@@ -2,11 +2,11 @@
 use Rattle.std.proofs.Common.{◌≡◌, ◌≢◌, ℕ, ◌+◌, ◌-◌, ◌<◌, ◌≤◌, inl, inr, Bool, true, false, cond, ◌==◌, List, [], ◌∷◌, length, map, slice_index, slice_range, nat_le, Option, None, Some, refl, sym, ap, subst, ◌∙◌, arith}
 use Rattle.std.specs.Prelude.{codes}
 use Rattle.std.proofs.lemmas.Bool.{cases_order, cases_lt, eqb-true, ne_eqb, or_cases, and_parts, and_left, and_right, leb-true, lt-leb}
-use Rattle.tb_grammar.specs.Grammar.{is_digit}
-use Rattle.tb_grammar.specs.StatementReading.{spelled, keywords}
-use Rattle.tb_grammar.specs.StatementReading as reading
-use Rattle.tb_grammar.specs.declared.keywords.Keyword.{Keyword}
-use Rattle.tb_grammar.specs.declared.keywords.Keyword.TheVariants.{Let, Print, Pr, Input, If, Goto, Gosub, Return, End, Rem}
+use Rattle.tb_basic_grammar.specs.Grammar.{is_digit}
+use Rattle.tb_basic_grammar.specs.StatementReading.{spelled, keywords}
+use Rattle.tb_basic_grammar.specs.StatementReading as reading
+use Rattle.tb_basic_grammar.specs.declared.keywords.Keyword.{Keyword}
+use Rattle.tb_basic_grammar.specs.declared.keywords.Keyword.TheVariants.{Let, Print, Pr, Input, If, Goto, Gosub, Return, End, Rem}
 use Rattle.tb_parser.specs.declared.lexer.Awaits.{Awaits}
 use Rattle.tb_parser.specs.declared.lexer.Awaits.TheVariants as awaits
 use Rattle.tb_parser.specs.declared.lexer.Token.{Token}

@@ -2,16 +2,16 @@
 use Rattle.std.proofs.lemmas.List.Elements.{All-nil, All-cons, All-head, All-tail}
 use Rattle.std.proofs.lemmas.Bool.Decides.{nat_tests}
 use Rattle.std.proofs.Common.{drop, Option, ◌≡◌, ◌≢◌, ℕ, ◌+◌, ◌-◌, ◌*◌, ◌≤◌, Bool, true, false, List, [], ◌∷◌, ◌++◌, length, All, Some, None, Ok, Err, Result, refl, sym, ap, ◌∙◌, subst, arith, ◌==◌, if◌then◌else◌}
-use Rattle.tb_syntax.specs.Source.{Statement, Program}
-use Rattle.tb_grammar.specs.Grammar.{IsDigit, IsLetter, is_digit, value_after}
-use Rattle.tb_grammar.proofs.Steps.{digit_is}
-use Rattle.tb_grammar.specs.Statements.{States, let_assign, assign, print, short_print, input, conditional, goto, gosub, return, end as ends, remark}
+use Rattle.tb_basic_syntax.specs.Source.{Statement, Program}
+use Rattle.tb_basic_grammar.specs.Grammar.{IsDigit, IsLetter, is_digit, value_after}
+use Rattle.tb_basic_grammar.proofs.Steps.{digit_is}
+use Rattle.tb_basic_grammar.specs.Statements.{States, let_assign, assign, print, short_print, input, conditional, goto, gosub, return, end as ends, remark}
 use Rattle.tb_parser.specs.declared.squeeze.Mode.{Mode}
 use Rattle.tb_parser.specs.declared.squeeze.Mode.TheVariants.{Code}
 use Rattle.tb_parser.specs.declared.squeeze.Placed.{Placed}
-use Rattle.tb_text.specs.declared.notation.Notation.TheVariants.{Plain}
+use Rattle.tb_basic_text.specs.declared.notation.Notation.TheVariants.{Plain}
 use Rattle.tb_parser.specs.Files.{LinesIn, end, bad, good, Outcome, at_end, edited}
-use Rattle.tb_text.specs.Lines.{lines_of_file}
+use Rattle.tb_basic_text.specs.Lines.{lines_of_file}
 use Rattle.tb_parser.specs.Programs.{is_clean, kept_bytes, IsNumbered, LineMakes, AllMake, none, IsProgramOf}
 use Rattle.tb_parser.specs.Programs as programs
 use Rattle.tb_parser.specs.Readings.{Refusal, LineIn, blank, unfit, unnumbered, bad_line_number, deletes, sets, unread, IsNumberedIn, TextIs, reads, not_compiled, syntax, number_too_large, Edit, Nothing, Sets, Deletes}

@@ -1,6 +1,6 @@
 -- What follows REM.
 use Rattle.std.proofs.Common.{◌≡◌, ℕ, List, [], ◌∷◌, ◌++◌, subst, arith}
-use Rattle.tb_grammar.specs.declared.keywords.Keyword.TheVariants as keyword
+use Rattle.tb_basic_grammar.specs.declared.keywords.Keyword.TheVariants as keyword
 use Rattle.tb_parser.specs.declared.lexer.Awaits.{Awaits}
 use Rattle.tb_parser.specs.declared.lexer.Awaits.TheVariants as awaits
 use Rattle.tb_parser.specs.declared.lexer.Token.{Token}

@@ -3,8 +3,8 @@ use Rattle.std.proofs.Common.{◌≡◌, ℕ, ◌+◌, ◌<◌, ◌≤◌, Bool,
 use Rattle.std.proofs.lemmas.Bool.Decides.{nat_tests}
 use Rattle.std.specs.Prelude.{nat_lt}
 use Rattle.std.proofs.lemmas.Bool.{eqb-true}
-use Rattle.tb_syntax.specs.Source.{Statement, Program, Rises, numbers}
-use Rattle.tb_text.specs.declared.notation.Notation.{Notation}
+use Rattle.tb_basic_syntax.specs.Source.{Statement, Program, Rises, numbers}
+use Rattle.tb_basic_text.specs.declared.notation.Notation.{Notation}
 use Rattle.tb_parser.specs.Files.{Outcome, line_at, with_line, without_line, edited, at_end, LinesIn, end, bad, good}
 use Rattle.tb_parser.specs.Readings.{Refusal, Edit, LineIn, blank, unfit, unnumbered, bad_line_number, deletes, sets, unread}
 

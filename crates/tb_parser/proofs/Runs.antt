@@ -1,14 +1,14 @@
 -- A file read line by line: what is left decides the whole.
 use Rattle.std.proofs.Common.{◌≡◌, ℕ, ◌+◌, false, true, List, [], ◌∷◌, Ok, Err, refl, sym, subst}
-use Rattle.tb_syntax.specs.declared.statements.Statement.{Statement}
-use Rattle.tb_syntax.specs.Source.{Program}
-use Rattle.tb_syntax.specs.PlainData.{lines_of}
+use Rattle.tb_basic_syntax.specs.declared.statements.Statement.{Statement}
+use Rattle.tb_basic_syntax.specs.Source.{Program}
+use Rattle.tb_basic_syntax.specs.PlainData.{lines_of}
 use Rattle.tb_parser.specs.declared.errors.LineFault.{LineFault}
 use Rattle.tb_parser.specs.declared.errors.SourceError.{SourceError}
 use Rattle.tb_parser.specs.Answers.{Answers, Says, edit_of, refusal_of}
-use Rattle.tb_text.specs.declared.notation.Notation.{Notation}
+use Rattle.tb_basic_text.specs.declared.notation.Notation.{Notation}
 use Rattle.tb_parser.specs.Files.{Outcome, refused_at, edited, at_end, LinesIn, end, bad, good}
-use Rattle.tb_text.specs.Lines.{lines_from, lines_of_file}
+use Rattle.tb_basic_text.specs.Lines.{lines_from, lines_of_file}
 use Rattle.tb_parser.specs.Readings.{Edit, LineIn}
 use Rattle.tb_parser.specs.Refusals.{at_line}
 use Rattle.tb_parser.proofs.Outcomes.{answers_at}

@@ -1,7 +1,7 @@
 -- Lines with signs: each walk at a place at which a sign begins, or a byte that belongs to none.
 use Rattle.std.proofs.Common.{◌≡◌, ℕ, zero, suc, ◌+◌, ◌-◌, ◌<◌, ◌≤◌, Bool, true, false, List, [], ◌∷◌, ◌++◌, length, get_or, drop, Some, None, refl, sym, ap, ◌∙◌, arith, append_assoc, ◌==◌}
 use Rattle.std.proofs.lemmas.List.{append-nil}
-use Rattle.tb_signs.specs.declared.characters.Character.{Character}
+use Rattle.tb_basic_signs.specs.declared.characters.Character.{Character}
 use Rattle.tb_parser.specs.declared.squeeze.Mode.{Mode}
 use Rattle.tb_parser.specs.declared.squeeze.Mode.TheVariants.{Code}
 use Rattle.tb_parser.specs.declared.squeeze.Placed.{Placed}

@@ -1,10 +1,10 @@
 -- Each statement of a file's program is spelled by a text that is no longer than a line.
 use Rattle.std.proofs.Common.{◌≡◌, ℕ, ◌+◌, ◌-◌, ◌*◌, ◌≤◌, Bool, true, false, List, [], ◌∷◌, length, ap, arith, Result, Ok, Err, ◌==◌, if◌then◌else◌}
 use Rattle.std.specs.Prelude.{nat_lt}
-use Rattle.tb_syntax.specs.Source.{Statement, Program}
-use Rattle.tb_grammar.specs.Statements.{States}
-use Rattle.tb_grammar.specs.Grammar.{is_digit}
-use Rattle.tb_text.specs.declared.notation.Notation.{Notation}
+use Rattle.tb_basic_syntax.specs.Source.{Statement, Program}
+use Rattle.tb_basic_grammar.specs.Statements.{States}
+use Rattle.tb_basic_grammar.specs.Grammar.{is_digit}
+use Rattle.tb_basic_text.specs.declared.notation.Notation.{Notation}
 use Rattle.tb_parser.specs.declared.squeeze.Placed.{Placed}
 use Rattle.tb_parser.specs.Notations.{squeezed_in}
 use Rattle.tb_parser.specs.Squeezed.{bytes}

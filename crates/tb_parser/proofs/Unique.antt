@@ -2,16 +2,16 @@
 use Rattle.std.proofs.Common.{◌≡◌, ◌≢◌, ℕ, ◌+◌, ◌<◌, ◌≤◌, Bool, true, false, List, [], ◌∷◌, length, Option, Some, None}
 use Rattle.std.proofs.Common.{Result, Ok, Err, refl, sym, ap, ◌∙◌, arith, ◌⊎◌, inl, inr, if◌then◌else◌, nat_le, ◌&&◌}
 use Rattle.std.proofs.lemmas.Bool.Decides.{nat_tests}
-use Rattle.tb_syntax.specs.Source.{Statement, Expression, Program}
-use Rattle.tb_grammar.specs.Statements.{States}
-use Rattle.tb_grammar.proofs.ExpressionLaws as expression_laws
-use Rattle.tb_grammar.proofs.StatementLaws as statement_laws
-use Rattle.tb_grammar.specs.Reading.{when}
+use Rattle.tb_basic_syntax.specs.Source.{Statement, Expression, Program}
+use Rattle.tb_basic_grammar.specs.Statements.{States}
+use Rattle.tb_basic_grammar.proofs.ExpressionLaws as expression_laws
+use Rattle.tb_basic_grammar.proofs.StatementLaws as statement_laws
+use Rattle.tb_basic_grammar.specs.Reading.{when}
 use Rattle.tb_parser.proofs.Numbers.{number_has_digit, blank_squeezed}
 use Rattle.tb_parser.proofs.SignSteps.{blank_signed}
 use Rattle.tb_parser.specs.declared.errors.SourceErrorKind.TheVariants.{LineTooLong, BadByte, Unnumbered, BadLineNumber, NotCompiled, NumberTooLarge}
-use Rattle.tb_text.specs.declared.notation.Notation.{Notation}
-use Rattle.tb_text.specs.declared.notation.Notation.TheVariants.{Plain, Signs}
+use Rattle.tb_basic_text.specs.declared.notation.Notation.{Notation}
+use Rattle.tb_basic_text.specs.declared.notation.Notation.TheVariants.{Plain, Signs}
 use Rattle.tb_parser.specs.declared.squeeze.Placed.{Placed}
 use Rattle.tb_parser.specs.Readings.{Refusal, at_column, Grammar, TextIs, reads, not_compiled, syntax, number_too_large, IsFitIn, IsUnfitIn, line_too_long}
 use Rattle.tb_parser.specs.Readings.{bad_byte, stands_for_too_much, IsLineNumber, IsNumberedIn, Edit, Nothing, Sets, Deletes, LineIn, blank, unfit, unnumbered, bad_line_number}

@@ -3,7 +3,7 @@ use Rattle.std.proofs.Common.{◌≡◌, ◌≢◌, ℕ, zero, suc, ◌+◌, ◌
 use Rattle.std.proofs.lemmas.Bool.{cases_eq, cases_order, cases_lt, and_left, and_right, and_from, le-leb, lt-leb, ne_eqb}
 use Rattle.std.proofs.lemmas.Str.Ascii.{uppercase_is}
 use Rattle.std.specs.Char.{to_ascii_uppercase}
-use Rattle.tb_grammar.specs.Grammar.{is_letter}
+use Rattle.tb_basic_grammar.specs.Grammar.{is_letter}
 use Rattle.tb_parser.specs.Squeezed.{upper}
 use Rattle.tb_parser.specs.Kinds.{AreSpaces, IsWritten, IsWord, Follows, is_any_letter, is_sign}
 use Rattle.tb_parser.proofs.Steps.{split}

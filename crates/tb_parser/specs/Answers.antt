@@ -1,6 +1,6 @@
 -- What the crate's answers say.
 use Rattle.std.specs.Prelude.{◌≡◌, ℕ, Option, Some, None, Result, Ok, Err, IfSome}
-use Rattle.tb_syntax.specs.PlainData.{statement_of}
+use Rattle.tb_basic_syntax.specs.PlainData.{statement_of}
 use Rattle.tb_parser.specs.declared.edits.LineEdit.{LineEdit}
 use Rattle.tb_parser.specs.declared.edits.LineEdit.TheVariants as line_edit
 use Rattle.tb_parser.specs.declared.errors.LineFault.{LineFault}

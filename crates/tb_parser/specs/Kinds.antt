@@ -1,9 +1,9 @@
 -- Of which kind a token is, and where it ends.
 use Rattle.std.specs.Prelude.{◌≡◌, ◌≢◌, ℕ, ◌+◌, ◌-◌, ◌<◌, ◌≤◌, ◌⊎◌, List, [], ◌∷◌, length, slice_index, Bool, true, false, ◌==◌, ◌&&◌, ◌||◌, if◌then◌else◌, codes}
-use Rattle.tb_grammar.specs.Grammar.{IsDigit, is_digit, is_letter}
-use Rattle.tb_grammar.specs.StatementReading.{spelled}
-use Rattle.tb_grammar.specs.declared.keywords.Keyword.{Keyword}
-use Rattle.tb_grammar.specs.declared.keywords.Keyword.TheVariants as keyword
+use Rattle.tb_basic_grammar.specs.Grammar.{IsDigit, is_digit, is_letter}
+use Rattle.tb_basic_grammar.specs.StatementReading.{spelled}
+use Rattle.tb_basic_grammar.specs.declared.keywords.Keyword.{Keyword}
+use Rattle.tb_basic_grammar.specs.declared.keywords.Keyword.TheVariants as keyword
 use Rattle.tb_parser.specs.declared.lexer.Awaits.{Awaits}
 use Rattle.tb_parser.specs.declared.lexer.Awaits.TheVariants.{Operand, Word, Remark}
 use Rattle.tb_parser.specs.declared.lexer.TokenKind.{TokenKind}

@@ -1,7 +1,7 @@
 -- How a line is read, with or without signs.
 use Rattle.std.specs.Prelude.{ℕ, List, map, slice_index, Option}
-use Rattle.tb_text.specs.declared.notation.Notation.{Notation}
-use Rattle.tb_text.specs.declared.notation.Notation.TheVariants.{Plain, Signs}
+use Rattle.tb_basic_text.specs.declared.notation.Notation.{Notation}
+use Rattle.tb_basic_text.specs.declared.notation.Notation.TheVariants.{Plain, Signs}
 use Rattle.tb_parser.specs.declared.squeeze.Mode.TheVariants.{Code}
 use Rattle.tb_parser.specs.declared.squeeze.Placed.{Placed}
 use Rattle.tb_parser.specs.Scans.{first_bad}

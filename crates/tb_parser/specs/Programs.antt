@@ -1,13 +1,13 @@
 -- The program of a good source without signs: what its lines make, if none of them is refused.
 use Rattle.std.specs.Prelude.{◌≡◌, ℕ, ◌≤◌, List, [], ◌∷◌, ◌++◌, length, All, Bool, true, false, None, Ok, if◌then◌else◌}
-use Rattle.tb_syntax.specs.Source.{Statement, Program}
-use Rattle.tb_grammar.specs.Grammar.{IsDigit, value_after}
-use Rattle.tb_grammar.specs.Statements.{States}
+use Rattle.tb_basic_syntax.specs.Source.{Statement, Program}
+use Rattle.tb_basic_grammar.specs.Grammar.{IsDigit, value_after}
+use Rattle.tb_basic_grammar.specs.Statements.{States}
 use Rattle.tb_parser.specs.declared.squeeze.Mode.{Mode}
 use Rattle.tb_parser.specs.declared.squeeze.Mode.TheVariants.{Code}
-use Rattle.tb_text.specs.declared.notation.Notation.TheVariants.{Plain}
+use Rattle.tb_basic_text.specs.declared.notation.Notation.TheVariants.{Plain}
 use Rattle.tb_parser.specs.Files.{LinesIn, with_line, without_line}
-use Rattle.tb_text.specs.Lines.{lines_of_file}
+use Rattle.tb_basic_text.specs.Lines.{lines_of_file}
 use Rattle.tb_parser.specs.Scans.{is_bad}
 use Rattle.tb_parser.specs.Squeezed.{after, is_dropped, shown}
 

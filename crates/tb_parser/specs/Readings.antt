@@ -1,12 +1,12 @@
 -- What a line says, or why it is refused.
 use Rattle.std.specs.Prelude.{◌≡◌, ◌≢◌, ℕ, ◌<◌, ◌≤◌, List, [], length, false, true, Option, Some, None, Result, Ok, Err}
-use Rattle.tb_syntax.specs.Source.{Expression, Statement}
-use Rattle.tb_grammar.specs.Grammar.{Reads, Whole}
-use Rattle.tb_grammar.specs.Statements.{States}
+use Rattle.tb_basic_syntax.specs.Source.{Expression, Statement}
+use Rattle.tb_basic_grammar.specs.Grammar.{Reads, Whole}
+use Rattle.tb_basic_grammar.specs.Statements.{States}
 use Rattle.tb_parser.specs.declared.errors.SourceErrorKind.{SourceErrorKind}
 use Rattle.tb_parser.specs.declared.errors.SourceErrorKind.TheVariants.{LineTooLong, BadByte, Unnumbered, BadLineNumber, NotCompiled, Syntax, NumberTooLarge}
-use Rattle.tb_text.specs.declared.notation.Notation.{Notation}
-use Rattle.tb_text.specs.declared.notation.Notation.TheVariants.{Plain}
+use Rattle.tb_basic_text.specs.declared.notation.Notation.{Notation}
+use Rattle.tb_basic_text.specs.declared.notation.Notation.TheVariants.{Plain}
 use Rattle.tb_parser.specs.declared.squeeze.Placed.{Placed}
 use Rattle.tb_parser.specs.Notations.{column_of, first_bad_in, squeezed_in}
 use Rattle.tb_parser.specs.Squeezed.{squeezed, bytes}

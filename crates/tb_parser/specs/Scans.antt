@@ -1,7 +1,7 @@
 -- What is looked for in a line before it is read.
 use Rattle.std.specs.Prelude.{ℕ, ◌+◌, ◌-◌, ◌*◌, List, [], ◌∷◌, length, map, slice_index, Bool, true, false, Option, Some, None, nat_le}
 use Rattle.std.specs.Prelude.{◌==◌, ◌&&◌, ◌||◌, if◌then◌else◌, codes}
-use Rattle.tb_grammar.specs.Grammar.{is_digit}
+use Rattle.tb_basic_grammar.specs.Grammar.{is_digit}
 use Rattle.tb_parser.specs.declared.squeeze.Mode.{Mode}
 use Rattle.tb_parser.specs.declared.squeeze.Mode.TheVariants.{Remark}
 use Rattle.tb_parser.specs.declared.squeeze.Placed.{Placed}

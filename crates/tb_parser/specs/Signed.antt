@@ -1,8 +1,9 @@
--- Lines with signs in their texts. A sign is what tb_signs reads at `{`, `[` or `]`; all else is as in a line without.
+-- Lines with signs in their texts. A sign is what tb_basic_signs reads at `{`, `[` or `]`; all else is as in a line
+-- without.
 use Rattle.std.specs.Prelude.{◌≡◌, ℕ, zero, suc, ◌+◌, ◌-◌, List, [], ◌∷◌, ◌++◌, replicate, Bool, true, false, ◌&&◌, ◌||◌, ◌==◌, if◌then◌else◌, Option, Some, None}
-use Rattle.tb_grammar.specs.Reading.{when}
-use Rattle.tb_signs.specs.declared.characters.Character.{Character}
-use Rattle.tb_signs.specs.Characters.{character_at}
+use Rattle.tb_basic_grammar.specs.Reading.{when}
+use Rattle.tb_basic_signs.specs.declared.characters.Character.{Character}
+use Rattle.tb_basic_signs.specs.Characters.{character_at}
 use Rattle.tb_parser.specs.declared.squeeze.Mode.{Mode}
 use Rattle.tb_parser.specs.declared.squeeze.Mode.TheVariants.{Code, CodeR, CodeRe, Text, Remark}
 use Rattle.tb_parser.specs.declared.squeeze.Placed.{Placed}

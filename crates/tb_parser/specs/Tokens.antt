@@ -1,6 +1,6 @@
 -- The tokens of a line, as slices of it.
 use Rattle.std.specs.Prelude.{◌≡◌, ℕ, ◌+◌, ◌-◌, ◌<◌, ◌≤◌, List, [], ◌∷◌, ◌++◌, length, map, slice_range}
-use Rattle.tb_grammar.specs.declared.keywords.Keyword.TheVariants as keyword
+use Rattle.tb_basic_grammar.specs.declared.keywords.Keyword.TheVariants as keyword
 use Rattle.tb_parser.specs.declared.lexer.Awaits.{Awaits}
 use Rattle.tb_parser.specs.declared.lexer.Awaits.TheVariants.{Operand, Word, Remark}
 use Rattle.tb_parser.specs.declared.lexer.Token.{Token}

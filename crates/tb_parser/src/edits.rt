@@ -1,12 +1,12 @@
 //! What a line of a file does to the program.
 ghost use Rattle.std.specs.Prelude.{◌≡◌, IfErr, OnOk};
-ghost use Rattle.tb_syntax.specs.PlainData.{lines_of};
+ghost use Rattle.tb_basic_syntax.specs.PlainData.{lines_of};
 ghost use Rattle.tb_parser.specs.Answers.{edit_of};
 ghost use Rattle.tb_parser.specs.Files.{edited};
 ghost use Rattle.tb_parser.specs.Refusals.{out_of_memory};
 
 use crate::errors::SourceError;
-use tb_syntax::{Program, Statement};
+use tb_basic_syntax::{Program, Statement};
 
 /// What a line does to the program.
 #[derive(Drop)]

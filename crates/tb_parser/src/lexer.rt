@@ -1,12 +1,12 @@
 //! Tokens: a line taken apart from left to right.
 ghost use Rattle.std.specs.Prelude.{◌≡◌, ◌+◌, ◌<◌, ◌≤◌, ◌^◌, length, slice_index, true, IfOk, MatchBool, MatchOption};
-ghost use Rattle.tb_grammar.specs.Grammar.{is_digit};
+ghost use Rattle.tb_basic_grammar.specs.Grammar.{is_digit};
 ghost use Rattle.tb_parser.specs.Kinds.{AreSpaces, FirstAt, IsAssigned, IsWord, IsWritten, LacksWord, LacksWords, LetterAt};
 ghost use Rattle.tb_parser.specs.Kinds.{NumberAt, OperandAt, RelationAt, TextAt, TokenAt, WordAt, awaited, is_pair, mark_of};
 ghost use Rattle.tb_parser.specs.Tokens.{AreTokens, BeginsWritten, IsNext, IsRemark, IsSlice, NoneComes, end_of};
 
 use std::alloc::{AllocError, Global};
-use tb_grammar::{KEYWORDS, Keyword, THEN};
+use tb_basic_grammar::{KEYWORDS, Keyword, THEN};
 
 /// What a token is.
 #[derive(Clone, Copy, Debug, PartialEq, Eq)]

@@ -31,5 +31,5 @@ pub use errors::{LineFault, SourceError, SourceErrorKind};
 pub use laws::{programs_are_made, remarks_are_whole, tokens_are_unique};
 pub use lexer::{Token, TokenKind, tokens};
 pub use parser::{parse, parse_expr, parse_in, read_line, read_line_in};
-pub use tb_syntax::{Expr, Operator, PrintItem, Program, Statement};
+pub use tb_basic_syntax::{Expr, Operator, PrintItem, Program, Statement};
 pub use tb_words::{Letter, Rel};

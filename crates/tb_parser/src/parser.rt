@@ -1,13 +1,13 @@
 //! Source texts read: a file, a line of it, one expression.
 ghost use Rattle.std.specs.Prelude.{◌≡◌, ◌≢◌, ◌<◌, ◌≤◌, ℕ, [], None, Some, Result, Ok, Err, IfErr, IfOk, IfSome, MatchOption, MatchResult, OnOk, length};
-ghost use Rattle.tb_syntax.specs.Source.{Statement as SourceStatement, Expression, Rises, numbers};
-ghost use Rattle.tb_syntax.specs.PlainData.{statement_of, expression_of, lines_of};
-ghost use Rattle.tb_grammar.specs.Statements.{States};
+ghost use Rattle.tb_basic_syntax.specs.Source.{Statement as SourceStatement, Expression, Rises, numbers};
+ghost use Rattle.tb_basic_syntax.specs.PlainData.{statement_of, expression_of, lines_of};
+ghost use Rattle.tb_basic_grammar.specs.Statements.{States};
 ghost use Rattle.tb_parser.specs.declared.errors.SourceErrorKind.TheVariants.{LineTooLong, NoMemory, NotCompiled, NumberTooLarge, Syntax};
-ghost use Rattle.tb_text.specs.declared.notation.Notation.TheVariants.{Plain};
+ghost use Rattle.tb_basic_text.specs.declared.notation.Notation.TheVariants.{Plain};
 ghost use Rattle.tb_parser.specs.Answers.{edit_of, refusal_of, Answers, InLineOne, Says};
 ghost use Rattle.tb_parser.specs.Files.{AreStated, FileRefusal, LinesAre, LinesIn, Outcome};
-ghost use Rattle.tb_text.specs.Lines.{lines_of_file};
+ghost use Rattle.tb_basic_text.specs.Lines.{lines_of_file};
 ghost use Rattle.tb_parser.specs.Notations.{column_of, first_bad_in, squeezed_in};
 ghost use Rattle.tb_parser.specs.Readings.{Expresses, ExpressionIs, IsFitIn, IsUnfitIn, LineIn, LineIs, TextIs};
 ghost use Rattle.tb_parser.specs.Refusals.{out_of_memory};
@@ -20,9 +20,9 @@ use crate::scans::{bad_byte, column_of_left, is_numbered, left_out, line_number,
 use crate::signs::{bad_byte_or_sign, squeeze_signs};
 use crate::squeeze::{Placed, copy_bytes, squeeze};
 use std::alloc::{AllocError, Global};
-use tb_grammar::{ReadError, read_expression, read_statement};
-use tb_syntax::{Expr, Program, Statement};
-use tb_text::{LONGEST_LINE, Notation, next_line};
+use tb_basic_grammar::{ReadError, read_expression, read_statement};
+use tb_basic_syntax::{Expr, Program, Statement};
+use tb_basic_text::{LONGEST_LINE, Notation, next_line};
 
 /// The program that a file's lines make, or the first bad line.
 ///

@@ -6,7 +6,7 @@ ghost use Rattle.tb_parser.specs.Scans.{left_out_word, number_at, starts_with_di
 ghost use Rattle.tb_parser.specs.declared.squeeze.Mode.TheVariants.{Code};
 
 use crate::squeeze::{Mode, Placed};
-use tb_syntax::HIGHEST_LINE;
+use tb_basic_syntax::HIGHEST_LINE;
 
 /// The column, from 1, of the first byte that is no space; `None` for a blank line.
 pub(crate) fn written(line: &[u8]) -> Option<usize>

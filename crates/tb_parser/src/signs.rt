@@ -6,7 +6,7 @@ ghost use Rattle.tb_parser.specs.declared.squeeze.Mode.TheVariants.{Code};
 use crate::scans::is_bad_byte;
 use crate::squeeze::{Mode, Placed, drops, show};
 use std::alloc::AllocError;
-use tb_signs::{Character, read_character};
+use tb_basic_signs::{Character, read_character};
 
 // The sign that a line's rest begins with; only a text has signs.
 fn sign_at(mode: Mode, rest: &[u8]) -> Option<Character>

@@ -7,15 +7,15 @@ use Rattle.std.proofs.lemmas.Bool.Decides.{nat_tests}
 use Rattle.tb_cpu.specs.Effects.{bit}
 use Rattle.tb_kernal.specs.Machine.{first_or_zero}
 use Rattle.tb_words.specs.Words.{digits_of}
-use Rattle.tb_meaning.specs.Control.{fault_text, zone, column_after, deepest}
-use Rattle.tb_meaning.specs.Input.{Turn, Got, Bad, Dry, Nothing, turn}
-use Rattle.tb_syntax.specs.Source.{Rises}
-use Rattle.tb_kept.specs.Addresses.{COLUMN, OPEN, HOME_S, SEED, LINE, NOTES, TABLE, WANTED, COUNT}
+use Rattle.tb_basic_meaning.specs.Control.{fault_text, zone, column_after, deepest}
+use Rattle.tb_basic_meaning.specs.Input.{Turn, Got, Bad, Dry, Nothing, turn}
+use Rattle.tb_basic_syntax.specs.Source.{Rises}
+use Rattle.tb_compiled_kept.specs.Addresses.{COLUMN, OPEN, HOME_S, SEED, LINE, NOTES, TABLE, WANTED, COUNT}
 use Rattle.tb_runtime16.specs.Addresses.{RANDOM_AT, INPUT_AT, SEARCH_AT, FAULT_LINE_AT}
-use Rattle.tb_reaching.specs.View.{View, Setup, Holds, Fits, Comes, view, back_at}
-use Rattle.tb_reaching.specs.Start.{IsHome, IsWaiting}
-use Rattle.tb_reaching.proofs.Comes.{looser}
-use Rattle.tb_reaching.proofs.Calls.{under}
+use Rattle.tb_machine_reaching.specs.View.{View, Setup, Holds, Fits, Comes, view, back_at}
+use Rattle.tb_machine_reaching.specs.Start.{IsHome, IsWaiting}
+use Rattle.tb_machine_reaching.proofs.Comes.{looser}
+use Rattle.tb_machine_reaching.proofs.Calls.{under}
 use Rattle.tb_runtime16.specs.Block.{block_part}
 use Rattle.tb_runtime16.specs.Laws.{Leaves, Back, Drawn, seed_of}
 use Rattle.tb_opcodes.specs.Bytes.{AreBytes}

@@ -1,9 +1,9 @@
 -- Pieces and routines that run above what their caller keeps on the stack.
 use Rattle.std.proofs.Common.{◌≡◌, ℕ, suc, ◌+◌, ◌≤◌, Bool, true, List, [], ◌∷◌, ◌++◌, refl, sym, ap, subst, arith}
-use Rattle.tb_reaching.specs.View.{Setup, View, Part, Holds, Fits, Comes, view, back_at}
-use Rattle.tb_reaching.proofs.Acting.{the, run_view, is_there}
-use Rattle.tb_reaching.proofs.Comes.{ending, known, looser}
-use Rattle.tb_reaching.proofs.Calls.{calling, framed, under, stacked_on}
+use Rattle.tb_machine_reaching.specs.View.{Setup, View, Part, Holds, Fits, Comes, view, back_at}
+use Rattle.tb_machine_reaching.proofs.Acting.{the, run_view, is_there}
+use Rattle.tb_machine_reaching.proofs.Comes.{ending, known, looser}
+use Rattle.tb_machine_reaching.proofs.Calls.{calling, framed, under, stacked_on}
 use Rattle.tb_runtime16.specs.Laws.{Leaves, Back}
 
 -- a piece above own, from one stack to another, and then a law

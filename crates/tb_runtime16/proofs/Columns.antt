@@ -3,8 +3,8 @@ use Rattle.std.proofs.Common.{◌≡◌, ◌≢◌, ℕ, zero, suc, ◌+◌, ◌
 use Rattle.std.specs.Prelude.{nat_lt, if◌then◌else◌}
 use Rattle.std.proofs.lemmas.Bool.{ne_eqb}
 use Rattle.tb_words.specs.Words.{is_negative, magnitude, digits_before, digits_of}
-use Rattle.tb_meaning.specs.Control.{column_after}
-use Rattle.tb_kept.specs.Addresses.{COLUMN}
+use Rattle.tb_basic_meaning.specs.Control.{column_after}
+use Rattle.tb_compiled_kept.specs.Addresses.{COLUMN}
 use Rattle.tb_runtime16.specs.Laws.{Sent}
 
 -- the column after a text, modulo 256, depends on the column before it modulo 256

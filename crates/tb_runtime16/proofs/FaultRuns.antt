@@ -3,16 +3,16 @@ use Rattle.std.proofs.Common.{◌≡◌, ℕ, ◌+◌, ◌*◌, ◌%◌, ◌/◌
 use Rattle.std.proofs.Common.{subst, arith, eqb, le-leb, Some, length-append}
 use Rattle.tb_cpu.specs.Operands.{word_in}
 use Rattle.tb_memmap.specs.Bytes.{with_byte}
-use Rattle.tb_reaching.specs.View.{Setup, Holds, Fits, Comes, view, back_at}
-use Rattle.tb_reaching.proofs.Acting.{the, run_view}
-use Rattle.tb_reaching.specs.Start.{IsHome}
-use Rattle.tb_reaching.proofs.Comes.{after, ending, looser, through}
-use Rattle.tb_reaching.proofs.Calls.{calling, under, stacked_on}
-use Rattle.tb_reaching.proofs.StackPointer.{putting_s}
+use Rattle.tb_machine_reaching.specs.View.{Setup, Holds, Fits, Comes, view, back_at}
+use Rattle.tb_machine_reaching.proofs.Acting.{the, run_view}
+use Rattle.tb_machine_reaching.specs.Start.{IsHome}
+use Rattle.tb_machine_reaching.proofs.Comes.{after, ending, looser, through}
+use Rattle.tb_machine_reaching.proofs.Calls.{calling, under, stacked_on}
+use Rattle.tb_machine_reaching.proofs.StackPointer.{putting_s}
 use Rattle.tb_words.specs.Words.{digits_of}
-use Rattle.tb_meaning.specs.Control.{fault_text}
+use Rattle.tb_basic_meaning.specs.Control.{fault_text}
 use Rattle.tb_runtime16.specs.Addresses.{SEND_AT, FAULT_LINE_AT, FAULT_AT, NUMBER_AT}
-use Rattle.tb_kept.specs.Addresses.{COLUMN, LINE, BYTE, LEFT}
+use Rattle.tb_compiled_kept.specs.Addresses.{COLUMN, LINE, BYTE, LEFT}
 use Rattle.tb_runtime16.specs.Block.{block_part}
 use Rattle.tb_runtime16.specs.Ends.{FaultLaw, FaultLineLaw}
 use Rattle.tb_runtime16.specs.Laws.{Sent, nowhere}

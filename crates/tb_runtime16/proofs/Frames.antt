@@ -2,9 +2,9 @@
 use Rattle.std.proofs.Common.{◌≡◌, ℕ, Bool, true, false, refl, sym, ap, ◌∙◌}
 use Rattle.std.proofs.lemmas.Bool.{false≢true}
 use Rattle.tb_memmap.specs.Bytes.{with_byte}
-use Rattle.tb_reaching.specs.View.{View}
+use Rattle.tb_machine_reaching.specs.View.{View}
 use Rattle.tb_runtime16.specs.Laws.{Changes, Leaves, is_argument}
-use Rattle.tb_reaching.proofs.Memory.{put_other}
+use Rattle.tb_machine_reaching.proofs.Memory.{put_other}
 
 -- a write to one of these addresses leaves the others
 pub skip : (is : ℕ → Bool) (m : ℕ → ℕ) (at b a : ℕ) → is at ≡ true → is a ≡ false → with_byte m at b a ≡ m a

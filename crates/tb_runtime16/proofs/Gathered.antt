@@ -3,13 +3,13 @@ use Rattle.std.proofs.Common.{◌≡◌, ℕ, suc, ◌+◌, ◌/◌, ◌%◌, �
 use Rattle.std.proofs.Common.{length, refl, sym, ap, ◌∙◌, subst, ⊎_elim, arith, Some, None}
 use Rattle.std.specs.Prelude.{if◌then◌else◌}
 use Rattle.std.proofs.lemmas.Bool.{ne_eqb, eq-eqb, cases_eq}
-use Rattle.tb_meaning.specs.Control.{fault_text, has_line}
-use Rattle.tb_kept.specs.Addresses.{HOME_S, LINE}
+use Rattle.tb_basic_meaning.specs.Control.{fault_text, has_line}
+use Rattle.tb_compiled_kept.specs.Addresses.{HOME_S, LINE}
 use Rattle.tb_runtime16.specs.Addresses.{FAULT_AT}
-use Rattle.tb_reaching.specs.View.{View, Setup, Holds, Fits, Comes, view}
-use Rattle.tb_reaching.specs.Start.{IsHome}
-use Rattle.tb_reaching.proofs.Comes.{known, looser}
-use Rattle.tb_reaching.proofs.Calls.{calling, framed, under, stacked_on}
+use Rattle.tb_machine_reaching.specs.View.{View, Setup, Holds, Fits, Comes, view}
+use Rattle.tb_machine_reaching.specs.Start.{IsHome}
+use Rattle.tb_machine_reaching.proofs.Comes.{known, looser}
+use Rattle.tb_machine_reaching.proofs.Calls.{calling, framed, under, stacked_on}
 use Rattle.tb_runtime16.specs.Block.{block_part}
 use Rattle.tb_runtime16.specs.Laws.{WordAt, Leaves, Faults}
 use Rattle.tb_runtime16.specs.Search.{address_of, numbers_in}

@@ -8,15 +8,15 @@ use Rattle.tb_cpu.specs.Operands.{word_in}
 use Rattle.tb_words.specs.Words.{negated}
 use Rattle.tb_memmap.specs.Bytes.{with_byte}
 use Rattle.tb_kernal.specs.declared.rom.Service.TheVariants.{Chrin}
-use Rattle.tb_reaching.specs.View.{View, Setup, Holds, Fits, Comes, view, back_at}
-use Rattle.tb_reaching.specs.Start.{IsHome}
-use Rattle.tb_reaching.proofs.Comes.{looser}
-use Rattle.tb_reaching.proofs.Services.{serving}
-use Rattle.tb_reaching.proofs.Calls.{framed, under}
-use Rattle.tb_meaning.specs.Control.{column_after, fault_text}
-use Rattle.tb_meaning.specs.Input.{Reading, Nothing, Sign, Digits, Turn, Got, Bad, with_digit, number_end, signed_turn, turn}
+use Rattle.tb_machine_reaching.specs.View.{View, Setup, Holds, Fits, Comes, view, back_at}
+use Rattle.tb_machine_reaching.specs.Start.{IsHome}
+use Rattle.tb_machine_reaching.proofs.Comes.{looser}
+use Rattle.tb_machine_reaching.proofs.Services.{serving}
+use Rattle.tb_machine_reaching.proofs.Calls.{framed, under}
+use Rattle.tb_basic_meaning.specs.Control.{column_after, fault_text}
+use Rattle.tb_basic_meaning.specs.Input.{Reading, Nothing, Sign, Digits, Turn, Got, Bad, with_digit, number_end, signed_turn, turn}
 use Rattle.tb_runtime16.specs.Addresses.{INPUT_AT, SEND_AT}
-use Rattle.tb_kept.specs.Addresses.{COLUMN, LEFT, RIGHT, RESULT, HOME_S, LINE, OPEN}
+use Rattle.tb_compiled_kept.specs.Addresses.{COLUMN, LEFT, RIGHT, RESULT, HOME_S, LINE, OPEN}
 use Rattle.tb_runtime16.specs.Block.{block_part}
 use Rattle.tb_runtime16.specs.Ends.{Entered}
 use Rattle.tb_runtime16.specs.Input.{is_changed, turn_sends, Ended, InputLaw}

@@ -6,10 +6,10 @@ use Rattle.tb_cpu.specs.Operands.{word_in}
 use Rattle.tb_cpu.specs.Effects.{bit}
 use Rattle.tb_words.specs.Words.{word}
 use Rattle.tb_memmap.specs.Bytes.{with_byte}
-use Rattle.tb_reaching.specs.View.{Setup, Holds, Fits, Comes, view}
-use Rattle.tb_reaching.proofs.Comes.{after, ending, looser}
+use Rattle.tb_machine_reaching.specs.View.{Setup, Holds, Fits, Comes, view}
+use Rattle.tb_machine_reaching.proofs.Comes.{after, ending, looser}
 use Rattle.tb_runtime16.specs.Addresses.{MULTIPLY_AT}
-use Rattle.tb_kept.specs.Addresses.{LEFT, RIGHT, RESULT}
+use Rattle.tb_compiled_kept.specs.Addresses.{LEFT, RIGHT, RESULT}
 use Rattle.tb_runtime16.specs.Block.{block_part}
 use Rattle.tb_runtime16.specs.Laws.{is_argument, Back, Gives, MultiplyLaw}
 use Rattle.tb_runtime16.proofs.InMemory.{IsWord, bytes_of, holds_word, of_word}

@@ -11,12 +11,12 @@ use Rattle.tb_cpu.specs.Operands.{word_in}
 use Rattle.tb_cpu.specs.Effects.{bit}
 use Rattle.tb_memmap.specs.Bytes.{with_byte}
 use Rattle.tb_memmap.specs.Regions.{within}
-use Rattle.tb_reaching.specs.View.{Setup, Holds, Fits, Comes, view, View, back_at}
-use Rattle.tb_reaching.proofs.Comes.{after, ending, looser}
-use Rattle.tb_reaching.proofs.Comes.{known}
-use Rattle.tb_reaching.proofs.Calls.{calling, stacked_on, under}
+use Rattle.tb_machine_reaching.specs.View.{Setup, Holds, Fits, Comes, view, View, back_at}
+use Rattle.tb_machine_reaching.proofs.Comes.{after, ending, looser}
+use Rattle.tb_machine_reaching.proofs.Comes.{known}
+use Rattle.tb_machine_reaching.proofs.Calls.{calling, stacked_on, under}
 use Rattle.tb_runtime16.specs.Addresses.{DIVIDE_AT}
-use Rattle.tb_kept.specs.Addresses.{LEFT, RIGHT, RESULT}
+use Rattle.tb_compiled_kept.specs.Addresses.{LEFT, RIGHT, RESULT}
 use Rattle.tb_runtime16.specs.Block.{block_part}
 use Rattle.tb_runtime16.specs.Laws.{Back, Leaves, Parted, Changes, is_argument}
 use Rattle.tb_runtime16.proofs.InMemory.{IsWord, holds_word}

@@ -5,13 +5,13 @@ use Rattle.std.specs.Prelude.{nat_le, ◌==◌}
 use Rattle.std.proofs.lemmas.Bool.{false≢true, ne_eqb, eq-eqb, le-leb, lt-leb, cases_eq, cases_lt}
 use Rattle.tb_cpu.specs.Operands.{word_in}
 use Rattle.tb_memmap.specs.Bytes.{with_byte}
-use Rattle.tb_reaching.specs.View.{Setup, View, Holds, Fits, Comes, view, back_at}
-use Rattle.tb_reaching.proofs.Comes.{after, looser}
-use Rattle.tb_reaching.proofs.Calls.{under}
+use Rattle.tb_machine_reaching.specs.View.{Setup, View, Holds, Fits, Comes, view, back_at}
+use Rattle.tb_machine_reaching.proofs.Comes.{after, looser}
+use Rattle.tb_machine_reaching.proofs.Calls.{under}
 use Rattle.tb_words.specs.Words.{is_negative, magnitude, negated, digits_before, digits_of}
-use Rattle.tb_meaning.specs.Control.{column_after}
+use Rattle.tb_basic_meaning.specs.Control.{column_after}
 use Rattle.tb_runtime16.specs.Addresses.{SEND_AT, NUMBER_AT}
-use Rattle.tb_kept.specs.Addresses.{COLUMN, LEFT, RIGHT, RESULT}
+use Rattle.tb_compiled_kept.specs.Addresses.{COLUMN, LEFT, RIGHT, RESULT}
 use Rattle.tb_runtime16.specs.Block.{block_part}
 use Rattle.tb_runtime16.specs.Laws.{WordAt, is_argument, nowhere, negate_left_at, unsigned_at, Back, Sent, Parted, NumberLaw}
 use Rattle.tb_runtime16.proofs.InMemory.{bytes_of, holds_word, same_place, value}

@@ -3,11 +3,11 @@ use Rattle.std.proofs.Common.{◌≡◌, ◌+◌, ◌-◌, ◌%◌, true, false,
 use Rattle.std.proofs.lemmas.Bool.{ne_eqb, eq-eqb}
 use Rattle.tb_kernal.specs.declared.rom.Service.TheVariants.{Getin}
 use Rattle.tb_kernal.specs.Machine.{first_or_zero}
-use Rattle.tb_reaching.specs.View.{Fits, view}
-use Rattle.tb_reaching.proofs.Comes.{looser}
-use Rattle.tb_reaching.proofs.Calls.{under}
-use Rattle.tb_reaching.proofs.Services.{serving}
-use Rattle.tb_meaning.specs.Control.{fault_text}
+use Rattle.tb_machine_reaching.specs.View.{Fits, view}
+use Rattle.tb_machine_reaching.proofs.Comes.{looser}
+use Rattle.tb_machine_reaching.proofs.Calls.{under}
+use Rattle.tb_machine_reaching.proofs.Services.{serving}
+use Rattle.tb_basic_meaning.specs.Control.{fault_text}
 use Rattle.tb_runtime16.specs.Addresses.{POLL_AT}
 use Rattle.tb_runtime16.specs.Ends.{PollLaw}
 use Rattle.tb_runtime16.proofs.Within.{poll_part, poll_in}

@@ -4,14 +4,14 @@ use Rattle.std.proofs.lemmas.Bool.{or_cases, cases_eq}
 use Rattle.std.proofs.lemmas.Bool.Decides.{nat_tests}
 use Rattle.tb_memmap.specs.Bytes.{with_byte}
 use Rattle.tb_memmap.specs.Regions.{within}
-use Rattle.tb_reaching.proofs.Memory.{put_other, put_same}
-use Rattle.tb_reaching.specs.View.{part_at}
-use Rattle.tb_reaching.proofs.Acting.{the, run_view}
-use Rattle.tb_reaching.specs.Start.{setup_of, view_of}
-use Rattle.tb_reaching.proofs.Comes.{after, ending}
-use Rattle.tb_reaching.proofs.StackPointer.{taking_s}
-use Rattle.tb_reaching.proofs.Start.{length_from, fits_start, homed_start, zero_at}
-use Rattle.tb_kept.specs.Addresses.{HOME_S, VARS, SEEDED, SEED, NOTES}
+use Rattle.tb_machine_reaching.proofs.Memory.{put_other, put_same}
+use Rattle.tb_machine_reaching.specs.View.{part_at}
+use Rattle.tb_machine_reaching.proofs.Acting.{the, run_view}
+use Rattle.tb_machine_reaching.specs.Start.{setup_of, view_of}
+use Rattle.tb_machine_reaching.proofs.Comes.{after, ending}
+use Rattle.tb_machine_reaching.proofs.StackPointer.{taking_s}
+use Rattle.tb_machine_reaching.proofs.Start.{length_from, fits_start, homed_start, zero_at}
+use Rattle.tb_compiled_kept.specs.Addresses.{HOME_S, VARS, SEEDED, SEED, NOTES}
 use Rattle.tb_runtime16.specs.Ends.{Begun, PrologueLaw}
 use Rattle.tb_runtime16.proofs.Within.{prologue_part, prologue_in}
 

@@ -8,11 +8,11 @@ use Rattle.std.proofs.lemmas.Nat.{le_or_l, le_or_r}
 use Rattle.tb_cpu.specs.Operands.{word_in}
 use Rattle.tb_cpu.specs.Effects.{bit}
 use Rattle.tb_memmap.specs.Bytes.{with_byte}
-use Rattle.tb_reaching.specs.View.{Setup, View, Holds, Fits, Comes, view}
-use Rattle.tb_reaching.proofs.Comes.{after, ending, looser}
+use Rattle.tb_machine_reaching.specs.View.{Setup, View, Holds, Fits, Comes, view}
+use Rattle.tb_machine_reaching.proofs.Comes.{after, ending, looser}
 use Rattle.tb_words.specs.Words.{seed_after}
 use Rattle.tb_runtime16.specs.Addresses.{RANDOM_AT}
-use Rattle.tb_kept.specs.Addresses.{LEFT, RIGHT, SEED, SEEDED, SCRATCH}
+use Rattle.tb_compiled_kept.specs.Addresses.{LEFT, RIGHT, SEED, SEEDED, SCRATCH}
 use Rattle.tb_runtime16.specs.Block.{block_part}
 use Rattle.tb_runtime16.specs.Laws.{is_argument, is_seed, unsigned_at, Back, Faults, Drawn, seed_of, RandomLaw, RandomRangeLaw}
 use Rattle.tb_runtime16.proofs.InMemory.{IsWord, bytes_of, holds_word, of_word, same_place, value}

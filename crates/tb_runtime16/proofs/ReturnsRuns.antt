@@ -8,14 +8,14 @@ use Rattle.tb_cpu.specs.Operands.{word_in}
 use Rattle.tb_memmap.specs.Bytes.{with_byte}
 use Rattle.tb_opcodes.specs.declared.Mnemonic.TheVariants.{Lda, Ldy, Sta}
 use Rattle.tb_opcodes.specs.declared.Mode.TheVariants.{AbsoluteX}
-use Rattle.tb_reaching.specs.View.{View, Setup, Holds, Fits, Comes, Bytes, view, is_data}
-use Rattle.tb_reaching.proofs.Instr.{ins}
-use Rattle.tb_reaching.proofs.Memory.{put_other, put_same}
-use Rattle.tb_reaching.proofs.Comes.{after, ending, looser}
-use Rattle.tb_reaching.proofs.Placed.{placing, takes_at, stores_at, reads_data}
-use Rattle.tb_meaning.specs.Control.{deepest}
+use Rattle.tb_machine_reaching.specs.View.{View, Setup, Holds, Fits, Comes, Bytes, view, is_data}
+use Rattle.tb_machine_reaching.proofs.Instr.{ins}
+use Rattle.tb_machine_reaching.proofs.Memory.{put_other, put_same}
+use Rattle.tb_machine_reaching.proofs.Comes.{after, ending, looser}
+use Rattle.tb_machine_reaching.proofs.Placed.{placing, takes_at, stores_at, reads_data}
+use Rattle.tb_basic_meaning.specs.Control.{deepest}
 use Rattle.tb_runtime16.specs.Addresses.{PUSH_AT, POP_AT}
-use Rattle.tb_kept.specs.Addresses.{LEFT, RESULT, NOTES, RETURN_LOW, RETURN_HIGH}
+use Rattle.tb_compiled_kept.specs.Addresses.{LEFT, RESULT, NOTES, RETURN_LOW, RETURN_HIGH}
 use Rattle.tb_runtime16.specs.Block.{block_part}
 use Rattle.tb_runtime16.specs.Laws.{Changes, Back, Faults}
 use Rattle.tb_runtime16.specs.Returns.{ReturnAt, AreReturns, ReturnList, push_changes, pop_changes, Pushed, Popped, PushLaw, PushFullLaw, PopLaw, PopNoneLaw}

@@ -7,12 +7,12 @@ use Rattle.std.proofs.lemmas.Bool.{ne_eqb, eq-eqb, cases_eq, cases_lt, le-leb, l
 use Rattle.tb_cpu.specs.Operands.{word_in}
 use Rattle.tb_cpu.specs.Effects.{bit}
 use Rattle.tb_memmap.specs.Bytes.{with_byte}
-use Rattle.tb_reaching.specs.View.{Setup, Holds, Fits, Comes, view, is_data, Bytes}
-use Rattle.tb_reaching.proofs.Memory.{program_not_data}
-use Rattle.tb_reaching.proofs.Start.{in_program}
-use Rattle.tb_reaching.proofs.Comes.{after, ending, looser}
+use Rattle.tb_machine_reaching.specs.View.{Setup, Holds, Fits, Comes, view, is_data, Bytes}
+use Rattle.tb_machine_reaching.proofs.Memory.{program_not_data}
+use Rattle.tb_machine_reaching.proofs.Start.{in_program}
+use Rattle.tb_machine_reaching.proofs.Comes.{after, ending, looser}
 use Rattle.tb_runtime16.specs.Addresses.{SEARCH_AT}
-use Rattle.tb_kept.specs.Addresses.{POINTER, WANTED, RESULT, TABLE, COUNT, SCRATCH}
+use Rattle.tb_compiled_kept.specs.Addresses.{POINTER, WANTED, RESULT, TABLE, COUNT, SCRATCH}
 use Rattle.tb_runtime16.specs.Block.{block_part}
 use Rattle.tb_runtime16.specs.Laws.{Changes}
 use Rattle.tb_runtime16.specs.Search.{Line, table_bytes, numbers_in, AllWords, address_of, search_changes, Searched, SearchLaw}

@@ -3,13 +3,13 @@ use Rattle.std.proofs.Common.{◌≡◌, ◌≢◌, ℕ, ◌+◌, ◌-◌, ◌%�
 use Rattle.std.specs.Prelude.{if◌then◌else◌}
 use Rattle.std.proofs.lemmas.Bool.{ne_eqb, eq-eqb, cases_eq}
 use Rattle.tb_kernal.specs.declared.rom.Service.TheVariants.{Chrout}
-use Rattle.tb_reaching.specs.View.{Setup, Holds, Fits, Comes, view}
-use Rattle.tb_reaching.proofs.Memory.{put_other}
-use Rattle.tb_reaching.proofs.Comes.{after, looser}
-use Rattle.tb_reaching.proofs.Services.{served_last}
-use Rattle.tb_meaning.specs.Control.{column_after}
+use Rattle.tb_machine_reaching.specs.View.{Setup, Holds, Fits, Comes, view}
+use Rattle.tb_machine_reaching.proofs.Memory.{put_other}
+use Rattle.tb_machine_reaching.proofs.Comes.{after, looser}
+use Rattle.tb_machine_reaching.proofs.Services.{served_last}
+use Rattle.tb_basic_meaning.specs.Control.{column_after}
 use Rattle.tb_runtime16.specs.Addresses.{SEND_AT}
-use Rattle.tb_kept.specs.Addresses.{COLUMN}
+use Rattle.tb_compiled_kept.specs.Addresses.{COLUMN}
 use Rattle.tb_runtime16.specs.Block.{block_part}
 use Rattle.tb_runtime16.specs.Laws.{Back, Sent, nowhere, SendLaw}
 use Rattle.tb_runtime16.proofs.Within.{send_part, send_in}

@@ -2,7 +2,7 @@
 use Rattle.std.proofs.Common.{◌≡◌, ◌≢◌, ℕ, ◌+◌, ◌≤◌, Bool, true, false, not, refl, sym, arith}
 use Rattle.std.specs.Prelude.{◌==◌}
 use Rattle.std.proofs.lemmas.Bool.Decides.{nat_tests}
-use Rattle.tb_kept.specs.Addresses.{VARS, HELD, POINTER, COLUMN, OPEN, SEEDED, SEED, NOTES, LENGTH, SCRATCH}
+use Rattle.tb_compiled_kept.specs.Addresses.{VARS, HELD, POINTER, COLUMN, OPEN, SEEDED, SEED, NOTES, LENGTH, SCRATCH}
 use Rattle.tb_runtime16.specs.Laws.{is_argument, is_seed}
 use Rattle.tb_runtime16.specs.Input.{is_changed}
 use Rattle.tb_runtime16.specs.Returns.{push_changes, pop_changes}

@@ -2,8 +2,8 @@
 use Rattle.std.proofs.Common.{◌≡◌, ◌≢◌, ℕ, zero, suc, ◌+◌, ◌*◌, ◌/◌, ◌%◌, ◌<◌, ◌≤◌, List, [], ◌∷◌, ◌++◌}
 use Rattle.std.proofs.Common.{length, refl, ap, ◌∙◌, subst, arith, if◌then◌else◌, eqb, Some, None}
 use Rattle.std.proofs.lemmas.Bool.{ne_eqb}
-use Rattle.tb_reaching.specs.View.{Part, Bytes}
-use Rattle.tb_syntax.specs.Source.{Rises}
+use Rattle.tb_machine_reaching.specs.View.{Part, Bytes}
+use Rattle.tb_basic_syntax.specs.Source.{Rises}
 use Rattle.tb_runtime16.specs.Search.{Line, table_bytes, numbers_in, AllWords, address_of}
 
 -- a table cut before its entry h

@@ -6,16 +6,16 @@ use Rattle.std.proofs.lemmas.Bool.{ne_eqb, eq-eqb, cases_eq}
 use Rattle.tb_memmap.specs.Bytes.{with_byte}
 use Rattle.tb_opcodes.specs.declared.Mnemonic.TheVariants.{Lda}
 use Rattle.tb_opcodes.specs.declared.Mode.TheVariants.{IndirectY}
-use Rattle.tb_reaching.specs.View.{Setup, Holds, Fits, Comes, view, is_data, Bytes}
-use Rattle.tb_reaching.proofs.Instr.{ins}
-use Rattle.tb_reaching.proofs.Memory.{put_other, program_not_data}
-use Rattle.tb_reaching.proofs.Start.{in_program}
-use Rattle.tb_reaching.proofs.Comes.{after, ending, looser}
-use Rattle.tb_reaching.proofs.Calls.{under}
-use Rattle.tb_reaching.proofs.Placed.{placing, takes_at, reads_code}
-use Rattle.tb_meaning.specs.Control.{column_after}
+use Rattle.tb_machine_reaching.specs.View.{Setup, Holds, Fits, Comes, view, is_data, Bytes}
+use Rattle.tb_machine_reaching.proofs.Instr.{ins}
+use Rattle.tb_machine_reaching.proofs.Memory.{put_other, program_not_data}
+use Rattle.tb_machine_reaching.proofs.Start.{in_program}
+use Rattle.tb_machine_reaching.proofs.Comes.{after, ending, looser}
+use Rattle.tb_machine_reaching.proofs.Calls.{under}
+use Rattle.tb_machine_reaching.proofs.Placed.{placing, takes_at, reads_code}
+use Rattle.tb_basic_meaning.specs.Control.{column_after}
 use Rattle.tb_runtime16.specs.Addresses.{TEXT_AT}
-use Rattle.tb_kept.specs.Addresses.{COLUMN, POINTER, LENGTH}
+use Rattle.tb_compiled_kept.specs.Addresses.{COLUMN, POINTER, LENGTH}
 use Rattle.tb_runtime16.specs.Block.{block_part}
 use Rattle.tb_runtime16.specs.Laws.{Back, Sent, Told, nowhere, TextLaw}
 use Rattle.tb_opcodes.specs.Bytes.{AreBytes}

@@ -6,10 +6,10 @@ use Rattle.tb_opcodes.specs.declared.Mode.TheVariants.{IndirectY}
 use Rattle.tb_cpu.specs.declared.registers.Regs.{Regs}
 use Rattle.tb_cpu.specs.Effects.{bit}
 use Rattle.tb_cpu.specs.Operands.{and_then, word_from}
-use Rattle.tb_reaching.specs.View.{View, Setup, Part, Fits, Comes, view, is_data, Bytes}
-use Rattle.tb_reaching.proofs.Acting.{read_view}
-use Rattle.tb_reaching.proofs.Instr.{ins, operand_by}
-use Rattle.tb_reaching.proofs.Placed.{placing, takes_at, reads_data, reads_code}
+use Rattle.tb_machine_reaching.specs.View.{View, Setup, Part, Fits, Comes, view, is_data, Bytes}
+use Rattle.tb_machine_reaching.proofs.Acting.{read_view}
+use Rattle.tb_machine_reaching.proofs.Instr.{ins, operand_by}
+use Rattle.tb_machine_reaching.proofs.Placed.{placing, takes_at, reads_data, reads_code}
 use Rattle.tb_runtime16.proofs.Words.{doubled, added, borrow}
 
 -- the address of (o),Y

@@ -4,10 +4,10 @@ use Rattle.std.specs.Prelude.{nat_le}
 use Rattle.std.proofs.lemmas.Bool.{ne_eqb, eq-eqb, le-leb, lt-leb, leb-true, leb-false, cases_eq, cases_lt}
 use Rattle.tb_cpu.specs.Operands.{word_in}
 use Rattle.tb_memmap.specs.Bytes.{with_byte}
-use Rattle.tb_reaching.specs.View.{Setup, Holds, Fits, Comes, view, View}
-use Rattle.tb_reaching.proofs.Comes.{after, looser}
+use Rattle.tb_machine_reaching.specs.View.{Setup, Holds, Fits, Comes, view, View}
+use Rattle.tb_machine_reaching.proofs.Comes.{after, looser}
 use Rattle.tb_runtime16.specs.Addresses.{DIVIDE_AT}
-use Rattle.tb_kept.specs.Addresses.{LEFT, RIGHT}
+use Rattle.tb_compiled_kept.specs.Addresses.{LEFT, RIGHT}
 use Rattle.tb_runtime16.specs.Block.{block_part}
 use Rattle.tb_runtime16.specs.Laws.{unsigned_at, Back, Parted, UnsignedLaw}
 use Rattle.tb_runtime16.proofs.InMemory.{IsWord, bytes_of, of_word, value}

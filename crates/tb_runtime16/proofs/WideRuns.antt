@@ -8,10 +8,10 @@ use Rattle.std.proofs.Math.Nat.{mul-add-mod_self_right, mod-eq_of_lt}
 use Rattle.tb_cpu.specs.Operands.{word_in}
 use Rattle.tb_cpu.specs.Effects.{bit}
 use Rattle.tb_memmap.specs.Bytes.{with_byte}
-use Rattle.tb_reaching.specs.View.{Setup, Holds, Fits, Comes, view, View}
-use Rattle.tb_reaching.proofs.Comes.{after, ending, looser}
+use Rattle.tb_machine_reaching.specs.View.{Setup, Holds, Fits, Comes, view, View}
+use Rattle.tb_machine_reaching.proofs.Comes.{after, ending, looser}
 use Rattle.tb_runtime16.specs.Addresses.{DIVIDE_AT}
-use Rattle.tb_kept.specs.Addresses.{LEFT, RIGHT, RESULT}
+use Rattle.tb_compiled_kept.specs.Addresses.{LEFT, RIGHT, RESULT}
 use Rattle.tb_runtime16.specs.Block.{block_part}
 use Rattle.tb_runtime16.specs.Laws.{Back, Parted}
 use Rattle.tb_runtime16.proofs.InMemory.{IsWord, holds_word}

@@ -1,7 +1,7 @@
 -- Each routine's bytes are among the block's.
 use Rattle.std.proofs.Common.{ℕ, List, ◌++◌}
-use Rattle.tb_reaching.specs.View.{Part, Holds, part_at}
-use Rattle.tb_reaching.proofs.Parts.{holds_itself, holds_then, part_front, part_back}
+use Rattle.tb_machine_reaching.specs.View.{Part, Holds, part_at}
+use Rattle.tb_machine_reaching.proofs.Parts.{holds_itself, holds_then, part_front, part_back}
 use Rattle.tb_runtime16.specs.Addresses.{PROLOGUE_AT, SEND_AT, MULTIPLY_AT, DIVIDE_AT, RANDOM_AT, NUMBER_AT, TEXT_AT, ZONE_AT, INPUT_AT, SEARCH_AT, PUSH_AT, POP_AT, FAULT_LINE_AT, FAULT_AT, POLL_AT}
 use Rattle.tb_runtime16.specs.declared.code.TheConstants.{PROLOGUE_BYTES, SEND_BYTES, MULTIPLY_BYTES, DIVIDE_BYTES, RANDOM_BYTES, NUMBER_BYTES, TEXT_BYTES}
 use Rattle.tb_runtime16.specs.declared.code.TheConstants.{ZONE_BYTES, INPUT_BYTES, SEARCH_BYTES, PUSH_BYTES, POP_BYTES, FAULT_LINE_BYTES, FAULT_BYTES}

@@ -2,11 +2,11 @@
 use Rattle.std.proofs.Common.{◌≡◌, ℕ, zero, suc, ◌+◌, ◌-◌, ◌*◌, ◌%◌, ◌<◌, Bool, true, false, List, [], ◌∷◌, replicate, refl, ◌∙◌, subst, arith, eqb, bit_and}
 use Rattle.std.proofs.lemmas.Bool.{ne_eqb, eq-eqb}
 use Rattle.std.proofs.lemmas.Grind.{and_numeral}
-use Rattle.tb_reaching.specs.View.{Setup, Holds, Fits, Comes, view}
-use Rattle.tb_reaching.proofs.Comes.{after, ending, looser}
-use Rattle.tb_reaching.proofs.Calls.{under}
+use Rattle.tb_machine_reaching.specs.View.{Setup, Holds, Fits, Comes, view}
+use Rattle.tb_machine_reaching.proofs.Comes.{after, ending, looser}
+use Rattle.tb_machine_reaching.proofs.Calls.{under}
 use Rattle.tb_runtime16.specs.Addresses.{ZONE_AT}
-use Rattle.tb_kept.specs.Addresses.{COLUMN}
+use Rattle.tb_compiled_kept.specs.Addresses.{COLUMN}
 use Rattle.tb_runtime16.specs.Block.{block_part}
 use Rattle.tb_runtime16.specs.Laws.{Back, Sent, nowhere, ZoneLaw}
 use Rattle.tb_runtime16.proofs.Within.{zone_part, zone_in}

@@ -1,6 +1,6 @@
 -- The routine block, as the code of this crate has it.
 use Rattle.std.specs.Prelude.{◌≡◌, ℕ, ◌-◌, List, ◌++◌, length, take, drop}
-use Rattle.tb_reaching.specs.View.{Part, part_at}
+use Rattle.tb_machine_reaching.specs.View.{Part, part_at}
 use Rattle.tb_runtime16.specs.Addresses.{PROLOGUE_AT}
 use Rattle.tb_runtime16.specs.declared.addresses.Routine.{Routine}
 use Rattle.tb_runtime16.specs.declared.addresses.Routine.TheVariants.{Multiply, Divide, Random, Number, Text, Zone, Input, Search, Push, Pop, FaultLine, Fault, Poll}

@@ -3,10 +3,10 @@ use Rattle.std.specs.Prelude.{◌≡◌, ◌≢◌, ℕ, ◌+◌, ◌*◌, ◌<�
 use Rattle.tb_memmap.specs.Regions.{within}
 use Rattle.tb_kernal.specs.Machine.{State, first_or_zero}
 use Rattle.tb_kernal.specs.Starts.{IsStart}
-use Rattle.tb_reaching.specs.View.{View, Setup, Part, Holds, Fits, Comes, view, back_at, part_at}
-use Rattle.tb_reaching.specs.Start.{setup_of, view_of, home_low, home_high, IsHome, Homed}
-use Rattle.tb_meaning.specs.Control.{fault_text}
-use Rattle.tb_kept.specs.Addresses.{VARS, SEEDED, HOME_S, SEED, LINE, NOTES, LINES_AT}
+use Rattle.tb_machine_reaching.specs.View.{View, Setup, Part, Holds, Fits, Comes, view, back_at, part_at}
+use Rattle.tb_machine_reaching.specs.Start.{setup_of, view_of, home_low, home_high, IsHome, Homed}
+use Rattle.tb_basic_meaning.specs.Control.{fault_text}
+use Rattle.tb_compiled_kept.specs.Addresses.{VARS, SEEDED, HOME_S, SEED, LINE, NOTES, LINES_AT}
 use Rattle.tb_runtime16.specs.Addresses.{FAULT_AT, FAULT_LINE_AT, POLL_AT}
 use Rattle.tb_runtime16.specs.Block.{block_part}
 use Rattle.tb_runtime16.specs.Laws.{WordAt, Leaves}

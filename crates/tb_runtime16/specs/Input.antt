@@ -1,12 +1,12 @@
 -- What Input promises: one variable's turn.
 use Rattle.std.specs.Prelude.{◌≡◌, ℕ, ◌+◌, ◌*◌, ◌%◌, ◌≤◌, Bool, true, false, ◌||◌, List, [], ◌∷◌, ◌++◌, length, ◌==◌}
 use Rattle.tb_cpu.specs.Effects.{bit}
-use Rattle.tb_reaching.specs.View.{View, Setup, Holds, Fits, Comes, view, back_at}
-use Rattle.tb_reaching.specs.Start.{IsHome, IsWaiting}
-use Rattle.tb_meaning.specs.Control.{column_after, fault_text}
-use Rattle.tb_meaning.specs.Input.{Nothing, Turn, Got, Bad, Dry, turn}
+use Rattle.tb_machine_reaching.specs.View.{View, Setup, Holds, Fits, Comes, view, back_at}
+use Rattle.tb_machine_reaching.specs.Start.{IsHome, IsWaiting}
+use Rattle.tb_basic_meaning.specs.Control.{column_after, fault_text}
+use Rattle.tb_basic_meaning.specs.Input.{Nothing, Turn, Got, Bad, Dry, turn}
 use Rattle.tb_runtime16.specs.Addresses.{INPUT_AT}
-use Rattle.tb_kept.specs.Addresses.{COLUMN, LINE, OPEN}
+use Rattle.tb_compiled_kept.specs.Addresses.{COLUMN, LINE, OPEN}
 use Rattle.tb_runtime16.specs.Block.{block_part}
 use Rattle.tb_runtime16.specs.Ends.{Entered}
 use Rattle.tb_runtime16.specs.Laws.{WordAt, Leaves, Gives, is_argument}

@@ -3,11 +3,11 @@ use Rattle.std.specs.Prelude.{◌≡◌, ◌⊎◌, ◌≢◌, ℕ, ◌+◌, ◌
 use Rattle.std.specs.Prelude.{if◌then◌else◌, List, [], ◌∷◌, length}
 use Rattle.tb_opcodes.specs.Bytes.{AreBytes}
 use Rattle.tb_memmap.specs.Regions.{within}
-use Rattle.tb_reaching.specs.View.{View, Setup, Holds, Fits, Comes, view, back_at, Bytes}
+use Rattle.tb_machine_reaching.specs.View.{View, Setup, Holds, Fits, Comes, view, back_at, Bytes}
 use Rattle.tb_words.specs.Words.{word, magnitude, quotient, seed_after, digits_of}
-use Rattle.tb_meaning.specs.Control.{zone, column_after}
+use Rattle.tb_basic_meaning.specs.Control.{zone, column_after}
 use Rattle.tb_runtime16.specs.Addresses.{SEND_AT, MULTIPLY_AT, DIVIDE_AT, RANDOM_AT, NUMBER_AT, TEXT_AT, ZONE_AT, FAULT_AT}
-use Rattle.tb_kept.specs.Addresses.{COLUMN, SEEDED, SEED, LEFT, RIGHT, RESULT, LENGTH, SCRATCH, POINTER}
+use Rattle.tb_compiled_kept.specs.Addresses.{COLUMN, SEEDED, SEED, LEFT, RIGHT, RESULT, LENGTH, SCRATCH, POINTER}
 use Rattle.tb_runtime16.specs.Block.{block_part}
 
 -- a word, low byte first

@@ -1,10 +1,10 @@
 -- The return list: Push and Pop.
 use Rattle.std.specs.Prelude.{◌≡◌, ◌<◌, ◌≤◌, Bool, ℕ, List, [], ◌∷◌, ◌+◌, ◌/◌, ◌%◌, ◌||◌, length}
 use Rattle.tb_memmap.specs.Regions.{within}
-use Rattle.tb_reaching.specs.View.{Setup, Holds, Fits, Comes, view}
-use Rattle.tb_meaning.specs.Control.{deepest}
+use Rattle.tb_machine_reaching.specs.View.{Setup, Holds, Fits, Comes, view}
+use Rattle.tb_basic_meaning.specs.Control.{deepest}
 use Rattle.tb_runtime16.specs.Addresses.{PUSH_AT, POP_AT}
-use Rattle.tb_kept.specs.Addresses.{LEFT, RESULT, NOTES, RETURN_LOW, RETURN_HIGH}
+use Rattle.tb_compiled_kept.specs.Addresses.{LEFT, RESULT, NOTES, RETURN_LOW, RETURN_HIGH}
 use Rattle.tb_runtime16.specs.Block.{block_part}
 use Rattle.tb_runtime16.specs.Laws.{WordAt, Changes, Back, Faults, Gives}
 

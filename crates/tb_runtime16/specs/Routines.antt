@@ -5,14 +5,14 @@ use Rattle.tb_cpu.specs.Effects.{bit}
 use Rattle.tb_kernal.specs.Machine.{first_or_zero}
 use Rattle.tb_memmap.specs.Regions.{within}
 use Rattle.tb_words.specs.Words.{word, magnitude, quotient, digits_of}
-use Rattle.tb_meaning.specs.Control.{fault_text, zone, column_after, has_line, deepest}
-use Rattle.tb_meaning.specs.Input.{Got, Bad, Dry, Nothing, turn}
-use Rattle.tb_syntax.specs.Source.{Rises}
-use Rattle.tb_kept.specs.Addresses.{VARS, HELD, RETURN_LOW, RETURN_HIGH, POINTER, COLUMN, OPEN, SEEDED, SEED, LINE, NOTES, LEFT, RIGHT, TABLE, WANTED, COUNT, LENGTH}
+use Rattle.tb_basic_meaning.specs.Control.{fault_text, zone, column_after, has_line, deepest}
+use Rattle.tb_basic_meaning.specs.Input.{Got, Bad, Dry, Nothing, turn}
+use Rattle.tb_basic_syntax.specs.Source.{Rises}
+use Rattle.tb_compiled_kept.specs.Addresses.{VARS, HELD, RETURN_LOW, RETURN_HIGH, POINTER, COLUMN, OPEN, SEEDED, SEED, LINE, NOTES, LEFT, RIGHT, TABLE, WANTED, COUNT, LENGTH}
 use Rattle.tb_runtime16.specs.Addresses.{SEND_AT, MULTIPLY_AT, DIVIDE_AT, RANDOM_AT, NUMBER_AT, TEXT_AT, ZONE_AT, INPUT_AT, SEARCH_AT, PUSH_AT, POP_AT}
 use Rattle.tb_runtime16.specs.Addresses.{FAULT_LINE_AT, FAULT_AT, POLL_AT}
-use Rattle.tb_reaching.specs.View.{View, Setup, Part, Holds, Fits, Comes, back_at, Bytes}
-use Rattle.tb_reaching.specs.Start.{IsHome, IsWaiting}
+use Rattle.tb_machine_reaching.specs.View.{View, Setup, Part, Holds, Fits, Comes, back_at, Bytes}
+use Rattle.tb_machine_reaching.specs.Start.{IsHome, IsWaiting}
 use Rattle.tb_runtime16.specs.Block.{block_part}
 pub use Rattle.tb_runtime16.specs.Laws.{WordAt}
 use Rattle.tb_runtime16.specs.Laws.{Leaves, Gives, Parts, Sent, Drawn, is_argument}

@@ -1,10 +1,10 @@
 -- The line table and Search.
 use Rattle.std.specs.Prelude.{◌<◌, ◌≤◌, Bool, ℕ, List, [], ◌∷◌, ◌+◌, ◌*◌, ◌/◌, ◌%◌, ◌||◌, if◌then◌else◌, nat_eq, length, map, Option, Some, None}
 use Rattle.tb_memmap.specs.Regions.{within}
-use Rattle.tb_reaching.specs.View.{View, Setup, Holds, Fits, Comes, view, Bytes}
-use Rattle.tb_syntax.specs.Source.{Rises}
+use Rattle.tb_machine_reaching.specs.View.{View, Setup, Holds, Fits, Comes, view, Bytes}
+use Rattle.tb_basic_syntax.specs.Source.{Rises}
 use Rattle.tb_runtime16.specs.Addresses.{SEARCH_AT}
-use Rattle.tb_kept.specs.Addresses.{POINTER, WANTED, RESULT, TABLE, COUNT, SCRATCH}
+use Rattle.tb_compiled_kept.specs.Addresses.{POINTER, WANTED, RESULT, TABLE, COUNT, SCRATCH}
 use Rattle.tb_runtime16.specs.Block.{block_part}
 use Rattle.tb_runtime16.specs.Laws.{WordAt, Changes, Back, Faults, Gives}
 

@@ -4,7 +4,7 @@
 //! Addresses inside the block are those of `targets`, which follow from the routines' lengths.
 ghost use Rattle.std.specs.Prelude.{◌≡◌, ◌≤◌, ◌+◌, length};
 ghost use Rattle.tb_runtime16.specs.Addresses.{PROLOGUE_AT};
-ghost use Rattle.tb_kept.specs.Addresses.{LINES_AT};
+ghost use Rattle.tb_compiled_kept.specs.Addresses.{LINES_AT};
 ghost use Rattle.tb_runtime16.specs.Block.{block_bytes};
 
 use crate::addresses::{

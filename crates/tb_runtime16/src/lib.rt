@@ -3,7 +3,7 @@
 //!
 //! `block` is the bytes of the one table in its code, one routine after another; they end before `$0C00`. `entry` is
 //! where a routine begins, and there its bytes are in the block (`bytes`). `constants_are_addresses`: it begins
-//! where the definitions have it. Where a program's data are is tb_kept's, and handed on.
+//! where the definitions have it. Where a program's data are is tb_compiled_kept's, and handed on.
 //!
 //! Each routine's law is the contract of a function that does nothing, over the block's bytes. It holds in every
 //! program that has them at `$080D`, from the routine's entry, with every memory and every lawful list of events. The
@@ -29,7 +29,7 @@ pub use routines::{
     number, poll, pop, pop_none, prologue, push, push_full, random, random_range, search, send,
     text, zone,
 };
-pub use tb_kept::{
+pub use tb_compiled_kept::{
     BYTE, COLUMN, COUNT, HELD, HOME_S, LEFT, LENGTH, LINE, LINES_AT, NOTES, OPEN, POINTER, RESULT,
     RETURN_HIGH, RETURN_LOW, RIGHT, SCRATCH, SEED, SEEDED, SLOTS, TABLE, VARS, WANTED,
 };

@@ -1,6 +1,6 @@
 //! The addresses of the block that its own code jumps to or calls, each as its two bytes, low byte first.
 use crate::addresses::{DIVIDE_AT, FAULT_AT, NUMBER_AT, POP_AT, SEARCH_AT, SEND_AT};
-use tb_kept::LINES_AT;
+use tb_compiled_kept::LINES_AT;
 
 // The two bytes of an address.
 macro_rules! word {

@@ -4,16 +4,16 @@ ghost use Rattle.tb_memmap.specs.Bytes.{at};
 ghost use Rattle.tb_cpu.specs.Operands.{word_in};
 ghost use Rattle.tb_words.specs.Words.{word_of};
 ghost use Rattle.tb_words.specs.Letters.{letter_index};
-ghost use Rattle.tb_syntax.specs.PlainData.{expression_of};
-ghost use Rattle.tb_kept.specs.Addresses.{NOTES};
-ghost use Rattle.tb_meaning.specs.Evaluation.{IsEvaluation};
-ghost use Rattle.tb_inspection.specs.Readings.{variable_in, variables_in};
+ghost use Rattle.tb_basic_syntax.specs.PlainData.{expression_of};
+ghost use Rattle.tb_compiled_kept.specs.Addresses.{NOTES};
+ghost use Rattle.tb_basic_meaning.specs.Evaluation.{IsEvaluation};
+ghost use Rattle.tb_debug_inspection.specs.Readings.{variable_in, variables_in};
 
 use crate::stepper::Stepper;
-use tb_inspection::{depth, variable, variables};
+use tb_basic_meaning::{EvalError, eval};
+use tb_basic_syntax::Expr;
+use tb_debug_inspection::{depth, variable, variables};
 use tb_kernal::Outside;
-use tb_meaning::{EvalError, eval};
-use tb_syntax::Expr;
 use tb_words::Letter;
 
 impl<'a, O: Outside + Drop> Stepper<'a, O> {

@@ -1,14 +1,14 @@
 //! How a job ended.
 use std::fmt::{self, Write};
 use tb_assembly_engine::TextOutcome;
-use tb_check_engine::CheckOutcome;
-use tb_debug_adapter::AdapterOutcome;
-use tb_disk_engine::DiskOutcome;
+use tb_dap_adapter::AdapterOutcome;
+use tb_engine_check::CheckOutcome;
+use tb_engine_disk::DiskOutcome;
+use tb_engine_sources::NotedRun;
 use tb_engines::Report;
-use tb_file_engine::{FormatOutcome, RenumberOutcome};
-use tb_language_server::ServerOutcome;
-use tb_run_commands::{Ran, TestOutcome};
-use tb_sources::NotedRun;
+use tb_lsp_server::ServerOutcome;
+use tb_program_files::{FormatOutcome, RenumberOutcome};
+use tb_program_runs::{Ran, TestOutcome};
 
 /// How a job ended.
 #[derive(Debug, Drop)]

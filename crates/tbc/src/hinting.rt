@@ -1,8 +1,8 @@
 //! A hint for a person at a terminal: a first word that is no command may be a source.
 use crate::words;
 use std::rt::Env;
-use tb_command_line::Failure;
-use tb_files::is_source_name;
+use tb_engine_files::is_source_name;
+use tb_program_command_line::Failure;
 
 /// Says how a source is run, if the first word is one in place of a command.
 pub fn hint<R: Env + Eprint + AllocGlobal>(rt: &R, failure: &Failure) {

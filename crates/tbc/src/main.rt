@@ -18,8 +18,8 @@ use std::process::ExitCode;
 use std::rt::{Env, Files};
 use std::time::Clock;
 use std::{env, io};
-use tb_command_line::{Asked, Failure, job};
-use tb_host::{Host, drawn_seed};
+use tb_program_command_line::{Asked, Failure, job};
+use tb_program_host::{Host, drawn_seed};
 
 // The words after the program's own name.
 pub fn words<R: Env + AllocGlobal>(rt: &R) -> Result<Vec<String>, Failure> {

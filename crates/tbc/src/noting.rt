@@ -2,16 +2,16 @@
 use crate::ending::Ending;
 use std::rt::Files;
 use tb_assembly_engine::TextOutcome;
-use tb_check_engine::CheckOutcome;
-use tb_command_line::{Asked, Failure, Job};
+use tb_engine_check::CheckOutcome;
 use tb_engines::Outcome;
-use tb_file_engine::{FormatOutcome, RenumberOutcome, RenumberRefusal};
-use tb_host::Host;
-use tb_run_commands::{Ran, TestOutcome};
-use tb_terminal_notes::{
+use tb_program_command_line::{Asked, Failure, Job};
+use tb_program_files::{FormatOutcome, RenumberOutcome, RenumberRefusal};
+use tb_program_host::Host;
+use tb_program_notes::{
     clash, file_note, note_disk, note_labels, note_outcome, note_place, note_seed, noted_sources,
     say,
 };
+use tb_program_runs::{Ran, TestOutcome};
 
 /// Says by which seed a job is done, if that is the clock's, before it is done. What `play --screen` shows is drawn over
 /// that.

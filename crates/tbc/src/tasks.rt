@@ -3,15 +3,15 @@ use crate::ending::Ending;
 use std::io;
 use std::rt::{Env, Files};
 use std::time::Clock;
-use tb_command_line::{DisJob, DiskJob, Failure, Job, VERSION};
-use tb_disk_engine::DiskOutcome;
+use tb_engine_disk::DiskOutcome;
+use tb_engine_files::{Barred, Output, may_write};
+use tb_engine_streams::{Tracked, write_output};
 use tb_engines::{End, Outcome, Report};
-use tb_file_engine::{disk_file, list_file};
-use tb_files::{Barred, Output, may_write};
-use tb_host::Host;
-use tb_run_commands::{debug, play, profile, run, step, test};
-use tb_streams::{Tracked, write_output};
-use tb_text_commands::{
+use tb_program_command_line::{DisJob, DiskJob, Failure, Job, VERSION};
+use tb_program_files::{disk_file, list_file};
+use tb_program_host::Host;
+use tb_program_runs::{debug, play, profile, run, step, test};
+use tb_program_texts::{
     assemble, assemble_at, build, check_files, format_file, page, renumber_file, serve_debugger,
     serve_editor,
 };

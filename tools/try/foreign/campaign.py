@@ -3,7 +3,7 @@
 
     campaign.py TBC TRIALS SIM65 VICE SEED MINUTES KEPT [PROGRAMS PRGS]
 
-TBC and TRIALS are the programs `tbc` and `tb_bench`, SIM65 and VICE the PRGs of the services that `tbc asm` made of
+TBC and TRIALS are the programs `tbc` and `tb_tools_bench`, SIM65 and VICE the PRGs of the services that `tbc asm` made of
 sim65.asm and kernal.asm; VICE is `-` where x64sc is not there. Each round makes programs in Tiny BASIC and random PRGs of
 64 bytes from its own seed. A program is compiled and run here by a quiet ROM; beside two hostile ones, in sim65 and in
 VICE it must send the same bytes and end the same way; one that runs too long, or sends more bytes than VICE's services can

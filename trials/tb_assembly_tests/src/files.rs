@@ -4,8 +4,8 @@ ghost use Rattle.std.specs.Prelude.{⊤};
 use std::alloc::{AllocError, Global};
 use std::test::Fail;
 use tb_assembly_engine::{Manner, TextFailure, TextNames, TextRefusal, assemble_source};
-use tb_files::{FileSystem, Kind, Look, Node, Place, Trouble};
-use tb_streams::Tracked;
+use tb_engine_files::{FileSystem, Kind, Look, Node, Place, Trouble};
+use tb_engine_streams::Tracked;
 use tb_test_support::FailingReader;
 
 const TEXT: &[u8] = b" .include \"more.asm\"\n jmp start\n";

@@ -1,6 +1,6 @@
 //! Label files: worked rows.
 use std::test::Fail;
-use tb_labels::{LabelsError, address_of, place_of, read_labels};
+use tb_assembly_labels::{LabelsError, address_of, place_of, read_labels};
 
 /// Two labels at one address, one with `C:` missing and capital digits, an empty line, and each end of a line.
 const FILE: &[u8] = b"al C:c000 .start\nal C005 .Loop\r\n\nal C:c005 .again\ral C:C9FF .text";

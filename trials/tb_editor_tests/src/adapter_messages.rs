@@ -2,7 +2,7 @@
 use serde_json::{Value, json};
 use std::alloc::Global;
 use std::test::Fail;
-use tb_adapter_messages::{Asker, Message, Refusal, event, failure, message_of, success};
+use tb_dap_messages::{Asker, Message, Refusal, event, failure, message_of, success};
 
 /// Messages that ask for something, each with the number and the command, and whether there are arguments.
 const REQUESTS: [(&str, u64, &str, bool); 4] = [

@@ -3,10 +3,10 @@ use std::alloc::Global;
 use std::io::Read;
 use std::test::Fail;
 use tb_codegen::TinyBasic;
-use tb_language_server::serve;
-use tb_streams::Tracked;
+use tb_lsp_server::serve;
+use tb_engine_streams::Tracked;
 use tb_test_support::{FailingReader, FailingWriter};
-use tb_text::Notation;
+use tb_basic_text::Notation;
 
 /// The messages of a whole dialogue.
 const MESSAGES: [&str; 6] = [

@@ -1,8 +1,8 @@
 //! Frames, over readers that hand on a few bytes, fail, or end early.
 use std::alloc::Global;
 use std::test::Fail;
-use tb_frames::{Frame, FrameError, MOST_CONTENT, WriteError, read_frame, write_frame};
-use tb_streams::Tracked;
+use tb_editor_frames::{Frame, FrameError, MOST_CONTENT, WriteError, read_frame, write_frame};
+use tb_engine_streams::Tracked;
 use tb_test_support::{FailingReader, FailingWriter, HoldingWriter};
 
 /// Frames with the content `{}`, and a byte after each.

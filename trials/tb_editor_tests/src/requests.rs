@@ -3,10 +3,10 @@ use crate::dialogues::{behind, frames, frames_and};
 use std::alloc::Global;
 use std::test::Fail;
 use tb_codegen::TinyBasic;
-use tb_language_server::serve;
-use tb_streams::Tracked;
+use tb_lsp_server::serve;
+use tb_engine_streams::Tracked;
 use tb_test_support::FailingReader;
-use tb_text::Notation;
+use tb_basic_text::Notation;
 
 /// A dialogue up to the requests: the text is this.
 ///

@@ -2,7 +2,7 @@
 use crate::requests::{answered_in, asked_in, opening, shown, wanted_answer};
 use std::alloc::Global;
 use std::test::Fail;
-use tb_text::Notation;
+use tb_basic_text::Notation;
 
 /// A text whose only sign is in a line to which another one goes, as JSON has it.
 const JUMPS: &str = r#"10 PRINT \"{clr}\"\n20 GOTO 10"#;

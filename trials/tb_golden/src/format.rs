@@ -2,8 +2,8 @@
 use crate::notation::decoded;
 use crate::page::Page;
 use std::str;
-use tb_format::tidy_text;
-use tb_text::Notation;
+use tb_basic_format::tidy_text;
+use tb_basic_text::Notation;
 
 /// Appends the answer of a row.
 pub fn put_answer(page: &mut Page, name: &str, given: &str) {

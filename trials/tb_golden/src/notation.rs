@@ -1,6 +1,6 @@
 //! How rows write words, numbers and bytes.
 use crate::page::Page;
-use tb_streams::key_list;
+use tb_engine_streams::key_list;
 
 /// A text's first word, and the rest.
 pub fn cut(text: &str) -> (&str, &str) {

@@ -5,8 +5,8 @@ mod runs;
 use crate::notation::decoded;
 use crate::page::Page;
 use std::fmt::Debug;
-use tb_grammar::{expressions_are_unique, statements_are_unique};
-use tb_selection::{groups_run_as_slot_code, lines_are_closed, omitted_words_are_dead};
+use tb_basic_grammar::{expressions_are_unique, statements_are_unique};
+use tb_compiler_selection::{groups_run_as_slot_code, lines_are_closed, omitted_words_are_dead};
 
 /// That no text has two readings, and that groups do what slot code does, is proved in their own crates.
 pub fn laws() {

@@ -5,8 +5,8 @@
 use md5::{Digest, Md5};
 use std::alloc::Global;
 use std::io::{self, BufRead, BufReader, Write};
-use tb_screen::Screen;
-use tb_terminal::frame;
+use tb_machine_screen::Screen;
+use tb_machine_screen::frame;
 
 // What is answered of bytes that are sent.
 fn answer(alloc: Global, sent: &[u8]) -> anyhow::Result<String> {

@@ -3,11 +3,11 @@ use std::alloc::Global;
 use std::io::{Read, Write};
 use std::test::Fail;
 use tb_engines::Outcome;
-use tb_play::Played;
-use tb_screen::Screen;
-use tb_screen_play::play_file_on_screen;
-use tb_streams::Tracked;
-use tb_terminal::{closing, frame};
+use tb_engine_play::Played;
+use tb_machine_screen::Screen;
+use tb_engine_screen::play_file_on_screen;
+use tb_engine_streams::Tracked;
+use tb_machine_screen::{closing, frame};
 use tb_test_support::{CountingWriter, FailingReader, FailingWriter};
 
 /// At `$C000`: sends a `?`, and then takes a byte and sends it, again and again.

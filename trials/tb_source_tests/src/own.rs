@@ -1,7 +1,7 @@
 //! What sources ask for by their own words: worked rows.
 use std::test::Fail;
-use tb_source_options::{BadWord, OwnOptions, notation_for, own_options};
-use tb_text::Notation;
+use tb_basic_options::{BadWord, OwnOptions, notation_for, own_options};
+use tb_basic_text::Notation;
 
 /// A source that asks for nothing.
 const NOTHING: OwnOptions = OwnOptions {

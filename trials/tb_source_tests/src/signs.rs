@@ -1,7 +1,7 @@
 //! Signs: worked rows, and texts there and back.
 use std::alloc::Global;
 use std::test::Fail;
-use tb_signs::{Character, byte_named, near_name, read_character, read_text, write_text};
+use tb_basic_signs::{Character, byte_named, near_name, read_character, read_text, write_text};
 
 /// Names and their bytes, from petcat's table.
 const NAMES: [(&str, u8); 28] = [

@@ -3,8 +3,8 @@ ghost use Rattle.std.specs.Prelude.{⊤};
 
 use crate::streams::FailingReader;
 use std::alloc::{AllocError, Global};
-use tb_files::{FileSystem, Look, Place, Trouble};
-use tb_streams::Tracked;
+use tb_engine_files::{FileSystem, Look, Place, Trouble};
+use tb_engine_streams::Tracked;
 
 /// What the file at each path holds, and what was written.
 #[derive(Drop)]

@@ -2,8 +2,8 @@
 use std::test::Fail;
 use tb_codegen::TinyBasic;
 use tb_compiled::{Compile, CompileSettings, SizeLimit};
-use tb_page::{prg_page, source_page, title_of};
-use tb_text::Notation;
+use tb_engine_page::{prg_page, source_page, title_of};
+use tb_basic_text::Notation;
 
 /// Two lines of this source have one number, and one has bytes that HTML reserves, and others that are no ASCII.
 const SOURCE: &[u8] = b"20 END\n10 PRINT 1\n 10 REM \"</pre>&' \xc3\xa4\n";

@@ -1,6 +1,6 @@
 //! Transcripts: what texts say, the canonical text, and where a run differs.
 use std::test::Fail;
-use tb_transcripts::{
+use tb_engine_transcripts::{
     BadLine, Reason, RunEnd, RunOptions, Transcript, Unread, difference, is_same, read_transcript,
     transcript_text,
 };

@@ -1,7 +1,7 @@
 //! The words of a command line, and the jobs that they become.
 use std::alloc::Global;
 use std::test::Fail;
-use tb_command_line::{Failure, job, room_for_screen};
+use tb_program_command_line::{Failure, job, room_for_screen};
 
 /// The seed that the clock gives.
 const CLOCK: u16 = 4711;

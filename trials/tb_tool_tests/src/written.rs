@@ -3,10 +3,10 @@ use std::alloc::Global;
 use std::test::Fail;
 use tb_engines::{Outcome, run_prg, run_stretch, run_writing, start_file};
 use tb_kernal::{Keyboard, Machine, Quiet, Status};
-use tb_streams::{Tracked, write_shown};
-use tb_text::Notation;
+use tb_engine_streams::{Tracked, write_shown};
+use tb_basic_text::Notation;
 use tb_test_support::FailingWriter;
-use tb_watch::{STRETCH, Watch};
+use tb_kernal::{STRETCH, Watch};
 use tb_words::decimal_digits;
 
 /// A PRG file for `$C000` that sends `A` for ever: LDA #$41, JSR $FFD2, JMP $C000. So each fourth event sends one.

@@ -1,6 +1,6 @@
 //! Programs on the edges, and texts that are spelled.
 use std::test::Fail;
-use tb_dialects::{Dialect, list_for, spell};
+use tb_assembly_dialects::{Dialect, list_for, spell};
 
 /// Programs without a BASIC line, each with its address and its listing for 64tass after the line that assembles it.
 const LISTINGS: [(u16, &[u8], &str); 9] = [

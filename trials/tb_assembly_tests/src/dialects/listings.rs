@@ -1,6 +1,6 @@
 //! Whole listings, byte for byte.
 use std::test::Fail;
-use tb_dialects::{Dialect, list_for};
+use tb_assembly_dialects::{Dialect, list_for};
 
 /// A program at `$0801`: the line `10 SYS2061`, and code with what assemblers spell in different ways.
 pub const PROGRAM: [u8; 37] = [

@@ -2,9 +2,9 @@
 use super::listings::{FOR_64TASS, PROGRAM};
 use std::alloc::{AllocError, Global};
 use std::test::Fail;
-use tb_dialects::{Dialect, spell};
+use tb_assembly_dialects::{Dialect, spell};
 use tb_engines::{End, Outcome};
-use tb_file_engine::list_file;
+use tb_program_files::list_file;
 use tb_test_support::Shelf;
 
 fn file(alloc: Global) -> Result<Vec<u8>, AllocError> {

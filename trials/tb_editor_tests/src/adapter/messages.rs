@@ -3,10 +3,10 @@ use super::sessions::{MESSAGES, SOURCE};
 use super::support::{One, answers, frames, served, shown};
 use std::test::Fail;
 use tb_codegen::TinyBasic;
-use tb_debug_adapter::{Usual, serve};
-use tb_streams::Tracked;
+use tb_dap_adapter::{Usual, serve};
+use tb_engine_streams::Tracked;
 use tb_test_support::{FailingReader, FailingWriter};
-use tb_text::Notation;
+use tb_basic_text::Notation;
 
 /// Contents that are no message, and what is told of them.
 const UNREAD: [(&str, &str); 9] = [

@@ -2,7 +2,7 @@
 use super::support::{answers_in, shown};
 use std::alloc::Global;
 use std::test::Fail;
-use tb_text::Notation;
+use tb_basic_text::Notation;
 
 /// A source with a sign.
 const SOURCE: &[u8] = b"10 PRINT \"{clr}\";\n20 PRINT \"B\"\n30 END\n";

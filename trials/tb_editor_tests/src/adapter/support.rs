@@ -2,12 +2,12 @@
 use std::alloc::Global;
 use std::io::Read;
 use std::test::Fail;
-use tb_check_engine::Sources;
+use tb_engine_check::Sources;
 use tb_codegen::TinyBasic;
-use tb_debug_adapter::{Usual, serve};
-use tb_streams::{InputError, Tracked};
+use tb_dap_adapter::{Usual, serve};
+use tb_engine_streams::{InputError, Tracked};
 use tb_test_support::FailingReader;
-use tb_text::Notation;
+use tb_basic_text::Notation;
 
 /// Where the source is.
 pub const PATH: &str = "/a/t.bas";

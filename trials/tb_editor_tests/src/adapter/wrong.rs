@@ -2,15 +2,15 @@
 use serde_json::Value;
 use std::alloc::Global;
 use std::test::Fail;
-use tb_adapter_values::{Command, Movement};
-use tb_adapter_views::SourceFile;
+use tb_dap_values::{Command, Movement};
+use tb_dap_views::SourceFile;
 use tb_codegen::compile_within;
 use tb_compiled::{CompileSettings, Compiled, Notation, SizeLimit};
 use tb_debug::{Debugger, Rom};
-use tb_debug_adapter::{Plan, Said, Session, Stage};
+use tb_dap_adapter::{Plan, Said, Session, Stage};
 use tb_engines::start_file;
 use tb_kernal::{Keyboard, Machine};
-use tb_source_names::read_source;
+use tb_basic_names::read_source;
 
 const SOURCE: &[u8] = b"10 LET A=1\n20 LET A=2\n";
 

@@ -6,11 +6,11 @@ use crate::page::Page;
 use std::alloc::{AllocError, Global};
 use std::io::Write;
 use std::str;
-use tb_check::CheckSettings;
-use tb_check_engine::{CheckOutcome, Sources, check_sources};
+use tb_engine_findings::CheckSettings;
+use tb_engine_check::{CheckOutcome, Sources, check_sources};
 use tb_codegen::TinyBasic;
 use tb_compiled::{Notation, SizeLimit};
-use tb_streams::{InputError, Tracked, read_input};
+use tb_engine_streams::{InputError, Tracked, read_input};
 use tb_test_support::FailingReader;
 
 /// What the sources of a row are called.

@@ -4,9 +4,9 @@ use crate::check::checks::{
 };
 use crate::page::Page;
 use std::alloc::Global;
-use tb_check_engine::CheckOutcome;
+use tb_engine_check::CheckOutcome;
 use tb_compiled::SizeLimit;
-use tb_streams::Tracked;
+use tb_engine_streams::Tracked;
 use tb_test_support::{FailingReader, FailingWriter};
 
 /// The source that a reader fails to give.

@@ -2,10 +2,10 @@
 use crate::check::checks::File;
 use crate::page::Page;
 use std::alloc::{AllocError, Global};
-use tb_check::{CheckSettings, Findings, SourceErrorKind, examine};
+use tb_engine_findings::{CheckSettings, Findings, SourceErrorKind, examine};
 use tb_codegen::{TinyBasic, compile_within};
 use tb_compiled::{CompileError, CompileSettings, Notation, SizeLimit};
-use tb_meaning::LowerError;
+use tb_basic_meaning::LowerError;
 
 /// The seed of RND, on which nothing depends here.
 const SEED: u16 = 1;

@@ -12,7 +12,7 @@ use tb_cpu::{Flags, Regs};
 use tb_engines::start_regs;
 use tb_kernal::Keyboard;
 use tb_memmap::Memory;
-use tb_reaching::HELLO;
+use tb_machine_reaching::HELLO;
 
 /// The address where programs lie.
 pub const PROGRAM_AT: u16 = 0xc000;

@@ -1,7 +1,7 @@
 //! What the grammar and the parser answer.
 use crate::page::Page;
 use crate::source::put_line;
-use tb_grammar::{read_expression, read_statement};
+use tb_basic_grammar::{read_expression, read_statement};
 use tb_parser::{SourceError, parse, parse_expr, tokens};
 
 // How many bytes are left at the first literal above 65,535.

@@ -2,9 +2,9 @@
 use crate::page::Page;
 use crate::source::put_line;
 use tb_lower::{SlotCode, lower};
-use tb_meaning::{SourceRun, eval, run_source, warnings};
+use tb_basic_meaning::{SourceRun, eval, run_source, warnings};
 use tb_parser::{Program, parse, parse_expr};
-use tb_selection::select;
+use tb_compiler_selection::select;
 
 /// The seed of RND.
 const SEED: u16 = 1;

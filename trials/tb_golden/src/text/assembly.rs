@@ -4,7 +4,7 @@ use crate::page::Page;
 use crate::text::writing::{put_bytes, put_text};
 use tb_asm::{AsmError, Image, Item, Name, Operand, assemble, read_text, settle};
 use tb_opcodes::{Mnemonic, Mode};
-use tb_settling::assemble_settled;
+use tb_assembly_settling::assemble_settled;
 
 /// Appends the answer of a row.
 pub fn put_answer(page: &mut Page, name: &str, rest: &str) {

@@ -7,7 +7,7 @@ use std::alloc::Global;
 use std::io::{Read, Write};
 use tb_engines::{Outcome, asm_text, dis_text, run_prg};
 use tb_kernal::{Keyboard, Quiet, Rude};
-use tb_streams::Tracked;
+use tb_engine_streams::Tracked;
 use tb_test_support::no_keys;
 
 /// The engines that read one file and write one.

@@ -4,7 +4,7 @@ use crate::page::Page;
 use crate::text::engines::{Engine, call, ending_of, put_ending, put_status};
 use std::alloc::Global;
 use tb_engines::{End, Outcome};
-use tb_streams::Tracked;
+use tb_engine_streams::Tracked;
 use tb_test_support::{FailingReader, FailingWriter, HoldingWriter};
 
 /// Appends a line for each length of input at which the answer changes.

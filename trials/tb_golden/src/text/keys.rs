@@ -3,7 +3,7 @@ use crate::notation::{bytes_of, decoded};
 use crate::page::Page;
 use crate::text::writing::{put_bytes, put_text};
 use std::str;
-use tb_streams::{KeyError, address, host_form, key_list};
+use tb_engine_streams::{KeyError, address, host_form, key_list};
 
 /// Appends the answer of a row.
 pub fn put_answer(page: &mut Page, name: &str, rest: &str) {

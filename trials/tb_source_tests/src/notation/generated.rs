@@ -3,10 +3,10 @@ use super::shown::shows;
 use std::alloc::{AllocError, Global};
 use std::test::Fail;
 use tb_driver::host_form;
-use tb_meaning::run_source;
+use tb_basic_meaning::run_source;
 use tb_parser::parse_in;
-use tb_signs::write_text;
-use tb_text::Notation;
+use tb_basic_signs::write_text;
+use tb_basic_text::Notation;
 use tb_words::next_seed;
 
 /// How many texts are generated.

@@ -2,7 +2,7 @@
 use std::alloc::Global;
 use std::test::Fail;
 use tb_parser::{SourceErrorKind, parse, parse_in};
-use tb_text::Notation;
+use tb_basic_text::Notation;
 
 /// A source, what is wrong with it, and where: the line and the column.
 type Row = (&'static str, SourceErrorKind, usize, usize);

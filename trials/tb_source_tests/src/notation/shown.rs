@@ -5,7 +5,7 @@ use tb_codegen::TinyBasic;
 use tb_compiled::{CompileSettings, Notation, SizeLimit};
 use tb_driver::{Tracked, run_prg};
 use tb_kernal::Quiet;
-use tb_sources::{read_source, run_within};
+use tb_engine_sources::{read_source, run_within};
 use tb_test_support::keyboard_of;
 
 /// How many events a run takes at most.

@@ -1,9 +1,9 @@
 //! Generated sources: the interpreter runs them and what they become alike.
 use std::alloc::{AllocError, Global};
 use std::test::Fail;
-use tb_meaning::{Place, RunEnd, SourceRun, run_source};
+use tb_basic_meaning::{Place, RunEnd, SourceRun, run_source};
 use tb_parser::{Program, parse_in};
-use tb_renumber::{Notation, Numbering, renumber};
+use tb_basic_renumber::{Notation, Numbering, renumber};
 use tb_words::next_seed;
 
 /// How many sources are generated.
@@ -130,7 +130,7 @@ fn run_of(alloc: Global, program: &Program, seed: u16) -> Result<SourceRun, Allo
 fn is_place(numbering: Numbering, program: &Program, old: Place, new: Place) -> bool {
     match (old, new) {
         (Place::At(old), Place::At(new)) => {
-            tb_renumber::Numbering::new_number(&numbering, program, old) == Some(new)
+            tb_basic_renumber::Numbering::new_number(&numbering, program, old) == Some(new)
         }
         (Place::Past, Place::Past) => true,
         _ => false,

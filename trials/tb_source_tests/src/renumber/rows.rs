@@ -1,7 +1,7 @@
 //! Worked rows.
 use std::alloc::Global;
 use std::test::Fail;
-use tb_renumber::{JumpFault, Notation, Numbering, Refusal, renumber};
+use tb_basic_renumber::{JumpFault, Notation, Numbering, Refusal, renumber};
 
 const TENS: Numbering = Numbering {
     first: 10,

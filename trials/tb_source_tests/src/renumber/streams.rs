@@ -1,10 +1,10 @@
 //! Sources that fail in mid-stream, and the texts of refusals.
 use std::alloc::Global;
 use std::test::Fail;
-use tb_file_engine::{Numbering, RenumberOutcome, renumber_file};
-use tb_streams::Done;
+use tb_program_files::{Numbering, RenumberOutcome, renumber_file};
+use tb_engine_streams::Done;
 use tb_test_support::Shelf;
-use tb_text::Notation;
+use tb_basic_text::Notation;
 
 const SOURCE: &[u8] = b"2 GOSUB 4\n3 GOTO 2\n4 RETURN\n";
 

@@ -6,8 +6,8 @@ use crate::generated::trials::{file_agrees_twice, run_of};
 use std::alloc::{AllocError, Global};
 use std::test::Fail;
 use tb_codegen::{Options, compile};
-use tb_kept::WANTED;
-use tb_meaning::RunEnd;
+use tb_compiled_kept::WANTED;
+use tb_basic_meaning::RunEnd;
 
 /// How many programs are tried.
 const PROGRAMS: u16 = 500;

@@ -7,7 +7,7 @@ use std::process::Abort;
 use std::test::Fail;
 use tb_codegen::{Options, compile, compile_to_fit};
 use tb_compiled::CompileError;
-use tb_meaning::RunEnd;
+use tb_basic_meaning::RunEnd;
 
 /// How many lines head and tail have.
 const FIXED: u16 = 15;

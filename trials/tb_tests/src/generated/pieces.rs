@@ -5,7 +5,7 @@ use crate::generated::trials::{both_agree, run_of};
 use std::alloc::{AllocError, Global};
 use std::process::Abort;
 use std::test::Fail;
-use tb_meaning::RunEnd;
+use tb_basic_meaning::RunEnd;
 
 /// How many programs of a piece are tried.
 const PROGRAMS: u16 = 500;

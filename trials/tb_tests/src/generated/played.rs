@@ -7,9 +7,9 @@ use std::test::Fail;
 use tb_codegen::TinyBasic;
 use tb_compiled::CompileSettings;
 use tb_driver::Tracked;
-use tb_meaning::{RunEnd, SourceRun};
-use tb_play::Played;
-use tb_sources::{EndNote, NotedPlay, play_noted, read_source};
+use tb_basic_meaning::{RunEnd, SourceRun};
+use tb_engine_play::Played;
+use tb_engine_sources::{EndNote, NotedPlay, play_noted, read_source};
 
 /// How many programs are played.
 const PROGRAMS: usize = 200;

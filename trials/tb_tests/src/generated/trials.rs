@@ -5,7 +5,7 @@ use std::alloc::{AllocError, Global};
 use std::test::Fail;
 use tb_driver::{End, Outcome, Tracked, build, host_form, run_prg};
 use tb_kernal::{Quiet, Rude};
-use tb_meaning::{RunEnd, SourceRun, run_source};
+use tb_basic_meaning::{RunEnd, SourceRun, run_source};
 use tb_parser::parse;
 use tb_test_support::keyboard_of;
 

@@ -2,7 +2,7 @@
 use crate::routines::setup::{Call, Called, Pair, ROMS, pairs, plain};
 use std::alloc::Global;
 use std::test::Fail;
-use tb_kept::{LEFT, LINE, RIGHT, SEED, SEEDED};
+use tb_compiled_kept::{LEFT, LINE, RIGHT, SEED, SEEDED};
 use tb_runtime16::Routine;
 use tb_words::{div_rem, mul, next_seed};
 

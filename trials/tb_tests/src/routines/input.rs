@@ -2,11 +2,11 @@
 use crate::routines::setup::{Call, Called, End, ROMS, plain};
 use std::alloc::Global;
 use std::test::Fail;
-use tb_kept::{COLUMN, LINE, OPEN, RESULT};
+use tb_compiled_kept::{COLUMN, LINE, OPEN, RESULT};
 use tb_kernal::Machine;
-use tb_meaning::{RunEnd, SourceRun, run_source};
+use tb_basic_meaning::{RunEnd, SourceRun, run_source};
 use tb_runtime16::Routine;
-use tb_syntax::{Program, Statement};
+use tb_basic_syntax::{Program, Statement};
 use tb_words::{Letter, next_seed};
 
 // One turn at line 10, with a line open or not.

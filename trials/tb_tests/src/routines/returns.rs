@@ -2,7 +2,7 @@
 use crate::routines::setup::{Call, Called, ROMS, plain};
 use std::alloc::Global;
 use std::test::Fail;
-use tb_kept::{LEFT, LINE, NOTES, RETURN_HIGH, RETURN_LOW};
+use tb_compiled_kept::{LEFT, LINE, NOTES, RETURN_HIGH, RETURN_LOW};
 use tb_runtime16::Routine;
 use tb_words::next_seed;
 

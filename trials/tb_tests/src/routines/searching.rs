@@ -2,7 +2,7 @@
 use crate::routines::setup::{Call, Called, PROGRAM, ROMS, plain};
 use std::alloc::Global;
 use std::test::Fail;
-use tb_kept::{COUNT, LINE, TABLE, WANTED};
+use tb_compiled_kept::{COUNT, LINE, TABLE, WANTED};
 use tb_runtime16::Routine;
 use tb_words::next_seed;
 

@@ -2,7 +2,7 @@
 use crate::routines::setup::{Call, Called, EDGES, PROGRAM, ROMS, plain};
 use std::alloc::Global;
 use std::test::Fail;
-use tb_kept::{COLUMN, LEFT, LENGTH, POINTER};
+use tb_compiled_kept::{COLUMN, LEFT, LENGTH, POINTER};
 use tb_runtime16::Routine;
 use tb_words::{digits, next_seed};
 

@@ -2,7 +2,7 @@
 use std::alloc::Global;
 use std::test::Fail;
 use tb_cpu::{Flags, Regs};
-use tb_kept::{HOME_S, LINE, LINES_AT, RESULT, VARS};
+use tb_compiled_kept::{HOME_S, LINE, LINES_AT, RESULT, VARS};
 use tb_kernal::{Machine, Quiet, Rude, Status, run};
 use tb_memmap::Memory;
 use tb_runtime16::{BLOCK_AT, Routine, block, entry};

@@ -4,7 +4,7 @@ use crate::routines::setup::{
 };
 use std::alloc::Global;
 use std::test::Fail;
-use tb_kept::{COLUMN, HOME_S, LINE, LINES_AT, NOTES, SEED, VARS};
+use tb_compiled_kept::{COLUMN, HOME_S, LINE, LINES_AT, NOTES, SEED, VARS};
 use tb_kernal::{Machine, Status};
 use tb_memmap::Memory;
 use tb_runtime16::{BLOCK_AT, Routine};

@@ -2,7 +2,7 @@
 use std::alloc::{AllocError, Global};
 use std::test::Fail;
 use tb_driver::{End, Outcome, Tracked};
-use tb_sources::step_prg;
+use tb_engine_sources::step_prg;
 use tb_test_support::{FailingReader, FailingWriter, no_keys};
 
 /// A routine at `$C000`: it sends an H.

@@ -6,7 +6,7 @@ use std::alloc::{AllocError, Global};
 use std::cell::Cell;
 use std::test::Fail;
 use tb_engines::Outcome;
-use tb_streams::Tracked;
+use tb_engine_streams::Tracked;
 
 // In a dialogue each command follows `> `, and the other lines are answered.
 

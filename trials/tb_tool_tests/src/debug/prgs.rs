@@ -4,9 +4,9 @@ use std::io::{Read, Write};
 use std::test::Fail;
 use tb_debug_engine::{Rom, Setting, debug_prg};
 use tb_engines::{End, Outcome};
-use tb_streams::Tracked;
+use tb_engine_streams::Tracked;
 use tb_test_support::{FailingReader, FailingWriter, no_keys};
-use tb_watch::Unwatched;
+use tb_kernal::Unwatched;
 
 /// A routine at `$C000` that sends an H, X times, for X from 2 down to 1.
 const ROUTINE: &[u8] = b"\x00\xc0\xa2\x02\xa9\x48\x20\xd2\xff\xca\xd0\xf8\x60";

@@ -8,7 +8,7 @@ use tb_debug::{Cause, Debugger, Rom};
 use tb_engines::start_machine;
 use tb_parser::Letter;
 use tb_test_support::keyboard_of;
-use tb_watch::Unwatched;
+use tb_kernal::Unwatched;
 
 /// The most events of a way.
 const LIMIT: u64 = 100_000;

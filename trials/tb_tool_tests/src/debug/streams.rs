@@ -7,10 +7,10 @@ use tb_codegen::TinyBasic;
 use tb_compiled::CompileSettings;
 use tb_debug_engine::{Rom, Setting, debug};
 use tb_engines::{Failure, Outcome};
-use tb_sources::{CompiledSource, read_source};
-use tb_streams::Tracked;
+use tb_engine_sources::{CompiledSource, read_source};
+use tb_engine_streams::Tracked;
 use tb_test_support::{CountingWriter, FailingReader, FailingWriter, HoldingWriter, no_keys};
-use tb_watch::Unwatched;
+use tb_kernal::Unwatched;
 
 /// Each command once, and some lines that are no commands.
 const COMMANDS: &[u8] =

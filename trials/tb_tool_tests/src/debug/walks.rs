@@ -7,10 +7,10 @@ use tb_compiled::Compiled;
 use tb_debug::{Command, Debugger, Reached, Rom};
 use tb_engines::start_machine;
 use tb_kernal::Machine;
-use tb_meaning::{Place, RunEnd, SourceRun, run_source};
+use tb_basic_meaning::{Place, RunEnd, SourceRun, run_source};
 use tb_parser::{Letter, Program, parse};
 use tb_test_support::keyboard_of;
-use tb_watch::Unwatched;
+use tb_kernal::Unwatched;
 
 /// How many lines of a run are looked at.
 const MOST_TIME: u64 = 150;

@@ -1,11 +1,11 @@
 //! Disks made of PRG files: names, refusals and their order, files that fail, inputs that are cut off.
 use std::alloc::{AllocError, Global};
 use std::test::Fail;
-use tb_disk::{File, disk};
-use tb_disk_engine::{DiskFailure, DiskFiles, DiskOutcome, DiskRefusal, Name};
-use tb_file_engine::disk_file;
+use tb_machine_disk::{File, disk};
+use tb_engine_disk::{DiskFailure, DiskFiles, DiskOutcome, DiskRefusal, Name};
+use tb_program_files::disk_file;
 use tb_prg::PrgError;
-use tb_streams::Done;
+use tb_engine_streams::Done;
 use tb_test_support::Shelf;
 
 /// Where the disk's name begins, in bytes.

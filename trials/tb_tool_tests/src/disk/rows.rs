@@ -1,7 +1,7 @@
 //! Disks with files of plain bytes.
 use std::alloc::{AllocError, Global};
 use std::test::Fail;
-use tb_disk::{DiskError, File, Name, disk};
+use tb_machine_disk::{DiskError, File, Name, disk};
 
 // The k-th file's bytes: each is 7 more than the one before, modulo 251.
 fn plain_bytes(alloc: Global, k: usize, count: usize) -> Result<Vec<u8>, AllocError> {

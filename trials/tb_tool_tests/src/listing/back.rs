@@ -4,7 +4,7 @@ use std::test::Fail;
 use tb_asm::{assemble, read_text};
 use tb_codegen::{Options, compile};
 use tb_compiled::Notation;
-use tb_listing::{Made, make};
+use tb_engine_listing::{Made, make};
 use tb_words::next_seed;
 
 /// Where a program's code begins.

@@ -3,7 +3,7 @@ use std::alloc::Global;
 use std::test::Fail;
 use tb_compiled::CompileSettings;
 use tb_engines::{End, Outcome, Report};
-use tb_file_engine::{BuildNames, build_file};
+use tb_program_files::{BuildNames, build_file};
 use tb_test_support::Shelf;
 
 const SOURCE: &[u8] = b"10 GOTO 10\n";

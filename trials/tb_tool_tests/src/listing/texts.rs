@@ -2,7 +2,7 @@
 use std::test::Fail;
 use tb_codegen::{Options, compile};
 use tb_compiled::Notation;
-use tb_listing::make;
+use tb_engine_listing::make;
 
 /// Of two lines with one number the last counts. A line's number may be an address of the code.
 const SOURCE: &str = "10 REM ONCE\n10 PRINT \"HI\"\n20 gosub 3072\n3072 LET B=A*2\n3080 RETURN\n";

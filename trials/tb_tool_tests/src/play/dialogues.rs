@@ -4,8 +4,8 @@ use std::io::{Read, Write};
 use std::test::Fail;
 use tb_engines::{Outcome, run_prg};
 use tb_kernal::Quiet;
-use tb_play::{MOST_TYPED, Played, play_file};
-use tb_streams::{Tracked, host_form};
+use tb_engine_play::{MOST_TYPED, Played, play_file};
+use tb_engine_streams::{Tracked, host_form};
 use tb_test_support::{CountingWriter, FailingReader, FailingWriter, HoldingWriter, keyboard_of};
 
 /// At `$C000`: sends a `?`, and then takes a byte and sends it, again and again.

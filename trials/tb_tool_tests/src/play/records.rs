@@ -2,7 +2,7 @@
 use std::alloc::Global;
 use std::io::Read;
 use std::test::Fail;
-use tb_streams::{KeyFileError, Tracked, key_file, read_key_file};
+use tb_engine_streams::{KeyFileError, Tracked, key_file, read_key_file};
 use tb_test_support::FailingReader;
 
 const KEYS: &[u8] = b"AB\rZ{\xff\0\r";

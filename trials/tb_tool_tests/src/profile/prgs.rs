@@ -1,11 +1,11 @@
 //! Profiles of PRG files, by address, and files that fail.
 use std::alloc::{AllocError, Global};
 use std::test::Fail;
-use tb_file_engine::profile_prg_file;
+use tb_program_files::profile_prg_file;
 use tb_kernal::Quiet;
-use tb_profile_engine::Run;
+use tb_engine_profile::Run;
 use tb_test_support::{Shelf, keyboard_of};
-use tb_watch::Unwatched;
+use tb_kernal::Unwatched;
 
 /// A PRG file, what each poll gives, the status, and the table.
 type Row = (&'static [u8], &'static [u8], u8, &'static [u8]);

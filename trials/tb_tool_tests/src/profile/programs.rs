@@ -1,11 +1,11 @@
 //! The programs that are profiled, with their tables.
 use std::alloc::Global;
 use tb_compiled::CompileSettings;
-use tb_file_engine::profile_file;
+use tb_program_files::profile_file;
 use tb_kernal::Quiet;
-use tb_profile_engine::{Named, Run};
+use tb_engine_profile::{Named, Run};
 use tb_test_support::{Shelf, keyboard_of};
-use tb_watch::Unwatched;
+use tb_kernal::Unwatched;
 
 /// A source, what is typed, a limit of events, and what comes of it.
 #[derive(Clone, Copy)]

@@ -1,6 +1,6 @@
 -- What decreases when functions of src/expanding.rt call one another, and what holds in the loop over lines.
 use Rattle.std.proofs.Common.{◌≡◌, ◌≤◌, ◌+◌, ◌*◌, length, map}
-use Rattle.tb_text.specs.Lines.{lines_of_file}
+use Rattle.tb_basic_text.specs.Lines.{lines_of_file}
 use Rattle.tb_assembly_files.specs.Libraries.{source_of}
 use Rattle.tb_assembly_files.specs.Expansion.{including, lines_read, read_of}
 use Rattle.tb_assembly_files.proofs.expanding.+reading.Given as goal

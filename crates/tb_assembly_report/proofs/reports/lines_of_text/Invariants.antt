@@ -1,6 +1,6 @@
 -- What holds at each turn of the loop of `lines_of_text` in src/reports.rt.
 use Rattle.std.proofs.Common.{◌≡◌, ◌++◌, length, map}
-use Rattle.tb_text.specs.Lines.{lines_of_file}
+use Rattle.tb_basic_text.specs.Lines.{lines_of_file}
 use Rattle.tb_assembly_report.proofs.reports.lines_of_text.Given as goal
 
 abbrev pub invariant-loop-line : goal.invariant-loop-line

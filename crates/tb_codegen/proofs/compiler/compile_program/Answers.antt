@@ -1,5 +1,5 @@
 -- The goals of `compile_program` in src/compiler.rt.
-use Rattle.tb_syntax.specs.PlainData.{lines_of}
+use Rattle.tb_basic_syntax.specs.PlainData.{lines_of}
 use Rattle.tb_codegen.proofs.Answering.{costs_too_much, linked_answer}
 use Rattle.tb_compiled.proofs.SmallPrograms.{are_small, cost_small}
 use Rattle.tb_codegen.proofs.compiler.compile_program.Goals as goal

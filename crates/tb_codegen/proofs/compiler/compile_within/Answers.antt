@@ -1,13 +1,13 @@
 -- The goals of `compile_within` in src/compiler.rt.
 use Rattle.std.proofs.Common.{ℕ, List, [], refl, rules, subst, Result, Ok, Err}
 use Rattle.std.specs.Prelude.{IfOk}
-use Rattle.tb_syntax.specs.PlainData.{lines_of}
-use Rattle.tb_text.specs.declared.notation.Notation.TheVariants.{Plain}
+use Rattle.tb_basic_syntax.specs.PlainData.{lines_of}
+use Rattle.tb_basic_text.specs.declared.notation.Notation.TheVariants.{Plain}
 use Rattle.tb_parser.specs.Files.{Outcome}
-use Rattle.tb_text.specs.Lines.{lines_of_file}
+use Rattle.tb_basic_text.specs.Lines.{lines_of_file}
 use Rattle.tb_parser.specs.Signed.{LackSigns}
 use Rattle.tb_parser.proofs.Alike.{lines_alike}
-use Rattle.tb_compile_errors.specs.declared.refusals.CompileError.{CompileError}
+use Rattle.tb_compiled_errors.specs.declared.refusals.CompileError.{CompileError}
 use Rattle.tb_compiled.specs.Answers.{LinesMake, OutcomeAnswer, SourceMakes}
 use Rattle.tb_compiled.specs.declared.compiled.Compiled.{Compiled}
 use Rattle.tb_compiled.specs.declared.settings.CompileSettings.{CompileSettings}

@@ -1,14 +1,14 @@
 -- The goals of `slot_code` in src/compiler.rt.
 use Rattle.std.proofs.Common.{◌≡◌, ℕ, None, Result, Ok, Err}
 use Rattle.std.specs.Prelude.{IfOk}
-use Rattle.tb_syntax.specs.PlainData.{lines_of}
-use Rattle.tb_syntax.specs.Source.{Program, numbers, Rises}
-use Rattle.tb_syntax.specs.Texts.{HasShortTexts}
-use Rattle.tb_meaning.specs.declared.needs.LowerError.{LowerError}
+use Rattle.tb_basic_syntax.specs.PlainData.{lines_of}
+use Rattle.tb_basic_syntax.specs.Source.{Program, numbers, Rises}
+use Rattle.tb_basic_syntax.specs.Texts.{HasShortTexts}
+use Rattle.tb_basic_meaning.specs.declared.needs.LowerError.{LowerError}
 use Rattle.tb_lower.specs.declared.slot_code.SlotCode.{SlotCode}
 use Rattle.tb_lower.specs.Follows.{Follows}
 use Rattle.tb_lower.specs.Lowered.{program_code}
-use Rattle.tb_meaning.specs.Need.{too_deep}
+use Rattle.tb_basic_meaning.specs.Need.{too_deep}
 use Rattle.tb_lower.specs.PlainData.{code_of}
 use Rattle.tb_lower.specs.Ranges.{IsCodeInRange}
 use Rattle.tb_parser.specs.Files.{AreStated}

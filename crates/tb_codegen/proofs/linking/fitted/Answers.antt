@@ -3,8 +3,8 @@ use Rattle.std.proofs.Common.{◌⊎◌, ◌-◌, inl, inr, ap, sym, map, subst,
 use Rattle.tb_asm.specs.Layout.{entry_of}
 use Rattle.tb_lower.specs.PlainData.{code_of}
 use Rattle.tb_runtime16.specs.Addresses.{PROLOGUE_AT}
-use Rattle.tb_settling.specs.Settled.{EndsFrom, IsLaid, Suits}
-use Rattle.tb_program_code.proofs.Taken.{program_suits}
+use Rattle.tb_assembly_settling.specs.Settled.{EndsFrom, IsLaid, Suits}
+use Rattle.tb_compiler_program.proofs.Taken.{program_suits}
 use Rattle.tb_codegen.proofs.TooLong.{end_takes, image_takes}
 use Rattle.tb_codegen.proofs.linking.fitted.Goals as goal
 

@@ -1,6 +1,6 @@
 -- What holds at each turn of the loop of `line_starts` in src/linking.rt.
 use Rattle.std.proofs.Common.{◌≡◌, ◌++◌, map, drop}
-use Rattle.tb_syntax.specs.Source.{numbers}
+use Rattle.tb_basic_syntax.specs.Source.{numbers}
 use Rattle.tb_lower.specs.PlainData.{code_of}
 use Rattle.tb_codegen.specs.Compiled.{AreKnown, starts_in}
 use Rattle.tb_compiled.specs.Compiled.{pair_of}

@@ -1,7 +1,7 @@
 -- The goals of `linked` in src/linking.rt.
 use Rattle.std.proofs.Common.{Some, ap, map, sym, subst, ◌∙◌}
 use Rattle.tb_words.specs.Words.{word_of}
-use Rattle.tb_syntax.specs.Source.{numbers}
+use Rattle.tb_basic_syntax.specs.Source.{numbers}
 use Rattle.tb_lower.specs.PlainData.{code_of}
 use Rattle.tb_codegen.specs.Compiled.{AreKnown, starts_in}
 use Rattle.tb_codegen.proofs.Kept.{file_keeps}

@@ -1,8 +1,8 @@
 -- The goals of `statement_cost` in src/costs.rt.
 use Rattle.std.proofs.Common.{ℕ, ◌≡◌, ◌∙◌, map, ap, sym, arith}
-use Rattle.tb_syntax.specs.PlainData.{item_of, statement_of}
-use Rattle.tb_meaning.specs.Cost.{statement_cost, items_cost}
-use Rattle.tb_meaning.proofs.Costs.{items_pay}
+use Rattle.tb_basic_syntax.specs.PlainData.{item_of, statement_of}
+use Rattle.tb_basic_meaning.specs.Cost.{statement_cost, items_cost}
+use Rattle.tb_basic_meaning.proofs.Costs.{items_pay}
 use Rattle.tb_compiled.proofs.costs.+statement_cost.Goals as goal
 
 -- the cost of a PRINT is that of its items

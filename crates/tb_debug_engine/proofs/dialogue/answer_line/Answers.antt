@@ -1,7 +1,7 @@
 -- The goals of `answer_line` in src/dialogue.rt.
 use Rattle.std.proofs.Common.{inr, ap, ◌∙◌}
 use Rattle.std.proofs.KnownBytes.{Appends-trans}
-use Rattle.tb_streams.specs.Lines.{without_return}
+use Rattle.tb_engine_streams.specs.Lines.{without_return}
 use Rattle.tb_debug.specs.Debuggees.{has_no_source}
 use Rattle.tb_debug_engine.specs.Dialogue.{repeated, spelled_by}
 use Rattle.tb_debug_engine.specs.Labels.{translated}

@@ -1,7 +1,7 @@
 -- What holds at each turn of the loop of `push_list` in src/lists.rt.
 use Rattle.std.proofs.Common.{◌≡◌, ◌++◌, take}
 use Rattle.std.specs.Prelude.{flat_map, map}
-use Rattle.tb_source_text.specs.Lines.{pair_of}
+use Rattle.tb_basic_source.specs.Lines.{pair_of}
 use Rattle.tb_debug_engine.specs.Lists.{marked}
 use Rattle.tb_debug_engine.proofs.lists.push_list.Given as goal
 

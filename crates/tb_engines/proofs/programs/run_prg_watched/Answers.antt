@@ -1,8 +1,8 @@
 -- The goals of `run_prg_watched` in src/programs.rt.
 use Rattle.std.proofs.Common.{List, ℕ, Err, Ok}
 use Rattle.tb_prg.specs.Prg.{content_of}
-use Rattle.tb_watch.specs.Hearing.{hearing_of}
-use Rattle.tb_streams.specs.Uses.{use_of}
+use Rattle.tb_kernal.specs.Hearing.{hearing_of}
+use Rattle.tb_engine_streams.specs.Uses.{use_of}
 use Rattle.tb_engines.specs.Outcomes.{MadeFrom, Product}
 use Rattle.tb_engines.specs.Programs.{plain_settings_of, RunsPrg, RunsOn, StartsPrg}
 use Rattle.tb_engines.proofs.Ran.{answers_as, tells_place}

@@ -1,8 +1,8 @@
 -- The goals of `run_writing` in src/writing.rt.
 use Rattle.std.proofs.Common.{rules, ◌≡◌, ◌≤◌, ◌+◌, true, false, refl, sym, ◌∙◌}
 use Rattle.tb_kernal.specs.Machine.{is_running}
-use Rattle.tb_watch.specs.Hearing.{STRETCH}
-use Rattle.tb_watch.proofs.Stretches.{ended, taken_on}
+use Rattle.tb_kernal.specs.Hearing.{STRETCH}
+use Rattle.tb_kernal.proofs.Stretches.{ended, taken_on}
 use Rattle.tb_engines.specs.Writing.{kept_sent}
 use Rattle.tb_engines.proofs.Stretched.{begun, onward}
 use Rattle.tb_engines.proofs.writing.run_writing.Goals.{then-not-is_running-via-then-not-is_running, then-not-is_running-via-else-not-is_running+then-stretch-left}

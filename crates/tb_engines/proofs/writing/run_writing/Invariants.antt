@@ -1,5 +1,5 @@
 -- What holds at each turn of the loop of `run_writing` in src/writing.rt.
-use Rattle.tb_streams.specs.Uses.{use_of}
+use Rattle.tb_engine_streams.specs.Uses.{use_of}
 use Rattle.tb_engines.proofs.Stretched.{Between}
 use Rattle.tb_engines.proofs.writing.run_writing.Given as goal
 

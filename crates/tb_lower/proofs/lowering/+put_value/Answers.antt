@@ -1,6 +1,6 @@
 -- The goals of `put_value` in src/lowering.rt.
 use Rattle.std.proofs.Common.{sym, ◌∙◌}
-use Rattle.tb_syntax.specs.PlainData.{expression_of}
+use Rattle.tb_basic_syntax.specs.PlainData.{expression_of}
 use Rattle.tb_lower.proofs.Folded.{constant_code}
 use Rattle.tb_lower.proofs.lowering.+put_value.Goals as goal
 

@@ -1,6 +1,6 @@
 -- The goals of `lower` in src/lowering.rt.
 use Rattle.std.proofs.Common.{◌≡◌, ap, ◌∙◌}
-use Rattle.tb_syntax.specs.PlainData.{lines_of}
+use Rattle.tb_basic_syntax.specs.PlainData.{lines_of}
 use Rattle.tb_lower.specs.Lowered.{program_code}
 use Rattle.tb_lower.specs.PlainData.{code_of}
 use Rattle.tb_lower.proofs.Lists.{lowered}

@@ -1,6 +1,6 @@
 -- What holds at each turn of the loop of `digits_end` in src/lexer.rt.
 use Rattle.std.proofs.Common.{◌≡◌, ℕ, ◌-◌, ◌<◌, ◌≤◌, ◌⊎◌, length, slice_index}
-use Rattle.tb_grammar.specs.Grammar.{IsDigit}
+use Rattle.tb_basic_grammar.specs.Grammar.{IsDigit}
 use Rattle.tb_parser.proofs.lexer.digits_end.Given as goal
 
 abbrev pub invariant-loop-place : goal.invariant-loop-place

@@ -1,7 +1,7 @@
 -- The goals of `token_at` in src/lexer.rt.
 use Rattle.std.proofs.Common.{◌≡◌, ◌+◌, ◌≤◌, true, false, slice_index, rules, subst, sym}
 use Rattle.tb_parser.specs.Kinds.{is_any_letter, is_sign, TokenAt, number, letter, text, relation, mark}
-use Rattle.tb_grammar.specs.Grammar.{is_digit}
+use Rattle.tb_basic_grammar.specs.Grammar.{is_digit}
 use Rattle.tb_parser.specs.declared.lexer.TokenKind.{TokenKind}
 use Rattle.tb_parser.proofs.Written.{no_letter, no_sign}
 use Rattle.tb_parser.proofs.lexer.token_at.Goals as goal

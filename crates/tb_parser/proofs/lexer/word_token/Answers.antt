@@ -1,8 +1,8 @@
 -- The goals of `word_token` in src/lexer.rt.
 use Rattle.std.proofs.Common.{ℕ, List, ◌∙◌, get_or, arith, subst}
 use borrow.Author.Count.{below_more}
-use Rattle.tb_grammar.specs.StatementReading.{keywords, spelled}
-use Rattle.tb_grammar.specs.declared.keywords.Keyword.TheVariants.{Let}
+use Rattle.tb_basic_grammar.specs.StatementReading.{keywords, spelled}
+use Rattle.tb_basic_grammar.specs.declared.keywords.Keyword.TheVariants.{Let}
 use Rattle.tb_parser.specs.Kinds.{IsWord, LacksWord, then, first_word}
 use Rattle.tb_parser.proofs.Longest.{is_longest, lacks_words}
 use Rattle.tb_parser.proofs.lexer.word_token.Goals as goal

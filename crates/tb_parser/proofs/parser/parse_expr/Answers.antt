@@ -1,7 +1,7 @@
 -- The goals of `parse_expr` in src/parser.rt.
 use Rattle.std.proofs.Common.{◌≡◌, ℕ, List, Result, Ok, Err, ap, refl, sym, subst, ◌∙◌}
-use Rattle.tb_syntax.specs.Source.{Expression}
-use Rattle.tb_syntax.specs.PlainData.{expression_of}
+use Rattle.tb_basic_syntax.specs.Source.{Expression}
+use Rattle.tb_basic_syntax.specs.PlainData.{expression_of}
 use Rattle.tb_parser.specs.declared.errors.LineFault.{LineFault}
 use Rattle.tb_parser.specs.declared.errors.SourceError.{SourceError}
 use Rattle.tb_parser.specs.Answers.{Answers, InLineOne, Says, refusal_of}

@@ -1,12 +1,12 @@
 -- The goals of `parse_in` in src/parser.rt.
 use Rattle.std.proofs.Common.{◌≡◌, ℕ, List, [], Ok, Err, refl, arith, subst}
-use Rattle.tb_syntax.specs.declared.statements.Statement.{Statement}
-use Rattle.tb_syntax.specs.PlainData.{lines_of}
+use Rattle.tb_basic_syntax.specs.declared.statements.Statement.{Statement}
+use Rattle.tb_basic_syntax.specs.PlainData.{lines_of}
 use Rattle.tb_parser.specs.Answers.{edit_of}
-use Rattle.tb_text.specs.declared.notation.Notation.{Notation}
-use Rattle.tb_text.specs.declared.notation.Notation.TheVariants.{Plain}
+use Rattle.tb_basic_text.specs.declared.notation.Notation.{Notation}
+use Rattle.tb_basic_text.specs.declared.notation.Notation.TheVariants.{Plain}
 use Rattle.tb_parser.specs.Files.{Outcome, LinesAre, LinesIn, at_end}
-use Rattle.tb_text.specs.Lines.{lines_of_file}
+use Rattle.tb_basic_text.specs.Lines.{lines_of_file}
 use Rattle.tb_parser.specs.Signed.{LackSigns}
 use Rattle.tb_parser.proofs.Alike.{lines_alike}
 use Rattle.tb_parser.proofs.Outcomes.{answers_pass, only_one}

@@ -1,8 +1,8 @@
 -- What holds at each turn of the loop of `parse_in` in src/parser.rt.
 use Rattle.std.proofs.Common.{[], ◌+◌, ◌≤◌, length}
-use Rattle.tb_syntax.specs.PlainData.{lines_of}
+use Rattle.tb_basic_syntax.specs.PlainData.{lines_of}
 use Rattle.tb_parser.specs.Files.{LinesIn, Outcome}
-use Rattle.tb_text.specs.Lines.{lines_of_file}
+use Rattle.tb_basic_text.specs.Lines.{lines_of_file}
 use Rattle.tb_parser.proofs.parser.parse_in.Given as goal
 
 abbrev pub invariant-loop-line : goal.invariant-loop-line

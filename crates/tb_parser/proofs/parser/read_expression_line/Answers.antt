@@ -1,12 +1,12 @@
 -- The goals of `read_expression_line` in src/parser.rt.
 use Rattle.std.proofs.Common.{◌≡◌, ◌∙◌, ℕ, List, Result, Ok, Err, IfSome}
 use Rattle.std.proofs.lemmas.Result.{err_from_is_err_and}
-use Rattle.tb_syntax.specs.declared.expressions.Expr.{Expr}
-use Rattle.tb_syntax.specs.Source.{Expression}
-use Rattle.tb_syntax.specs.PlainData.{expression_of}
+use Rattle.tb_basic_syntax.specs.declared.expressions.Expr.{Expr}
+use Rattle.tb_basic_syntax.specs.Source.{Expression}
+use Rattle.tb_basic_syntax.specs.PlainData.{expression_of}
 use Rattle.tb_parser.specs.declared.errors.LineFault.{LineFault}
 use Rattle.tb_parser.specs.Answers.{Says, refusal_of}
-use Rattle.tb_text.specs.declared.notation.Notation.TheVariants.{Plain}
+use Rattle.tb_basic_text.specs.declared.notation.Notation.TheVariants.{Plain}
 use Rattle.tb_parser.specs.Readings.{Expresses, ExpressionIs, IsFitIn, IsUnfitIn, TextIs, unfit_text, fit_text}
 use Rattle.tb_parser.specs.Squeezed.{squeezed}
 use Rattle.tb_parser.proofs.ReaderAnswers.{passes}

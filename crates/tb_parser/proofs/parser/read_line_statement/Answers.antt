@@ -1,7 +1,7 @@
 -- The goals of `read_line_statement` in src/parser.rt.
 use Rattle.std.proofs.Common.{◌≡◌, ◌∙◌}
-use Rattle.tb_syntax.specs.PlainData.{statement_of}
-use Rattle.tb_grammar.specs.Statements.{States}
+use Rattle.tb_basic_syntax.specs.PlainData.{statement_of}
+use Rattle.tb_basic_grammar.specs.Statements.{States}
 use Rattle.tb_parser.specs.Squeezed.{bytes}
 use Rattle.tb_parser.proofs.ReaderAnswers.{says_in_range, says_unread}
 use Rattle.tb_parser.proofs.parser.read_line_statement.Goals as goal

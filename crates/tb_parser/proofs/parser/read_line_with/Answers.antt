@@ -2,13 +2,13 @@
 use Rattle.std.proofs.Common.{◌≡◌, ◌≢◌, ◌∙◌, arith, ℕ, List, [], ◌∷◌, true, false, length, sym, refl, Some, Err, IfSome, ◌==◌}
 use Rattle.std.proofs.lemmas.Result.{err_from_is_err_and}
 use Rattle.std.proofs.lemmas.Bool.{eqb-true}
-use Rattle.tb_syntax.specs.Source.{Statement}
-use Rattle.tb_syntax.specs.PlainData.{statement_of}
-use Rattle.tb_grammar.specs.Statements.{States}
+use Rattle.tb_basic_syntax.specs.Source.{Statement}
+use Rattle.tb_basic_syntax.specs.PlainData.{statement_of}
+use Rattle.tb_basic_grammar.specs.Statements.{States}
 use Rattle.tb_parser.specs.declared.errors.LineFault.{LineFault}
 use Rattle.tb_parser.specs.declared.squeeze.Placed.{Placed}
 use Rattle.tb_parser.specs.Answers.{Says, edit_of, refusal_of}
-use Rattle.tb_text.specs.declared.notation.Notation.{Notation}
+use Rattle.tb_basic_text.specs.declared.notation.Notation.{Notation}
 use Rattle.tb_parser.specs.Readings.{LineIn, IsFitIn, IsUnfitIn, IsLineNumber, IsNumberedIn, TextIs, blank, unfit, unnumbered, bad_line_number, deletes, sets, unread}
 use Rattle.tb_parser.specs.Scans.{first_written, number_at}
 use Rattle.tb_parser.specs.Notations.{squeezed_in}

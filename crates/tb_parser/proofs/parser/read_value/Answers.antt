@@ -1,6 +1,6 @@
 -- The goals of `read_value` in src/parser.rt.
 use Rattle.std.proofs.Common.{◌≡◌, ◌∙◌}
-use Rattle.tb_syntax.specs.PlainData.{expression_of}
+use Rattle.tb_basic_syntax.specs.PlainData.{expression_of}
 use Rattle.tb_parser.specs.Readings.{Expresses}
 use Rattle.tb_parser.specs.Squeezed.{bytes}
 use Rattle.tb_parser.proofs.ReaderAnswers.{says_in_range, says_unread}

@@ -2,7 +2,7 @@
 use Rattle.std.proofs.Common.{◌≡◌, ℕ, ◌<◌, ◌≤◌, List, length, None, Result, Ok, Err, IfSome, MatchResult, subst, sym}
 use Rattle.tb_parser.specs.declared.errors.LineFault.{LineFault}
 use Rattle.tb_parser.specs.declared.errors.SourceErrorKind.TheVariants.{LineTooLong}
-use Rattle.tb_text.specs.declared.notation.Notation.{Notation}
+use Rattle.tb_basic_text.specs.declared.notation.Notation.{Notation}
 use Rattle.tb_parser.specs.declared.squeeze.Placed.{Placed}
 use Rattle.tb_parser.specs.Answers.{refusal_of}
 use Rattle.tb_parser.specs.Notations.{column_of, first_bad_in, squeezed_in}

@@ -2,7 +2,7 @@
 use Rattle.std.proofs.Common.{◌≡◌, ◌<◌, ◌∙◌, refl, arith, sym, get_or, length, false, ◌&&◌, drop}
 use Rattle.tb_parser.specs.declared.squeeze.Placed.{Placed}
 use Rattle.tb_parser.specs.Scans.{is_left_out}
-use Rattle.tb_text.proofs.FirstLine.{rest_of}
+use Rattle.tb_basic_text.proofs.FirstLine.{rest_of}
 use Rattle.tb_parser.proofs.Steps.{left_out_later, left_out_here, left_out_nowhere}
 use Rattle.tb_parser.proofs.scans.left_out.Goals as goal
 use Rattle.tb_parser.proofs.scans.left_out.Goals.{else-first-via-then-first+else-begins_left_out, else-first-via-else-first}

@@ -1,6 +1,6 @@
 -- The goals of `bad_byte_or_sign` in src/signs.rt.
 use Rattle.std.proofs.Common.{◌∙◌, arith, sym, length-drop}
-use Rattle.tb_text.proofs.FirstLine.{rest_of}
+use Rattle.tb_basic_text.proofs.FirstLine.{rest_of}
 use Rattle.tb_parser.proofs.SignSteps.{bad_behind_byte, bad_behind_sign, bad_byte_here, bad_nowhere}
 use Rattle.tb_parser.proofs.signs.bad_byte_or_sign.Goals as goal
 

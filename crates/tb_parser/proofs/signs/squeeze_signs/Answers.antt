@@ -1,6 +1,6 @@
 -- The goals of `squeeze_signs` in src/signs.rt.
 use Rattle.std.proofs.Common.{◌∙◌, arith, sym, length-drop}
-use Rattle.tb_text.proofs.FirstLine.{rest_of}
+use Rattle.tb_basic_text.proofs.FirstLine.{rest_of}
 use Rattle.tb_parser.proofs.SignSteps.{squeezed_behind_byte, squeezed_behind_sign, squeezed_ends}
 use Rattle.tb_parser.proofs.signs.squeeze_signs.Goals as goal
 

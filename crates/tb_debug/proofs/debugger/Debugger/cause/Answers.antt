@@ -1,7 +1,7 @@
 -- The goals of `Debugger::cause` in src/causes.rt.
 use Rattle.std.proofs.Common.{◌≡◌, ap, rules, ◌∙◌}
 use Rattle.std.specs.Option.{is_some}
-use Rattle.tb_inspection.specs.Readings.{values_in}
+use Rattle.tb_debug_inspection.specs.Readings.{values_in}
 use Rattle.tb_kernal.specs.Machine.{state_of}
 use Rattle.tb_debug.specs.Breakpoints.{breakpoints_of, watches_of}
 use Rattle.tb_debug.specs.Debuggees.{line_from}

@@ -2,10 +2,10 @@
 use Rattle.std.proofs.Common.{◌≡◌, map, ap, ◌∙◌, subst}
 use Rattle.tb_memmap.specs.Bytes.{at}
 use Rattle.tb_words.specs.Words.{word_of}
-use Rattle.tb_syntax.specs.PlainData.{expression_of}
+use Rattle.tb_basic_syntax.specs.PlainData.{expression_of}
 use Rattle.tb_kernal.specs.Machine.{Content}
-use Rattle.tb_meaning.specs.Evaluation.{IsEvaluation}
-use Rattle.tb_inspection.specs.Readings.{variables_in}
+use Rattle.tb_basic_meaning.specs.Evaluation.{IsEvaluation}
+use Rattle.tb_debug_inspection.specs.Readings.{variables_in}
 use Rattle.tb_stepper.proofs.stepper.Stepper.value_of.Goals as goal
 
 pub returns : goal.returns

@@ -1,7 +1,0 @@
--- What holds at each turn of the loop of `end_of` in src/sources.rt.
-use Rattle.std.proofs.Common.{◌≡◌, ◌≤◌, drop}
-use Rattle.tb_navigation.specs.Remarks.{end_from}
-use Rattle.tb_adapter_views.proofs.sources.end_of.Given as goal
-
-abbrev pub invariant-loop-i : goal.invariant-loop-i
-invariant-loop-i l = (end_from l.i l.end (drop l.i l.text) ≡ end_from 0 0 l.text) × (l.end ≤ l.i)

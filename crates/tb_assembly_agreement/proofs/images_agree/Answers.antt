@@ -1,6 +1,0 @@
--- The goal of `images_agree` in src/lib.rt.
-use Rattle.tb_assembly_agreement.proofs.Texts as texts
-use Rattle.tb_assembly_agreement.proofs.images_agree.Goals as goal
-
-pub returns : goal.returns
-returns c = texts.images_agree

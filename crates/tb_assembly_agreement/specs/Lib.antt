@@ -1,4 +1,0 @@
--- items that are the same, and where they are others
-pub mod Items
--- the laws
-pub mod Laws

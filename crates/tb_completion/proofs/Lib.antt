@@ -1,2 +1,0 @@
--- what is offered, candidate by candidate
-mod Offers

@@ -1,4 +1,0 @@
-pub mod Typed
-pub mod Candidates
-pub mod Offered
-pub mod Items

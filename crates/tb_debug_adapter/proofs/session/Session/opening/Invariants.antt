@@ -1,9 +1,0 @@
--- What holds at each turn of the loop of `opening` in src/session.rt.
-use Rattle.std.proofs.Common.{◌≡◌, ◌++◌, map, take}
-use Rattle.tb_adapter_requests.specs.Said.{seen}
-use Rattle.tb_debug_adapter.specs.Sessions.{beginning, warning_of}
-use Rattle.tb_debug_adapter.proofs.session.Session.opening.Given as goal
-
-abbrev pub invariant-loop-one : goal.invariant-loop-one
-invariant-loop-one l =
-    map seen l.said.items ≡ beginning l.self.plan.drawn ++ map warning_of (take l.one-index l.self.file.program.now.warnings.items)

@@ -1,0 +1,4 @@
+pub mod Readings
+pub mod Values
+pub mod Texts
+pub mod Faults

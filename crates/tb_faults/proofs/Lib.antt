@@ -1,2 +1,0 @@
--- the end of what was sent tells the fault
-pub mod Ending

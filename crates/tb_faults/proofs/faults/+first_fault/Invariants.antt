@@ -1,6 +1,0 @@
--- Why `first_fault` of src/faults.rt ends.
-use Rattle.std.proofs.Common.{length}
-use Rattle.tb_faults.proofs.faults.+first_fault.Given as goal
-
-abbrev pub decreases-first_fault : goal.decreases-first_fault
-decreases-first_fault l = length l.kinds.now

@@ -1,0 +1,5 @@
+use Rattle.tb_gate_refutations.proofs.changed.returns_kept_on_page_one_below_s.Goals as goal
+use Rattle.tb_gate_refutations.proofs.ChangedImages.{returns_kept_on_page_one_below_s}
+
+pub returns : goal.returns
+returns c = returns_kept_on_page_one_below_s

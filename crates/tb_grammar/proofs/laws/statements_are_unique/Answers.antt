@@ -1,6 +1,0 @@
--- The goals of `statements_are_unique` in src/laws.rt.
-use Rattle.tb_grammar.proofs.StatementLaws.{unique}
-use Rattle.tb_grammar.proofs.laws.statements_are_unique.Goals as goal
-
-pub returns : goal.returns
-returns c = unique

@@ -1,3 +1,0 @@
-pub mod Readings
-pub mod Values
-pub mod Texts

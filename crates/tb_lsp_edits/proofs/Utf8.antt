@@ -1,0 +1,17 @@
+-- Texts that are UTF-8, or not.
+use Rattle.std.proofs.Common.{◌≡◌, ℕ, Bool, true, false, List, [], refl}
+use Rattle.std.specs.Str.{IsUtf8, is_utf8}
+use Rattle.std.proofs.lemmas.Str.{IsUtf8-from_is_utf8, is_utf8-from_IsUtf8}
+use Rattle.tb_lsp_edits.specs.Rename.{spelled}
+
+-- one that is is shown
+pub valid : (text bytes : List ℕ) → text ≡ bytes → IsUtf8 bytes → text ≡ spelled bytes
+valid text bytes is utf8 = rw (is_utf8-from_IsUtf8 bytes utf8) is
+
+-- of one that isn't nothing is
+pub invalid : (bytes : List ℕ) → (IsUtf8 bytes → ⊥) → [] ≡ spelled bytes
+invalid bytes not = go (is_utf8 bytes) refl
+  where
+    go : (is : Bool) → is_utf8 bytes ≡ is → [] ≡ spelled bytes
+    go true e = absurd (not (IsUtf8-from_is_utf8 bytes e))
+    go false e = rw e refl

@@ -1,0 +1,12 @@
+pub mod Cells
+pub mod Contents
+pub mod Lines
+pub mod Moves
+pub mod Numbers
+pub mod Printing
+pub mod Shifting
+pub mod Signs
+pub mod Frames
+pub mod Looks
+pub mod Strokes
+pub mod Terminals

@@ -1,2 +1,0 @@
--- texts that are UTF-8, or not
-mod Utf8

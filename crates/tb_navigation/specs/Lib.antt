@@ -1,4 +1,0 @@
-pub mod Values
-pub mod Places
-pub mod Remarks
-pub mod Symbols

@@ -1,6 +1,0 @@
--- The goals of `put_looked_up` in src/search.rt.
-use Rattle.tb_templates.proofs.Appends.{three}
-use Rattle.tb_program_code.proofs.search.put_looked_up.Goals as goal
-
-pub returns : goal.returns
-returns c = three _ _ _ _ _ _ _ c.in_ok-put_address.ensures c.in_ok-put_constant.ensures c.in_ok-put_jump_to_routine.ensures

@@ -1,6 +1,0 @@
--- The goals of `sends_text` in src/example.rt.
-use Rattle.tb_reaching.proofs.example.sends_text.Goals as goal
-use Rattle.tb_reaching.proofs.HelloRuns.{sends_text}
-
-pub returns : goal.returns
-returns c = sends_text

@@ -1,5 +1,0 @@
-use Rattle.tb_refutations.proofs.changed.comparison_looks_at_the_high_byte.Goals as goal
-use Rattle.tb_refutations.proofs.ChangedImages.{comparison_looks_at_the_high_byte}
-
-pub returns : goal.returns
-returns c = comparison_looks_at_the_high_byte

@@ -1,5 +1,0 @@
-use Rattle.tb_refutations.proofs.changed.fault_in_another_line.Goals as goal
-use Rattle.tb_refutations.proofs.ChangedImages.{fault_in_another_line}
-
-pub returns : goal.returns
-returns c = fault_in_another_line

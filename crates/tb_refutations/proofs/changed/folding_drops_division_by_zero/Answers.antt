@@ -1,5 +1,0 @@
-use Rattle.tb_refutations.proofs.changed.folding_drops_division_by_zero.Goals as goal
-use Rattle.tb_refutations.proofs.ChangedImages.{folding_drops_division_by_zero}
-
-pub returns : goal.returns
-returns c = folding_drops_division_by_zero

@@ -1,5 +1,0 @@
-use Rattle.tb_refutations.proofs.changed.missing_line.Goals as goal
-use Rattle.tb_refutations.proofs.ChangedImages.{missing_line}
-
-pub returns : goal.returns
-returns c = missing_line

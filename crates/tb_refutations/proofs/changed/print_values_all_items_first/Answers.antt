@@ -1,5 +1,0 @@
-use Rattle.tb_refutations.proofs.changed.print_values_all_items_first.Goals as goal
-use Rattle.tb_refutations.proofs.ChangedImages.{print_values_all_items_first}
-
-pub returns : goal.returns
-returns c = print_values_all_items_first

@@ -1,5 +1,0 @@
-use Rattle.tb_refutations.proofs.changed.returns_kept_on_page_one_below_s.Goals as goal
-use Rattle.tb_refutations.proofs.ChangedImages.{returns_kept_on_page_one_below_s}
-
-pub returns : goal.returns
-returns c = returns_kept_on_page_one_below_s

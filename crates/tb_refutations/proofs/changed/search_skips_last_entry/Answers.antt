@@ -1,5 +1,0 @@
-use Rattle.tb_refutations.proofs.changed.search_skips_last_entry.Goals as goal
-use Rattle.tb_refutations.proofs.ChangedImages.{search_skips_last_entry}
-
-pub returns : goal.returns
-returns c = search_skips_last_entry

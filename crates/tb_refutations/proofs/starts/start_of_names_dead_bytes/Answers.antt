@@ -1,5 +1,0 @@
-use Rattle.tb_refutations.proofs.starts.start_of_names_dead_bytes.Goals as goal
-use Rattle.tb_refutations.proofs.WrongStarts.{start_of_names_dead_bytes}
-
-pub returns : goal.returns
-returns c = start_of_names_dead_bytes

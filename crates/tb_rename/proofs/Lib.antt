@@ -1,6 +1,0 @@
--- texts that are UTF-8, or not
-mod Utf8
--- renamed lines make the renamed program
-mod Made
--- lines that read otherwise
-mod Otherwise

@@ -1,8 +1,0 @@
--- The goals of `push` in src/shifting.rt.
-use Rattle.tb_screen.proofs.Copies.{pushed_by_copy}
-use Rattle.tb_screen.proofs.shifting.push.Goals as goal
-
-pub returns : goal.returns
-returns g c =
-    rw c.copy_within.ensures.after
-    (pushed_by_copy c.args.at c.args.end c.args.filler c.args.elements.now c.requires.order c.requires.within)

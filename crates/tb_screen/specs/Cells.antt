@@ -1,8 +1,0 @@
--- Cells of the screen.
-use Rattle.tb_screen.specs.declared.cells.Cell.{Cell}
-use Rattle.tb_screen.specs.Numbers.{SPACE}
-use Rattle.tb_screen.specs.declared.colours.Colour.{Colour}
-
--- a space of this colour
-abbrev pub blank : Colour → Cell
-blank colour = record { code = SPACE; colour = colour }

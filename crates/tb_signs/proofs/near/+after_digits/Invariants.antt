@@ -1,6 +1,0 @@
--- What decreases where `after_digits` in src/near.rt calls itself.
-use Rattle.std.proofs.Common.{length}
-use Rattle.tb_signs.proofs.near.+after_digits.Given as goal
-
-abbrev pub decreases-after_digits : goal.decreases-after_digits
-decreases-after_digits l = length l.text.now

@@ -1,6 +1,0 @@
--- The goals of `put_called` in src/divisions.rt.
-use Rattle.tb_templates.proofs.Appends.{three}
-use Rattle.tb_templates.proofs.divisions.put_called.Goals as goal
-
-pub returns : goal.returns
-returns c = three _ _ _ _ _ _ _ c.in_ok-put_brought.ensures c.in_ok-put_brought-2.ensures c.in_ok-put_call.ensures

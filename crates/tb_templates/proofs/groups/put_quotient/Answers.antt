@@ -1,6 +1,0 @@
--- The goals of `put_quotient` in src/groups.rt.
-use Rattle.tb_templates.proofs.Appends.{after_line}
-use Rattle.tb_templates.proofs.groups.put_quotient.Goals as goal
-
-pub returns : goal.returns
-returns c = after_line _ _ _ _ _ _ _ c.may_be_zero.ensures c.in_ok-put_lined.ensures c.in_ok-put_handed.ensures

@@ -1,4 +1,0 @@
-pub mod Spelling
-pub mod Pushing
-pub mod Drawing
-pub mod Rows

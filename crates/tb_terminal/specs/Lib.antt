@@ -1,5 +1,0 @@
-pub mod Frames
-pub mod Looks
-pub mod Numbers
-pub mod Strokes
-pub mod Terminals

@@ -1,2 +1,0 @@
--- stretches of events that make one run
-pub mod Stretches
