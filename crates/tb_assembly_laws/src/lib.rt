@@ -1,4 +1,5 @@
-//! The laws of texts that both assemblers read: each the contract of a function that does nothing.
+//! Laws of assemblers: of texts that both read, and of how operators bind. Each is the contract of a function that does
+//! nothing.
 //!
 //! - `lines_agree`: if the format of `tbc asm` has items for a text, and no byte 13 stands in it that no 10 follows
 //!   (`has_lone_return`), then `expansion` reads each of its lines: nothing is bad.
@@ -12,8 +13,6 @@
 //! nothing is said, though some have a meaning in `tbc assemble`. The built program is tried on 500 texts
 //! (`tools/try/assemble_command.sh`). No function has a body whose meaning could be turned, so there are no wrong
 //! bodies.
-//!
-//! How the operators of expressions bind: laws, each the contract of a function that does nothing.
 //!
 //! An expression that is written with precedence is a tree whose operators bind as they should (`IsBound`). It is read
 //! as the steps of that tree (`reads_trees`). Its value is the tree's: the value of its operands, and of its operator

@@ -1,4 +1,4 @@
-//! The text of a source with other line numbers.
+//! The text of a source, and its program, with other line numbers.
 //!
 //! The new text is read again and compared with the program renumbered, before it is answered. `renumber` answers one
 //! of these (`Renumbers`):
@@ -10,8 +10,6 @@
 //! - That a number would be too high, or the first line whose new text has more than 255 bytes.
 //! - That the new text reads otherwise. This comes only where it does, so an answer is not withheld. That it never
 //!   does is not proved.
-//!
-//! Programs with other line numbers: what becomes of the tree, and why its runs stay the same.
 //!
 //! A program renumbered is its lines and the constant targets of its jumps, put through a map of its line numbers
 //! (`renumbered` of `specs/Renumbered`).

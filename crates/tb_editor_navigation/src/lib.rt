@@ -1,10 +1,8 @@
 //! Where lines and variables of a source are named, as a language server answers it: definition, references,
-//! highlights and symbols.
+//! highlights and symbols. And how a text is shown: which lines can be folded, and what each token is.
 //!
 //! `definition`, `references`, `highlights`, `symbols`, `calls`, `standing_number`, `is_remark` and `shown` are their
 //! definitions over the lines of a source.
-//!
-//! How a text is shown, as a language server answers it: which lines can be folded, and what each token is.
 //!
 //! `folds`, `legend` and `semantic_tokens` are their definitions over the lines of a source and their tokens.
 #![tactic(auto)]

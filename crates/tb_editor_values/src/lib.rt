@@ -1,9 +1,7 @@
-//! Places and spans as JSON values: what is told of them, and where a request asks.
+//! Places, spans and edits of texts as JSON values: what is told of them, and where a request asks.
 //!
 //! `range_value` and `location_value` are the JSON of a span. `place_in` and `lines_of_range` are where params ask, or
 //! that they have not the form.
-//!
-//! Edits of texts as JSON values.
 //!
 //! `edit_value`, `lines_edit` and `changes_value` are the JSON of a text in place of a span, of lines, and of all
 //! edits of a text.

@@ -1,4 +1,5 @@
-//! What may be written at a place of a source, as a language server answers it.
+//! Edits of a source, as a language server answers them: what may be written at a place, a variable with another letter,
+//! and the tidy text.
 //!
 //! `completion` answers each keyword and line number that begins with what is typed (`IsTyped`) and fits (`Offers`).
 //! Numbers of lines are offered behind GOTO and GOSUB alone. A candidate fits if it makes the line good up to there. A
@@ -6,16 +7,14 @@
 //! None is offered with which the line is bad otherwise than in its syntax. No definition says where a fault of syntax
 //! stands. So in other places, as at RND in the condition of an IF, a word may be offered or not.
 //!
-//! A variable with another letter, as a language server answers it. The new text is read again and compared with the
-//! program renamed, before it is answered.
+//! The text with another letter for a variable is read again and compared with the program renamed, before it is
+//! answered.
 //!
 //! `prepare` is place and letter of the variable at a place. `rename` answers the first refusal that holds
 //! (`refusal_of` of `specs/Rename`), or the edits of all places of the variable in good lines. Then each line reads as
 //! the line with the letter renamed, as a tree, and the new lines make the program of the good lines, renamed
 //! (`IsRenaming`). That the new text would read otherwise is a refusal of its own, which comes only where some line
 //! does (`Changes`). That none ever does is not proved. `renamed_lines_make_the_renamed_program` is the law.
-//!
-//! The edits that make a text tidy, as a language server answers them.
 //!
 //! `formatting` has one edit for each line of a source that is another one in its tidy text, which says the same on
 //! each line by the clause of `tidy_text` (`Tidies`).

@@ -1,13 +1,11 @@
 //! The screen of the Commodore 64 as the KERNAL's editor keeps it: 25 rows of 40 cells, each a screen code with a
 //! colour, and the cursor. With it go the colour, reverse, quote and insert mode in which the next byte is shown.
-//! `Screen::print` takes one byte that CHROUT sends.
+//! `Screen::print` takes one byte that CHROUT sends. And the text that shows a screen at a terminal.
 //!
 //! The definition is `specs/Printing.antt`, over `specs/Signs.antt` (what a byte is), `specs/Lines.antt` (lines of one
 //! or two rows) and `specs/Moves.antt`. `print` makes of a screen exactly what `printed` says of the byte, and
 //! `print_all` of bytes in their order; `Screen::new` is the blank screen. No call takes memory, and none fails. That
 //! the definition is the machine's, worked screens and a model of its own show (`tools/screen_model.py`).
-//!
-//! From a screen of the Commodore 64 to the text that shows it at a terminal.
 //!
 //! `frame` gives a text of control sequences and characters (`text`). `specs/Terminals.antt` says what a terminal does
 //! with each of them. After them a terminal of at least 40 columns shows the screen, whatever it showed before
