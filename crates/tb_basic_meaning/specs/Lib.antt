@@ -18,6 +18,8 @@ pub mod Cost
 pub mod Spaced
 -- how many slots expressions need
 pub mod Need
+-- bounds of RND
+pub mod Bounds
 -- constant targets that are missing
 pub mod Missing
 -- ── the interpreter ──

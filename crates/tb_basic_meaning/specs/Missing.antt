@@ -1,6 +1,8 @@
 -- Constant targets that are missing.
 use Rattle.std.specs.Prelude.{ℕ, List, [], ◌∷◌, if◌then◌else◌, Option, Some, None}
-use Rattle.tb_basic_syntax.specs.Source.{Statement, If, Goto, Gosub, Program, numbers}
+use Rattle.std.specs.Option.{option_and_then}
+use Rattle.tb_basic_syntax.specs.Parts.{jump_of}
+use Rattle.tb_basic_syntax.specs.Source.{Statement, Program, numbers}
 use Rattle.tb_basic_meaning.specs.Control.{has_line}
 use Rattle.tb_basic_meaning.specs.Values.{constant}
 
@@ -9,12 +11,9 @@ abbrev pub without_line : List ℕ → Option ℕ → Option ℕ
 without_line ns (Some target) = if has_line ns target then None else Some target
 without_line ns None = None
 
--- the constant target of a statement, if it is missing
+-- the constant target of a statement's jump, if it is missing
 abbrev pub missing_target : List ℕ → Statement → Option ℕ
-missing_target ns (Goto e) = without_line ns (constant e)
-missing_target ns (Gosub e) = without_line ns (constant e)
-missing_target ns (If l rel r c) = missing_target ns c
-missing_target ns _ = None
+missing_target ns c = option_and_then (λ jump. without_line ns (constant jump.0)) (jump_of c)
 
 -- a line and a target before others, if there is a target
 abbrev pub with_target : ℕ → Option ℕ → List (ℕ × ℕ) → List (ℕ × ℕ)

@@ -2,9 +2,11 @@
 //!
 //! The meaning is a definition (`specs/Meaning.antt`). `run_source` is a plain program that runs it: the source's run
 //! after a given number of lines. `eval` is the value of an expression without RND. `warnings` gives the missing
-//! constant targets of jumps, in order. `statement_need` is how many slots a statement needs.
+//! constant targets of jumps, in order. `statement_need` is how many slots a statement needs, `statement_bounds` which
+//! bounds its RNDs have.
 #![tactic(auto)]
 
+mod bounds;
 mod evaluation;
 mod faults;
 mod interpreter;
@@ -15,6 +17,7 @@ mod output;
 mod places;
 mod turns;
 
+pub use bounds::statement_bounds;
 pub use evaluation::{EvalError, constant, eval};
 pub use interpreter::{DEEPEST, RunEnd, SourceRun, run_source};
 pub use missing::{Warning, warnings};

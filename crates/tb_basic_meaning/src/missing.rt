@@ -1,15 +1,14 @@
 //! Warnings: jumps to constant lines that are missing.
 ghost use Rattle.std.specs.Prelude.{◌≡◌, ◌++◌, [], ◌∷◌, IfOk, OnOk, map, option_map};
 ghost use Rattle.tb_words.specs.Words.{word_of};
-ghost use Rattle.tb_basic_syntax.specs.PlainData.{expression_of, statement_of, lines_of};
+ghost use Rattle.tb_basic_syntax.specs.PlainData.{statement_of, lines_of};
 ghost use Rattle.tb_basic_syntax.specs.Source.{numbers};
-ghost use Rattle.tb_basic_meaning.specs.Values.{constant};
-ghost use Rattle.tb_basic_meaning.specs.Missing.{without_line, missing_target, missing_targets};
+ghost use Rattle.tb_basic_meaning.specs.Missing.{missing_target, missing_targets};
 
 use crate::evaluation::constant;
 use crate::places::has_line;
 use std::alloc::{AllocError, Global};
-use tb_basic_syntax::{Expr, Program, Statement};
+use tb_basic_syntax::{Program, Statement, jump_of};
 
 /// A GOTO or GOSUB at this line has a constant target, and there is no line of that number.
 #[derive(Clone, Copy, PartialEq, Eq, Debug, Drop)]
@@ -34,21 +33,11 @@ pub fn warnings(alloc: Global, program: &Program) -> Result<Vec<Warning>, AllocE
     Ok(warnings)
 }
 
-// The constant target of a statement, if it is missing.
+// The constant target of a statement's jump, if there is no line of its number.
 fn missing_target(program: &Program, statement: &Statement) -> Option<i16>
     ensures { option_map word_of result ≡ missing_target (numbers (lines_of program.now)) (statement_of statement.now) }
 {
-    match statement {
-        Statement::Goto(target) | Statement::Gosub(target) => without_line(program, target),
-        Statement::If(_, _, _, statement) => missing_target(program, statement),
-        _ => None,
-    }
-}
-
-// The target, if it is constant and there is no line of its number.
-fn without_line(program: &Program, target: &Expr) -> Option<i16>
-    ensures { option_map word_of result ≡ without_line (numbers (lines_of program.now)) (constant (expression_of target.now)) }
-{
+    let (target, _) = jump_of(statement)?;
     let number = constant(target)?;
     if has_line(program, number) {
         return None;

@@ -1,7 +1,8 @@
 -- Jumps with constant targets.
 use Rattle.std.specs.Prelude.{ℕ, ◌+◌, Bool, true, false, List, [], ◌∷◌, Option, Some, None, option_map, if◌then◌else◌}
 use Rattle.std.specs.Option.{option_and_then}
-use Rattle.tb_basic_syntax.specs.Source.{Expression, Statement, If, Goto, Gosub}
+use Rattle.tb_basic_syntax.specs.Parts.{jump_of}
+use Rattle.tb_basic_syntax.specs.Source.{Expression, Statement}
 use Rattle.tb_basic_grammar.specs.declared.keywords.Keyword.TheVariants as keyword
 use Rattle.tb_basic_meaning.specs.Values.{constant}
 use Rattle.tb_parser.specs.Readings.{Edit}
@@ -17,10 +18,7 @@ jump_to e returns = option_map (λ target. record { target = target; returns = r
 
 -- the jump of a statement
 abbrev pub jump_by : Statement → Option Jump
-jump_by (Goto e) = jump_to e false
-jump_by (Gosub e) = jump_to e true
-jump_by (If l rel r c) = jump_by c
-jump_by _ = None
+jump_by c = option_and_then (λ jump. jump_to jump.0 jump.1) (jump_of c)
 
 -- the jump of a line
 abbrev pub jump_in : Edit → Option Jump

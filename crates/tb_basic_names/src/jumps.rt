@@ -1,13 +1,13 @@
 //! Jumps with constant targets.
 ghost use Rattle.std.specs.Prelude.{◌≡◌, ◌<◌, length, IfSome};
-ghost use Rattle.tb_basic_syntax.specs.PlainData.{expression_of, statement_of};
-ghost use Rattle.tb_basic_names.specs.Jumps.{is_jump_word, jump_by, jump_in, jump_to, jump_word, word_from};
+ghost use Rattle.tb_basic_syntax.specs.PlainData.{statement_of};
+ghost use Rattle.tb_basic_names.specs.Jumps.{is_jump_word, jump_by, jump_in, jump_word};
 ghost use Rattle.tb_basic_names.specs.Lines.{does};
 
 use crate::lines::Line;
 use tb_basic_grammar::Keyword;
 use tb_basic_meaning::constant;
-use tb_basic_syntax::{Expr, Statement};
+use tb_basic_syntax::Statement;
 use tb_parser::{Token, TokenKind};
 
 /// A jump to a number that is the same each time.
@@ -18,23 +18,13 @@ pub struct Jump {
     pub returns: bool,
 }
 
-fn jump_to(target: &Expr, returns: bool) -> Option<Jump>
-    ensures { result ≡ jump_to (expression_of target.now) returns }
-{
-    let target = constant(target)?;
-    Some(Jump { target, returns })
-}
-
 /// The jump of a statement, if its target is constant.
 pub fn jump_of(statement: &Statement) -> Option<Jump>
     ensures { result ≡ jump_by (statement_of statement.now) }
 {
-    match statement {
-        Statement::Goto(target) => jump_to(target, false),
-        Statement::Gosub(target) => jump_to(target, true),
-        Statement::If(_, _, _, statement) => jump_of(statement),
-        _ => None,
-    }
+    let (target, returns) = tb_basic_syntax::jump_of(statement)?;
+    let target = constant(target)?;
+    Some(Jump { target, returns })
 }
 
 fn is_jump_word(kind: TokenKind) -> bool

@@ -1,6 +1,8 @@
 -- Jumps that can't be renumbered.
 use Rattle.std.specs.Prelude.{ℕ, List, [], ◌∷◌, Option, Some, None, if◌then◌else◌}
-use Rattle.tb_basic_syntax.specs.Source.{Statement, If, Goto, Gosub, Program}
+use Rattle.std.specs.Option.{option_and_then}
+use Rattle.tb_basic_syntax.specs.Parts.{jump_of}
+use Rattle.tb_basic_syntax.specs.Source.{Statement, Program}
 use Rattle.tb_basic_meaning.specs.Control.{has_line}
 use Rattle.tb_basic_meaning.specs.Values.{constant}
 use Rattle.tb_basic_renumber.specs.declared.jumps.JumpFault.{JumpFault}
@@ -13,10 +15,7 @@ target_fault ns (Some target) = if has_line ns target then None else Some (NoLin
 
 -- what is wrong with the jump of a statement
 abbrev pub statement_fault : List ℕ → Statement → Option JumpFault
-statement_fault ns (If l rel r c) = statement_fault ns c
-statement_fault ns (Goto e) = target_fault ns (constant e)
-statement_fault ns (Gosub e) = target_fault ns (constant e)
-statement_fault ns _ = None
+statement_fault ns c = option_and_then (λ jump. target_fault ns (constant jump.0)) (jump_of c)
 
 -- a line and its fault, if it has one, else what is found in the lines behind it
 abbrev pub fault_or : ℕ → Option JumpFault → Option (ℕ × JumpFault) → Option (ℕ × JumpFault)

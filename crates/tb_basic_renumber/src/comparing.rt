@@ -4,7 +4,6 @@ ghost use Rattle.tb_basic_syntax.specs.PlainData.{expression_of, statement_of, l
 ghost use Rattle.tb_basic_syntax.specs.Source.{numbers};
 ghost use Rattle.tb_basic_renumber.specs.Renumbered.{are_low, moved, moved_target, new_number, renumbered};
 
-use crate::equality::{same_expressions, same_items, same_letters};
 use crate::numbering::Numbering;
 use tb_basic_meaning::constant;
 use tb_basic_syntax::{Expr, Program, Statement};
@@ -54,23 +53,12 @@ fn is_moved(numbering: &Numbering, program: &Program, old: &Statement, new: &Sta
         (new_number numbering.now.first numbering.now.step (numbers (lines_of program.now))) (statement_of old.now) → IsTrue result }
 {
     match (old, new) {
-        (Statement::Let(x, e), Statement::Let(y, f)) => x == y && same_expressions(f, e),
-        (Statement::Print(items, ends), Statement::Print(others, end)) => {
-            ends == end && same_items(others, items)
-        }
-        (Statement::Input(letters), Statement::Input(others)) => same_letters(others, letters),
         (Statement::If(l, rel, r, statement), Statement::If(m, other, s, moved)) => {
-            rel == other
-                && same_expressions(m, l)
-                && same_expressions(s, r)
-                && is_moved(numbering, program, statement, moved)
+            rel == other && m == l && s == r && is_moved(numbering, program, statement, moved)
         }
         (Statement::Goto(e), Statement::Goto(f)) => is_moved_target(numbering, program, e, f),
         (Statement::Gosub(e), Statement::Gosub(f)) => is_moved_target(numbering, program, e, f),
-        (Statement::Return, Statement::Return) => true,
-        (Statement::End, Statement::End) => true,
-        (Statement::Remark, Statement::Remark) => true,
-        _ => false,
+        _ => new == old,
     }
 }
 
@@ -83,7 +71,7 @@ fn is_moved_target(numbering: &Numbering, program: &Program, old: &Expr, new: &E
         (new_number numbering.now.first numbering.now.step (numbers (lines_of program.now))) (expression_of old.now) → IsTrue result }
 {
     let Some(target) = constant(old) else {
-        return same_expressions(new, old);
+        return new == old;
     };
     let Expr::Number(number) = new else {
         return false;

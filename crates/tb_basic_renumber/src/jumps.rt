@@ -1,12 +1,11 @@
 //! Jumps that can't be renumbered.
 ghost use Rattle.std.specs.Prelude.{◌≡◌};
-ghost use Rattle.tb_basic_syntax.specs.PlainData.{expression_of, statement_of, lines_of};
+ghost use Rattle.tb_basic_syntax.specs.PlainData.{statement_of, lines_of};
 ghost use Rattle.tb_basic_syntax.specs.Source.{numbers};
-ghost use Rattle.tb_basic_meaning.specs.Values.{constant};
-ghost use Rattle.tb_basic_renumber.specs.Jumps.{first_fault, statement_fault, target_fault};
+ghost use Rattle.tb_basic_renumber.specs.Jumps.{first_fault, statement_fault};
 
 use tb_basic_meaning::constant;
-use tb_basic_syntax::{Expr, Program, Statement};
+use tb_basic_syntax::{Program, Statement, jump_of};
 
 /// Why a jump can't be renumbered.
 #[derive(Clone, Copy, PartialEq, Eq, Debug, Drop)]
@@ -29,20 +28,11 @@ pub fn jump_fault(program: &Program) -> Option<(u16, JumpFault)>
     None
 }
 
+#[tactic(auto, using(tb_basic_meaning::proofs::Found::found_line))]
 fn statement_fault(program: &Program, statement: &Statement) -> Option<JumpFault>
     ensures { result ≡ statement_fault (numbers (lines_of program.now)) (statement_of statement.now) }
 {
-    match statement {
-        Statement::Goto(target) | Statement::Gosub(target) => target_fault(program, target),
-        Statement::If(_, _, _, statement) => statement_fault(program, statement),
-        _ => None,
-    }
-}
-
-#[tactic(auto, using(tb_basic_meaning::proofs::Found::found_line))]
-fn target_fault(program: &Program, target: &Expr) -> Option<JumpFault>
-    ensures { result ≡ target_fault (numbers (lines_of program.now)) (constant (expression_of target.now)) }
-{
+    let (target, _) = jump_of(statement)?;
     let Some(number) = constant(target) else {
         return Some(JumpFault::Computed);
     };

@@ -26,7 +26,6 @@
 
 mod comparing;
 mod cuts;
-mod equality;
 mod jumps;
 mod laws;
 mod lines;

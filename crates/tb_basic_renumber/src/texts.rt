@@ -39,36 +39,6 @@ fn push_line(text: &mut Vec<u8>, line: &[u8], end: &[u8]) -> Result<(), AllocErr
     text.extend_from_slice(end)
 }
 
-// The new number of a line. A number of no line stays.
-fn moved(numbering: Numbering, program: &Program, number: u16) -> u16
-    requires { are_low numbering.first numbering.step (numbers (lines_of program.now)) ≡ true }
-    ensures { result ≡ new_number numbering.first numbering.step (numbers (lines_of program.now)) number }
-{
-    match numbering.new_number(program, number) {
-        Some(new) => new,
-        None => number,
-    }
-}
-
-// A line that stands, with its new number and target.
-fn moved_line(
-    alloc: Global,
-    numbering: Numbering,
-    program: &Program,
-    number: u16,
-    line: &Line<'_>,
-) -> Result<Vec<u8>, AllocError>
-    requires { are_low numbering.first numbering.step (numbers (lines_of program.now)) ≡ true }
-    ensures { IfOk result (λ text. text.items
-        ≡ spec.moved_line (new_number numbering.first numbering.step (numbers (lines_of program.now))) number line.now) }
-{
-    let target = match line.jump() {
-        Some(jump) => Some(moved(numbering, program, jump.target)),
-        None => None,
-    };
-    new_line(alloc, line, moved(numbering, program, number), target)
-}
-
 // Appends a line that is not too long, with its end.
 fn push_short(number: u16, line: &[u8], end: &[u8], text: &mut Vec<u8>) -> Result<(), Refusal>
     ensures { MatchResult result
@@ -82,34 +52,64 @@ fn push_short(number: u16, line: &[u8], end: &[u8], text: &mut Vec<u8>) -> Resul
     Ok(())
 }
 
-// Appends what becomes of the line at a place, with its end.
-fn push(
-    alloc: Global,
-    source: &Source<'_>,
+// A program and new numbers for its lines, none of them above the highest.
+#[derive(Drop)]
+struct Renumbering<'a> {
+    program: &'a Program,
     numbering: Numbering,
-    program: &Program,
-    place: usize,
-    line: &Line<'_>,
-    end: &[u8],
-    text: &mut Vec<u8>,
-) -> Result<(), Refusal>
-    requires { are_low numbering.first numbering.step (numbers (lines_of program.now)) ≡ true }
-    ensures { MatchResult result
-        (λ _. (text.new.items ≡ spec.with_kept text.old.items
-        (spec.kept (new_number numbering.first numbering.step (numbers (lines_of program.now))) (edits_of source.now.lines.items) place line.now) end.now)
-        × (spec.too_long (new_number numbering.first numbering.step (numbers (lines_of program.now))) (edits_of source.now.lines.items) place line.now ≡ None))
-        (λ e. IsLong (spec.too_long (new_number numbering.first numbering.step (numbers (lines_of program.now)))
-        (edits_of source.now.lines.items) place line.now) e) }
-{
-    match &line.edit {
-        Some(LineEdit::Nothing) | None => push_line(text, line.text, end)?,
-        Some(LineEdit::Set(number, _)) if source.stands(place, *number) => {
-            let new = moved_line(alloc, numbering, program, *number, line)?;
-            push_short(*number, new.as_slice(), end, text)?;
+    ghost low: { are_low numbering.first numbering.step (numbers (lines_of program.now)) ≡ true },
+}
+
+impl Renumbering<'_> {
+    // The new number of a line. A number of no line stays.
+    fn moved(&self, number: u16) -> u16
+        ensures { result ≡ new_number self.now.numbering.first self.now.numbering.step (numbers (lines_of self.now.program.now)) number }
+    {
+        match self.numbering.new_number(self.program, number) {
+            Some(new) => new,
+            None => number,
         }
-        Some(LineEdit::Set(_, _)) | Some(LineEdit::Delete(_)) => {}
     }
-    Ok(())
+
+    // A line that stands, with its new number and target.
+    fn moved_line(&self, alloc: Global, number: u16, line: &Line<'_>) -> Result<Vec<u8>, AllocError>
+        ensures { IfOk result (λ text. text.items
+            ≡ spec.moved_line (new_number self.now.numbering.first self.now.numbering.step (numbers (lines_of self.now.program.now))) number line.now) }
+    {
+        let target = match line.jump() {
+            Some(jump) => Some(self.moved(jump.target)),
+            None => None,
+        };
+        new_line(alloc, line, self.moved(number), target)
+    }
+
+    // Appends what becomes of the line at a place, with its end.
+    fn push(
+        &self,
+        alloc: Global,
+        source: &Source<'_>,
+        place: usize,
+        line: &Line<'_>,
+        end: &[u8],
+        text: &mut Vec<u8>,
+    ) -> Result<(), Refusal>
+        ensures { MatchResult result
+            (λ _. (text.new.items ≡ spec.with_kept text.old.items
+            (spec.kept (new_number self.now.numbering.first self.now.numbering.step (numbers (lines_of self.now.program.now))) (edits_of source.now.lines.items) place line.now) end.now)
+            × (spec.too_long (new_number self.now.numbering.first self.now.numbering.step (numbers (lines_of self.now.program.now))) (edits_of source.now.lines.items) place line.now ≡ None))
+            (λ e. IsLong (spec.too_long (new_number self.now.numbering.first self.now.numbering.step (numbers (lines_of self.now.program.now)))
+            (edits_of source.now.lines.items) place line.now) e) }
+    {
+        match &line.edit {
+            Some(LineEdit::Nothing) | None => push_line(text, line.text, end)?,
+            Some(LineEdit::Set(number, _)) if source.stands(place, *number) => {
+                let new = self.moved_line(alloc, *number, line)?;
+                push_short(*number, new.as_slice(), end, text)?;
+            }
+            Some(LineEdit::Set(_, _)) | Some(LineEdit::Delete(_)) => {}
+        }
+        Ok(())
+    }
 }
 
 /// The text of a source with its program's lines renumbered: the lines that give the program its lines, and lines of
@@ -128,13 +128,12 @@ pub fn renumbered_text(
         × (spec.first_long (new_number numbering.first numbering.step (numbers (lines_of program.now))) source.now.lines.items ≡ None))
         (λ e. IsLong (spec.first_long (new_number numbering.first numbering.step (numbers (lines_of program.now))) source.now.lines.items) e) }
 {
+    let renumbering = Renumbering { program, numbering };
     let mut new = Vec::with_capacity(alloc, text.len())?;
     let mut rest = text;
     for (i, line) in source.lines.iter().enumerate() {
         let cut = first_end(rest);
-        push(
-            alloc, source, numbering, program, i, line, cut.end, &mut new,
-        )?;
+        renumbering.push(alloc, source, i, line, cut.end, &mut new)?;
         rest = cut.behind;
     }
     Ok(new)

@@ -1,3 +1,5 @@
+pub mod Parts
 pub mod PlainData
+pub mod Same
 pub mod Source
 pub mod Texts

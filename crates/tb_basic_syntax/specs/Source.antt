@@ -10,12 +10,14 @@ pub data Expression : Type 0 where
   Negate : (e : Expression) → Expression
   Binary : (op : Operator) (left right : Expression) → Expression
   Random : (bound : Expression) → Expression
+  deriving Discrete as Expression_discrete
 
 -- an item of PRINT: a text, a zone for a comma, or a value; a semicolon leaves nothing
 pub data Item : Type 0 where
   Text : (bytes : List ℕ) → Item
   Value : (e : Expression) → Item
   Zone : Item
+  deriving Discrete as Item_discrete
 
 -- a statement; PRINT says whether the line ends after its items, the targets of GOTO and GOSUB are expressions
 pub data Statement : Type 0 where
@@ -28,6 +30,7 @@ pub data Statement : Type 0 where
   Return : Statement
   End : Statement
   Remark : Statement
+  deriving Discrete as Statement_discrete
 
 -- something at a line number
 pub record Numbered (A : Type 0) : Type 0 where

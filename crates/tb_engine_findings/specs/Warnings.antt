@@ -1,13 +1,15 @@
 -- The warnings on a source that is compiled.
 use Rattle.std.specs.Prelude.{ℕ, ◌+◌, ◌-◌, ◌%◌, nat_le, nat_lt, Bool, true, false, ◌&&◌, ◌||◌, ◌==◌, if◌then◌else◌, List, [], ◌∷◌, ◌++◌, flat_map, map}
-use Rattle.std.specs.Prelude.{Option, Some, None}
+use Rattle.std.specs.Prelude.{Option, Some, None, option_to_list}
 use Rattle.std.specs.Option.{option_or}
 use Rattle.std.specs.List.{list_any}
 use Rattle.tb_words.specs.Words.{is_negative, signed}
 use Rattle.tb_basic_syntax.specs.declared.expressions.Operator.{Operator}
 use Rattle.tb_basic_syntax.specs.declared.expressions.Operator.TheVariants.{Divide}
+use Rattle.tb_basic_syntax.specs.Parts.{expressions_of, jump_of}
 use Rattle.tb_basic_syntax.specs.Source.{Expression, Number, Variable, Negate, Binary, Random, Item, Text, Value, Zone, Program, numbers}
 use Rattle.tb_basic_syntax.specs.Source.{Statement, Let, Print, Input, If, Goto, Gosub, Return, End, Remark}
+use Rattle.tb_basic_meaning.specs.Bounds.{statement_bounds}
 use Rattle.tb_basic_meaning.specs.Control.{content_at, highest}
 use Rattle.tb_basic_meaning.specs.Missing.{missing_targets}
 use Rattle.tb_basic_meaning.specs.Values.{constant}
@@ -54,12 +56,14 @@ abbrev pub high_target : Expression → List Warning
 high_target (Number n) = if nat_lt HIGHEST_NUMBER n then HighTarget n ∷ [] else []
 high_target _ = []
 
+-- the same of a jump, if there is one
+abbrev pub high_by : Option (Expression × Bool) → List Warning
+high_by (Some jump) = high_target jump.0
+high_by None = []
+
 -- the same of a statement
 abbrev pub high_targets : Statement → List Warning
-high_targets (Goto e) = high_target e
-high_targets (Gosub e) = high_target e
-high_targets (If l rel r c) = high_targets c
-high_targets _ = []
+high_targets c = high_by (jump_of c)
 
 -- ── the last line ──
 -- whether the next line may follow a statement
@@ -74,36 +78,9 @@ abbrev pub runs_past : Program → ℕ → Statement → List Warning
 runs_past p n c = if (n == highest (numbers p)) && goes_on c then RunsPast ∷ [] else []
 
 -- ── bounds of RND ──
--- the value of a bound; the bounds inside, if it has none
-abbrev pub value_or : List ℕ → Option ℕ → List ℕ
-value_or inside (Some n) = n ∷ []
-value_or inside None = inside
-
--- the bounds of an expression that have a value without variables and RND, from left to right
-abbrev pub expression_bounds : Expression → List ℕ
-expression_bounds (Number n) = []
-expression_bounds (Variable x) = []
-expression_bounds (Negate e) = expression_bounds e
-expression_bounds (Binary op l r) = expression_bounds l ++ expression_bounds r
-expression_bounds (Random e) = value_or (expression_bounds e) (constant e)
-
--- those of an item of PRINT
-abbrev pub item_bounds : Item → List ℕ
-item_bounds (Text t) = []
-item_bounds (Value e) = expression_bounds e
-item_bounds Zone = []
-
--- those of a statement
-abbrev pub statement_bounds : Statement → List ℕ
-statement_bounds (Let x e) = expression_bounds e
-statement_bounds (Print items ends) = flat_map item_bounds items
-statement_bounds (Input xs) = []
-statement_bounds (If l rel r c) = expression_bounds l ++ (expression_bounds r ++ statement_bounds c)
-statement_bounds (Goto e) = expression_bounds e
-statement_bounds (Gosub e) = expression_bounds e
-statement_bounds Return = []
-statement_bounds End = []
-statement_bounds Remark = []
+-- the bounds of a statement that have a value without variables and RND, from left to right
+abbrev pub known_bounds : Statement → List ℕ
+known_bounds c = flat_map option_to_list (statement_bounds c)
 
 -- whether RND with a bound is odd and even in turns, and there is a better bound
 abbrev pub is_even_bound : ℕ → Bool
@@ -140,23 +117,9 @@ divides_by_zero (Negate e) = divides_by_zero e
 divides_by_zero (Binary op l r) = divides_by_zero l || (divides_by_zero r || is_zero_division op (constant r))
 divides_by_zero (Random e) = divides_by_zero e
 
--- whether an item of PRINT has one
-abbrev pub item_divides_by_zero : Item → Bool
-item_divides_by_zero (Text t) = false
-item_divides_by_zero (Value e) = divides_by_zero e
-item_divides_by_zero Zone = false
-
 -- whether a statement has one
 abbrev pub statement_divides_by_zero : Statement → Bool
-statement_divides_by_zero (Let x e) = divides_by_zero e
-statement_divides_by_zero (Print items ends) = list_any item_divides_by_zero items
-statement_divides_by_zero (Input xs) = false
-statement_divides_by_zero (If l rel r c) = divides_by_zero l || (divides_by_zero r || statement_divides_by_zero c)
-statement_divides_by_zero (Goto e) = divides_by_zero e
-statement_divides_by_zero (Gosub e) = divides_by_zero e
-statement_divides_by_zero Return = false
-statement_divides_by_zero End = false
-statement_divides_by_zero Remark = false
+statement_divides_by_zero c = list_any divides_by_zero (expressions_of c)
 
 -- on a statement with one
 abbrev pub zero_divisors : Statement → List Warning
@@ -225,7 +188,7 @@ statement_keys _ = []
 abbrev pub on_statement : Program → ℕ → Option Statement → List Warning
 on_statement p n None = []
 on_statement p n (Some c) =
-    no_lines p n ++ (high_targets c ++ (runs_past p n c ++ (on_bounds (statement_bounds c)
+    no_lines p n ++ (high_targets c ++ (runs_past p n c ++ (on_bounds (known_bounds c)
     ++ (zero_divisors c ++ (statement_highs c ++ statement_keys c)))))
 
 -- on a line that is not bare, by the later line that has its number; if there is none, it is the program's

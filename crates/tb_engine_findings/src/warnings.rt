@@ -1,6 +1,5 @@
 //! Warnings on a source that is compiled.
 ghost use Rattle.std.specs.Prelude.{◌≡◌, ◌∷◌, ◌++◌, [], Some, IfOk, OnOk, flat_map, map};
-ghost use Rattle.std.specs.List.{list_any};
 ghost use Rattle.tb_words.specs.Words.{word_of};
 ghost use Rattle.tb_basic_syntax.specs.PlainData.{expression_of, item_of, lines_of, statement_of};
 ghost use Rattle.tb_basic_syntax.specs.Source.{numbers};
@@ -12,8 +11,12 @@ ghost use Rattle.tb_engine_findings.specs.Warnings as spec;
 use crate::lines::NumberedLine;
 use crate::remaining::{last_lines, outdone_by};
 use std::alloc::{AllocError, Global};
-use tb_basic_meaning::{Warning as MissingJump, constant, warnings as missing_jumps};
-use tb_basic_syntax::{Expr, HIGHEST_LINE, Operator, PrintItem, Program, Statement};
+use tb_basic_meaning::{
+    Warning as MissingJump, constant, statement_bounds, warnings as missing_jumps,
+};
+use tb_basic_syntax::{
+    Expr, HIGHEST_LINE, Operator, PrintItem, Program, Statement, expressions_of, jump_of,
+};
 
 /// The largest bound of RND that is warned of: there is a better one for each up to it.
 const LARGEST_BOUND: u16 = 15_000;
@@ -182,9 +185,9 @@ fn warn_of_statement(
     if line.number == facts.highest && goes_on(statement) {
         push(found, line.line, Warning::RunsPast)?;
     }
-    let bounds = bounds_of(alloc, statement)?;
+    let bounds = known_bounds(alloc, statement)?;
     warn_of_bounds(line.line, &bounds, found)?;
-    if statement_divides_by_zero(statement) {
+    if statement_divides_by_zero(alloc, statement)? {
         push(found, line.line, Warning::ZeroDivisor)?;
     }
     warn_of_numbers(line.line, statement, found)?;
@@ -216,10 +219,10 @@ fn warn_of_targets(
 ) -> Result<(), AllocError>
     ensures { OnOk result (found.new.items ≡ found.old.items ++ spec.at line (spec.high_targets (statement_of statement.now))) }
 {
-    match statement {
-        Statement::Goto(Expr::Number(target)) | Statement::Gosub(Expr::Number(target))
-            if HIGHEST_LINE < *target => { push(found, line, Warning::HighTarget(*target)) }
-        Statement::If(_, _, _, statement) => warn_of_targets(line, statement, found),
+    match jump_of(statement) {
+        Some((Expr::Number(target), _)) if HIGHEST_LINE < *target => {
+            push(found, line, Warning::HighTarget(*target))
+        }
         _ => Ok(()),
     }
 }
@@ -265,60 +268,17 @@ fn goes_on(statement: &Statement) -> bool
 }
 
 // The bounds of RND in a statement that have a value.
-fn bounds_of(alloc: Global, statement: &Statement) -> Result<Vec<u16>, AllocError>
-    ensures { IfOk result (λ bounds. bounds.items ≡ spec.statement_bounds (statement_of statement.now)) }
+fn known_bounds(alloc: Global, statement: &Statement) -> Result<Vec<u16>, AllocError>
+    ensures { IfOk result (λ known. known.items ≡ spec.known_bounds (statement_of statement.now)) }
 {
-    let mut bounds = Vec::new(alloc);
-    statement_bounds(statement, &mut bounds)?;
-    Ok(bounds)
-}
-
-fn statement_bounds(statement: &Statement, bounds: &mut Vec<u16>) -> Result<(), AllocError>
-    ensures { OnOk result (bounds.new.items ≡ bounds.old.items ++ spec.statement_bounds (statement_of statement.now)) }
-{
-    match statement {
-        Statement::Let(_, e) | Statement::Goto(e) | Statement::Gosub(e) => {
-            expression_bounds(e, bounds)
-        }
-        Statement::Print(items, _) => items_bounds(items, bounds),
-        Statement::If(left, _, right, statement) => {
-            expression_bounds(left, bounds)?;
-            expression_bounds(right, bounds)?;
-            statement_bounds(statement, bounds)
-        }
-        Statement::Input(_) | Statement::Return | Statement::End | Statement::Remark => Ok(()),
-    }
-}
-
-fn items_bounds(items: &[PrintItem], bounds: &mut Vec<u16>) -> Result<(), AllocError>
-    ensures { OnOk result (bounds.new.items ≡ bounds.old.items ++ flat_map spec.item_bounds (map item_of items.now)) }
-{
-    for item in items {
-        if let PrintItem::Value(e) = item {
-            expression_bounds(e, bounds)?;
+    let bounds = statement_bounds(alloc, statement)?;
+    let mut known = Vec::new(alloc);
+    for bound in &bounds {
+        if let Some(bound) = bound {
+            known.push(*bound)?;
         }
     }
-    Ok(())
-}
-
-fn expression_bounds(e: &Expr, bounds: &mut Vec<u16>) -> Result<(), AllocError>
-    ensures { OnOk result (bounds.new.items ≡ bounds.old.items ++ spec.expression_bounds (expression_of e.now)) }
-{
-    match e {
-        Expr::Number(_) | Expr::Variable(_) => Ok(()),
-        Expr::Negate(e) => expression_bounds(e, bounds),
-        Expr::Binary(_, left, right) => {
-            expression_bounds(left, bounds)?;
-            expression_bounds(right, bounds)
-        }
-        Expr::Random(bound) => match constant(bound) {
-            Some(bound) => {
-                bounds.push(bound)?;
-                Ok(())
-            }
-            None => expression_bounds(bound, bounds),
-        },
-    }
+    Ok(known)
 }
 
 // Whether the values of RND with this bound are odd and even in turns, and there is a better bound.
@@ -329,37 +289,16 @@ fn is_even_bound(bound: u16) -> bool
 }
 
 // Whether a statement has a divisor that is 0 without variables and RND.
-fn statement_divides_by_zero(statement: &Statement) -> bool
-    ensures { result ≡ spec.statement_divides_by_zero (statement_of statement.now) }
+fn statement_divides_by_zero(alloc: Global, statement: &Statement) -> Result<bool, AllocError>
+    ensures { IfOk result (λ is. is ≡ spec.statement_divides_by_zero (statement_of statement.now)) }
 {
-    match statement {
-        Statement::Let(_, e) | Statement::Goto(e) | Statement::Gosub(e) => divides_by_zero(e),
-        Statement::Print(items, _) => items_divide_by_zero(items),
-        Statement::If(left, _, right, statement) => {
-            divides_by_zero(left) || divides_by_zero(right) || statement_divides_by_zero(statement)
-        }
-        Statement::Input(_) | Statement::Return | Statement::End | Statement::Remark => false,
-    }
-}
-
-fn items_divide_by_zero(items: &[PrintItem]) -> bool
-    ensures { result ≡ list_any spec.item_divides_by_zero (map item_of items.now) }
-{
-    for item in items {
-        if item_divides_by_zero(item) {
-            return true;
+    let expressions = expressions_of(alloc, statement)?;
+    for e in &expressions {
+        if divides_by_zero(e) {
+            return Ok(true);
         }
     }
-    false
-}
-
-fn item_divides_by_zero(item: &PrintItem) -> bool
-    ensures { result ≡ spec.item_divides_by_zero (item_of item.now) }
-{
-    match item {
-        PrintItem::Value(e) => divides_by_zero(e),
-        _ => false,
-    }
+    Ok(false)
 }
 
 fn divides_by_zero(e: &Expr) -> bool

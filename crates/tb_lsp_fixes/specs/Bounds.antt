@@ -2,8 +2,8 @@
 use Rattle.std.specs.Prelude.{ℕ, ◌+◌, ◌-◌, ◌*◌, Bool, true, false, ◌&&◌, ◌==◌, List, [], ◌∷◌, ◌++◌, codes, flat_map, slice_get, Option, Some, None, if◌then◌else◌}
 use Rattle.std.specs.Fmt.{decimal}
 use Rattle.serde_json.specs.Data.{Data}
-use Rattle.tb_basic_syntax.specs.Source.{Expression, Number, Variable, Negate, Binary, Random, Item, Text, Value, Zone, Statement, Let, Print, Input, If, Goto, Gosub, Return, End, Remark}
-use Rattle.tb_basic_meaning.specs.Values.{constant}
+use Rattle.tb_basic_syntax.specs.Source.{Statement}
+use Rattle.tb_basic_meaning.specs.Bounds.{statement_bounds}
 use Rattle.tb_parser.specs.Readings.{Edit}
 use Rattle.tb_parser.specs.declared.lexer.Token.{Token}
 use Rattle.tb_parser.specs.declared.lexer.TokenKind.{TokenKind}
@@ -15,37 +15,7 @@ use Rattle.tb_basic_names.specs.Lines.{does, statement_in}
 use Rattle.tb_basic_names.specs.declared.lines.Line.{Line as SourceLine}
 use Rattle.tb_lsp_fixes.specs.Mends.{Mends}
 
--- the bounds of RND in an expression, each before those inside it, as the words come; none of one that isn't constant
-abbrev pub expression_bounds : Expression → List (Option ℕ)
-expression_bounds (Number n) = []
-expression_bounds (Variable x) = []
-expression_bounds (Negate e) = expression_bounds e
-expression_bounds (Binary op l r) = expression_bounds l ++ expression_bounds r
-expression_bounds (Random e) = constant e ∷ expression_bounds e
-
--- those of an item of PRINT
-abbrev pub item_bounds : Item → List (Option ℕ)
-item_bounds (Text t) = []
-item_bounds (Value e) = expression_bounds e
-item_bounds Zone = []
-
--- those of items
-abbrev pub items_bounds : List Item → List (Option ℕ)
-items_bounds items = flat_map item_bounds items
-
--- those of a statement
-abbrev pub statement_bounds : Statement → List (Option ℕ)
-statement_bounds (Let x e) = expression_bounds e
-statement_bounds (Print items ends) = items_bounds items
-statement_bounds (Input xs) = []
-statement_bounds (If l rel r c) = expression_bounds l ++ (expression_bounds r ++ statement_bounds c)
-statement_bounds (Goto e) = expression_bounds e
-statement_bounds (Gosub e) = expression_bounds e
-statement_bounds Return = []
-statement_bounds End = []
-statement_bounds Remark = []
-
--- those of a line's statement, if it has one
+-- the bounds of RND in a line's statement, if it has one
 abbrev pub bounds_by : Option Statement → List (Option ℕ)
 bounds_by None = []
 bounds_by (Some c) = statement_bounds c

@@ -1,7 +1,6 @@
 //! RND with an even bound on a line, and what is better in its place.
 ghost use Rattle.std.specs.Prelude.{◌≡◌, ◌+◌, ◌<◌, ◌≤◌, ◌^◌, ◌∷◌, ◌++◌, [], IfOk, OnOk, map, option_map, string_bytes};
 ghost use Rattle.serde_json.specs.View.{view};
-ghost use Rattle.tb_basic_syntax.specs.PlainData.{expression_of, item_of, statement_of};
 ghost use Rattle.tb_basic_names.specs.Lines.{does};
 ghost use Rattle.tb_basic_places.specs.Spans.{between};
 ghost use Rattle.tb_editor_values.specs.Edits.{edit_value};
@@ -11,69 +10,21 @@ ghost use Rattle.tb_lsp_fixes.specs.Writing.{seen};
 use crate::fixes::Fix;
 use serde_json::Value;
 use std::alloc::{AllocError, Global};
-use tb_basic_meaning::constant;
+use tb_basic_meaning::statement_bounds;
 use tb_basic_names::Line;
 use tb_basic_places::between;
-use tb_basic_syntax::{Expr, PrintItem, Statement};
 use tb_editor_values::edit_value;
 use tb_engine_check::times_of;
 use tb_parser::{Token, TokenKind};
-
-// Appends the bounds of RND in an expression, each before those inside it; `None` for one that isn't constant.
-fn expression_bounds(e: &Expr, bounds: &mut Vec<Option<u16>>) -> Result<(), AllocError>
-    ensures { OnOk result (bounds.new.items ≡ bounds.old.items ++ spec.expression_bounds (expression_of e.now)) }
-{
-    match e {
-        Expr::Number(_) | Expr::Variable(_) => Ok(()),
-        Expr::Negate(e) => expression_bounds(e, bounds),
-        Expr::Binary(_, left, right) => {
-            expression_bounds(left, bounds)?;
-            expression_bounds(right, bounds)
-        }
-        Expr::Random(bound) => {
-            bounds.push(constant(bound))?;
-            expression_bounds(bound, bounds)
-        }
-    }
-}
-
-fn items_bounds(items: &[PrintItem], bounds: &mut Vec<Option<u16>>) -> Result<(), AllocError>
-    ensures { OnOk result (bounds.new.items ≡ bounds.old.items ++ spec.items_bounds (map item_of items.now)) }
-{
-    for item in items {
-        if let PrintItem::Value(e) = item {
-            expression_bounds(e, bounds)?;
-        }
-    }
-    Ok(())
-}
-
-fn statement_bounds(statement: &Statement, bounds: &mut Vec<Option<u16>>) -> Result<(), AllocError>
-    ensures { OnOk result (bounds.new.items ≡ bounds.old.items ++ spec.statement_bounds (statement_of statement.now)) }
-{
-    match statement {
-        Statement::Let(_, e) | Statement::Goto(e) | Statement::Gosub(e) => {
-            expression_bounds(e, bounds)
-        }
-        Statement::Print(items, _) => items_bounds(items, bounds),
-        Statement::If(left, _, right, statement) => {
-            expression_bounds(left, bounds)?;
-            expression_bounds(right, bounds)?;
-            statement_bounds(statement, bounds)
-        }
-        Statement::Input(_) | Statement::Return | Statement::End | Statement::Remark => Ok(()),
-    }
-}
 
 // The bounds of RND in a line, in the order of the words.
 fn bounds_of(alloc: Global, line: &Line<'_>) -> Result<Vec<Option<u16>>, AllocError>
     ensures { IfOk result (λ bounds. bounds.items ≡ spec.bounds_in (does line.now.edit)) }
 {
-    let mut bounds = Vec::new(alloc);
-    if let Some(statement) = line.statement() {
-        statement_bounds(statement, &mut bounds)?;
+    match line.statement() {
+        Some(statement) => statement_bounds(alloc, statement),
+        None => Ok(Vec::new(alloc)),
     }
-    Ok(bounds)
 }
 
 // How many parentheses are open after a token.

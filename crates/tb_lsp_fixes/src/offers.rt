@@ -1,7 +1,8 @@
 //! The fixes of the findings on lines.
 ghost use Rattle.std.specs.Prelude.{◌≡◌, ◌++◌, IfOk, OnOk, map, option_map};
 ghost use Rattle.serde_json.specs.View.{view};
-ghost use Rattle.tb_lsp_diagnostics.specs.Diagnostics.{texts_of};
+ghost use Rattle.tb_lsp_diagnostics.specs.Diagnostics.{on_warning, texts_of};
+ghost use Rattle.tb_lsp_fixes.specs.Fixes.{fix_of_warning};
 ghost use Rattle.tb_lsp_fixes.specs.Writing.{seen};
 ghost use Rattle.tb_lsp_fixes.specs.Actions as spec;
 
@@ -106,16 +107,13 @@ fn push_of_warning(
     text: &Lines<'_>,
     source: &Source<'_>,
     is_ended: bool,
-    range: LineRange,
     warning: &LineWarning,
     found: &mut Vec<Value>,
 ) -> Result<(), AllocError>
     ensures { OnOk result (map view found.new.items ≡ map view found.old.items
-        ++ spec.of_warning text.now.uri.now (texts_of text.now) source.now.lines.items is_ended range warning.now) }
+        ++ spec.offered text.now.uri.now (on_warning text.now.uri.now (texts_of text.now) warning.now)
+        (fix_of_warning (texts_of text.now) source.now.lines.items is_ended warning.now)) }
 {
-    if !range.has(warning.line) {
-        return Ok(());
-    }
     let fix = fix_of_warning(alloc, text, source, is_ended, warning)?;
     push_fix(
         alloc,
@@ -139,7 +137,9 @@ fn of_warnings(
 {
     let mut found = Vec::new(alloc);
     for warning in warnings {
-        push_of_warning(alloc, text, source, is_ended, range, warning, &mut found)?;
+        if range.has(warning.line) {
+            push_of_warning(alloc, text, source, is_ended, warning, &mut found)?;
+        }
     }
     Ok(found)
 }

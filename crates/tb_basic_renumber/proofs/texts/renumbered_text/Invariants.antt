@@ -11,7 +11,7 @@ use Rattle.tb_basic_renumber.proofs.texts.renumbered_text.Given as goal
 
 abbrev pub invariant-loop-i : goal.invariant-loop-i
 invariant-loop-i l =
-    let f = new_number l.numbering.first l.numbering.step (numbers (lines_of l.program)) in
+    let f = new_number l.fn.numbering.first l.fn.numbering.step (numbers (lines_of l.program)) in
     let all = edits_of l.source.lines.items in
     let left = drop l.i l.source.lines.items in record {
       lines : map (λ x. x.text.now) left ≡ lines_from false l.rest;

@@ -1,0 +1,2 @@
+-- lists that are compared
+pub mod Lists
