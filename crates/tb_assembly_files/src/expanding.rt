@@ -97,6 +97,14 @@ fn push_statements(
     }
 }
 
+// Where a line is read: the files at hand, how deep includes may go from here, and the files that are being read.
+#[derive(Clone, Copy, Drop)]
+struct Within<'a> {
+    library: &'a [SourceFile],
+    depth: usize,
+    chain: &'a [usize],
+}
+
 // An include: its column, and how it names the file.
 #[derive(Drop)]
 struct Included {
@@ -194,17 +202,15 @@ fn parse(
 #[cycle(reading)]
 fn read_one(
     alloc: Global,
-    library: &[SourceFile],
-    depth: usize,
-    chain: &[usize],
+    within: Within<'_>,
     place: Place,
     line: &[u8],
     reading: &mut Reading,
 ) -> Result<(), Stop>
-    ensures { Reaches (line_read (including depth (map source_of library.now) chain.now) place line.now (read_of reading.old)) result (read_of reading.new) }
+    ensures { Reaches (line_read (including within.entry.depth (map source_of within.entry.library.now) within.entry.chain.now) place line.now (read_of reading.old)) result (read_of reading.new) }
 {
     match parse(alloc, place, line, reading) {
-        Ok(Some(statements)) => { take(alloc, library, depth, chain, place, statements, reading) }
+        Ok(Some(statements)) => { take(alloc, within, place, statements, reading) }
         Ok(None) => Ok(()),
         Err(stop) => Err(stop),
     }
@@ -214,14 +220,12 @@ fn read_one(
 #[cycle(reading)]
 fn take(
     alloc: Global,
-    library: &[SourceFile],
-    depth: usize,
-    chain: &[usize],
+    within: Within<'_>,
     place: Place,
     statements: Vec<Statement>,
     reading: &mut Reading,
 ) -> Result<(), Stop>
-    ensures { Reaches (by_include (including depth (map source_of library.now) chain.now) place (map said_of statements.items) (last_include (map said_of statements.items)) (read_of reading.old)) result (read_of reading.new) }
+    ensures { Reaches (by_include (including within.entry.depth (map source_of within.entry.library.now) within.entry.chain.now) place (map said_of statements.items) (last_include (map said_of statements.items)) (read_of reading.old)) result (read_of reading.new) }
 {
     match last_include(alloc, &statements)? {
         None => push_statements(reading, place, statements),
@@ -229,9 +233,7 @@ fn take(
             push_statements(reading, place, without_last(statements))?;
             include(
                 alloc,
-                library,
-                depth,
-                chain,
+                within,
                 place,
                 included.column,
                 &included.name,
@@ -245,16 +247,19 @@ fn take(
 #[cycle(reading)]
 fn include(
     alloc: Global,
-    library: &[SourceFile],
-    depth: usize,
-    chain: &[usize],
+    within: Within<'_>,
     place: Place,
     column: usize,
     name: &[u8],
     reading: &mut Reading,
 ) -> Result<(), Stop>
-    ensures { Reaches (including depth (map source_of library.now) chain.now place column name.now (read_of reading.old)) result (read_of reading.new) }
+    ensures { Reaches (including within.entry.depth (map source_of within.entry.library.now) within.entry.chain.now place column name.now (read_of reading.old)) result (read_of reading.new) }
 {
+    let Within {
+        library,
+        depth,
+        chain,
+    } = within;
     if depth == 0 {
         return refuse(reading, place, column, IncludeFault::TooDeep);
     }
@@ -269,7 +274,12 @@ fn include(
         None => refuse(reading, place, column, IncludeFault::Unread),
         Some(text) => {
             let chain = with_file(alloc, file, chain)?;
-            read_file(alloc, library, depth - 1, &chain, file, text, reading)
+            let within = Within {
+                library,
+                depth: depth - 1,
+                chain: &chain,
+            };
+            read_file(alloc, within, file, text, reading)
         }
     }
 }
@@ -278,27 +288,17 @@ fn include(
 #[cycle(reading)]
 fn read_file(
     alloc: Global,
-    library: &[SourceFile],
-    depth: usize,
-    chain: &[usize],
+    within: Within<'_>,
     file: usize,
     text: &[u8],
     reading: &mut Reading,
 ) -> Result<(), Stop>
-    ensures { Reaches (lines_read (including depth (map source_of library.now) chain.now) file 1 (lines_of_file text.now) (read_of reading.old)) result (read_of reading.new) }
+    ensures { Reaches (lines_read (including within.entry.depth (map source_of within.entry.library.now) within.entry.chain.now) file 1 (lines_of_file text.now) (read_of reading.old)) result (read_of reading.new) }
 {
     let mut rest = text;
     let mut line = 1usize;
     while let Some((first, behind)) = next_line(rest) {
-        match read_one(
-            alloc,
-            library,
-            depth,
-            chain,
-            Place { file, line },
-            first,
-            reading,
-        ) {
+        match read_one(alloc, within, Place { file, line }, first, reading) {
             Ok(()) => {}
             Err(stop) => return Err(stop),
         }
@@ -323,7 +323,12 @@ pub fn expand(alloc: Global, library: &[SourceFile]) -> Result<Option<Reading>, 
         bad: Vec::new(alloc),
         lines: 0,
     };
-    match read_file(alloc, library, DEEPEST, &[0], 0, text, &mut reading) {
+    let within = Within {
+        library,
+        depth: DEEPEST,
+        chain: &[0],
+    };
+    match read_file(alloc, within, 0, text, &mut reading) {
         Ok(()) => Ok(Some(reading)),
         Err(stop) => Err(stop),
     }

@@ -121,18 +121,25 @@ fn push_note(
     }
 }
 
+// The line in which something is wrong, and the path of its file.
+#[derive(Clone, Copy, Drop)]
+struct LineOfFile<'a> {
+    path: &'a [u8],
+    line: &'a [u8],
+}
+
 // What is wrong, the line with its place, and a note.
 fn push_finding(
     alloc: Global,
     text: &mut Vec<u8>,
-    path: &[u8],
-    line: &[u8],
+    at: LineOfFile<'_>,
     names: &[&[u8]],
     is_noted: bool,
     finding: &Finding,
 ) -> Result<(), AllocError>
-    ensures { AppendsBytes result text.old text.new (rows path.now line.now (map (λ n. n.now) names.now) is_noted finding.now) }
+    ensures { AppendsBytes result text.old text.new (rows at.entry.path.now at.entry.line.now (map (λ n. n.now) names.now) is_noted finding.now) }
 {
+    let LineOfFile { path, line } = at;
     let said = cause_text(finding.cause);
     let note = note(alloc, is_noted, names, line, finding.column, finding.cause)?;
     push_row(alloc, text, path, finding, b": error: ", said.as_bytes())?;
@@ -152,9 +159,11 @@ pub fn report(
     let all = all_lines(alloc, library)?;
     let mut text = Vec::new(alloc);
     for (i, finding) in findings.iter().enumerate() {
-        let path = path_at(library, finding.place.file);
-        let line = line_at(&all, finding.place);
-        push_finding(alloc, &mut text, path, line, names, i < NOTED, finding)?;
+        let at = LineOfFile {
+            path: path_at(library, finding.place.file),
+            line: line_at(&all, finding.place),
+        };
+        push_finding(alloc, &mut text, at, names, i < NOTED, finding)?;
     }
     Ok(text)
 }

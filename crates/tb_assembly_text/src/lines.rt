@@ -17,6 +17,13 @@ use crate::tokens::{Sign, Token, read_tokens};
 use crate::words::is_item;
 use std::alloc::Global;
 
+// A word, and the column where it begins.
+#[derive(Clone, Copy, Drop)]
+struct Word<'a> {
+    column: usize,
+    letters: &'a [u8],
+}
+
 fn push(statements: &mut Vec<Statement>, column: usize, clause: Clause) -> Result<(), LineError>
     ensures added { OnOk result (map said_of statements.new.items ≡ map said_of statements.old.items ++ (column, clause_of clause) ∷ []) }
     ensures memory { IfErr result (λ e. e ≡ LineError.NoMemory) }
@@ -44,20 +51,19 @@ fn read_origin(
     }
 }
 
-// An instruction or a directive, by its word at a column and the tokens behind it.
+// An instruction or a directive, by its word and the tokens behind it.
 fn read_word_statement(
     alloc: Global,
     scope: &[u8],
     end: usize,
-    column: usize,
-    word: &[u8],
+    word: Word<'_>,
     rest: &[Token<'_>],
     statements: &mut Vec<Statement>,
 ) -> Result<(), LineError>
-    ensures { Pushes (alone column (word_item scope.now end column word.now (map token_of rest.now))) (map said_of statements.old.items) result (map said_of statements.new.items) }
+    ensures { Pushes (alone word.entry.column (word_item scope.now end word.entry.column word.entry.letters.now (map token_of rest.now))) (map said_of statements.old.items) result (map said_of statements.new.items) }
 {
-    let clause = read_item(alloc, scope, end, column, word, rest)?;
-    push(statements, column, clause)
+    let clause = read_item(alloc, scope, end, word.column, word.letters, rest)?;
+    push(statements, word.column, clause)
 }
 
 // `* = e`, from the star at a column on.
@@ -104,16 +110,9 @@ fn read_first(
 {
     let column = column_at(end, tokens);
     match word_at(tokens) {
-        Some(word) => {
-            read_word_statement(
-                alloc,
-                scope,
-                end,
-                column,
-                word,
-                behind(tokens, 1),
-                statements,
-            )
+        Some(letters) => {
+            let word = Word { column, letters };
+            read_word_statement(alloc, scope, end, word, behind(tokens, 1), statements)
         }
         None => read_sign_statement(alloc, scope, end, column, tokens, statements),
     }
@@ -150,50 +149,34 @@ fn label_fault(word: &[u8]) -> Option<FaultKind>
 }
 
 // The name that a label or a value gets.
-fn read_name(alloc: Global, scope: &[u8], column: usize, word: &[u8]) -> Result<Name, LineError>
-    ensures { Reads (λ n. n.letters.items) (name_of scope.now column word.now) result }
+fn read_name(alloc: Global, scope: &[u8], word: Word<'_>) -> Result<Name, LineError>
+    ensures { Reads (λ n. n.letters.items) (name_of scope.now word.entry.column word.entry.letters.now) result }
 {
-    match label_fault(word) {
-        Some(kind) => Err(bad(column, kind)),
-        None => match full_name(alloc, scope, word) {
+    match label_fault(word.letters) {
+        Some(kind) => Err(bad(word.column, kind)),
+        None => match full_name(alloc, scope, word.letters) {
             Ok(name) => Ok(name),
             Err(_) => Err(LineError::NoMemory),
         },
     }
 }
 
-// A label by its name, and what follows it.
-fn push_labelled(
-    alloc: Global,
-    scope: &[u8],
-    end: usize,
-    column: usize,
-    name: Name,
-    tokens: &[Token<'_>],
-    statements: &mut Vec<Statement>,
-) -> Result<(), LineError>
-    ensures { Pushes (after_label column name.letters.items (rest_of_line scope.now end (map token_of tokens.now))) (map said_of statements.old.items) result (map said_of statements.new.items) }
-{
-    push(statements, column, Clause::Label(name))?;
-    read_rest(alloc, scope, end, tokens, statements)
-}
-
-// A label at a column, and what follows it.
+// A label, and what follows it.
 fn read_labelled(
     alloc: Global,
     scope: &mut Vec<u8>,
     end: usize,
-    column: usize,
-    word: &[u8],
+    word: Word<'_>,
     tokens: &[Token<'_>],
     statements: &mut Vec<Statement>,
 ) -> Result<(), LineError>
-    ensures pushes { Pushes (labelled scope.old.items end column word.now (map token_of tokens.now)) (map said_of statements.old.items) result (map said_of statements.new.items) }
-    ensures scope { OnOk result (scope.new.items ≡ scope_after scope.old.items word.now) }
+    ensures pushes { Pushes (labelled scope.old.items end word.entry.column word.entry.letters.now (map token_of tokens.now)) (map said_of statements.old.items) result (map said_of statements.new.items) }
+    ensures scope { OnOk result (scope.new.items ≡ scope_after scope.old.items word.entry.letters.now) }
 {
-    let name = read_name(alloc, scope, column, word)?;
-    enter_scope(alloc, scope, word)?;
-    push_labelled(alloc, scope, end, column, name, tokens, statements)
+    let name = read_name(alloc, scope, word)?;
+    enter_scope(alloc, scope, word.letters)?;
+    push(statements, word.column, Clause::Label(name))?;
+    read_rest(alloc, scope, end, tokens, statements)
 }
 
 fn enter_scope(alloc: Global, scope: &mut Vec<u8>, word: &[u8]) -> Result<(), LineError>
@@ -211,16 +194,15 @@ fn read_assign(
     alloc: Global,
     scope: &[u8],
     end: usize,
-    column: usize,
-    word: &[u8],
+    word: Word<'_>,
     tokens: &[Token<'_>],
     statements: &mut Vec<Statement>,
 ) -> Result<(), LineError>
-    ensures { Pushes (assigned scope.now end column word.now (map token_of tokens.now)) (map said_of statements.old.items) result (map said_of statements.new.items) }
+    ensures { Pushes (assigned scope.now end word.entry.column word.entry.letters.now (map token_of tokens.now)) (map said_of statements.old.items) result (map said_of statements.new.items) }
 {
-    let name = read_name(alloc, scope, column, word)?;
+    let name = read_name(alloc, scope, word)?;
     let value = read_whole(alloc, scope, end, tokens)?;
-    push(statements, column, Clause::Assign(name, value))
+    push(statements, word.column, Clause::Assign(name, value))
 }
 
 // Whether tokens may stand behind a label: none, or an instruction, a directive or an origin.
@@ -240,23 +222,22 @@ fn is_unknown(word: &[u8], rest: &[Token<'_>]) -> bool
     matches!(word, [b'.', ..]) && !may_follow(rest)
 }
 
-// A word at a column that begins no statement: a label, or a directive that is unknown.
+// A word that begins no statement: a label, or a directive that is unknown.
 fn read_plain_word(
     alloc: Global,
     scope: &mut Vec<u8>,
     end: usize,
-    column: usize,
-    word: &[u8],
+    word: Word<'_>,
     rest: &[Token<'_>],
     statements: &mut Vec<Statement>,
 ) -> Result<(), LineError>
-    ensures pushes { Pushes (plain_word scope.old.items end column word.now (map token_of rest.now)) (map said_of statements.old.items) result (map said_of statements.new.items) }
-    ensures scope { OnOk result (scope.new.items ≡ scope_after scope.old.items word.now) }
+    ensures pushes { Pushes (plain_word scope.old.items end word.entry.column word.entry.letters.now (map token_of rest.now)) (map said_of statements.old.items) result (map said_of statements.new.items) }
+    ensures scope { OnOk result (scope.new.items ≡ scope_after scope.old.items word.entry.letters.now) }
 {
-    if is_unknown(word, rest) {
-        return Err(bad(column, FaultKind::UnknownDirective));
+    if is_unknown(word.letters, rest) {
+        return Err(bad(word.column, FaultKind::UnknownDirective));
     }
-    read_labelled(alloc, scope, end, column, word, rest, statements)
+    read_labelled(alloc, scope, end, word, rest, statements)
 }
 
 // A line that begins with a word: the name of a value, a label, an instruction or a directive.
@@ -264,27 +245,24 @@ fn read_word_line(
     alloc: Global,
     scope: &mut Vec<u8>,
     end: usize,
-    word: &[u8],
+    letters: &[u8],
     tokens: &[Token<'_>],
     statements: &mut Vec<Statement>,
 ) -> Result<(), LineError>
     requires { 0 < length tokens.now }
-    ensures pushes { Pushes (word_line scope.old.items end word.now (map token_of tokens.now)) (map said_of statements.old.items) result (map said_of statements.new.items) }
-    ensures scope { OnOk result (scope.new.items ≡ scope_of_word scope.old.items word.now (map token_of tokens.now)) }
+    ensures pushes { Pushes (word_line scope.old.items end letters.now (map token_of tokens.now)) (map said_of statements.old.items) result (map said_of statements.new.items) }
+    ensures scope { OnOk result (scope.new.items ≡ scope_of_word scope.old.items letters.now (map token_of tokens.now)) }
 {
     let column = column_at(end, tokens);
+    let word = Word { column, letters };
     let rest = behind(tokens, 1);
     match sign_at(rest) {
-        Some(Sign::Equals) => {
-            read_assign(alloc, scope, end, column, word, behind(rest, 1), statements)
-        }
-        Some(Sign::Colon) => {
-            read_labelled(alloc, scope, end, column, word, behind(rest, 1), statements)
-        }
-        _ => if is_item(word) {
+        Some(Sign::Equals) => { read_assign(alloc, scope, end, word, behind(rest, 1), statements) }
+        Some(Sign::Colon) => { read_labelled(alloc, scope, end, word, behind(rest, 1), statements) }
+        _ => if is_item(letters) {
             read_rest(alloc, scope, end, tokens, statements)
         } else {
-            read_plain_word(alloc, scope, end, column, word, rest, statements)
+            read_plain_word(alloc, scope, end, word, rest, statements)
         },
     }
 }

@@ -91,12 +91,13 @@ fn put_lines(
     ensures { Puts result items.old items.new (program.lines_code numbers.now seed (code_of lines.now)) }
 {
     let alloc = *items.allocator();
-    let mut placed = Vec::new(alloc);
-    let mut groups = Vec::new(alloc);
+    let mut room = Room {
+        placed: Vec::new(alloc),
+        groups: Vec::new(alloc),
+    };
     let mut rest = lines;
     while let [line, behind @ ..] = rest {
-        let next = first_of(behind);
-        put_line(items, numbers, seed, line, next, &mut placed, &mut groups)?;
+        put_line(items, numbers, seed, line, first_of(behind), &mut room)?;
         rest = behind;
     }
     Ok(())
@@ -112,61 +113,40 @@ fn first_of(lines: &[SlotLine]) -> Target
     }
 }
 
-// A line at its label. The last two lists lend their room to the choice of groups.
+// The lists in which the groups of a line are chosen; they lend their room to the next line.
+#[derive(Drop)]
+struct Room<'a> {
+    placed: Vec<Placed<'a>>,
+    groups: Vec<Group<'a>>,
+}
+
+// A line at its label: it takes an answer and then does its groups.
 fn put_line<'a>(
     items: &mut Vec<Item>,
     numbers: &[u16],
     seed: u16,
     line: &'a SlotLine,
     next: Target,
-    placed: &mut Vec<Placed<'a>>,
-    groups: &mut Vec<Group<'a>>,
+    room: &mut Room<'a>,
 ) -> Result<(), AllocError>
     requires rising { Rises 0 65536 numbers.now }
     requires lists { AreInRange 256 (map instr_of line.now.code.items) × (length line.now.code.items < 65536) }
     requires next { next ≡ templates.next_line numbers.now line.now.number }
     ensures { Puts result items.old items.new (program.line_code numbers.now seed (slot_line_of line.now)) }
 {
-    put_here(items, Target::Line(line.number))?;
-    put_list(
-        items,
-        numbers,
-        seed,
-        line.number,
-        next,
-        &line.code,
-        placed,
-        groups,
-    )
-}
-
-// A line's list: it takes an answer and then does its groups.
-fn put_list<'a>(
-    items: &mut Vec<Item>,
-    numbers: &[u16],
-    seed: u16,
-    line: u16,
-    next: Target,
-    list: &'a [SlotInstr],
-    placed: &mut Vec<Placed<'a>>,
-    groups: &mut Vec<Group<'a>>,
-) -> Result<(), AllocError>
-    requires rising { Rises 0 65536 numbers.now }
-    requires list { AreInRange 256 (map instr_of list.now) × (length list.now < 65536) }
-    requires next { next ≡ templates.next_line numbers.now line }
-    ensures { Puts result items.old items.new (program.list_code numbers.now seed line (map instr_of list.now)) }
-{
-    match list {
+    let number = line.number;
+    put_here(items, Target::Line(number))?;
+    match line.code.as_slice() {
         [SlotInstr::Poll, behind @ ..] => {
-            select_in(placed, groups, behind)?;
-            let away = some_leaves(groups);
-            put_polled(items, away, line)?;
-            put_groups(items, numbers, seed, line, next, groups)?;
-            put_behind(items, away, line)
+            select_in(&mut room.placed, &mut room.groups, behind)?;
+            let away = some_leaves(&room.groups);
+            put_polled(items, away, number)?;
+            put_groups(items, numbers, seed, number, next, &room.groups)?;
+            put_behind(items, away, number)
         }
-        _ => {
-            select_in(placed, groups, list)?;
-            put_groups(items, numbers, seed, line, next, groups)
+        list => {
+            select_in(&mut room.placed, &mut room.groups, list)?;
+            put_groups(items, numbers, seed, number, next, &room.groups)
         }
     }
 }

@@ -95,20 +95,26 @@ impl Talker for Debugging<'_> {
     }
 }
 
+// A program at its start: the machine, and the ROM beside it.
+#[derive(Drop)]
+struct Start {
+    machine: Machine,
+    rom: Rom,
+}
+
 // The session of a program that is loaded.
 fn session_of<'a>(
     alloc: Global,
     path: &'a str,
     source: &'a CompiledSource,
     notation: Notation,
-    machine: Machine,
-    rom: Rom,
+    start: Start,
     plan: Plan,
 ) -> Result<Session<'a>, AllocError>
-    ensures { IfOk result (spec.IsSession path.now source.now notation machine rom plan) }
+    ensures { IfOk result (spec.IsSession path.now source.now notation start.machine start.rom plan) }
 {
     let lines = read_source(alloc, notation, &source.text)?;
-    let debugger = Debugger::new(alloc, &source.program, machine, rom)?;
+    let debugger = Debugger::new(alloc, &source.program, start.machine, start.rom)?;
     Ok(Session {
         file: SourceFile {
             path,
@@ -167,7 +173,8 @@ fn debug<R: Read, W: Write>(
         rom,
         plan,
     } = launched.loaded;
-    let Ok(session) = session_of(alloc, &path, &source, notation, machine, rom, plan) else {
+    let start = Start { machine, rom };
+    let Ok(session) = session_of(alloc, &path, &source, notation, start, plan) else {
         return AdapterOutcome::NoMemory;
     };
     let mut next = first;

@@ -99,6 +99,13 @@ fn done(alloc: Global) -> Result<Greeting, AllocError>
     Ok(Greeting::Said(alone(alloc, Said::Done(None))?))
 }
 
+/// What a request asks for: a command, if it is one of the adapter's, and its arguments.
+#[derive(Clone, Copy, Drop)]
+pub struct Asked<'a> {
+    pub command: Option<Command>,
+    pub arguments: &'a Value,
+}
+
 /// What comes of a request before a program is launched, by whether the adapter was initialized, and by what it has for
 /// a launch that asks for nothing else.
 pub fn greet<K: Compile, S: Sources>(
@@ -107,19 +114,18 @@ pub fn greet<K: Compile, S: Sources>(
     usual: Usual,
     initialized: &mut bool,
     sources: &mut S,
-    command: Option<Command>,
-    arguments: &Value,
+    asked: Asked<'_>,
 ) -> Result<Greeting, AllocError>
-    ensures { IfOk result (λ greeting. spec.Greets K.own S.reads usual command (view arguments.now) initialized.old sources.old greeting initialized.new sources.new) }
+    ensures { IfOk result (λ greeting. spec.Greets K.own S.reads usual asked.entry.command (view asked.entry.arguments.now) initialized.old sources.old greeting initialized.new sources.new) }
 {
-    match command {
+    match asked.command {
         None => unwelcome(alloc, Refusal::UnknownCommand),
         Some(Command::Disconnect) => done(alloc),
         Some(Command::Initialize) => {
-            initialize_once(alloc, initialized, is_understood(arguments))
+            initialize_once(alloc, initialized, is_understood(asked.arguments))
         }
         Some(Command::Launch) if *initialized => {
-            launch(compiler, alloc, sources, launch_in(arguments, usual))
+            launch(compiler, alloc, sources, launch_in(asked.arguments, usual))
         }
         Some(_) => unwelcome(alloc, too_early(*initialized)),
     }

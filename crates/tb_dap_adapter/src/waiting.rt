@@ -6,7 +6,7 @@ ghost use Rattle.tb_dap_adapter.specs.Waiting as spec;
 ghost use Rattle.tb_editor_dialogue.specs.Dialogue.{streams};
 ghost use Rattle.tb_engine_streams.specs.Failures.{failures_of};
 
-use crate::greeting::{Greeting, greet};
+use crate::greeting::{Asked, Greeting, greet};
 use crate::outcome::AdapterOutcome;
 use crate::talking::{complain, end_by, given, say, silence};
 use serde_json::Value;
@@ -88,8 +88,7 @@ impl<K: Compile, S: Sources> Greeter<'_, K, S> {
             self.usual,
             &mut self.initialized,
             self.sources,
-            command,
-            arguments,
+            Asked { command, arguments },
         )?;
         let end = end_by(command, Waited::Done);
         say_greeting(alloc, &mut self.next, asker, greeting, end)

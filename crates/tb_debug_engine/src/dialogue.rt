@@ -36,6 +36,20 @@ pub struct Setting {
     pub prompts: bool,
 }
 
+/// What a dialogue reads and writes: the commands, one on a line, and their answers.
+#[derive(Drop)]
+pub struct Streams<R: Read, W: Write> {
+    pub commands: Tracked<R>,
+    pub writer: Tracked<W>,
+}
+
+/// A PRG file, and the names of its places.
+#[derive(Clone, Copy, Debug, Drop)]
+pub struct NamedPrg<'a> {
+    pub file: &'a [u8],
+    pub labels: &'a [Label],
+}
+
 /// A dialogue as far as it has come.
 #[derive(Drop)]
 pub struct Dialogue<'a> {
@@ -79,16 +93,15 @@ fn prompt<W: Write>(writer: &mut Tracked<W>, prompts: bool) -> Result<(), Stream
 fn ask<R: Read, W: Write>(
     alloc: Global,
     prompts: bool,
-    commands: &mut Tracked<R>,
-    writer: &mut Tracked<W>,
+    streams: &mut Streams<R, W>,
 ) -> Result<Option<Vec<u8>>, Outcome>
     ensures { Asks prompts result
-        (streams_of R.remaining commands.old W.contents writer.old) (streams_of R.remaining commands.new W.contents writer.new) }
+        (streams_of R.remaining streams.old.commands W.contents streams.old.writer) (streams_of R.remaining streams.new.commands W.contents streams.new.writer) }
 {
-    if prompt(writer, prompts).is_err() {
+    if prompt(&mut streams.writer, prompts).is_err() {
         return Err(Outcome::WriteFault);
     }
-    Ok(read_line(alloc, commands, MOST_INPUT)?)
+    Ok(read_line(alloc, &mut streams.commands, MOST_INPUT)?)
 }
 
 // The command that a line is after a move, with or without a source.
@@ -108,14 +121,13 @@ fn answer_line<R: Read, W: Write, V: Watch>(
     dialogue: &mut Dialogue<'_>,
     source: &Written<'_>,
     setting: Setting,
-    commands: &mut Tracked<R>,
-    writer: &mut Tracked<W>,
+    streams: &mut Streams<R, W>,
     watch: &mut V,
 ) -> Result<bool, Outcome>
     ensures { Exchanges source.now setting dialogue.old result dialogue.new
-        (streams_of R.remaining commands.old W.contents writer.old) (streams_of R.remaining commands.new W.contents writer.new) }
+        (streams_of R.remaining streams.old.commands W.contents streams.old.writer) (streams_of R.remaining streams.new.commands W.contents streams.new.writer) }
 {
-    let line = match ask(alloc, setting.prompts, commands, writer) {
+    let line = match ask(alloc, setting.prompts, streams) {
         Ok(Some(line)) => line,
         Ok(None) => return Ok(false),
         Err(outcome) => return Err(outcome),
@@ -133,10 +145,12 @@ fn answer_line<R: Read, W: Write, V: Watch>(
         .debugger
         .respond(alloc, command, setting.limit, watch)
     {
-        Ok(Some(answer)) => match say(alloc, writer, source, setting.prompts, answer) {
-            Ok(()) => Ok(true),
-            Err(outcome) => Err(outcome),
-        },
+        Ok(Some(answer)) => {
+            match say(alloc, &mut streams.writer, source, setting.prompts, answer) {
+                Ok(()) => Ok(true),
+                Err(outcome) => Err(outcome),
+            }
+        }
         Ok(None) => Ok(false),
         Err(_) => Err(Outcome::NoMemory),
     }
@@ -148,15 +162,14 @@ fn answer_lines<R: Read, W: Write, V: Watch>(
     dialogue: &mut Dialogue<'_>,
     source: &Written<'_>,
     setting: Setting,
-    commands: &mut Tracked<R>,
-    writer: &mut Tracked<W>,
+    streams: &mut Streams<R, W>,
     watch: &mut V,
 ) -> Outcome
     ensures { Talks source.now setting dialogue.old result
-        (streams_of R.remaining commands.old W.contents writer.old) (streams_of R.remaining commands.new W.contents writer.new) }
+        (streams_of R.remaining streams.old.commands W.contents streams.old.writer) (streams_of R.remaining streams.new.commands W.contents streams.new.writer) }
 {
     for asked in 0..u64::MAX {
-        match answer_line(alloc, dialogue, source, setting, commands, writer, watch) {
+        match answer_line(alloc, dialogue, source, setting, streams, watch) {
             Ok(true) => {}
             Ok(false) => return Outcome::Ended(End::Done),
             Err(outcome) => return outcome,
@@ -208,18 +221,17 @@ pub fn debug<R: Read, W: Write, V: Watch>(
     source: &CompiledSource,
     keyboard: Keyboard,
     setting: Setting,
-    commands: &mut Tracked<R>,
-    writer: &mut Tracked<W>,
+    streams: &mut Streams<R, W>,
     watch: &mut V,
 ) -> Outcome
     ensures { Debugs source.now keyboard setting result
-        (streams_of R.remaining commands.old W.contents writer.old) (streams_of R.remaining commands.new W.contents writer.new) }
+        (streams_of R.remaining streams.old.commands W.contents streams.old.writer) (streams_of R.remaining streams.new.commands W.contents streams.new.writer) }
 {
     let Ok(written) = Written::new(alloc, source) else {
         return Outcome::NoMemory;
     };
     match debugger_of(alloc, source, keyboard, setting.rom) {
-        Ok(debugger) => converse(alloc, debugger, &written, setting, commands, writer, watch),
+        Ok(debugger) => converse(alloc, debugger, &written, setting, streams, watch),
         Err(outcome) => outcome,
     }
 }
@@ -230,27 +242,24 @@ fn converse<R: Read, W: Write, V: Watch>(
     debugger: Debugger<'_>,
     source: &Written<'_>,
     setting: Setting,
-    commands: &mut Tracked<R>,
-    writer: &mut Tracked<W>,
+    streams: &mut Streams<R, W>,
     watch: &mut V,
 ) -> Outcome
     ensures { Converses source.now setting debugger.entry result
-        (streams_of R.remaining commands.old W.contents writer.old) (streams_of R.remaining commands.new W.contents writer.new) }
+        (streams_of R.remaining streams.old.commands W.contents streams.old.writer) (streams_of R.remaining streams.new.commands W.contents streams.new.writer) }
 {
     let mut dialogue = Dialogue {
         debugger,
         last: None,
     };
-    match open(alloc, &mut dialogue.debugger, source, setting, writer) {
-        Ok(()) => answer_lines(
-            alloc,
-            &mut dialogue,
-            source,
-            setting,
-            commands,
-            writer,
-            watch,
-        ),
+    match open(
+        alloc,
+        &mut dialogue.debugger,
+        source,
+        setting,
+        &mut streams.writer,
+    ) {
+        Ok(()) => answer_lines(alloc, &mut dialogue, source, setting, streams, watch),
         Err(outcome) => outcome,
     }
 }
@@ -279,28 +288,19 @@ fn debugger_of_prg<'a>(
 /// tells after an instruction at which place it is.
 pub fn debug_prg<R: Read, W: Write, V: Watch>(
     alloc: Global,
-    prg: &[u8],
-    labels: &[Label],
+    prg: NamedPrg<'_>,
     keyboard: Keyboard,
     setting: Setting,
-    commands: &mut Tracked<R>,
-    writer: &mut Tracked<W>,
+    streams: &mut Streams<R, W>,
     watch: &mut V,
 ) -> Outcome
-    ensures { DebugsPrg prg.now labels.now keyboard setting result
-        (streams_of R.remaining commands.old W.contents writer.old) (streams_of R.remaining commands.new W.contents writer.new) }
+    ensures { DebugsPrg prg.entry.file.now prg.entry.labels.now keyboard setting result
+        (streams_of R.remaining streams.old.commands W.contents streams.old.writer) (streams_of R.remaining streams.new.commands W.contents streams.new.writer) }
 {
-    match debugger_of_prg(alloc, prg, keyboard, setting.rom) {
+    match debugger_of_prg(alloc, prg.file, keyboard, setting.rom) {
         Ok(debugger) => {
-            converse(
-                alloc,
-                debugger,
-                &Written::none(alloc, labels),
-                setting,
-                commands,
-                writer,
-                watch,
-            )
+            let written = Written::none(alloc, prg.labels);
+            converse(alloc, debugger, &written, setting, streams, watch)
         }
         Err(outcome) => outcome,
     }

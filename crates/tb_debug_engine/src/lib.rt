@@ -23,5 +23,5 @@ mod lists;
 mod sources;
 mod texts;
 
-pub use dialogue::{Setting, debug, debug_prg};
+pub use dialogue::{NamedPrg, Setting, Streams, debug, debug_prg};
 pub use tb_debug::Rom;

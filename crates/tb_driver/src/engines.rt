@@ -13,9 +13,9 @@ use std::alloc::Global;
 use std::io::{Read, Write};
 use tb_codegen::TinyBasic;
 use tb_compiled::CompileSettings;
-use tb_engine_sources::{build_within, run_within, step_within};
+use tb_engine_sources::{SourceRun, build_within};
 use tb_engine_streams::Tracked;
-use tb_engines::Report;
+use tb_engines::{Report, RunSettings};
 use tb_kernal::{Keyboard, Outside};
 
 /// Compiles a source with a first state of RND, and writes its PRG file. A source is refused by its cost.
@@ -58,16 +58,9 @@ pub fn run_text<R: Read, W: Write, O: Outside>(
     ensures faults { Faults result.outcome (use_of R.remaining reader.old reader.new) (use_of W.contents writer.old writer.new) }
     ensures taken { TakesInput (use_of R.remaining reader.old reader.new) }
 {
-    run_within(
-        &TinyBasic,
-        alloc,
-        reader,
-        writer,
-        CompileSettings::by_cost(seed),
-        keyboard,
-        limit,
-        outside,
-    )
+    let settings = CompileSettings::by_cost(seed);
+    let run = RunSettings { keyboard, limit };
+    SourceRun { settings, run }.run_within(&TinyBasic, alloc, reader, writer, outside)
 }
 
 /// Reads a source and then commands, compiles the source with a first state of RND, and writes the answers to the
@@ -93,14 +86,7 @@ pub fn step_text<R: Read, C: Read, W: Write>(
     ensures source_taken { TakesInput (use_of R.remaining source.old source.new) }
     ensures commands_taken { TakesInput (use_of C.remaining commands.old commands.new) }
 {
-    step_within(
-        &TinyBasic,
-        alloc,
-        source,
-        commands,
-        writer,
-        CompileSettings::by_cost(seed),
-        keyboard,
-        limit,
-    )
+    let settings = CompileSettings::by_cost(seed);
+    let run = RunSettings { keyboard, limit };
+    SourceRun { settings, run }.step_within(&TinyBasic, alloc, source, commands, writer)
 }

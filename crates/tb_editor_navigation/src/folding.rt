@@ -92,23 +92,29 @@ fn push_subroutine(
     }
 }
 
+// Where subroutines are: the numbers to which a GOSUB goes, and the places that may end one.
+#[derive(Drop)]
+struct Subroutines {
+    called: BTreeMap<u16, bool>,
+    returns: Vec<usize>,
+}
+
 // Appends the fold that begins at the line at a place, if a GOSUB goes there.
 fn push_called(
     alloc: Global,
     source: &Source<'_>,
-    called: &BTreeMap<u16, bool>,
-    returns: &[usize],
+    subroutines: &Subroutines,
     place: usize,
     line: &Line<'_>,
     found: &mut Vec<Value>,
 ) -> Result<(), AllocError>
-    requires { (n : ℕ) → is_some (tree.get nat_cmp called.now n) ≡ is_called n source.now.lines.items }
+    requires { (n : ℕ) → is_some (tree.get nat_cmp subroutines.now.called n) ≡ is_called n source.now.lines.items }
     ensures { OnOk result (map view found.new.items ≡ map view found.old.items
-        ++ spec.called_at source.now.lines.items returns.now place line.now) }
+        ++ spec.called_at source.now.lines.items subroutines.now.returns.items place line.now) }
 {
     match standing_number(source, place, line) {
-        Some(number) if called.get(&number).is_some() => {
-            push_subroutine(alloc, returns, place, found)
+        Some(number) if subroutines.called.get(&number).is_some() => {
+            push_subroutine(alloc, &subroutines.returns, place, found)
         }
         _ => Ok(()),
     }
@@ -151,12 +157,14 @@ fn push_remarks(
 pub fn folds(alloc: Global, source: &Source<'_>) -> Result<Value, AllocError>
     ensures { IfOk result (λ v. view v ≡ spec.folds source.now.lines.items) }
 {
-    let called = calls(alloc, source)?;
-    let returns = returns_of(alloc, source)?;
+    let subroutines = Subroutines {
+        called: calls(alloc, source)?,
+        returns: returns_of(alloc, source)?,
+    };
     let mut found = Vec::new(alloc);
     let mut is_behind = false;
     for (i, line) in source.lines.iter().enumerate() {
-        push_called(alloc, source, &called, &returns, i, line, &mut found)?;
+        push_called(alloc, source, &subroutines, i, line, &mut found)?;
         push_remarks(alloc, &source.lines, i, is_behind, &mut found)?;
         is_behind = is_remark(line);
     }

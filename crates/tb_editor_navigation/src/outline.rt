@@ -1,5 +1,5 @@
 //! The symbols of a source: subroutines and remarks.
-ghost use Rattle.std.specs.Prelude.{◌≡◌, ◌++◌, ℕ, IfOk, OnOk, map, is_some, string_bytes};
+ghost use Rattle.std.specs.Prelude.{◌≡◌, ◌+◌, ◌<◌, ◌++◌, ℕ, IfOk, OnOk, map, is_some, string_bytes};
 ghost use Rattle.std.specs.BTreeMap as tree;
 ghost use Rattle.std.specs.Ordering.{nat_cmp};
 ghost use Rattle.serde_json.specs.View.{view};
@@ -103,23 +103,30 @@ fn is_hidden(is_called: bool, remark: &str) -> bool
     }
 }
 
+// What the symbol of a line is made of: whether a GOSUB goes there, the line's number and its remark.
+#[derive(Clone, Copy, Drop)]
+struct About<'a> {
+    is_called: bool,
+    number: u16,
+    remark: &'a str,
+}
+
 // Appends the symbol of a line, by where its number is.
 fn push_placed(
     alloc: Global,
-    is_called: bool,
-    number: u16,
-    remark: &str,
+    about: About<'_>,
     line: Span,
     place: Option<Span>,
     found: &mut Vec<Value>,
 ) -> Result<(), AllocError>
-    ensures { OnOk result (map view found.new.items ≡ map view found.old.items ++ spec.placed is_called number remark.now line place) }
+    ensures { OnOk result (map view found.new.items ≡ map view found.old.items
+        ++ spec.placed about.entry.is_called about.entry.number about.entry.remark.now line place) }
 {
     let Some(place) = place else {
         return Ok(());
     };
-    let name = name_of(alloc, is_called, number, remark)?;
-    let kind = kind_of(is_called);
+    let name = name_of(alloc, about.is_called, about.number, about.remark)?;
+    let kind = kind_of(about.is_called);
     found.push(symbol_value(alloc, kind, name.as_str(), line, place)?)?;
     Ok(())
 }
@@ -139,9 +146,13 @@ fn push_symbol(
     if is_hidden(is_called, remark) {
         return Ok(());
     }
+    let about = About {
+        is_called,
+        number,
+        remark,
+    };
     let span = line_span(file_line, line.text);
-    let place = number_span(file_line, line);
-    push_placed(alloc, is_called, number, remark, span, place, found)
+    push_placed(alloc, about, span, number_span(file_line, line), found)
 }
 
 // Appends the symbol of the line at a place, if it stands and has one.
@@ -150,17 +161,17 @@ fn push_at(
     source: &Source<'_>,
     called: &BTreeMap<u16, bool>,
     place: usize,
-    file_line: usize,
     line: &Line<'_>,
     found: &mut Vec<Value>,
 ) -> Result<(), AllocError>
-    requires { (n : ℕ) → is_some (tree.get nat_cmp called.now n) ≡ spec.is_called n source.now.lines.items }
-    ensures { OnOk result (map view found.new.items ≡ map view found.old.items ++ spec.symbol_at source.now.lines.items place file_line line.now) }
+    requires fits { place + 1 < 18446744073709551616 }
+    requires called { (n : ℕ) → is_some (tree.get nat_cmp called.now n) ≡ spec.is_called n source.now.lines.items }
+    ensures { OnOk result (map view found.new.items ≡ map view found.old.items ++ spec.symbol_at source.now.lines.items place (place + 1) line.now) }
 {
     match standing_number(source, place, line) {
         Some(number) => {
             let is_called = called.get(&number).is_some();
-            push_symbol(alloc, is_called, number, file_line, line, found)
+            push_symbol(alloc, is_called, number, place + 1, line, found)
         }
         None => Ok(()),
     }
@@ -173,7 +184,7 @@ pub fn symbols(alloc: Global, source: &Source<'_>) -> Result<Value, AllocError>
     let called = calls(alloc, source)?;
     let mut found = Vec::new(alloc);
     for (i, line) in source.lines.iter().enumerate() {
-        push_at(alloc, source, &called, i, i + 1, line, &mut found)?;
+        push_at(alloc, source, &called, i, line, &mut found)?;
     }
     Ok(Value::Array(found))
 }

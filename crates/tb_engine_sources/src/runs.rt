@@ -16,24 +16,16 @@ use crate::sources::are_bytes;
 use crate::starting::start_program;
 use std::alloc::Global;
 use std::io::{Read, Write};
-use tb_basic_text::Notation;
 use tb_compiled::{Compile, CompileSettings, Compiled};
 use tb_engine_streams::Tracked;
-use tb_engines::{Outcome, Report, run_machine};
-use tb_kernal::{Keyboard, Machine, Outside, Unwatched, Watch};
+use tb_engines::{Outcome, Report, RunSettings, run_machine};
+use tb_kernal::{Machine, Outside, Unwatched, Watch};
 
 /// A run of a source: how it ended, and what the machine told then.
 #[derive(Debug, Drop)]
 pub struct NotedRun {
     pub report: Report,
     pub note: Option<EndNote>,
-}
-
-// How a run ended, and what the machine told then.
-#[derive(Drop)]
-struct Ran {
-    outcome: Outcome,
-    note: Option<EndNote>,
 }
 
 // What the machine tells after its run, where its output was written, or failed to be.
@@ -46,121 +38,89 @@ fn note_after(outcome: Outcome, machine: &Machine, program: &Compiled) -> Option
     }
 }
 
-// Runs the start machine of a compiled program.
-fn run_started<O: Outside, W: Write, V: Watch>(
-    machine: &mut Machine,
-    program: &Compiled,
-    limit: u64,
-    outside: &mut O,
-    writer: &mut Tracked<W>,
-    watch: &mut V,
-    notation: Notation,
-) -> Ran
-    requires { machine.old.sent ≡ [] }
-    ensures answers { Answers (RunsOn O.gives outside.old machine.old limit notation) result.outcome
-        (W.contents writer.old.stream) (W.contents writer.new.stream) }
-    ensures note { ByOutcome (NotesEnd O.gives outside.old limit (hearing_of V.hears watch.old watch.new) machine.old program.now) result.outcome result.note }
-    ensures faults { DeliveryFaults result.outcome (use_of W.contents writer.old writer.new) }
-{
-    let outcome = run_machine(machine, limit, outside, writer, watch, notation);
-    Ran {
-        outcome,
-        note: note_after(outcome, machine, program),
-    }
+/// How a source is run: by which settings it is compiled, and with what its program is run.
+#[derive(Drop)]
+pub struct SourceRun {
+    pub settings: CompileSettings,
+    pub run: RunSettings,
 }
 
-/// Compiles a source by any settings, runs it as `run_prg` does, and writes what it sends as it comes: in host form, or, where
-/// its texts are read with signs, by the names that signs have. That is the source's output: all of it if the program
-/// returned or waits for a key, and a prefix at the step limit. The answer tells at which line it stopped or waits, or by
-/// which fault its program ended. A watch hears meanwhile how many events were taken, which changes nothing.
-pub fn run_noted<K: Compile, R: Read, W: Write, O: Outside, V: Watch>(
-    compiler: &K,
-    alloc: Global,
-    reader: &mut Tracked<R>,
-    writer: &mut Tracked<W>,
-    settings: CompileSettings,
-    keyboard: Keyboard,
-    limit: u64,
-    outside: &mut O,
-    watch: &mut V,
-) -> NotedRun
-    ensures answers { AnswersInput (RunsText K.own (settings_of O.gives outside.old keyboard limit settings.notation) settings result.report.warnings.items)
-        result.report.outcome (use_of R.remaining reader.old reader.new) (use_of W.contents writer.old writer.new) }
-    ensures output { AnswersInput (RunsSource K.own settings keyboard.text.items keyboard.answers.items)
-        result.report.outcome (use_of R.remaining reader.old reader.new) (use_of W.contents writer.old writer.new) }
-    ensures warned { WarnsOfRead result.report.outcome result.report.warnings.items }
-    ensures note { ByOutcome (TellsSource K.own (settings_of O.gives outside.old keyboard limit settings.notation) (hearing_of V.hears watch.old watch.new) settings (use_of R.remaining reader.old reader.new))
-        result.report.outcome result.note }
-    ensures faults { Faults result.report.outcome (use_of R.remaining reader.old reader.new) (use_of W.contents writer.old writer.new) }
-    ensures taken { TakesInput (use_of R.remaining reader.old reader.new) }
-{
-    let source = match read_source(compiler, alloc, reader, settings) {
-        Ok(source) => source,
-        Err(stop) => return NotedRun {
-            report: Report::new(alloc, Outcome::of(Err(stop))),
-            note: None,
-        },
-    };
-    are_bytes(source.program.prg());
-    are_bytes(keyboard.text.as_slice());
-    are_bytes(keyboard.answers.as_slice());
-    let mut machine = match start_program(alloc, &source.program, keyboard) {
-        Ok(machine) => machine,
-        Err(stop) => return NotedRun {
+impl SourceRun {
+    /// Compiles a source, runs it as `run_prg` does, and writes what it sends as it comes: in host form, or, where its
+    /// texts are read with signs, by the names that signs have. That is the source's output: all of it if the program
+    /// returned or waits for a key, and a prefix at the step limit. The answer tells at which line it stopped or waits,
+    /// or by which fault its program ended. A watch hears meanwhile how many events were taken, which changes nothing.
+    pub fn run_noted<K: Compile, R: Read, W: Write, O: Outside, V: Watch>(
+        self,
+        compiler: &K,
+        alloc: Global,
+        reader: &mut Tracked<R>,
+        writer: &mut Tracked<W>,
+        outside: &mut O,
+        watch: &mut V,
+    ) -> NotedRun
+        ensures answers { AnswersInput (RunsText K.own (settings_of O.gives outside.old self.run.keyboard self.run.limit self.settings.notation) self.settings result.report.warnings.items)
+            result.report.outcome (use_of R.remaining reader.old reader.new) (use_of W.contents writer.old writer.new) }
+        ensures output { AnswersInput (RunsSource K.own self.settings self.run.keyboard.text.items self.run.keyboard.answers.items)
+            result.report.outcome (use_of R.remaining reader.old reader.new) (use_of W.contents writer.old writer.new) }
+        ensures warned { WarnsOfRead result.report.outcome result.report.warnings.items }
+        ensures note { ByOutcome (TellsSource K.own (settings_of O.gives outside.old self.run.keyboard self.run.limit self.settings.notation) (hearing_of V.hears watch.old watch.new) self.settings (use_of R.remaining reader.old reader.new))
+            result.report.outcome result.note }
+        ensures faults { Faults result.report.outcome (use_of R.remaining reader.old reader.new) (use_of W.contents writer.old writer.new) }
+        ensures taken { TakesInput (use_of R.remaining reader.old reader.new) }
+    {
+        let SourceRun { settings, run } = self;
+        let RunSettings { keyboard, limit } = run;
+        let source = match read_source(compiler, alloc, reader, settings) {
+            Ok(source) => source,
+            Err(stop) => return NotedRun {
+                report: Report::new(alloc, Outcome::of(Err(stop))),
+                note: None,
+            },
+        };
+        are_bytes(source.program.prg());
+        are_bytes(keyboard.text.as_slice());
+        are_bytes(keyboard.answers.as_slice());
+        let mut machine = match start_program(alloc, &source.program, keyboard) {
+            Ok(machine) => machine,
+            Err(stop) => return NotedRun {
+                report: Report {
+                    outcome: Outcome::from(stop),
+                    warnings: source.program.into_warnings(),
+                },
+                note: None,
+            },
+        };
+        let notation = settings.notation;
+        let outcome = run_machine(&mut machine, limit, outside, writer, watch, notation);
+        let note = note_after(outcome, &machine, &source.program);
+        NotedRun {
             report: Report {
-                outcome: Outcome::from(stop),
+                outcome,
                 warnings: source.program.into_warnings(),
             },
-            note: None,
-        },
-    };
-    let ran = run_started(
-        &mut machine,
-        &source.program,
-        limit,
-        outside,
-        writer,
-        watch,
-        settings.notation,
-    );
-    NotedRun {
-        report: Report {
-            outcome: ran.outcome,
-            warnings: source.program.into_warnings(),
-        },
-        note: ran.note,
+            note,
+        }
     }
-}
 
-/// Compiles a source by any settings and runs it, as `run_noted` does, and nobody hears of it.
-pub fn run_within<K: Compile, R: Read, W: Write, O: Outside>(
-    compiler: &K,
-    alloc: Global,
-    reader: &mut Tracked<R>,
-    writer: &mut Tracked<W>,
-    settings: CompileSettings,
-    keyboard: Keyboard,
-    limit: u64,
-    outside: &mut O,
-) -> Report
-    ensures answers { AnswersInput (RunsText K.own (settings_of O.gives outside.old keyboard limit settings.notation) settings result.warnings.items)
-        result.outcome (use_of R.remaining reader.old reader.new) (use_of W.contents writer.old writer.new) }
-    ensures output { AnswersInput (RunsSource K.own settings keyboard.text.items keyboard.answers.items)
-        result.outcome (use_of R.remaining reader.old reader.new) (use_of W.contents writer.old writer.new) }
-    ensures warned { WarnsOfRead result.outcome result.warnings.items }
-    ensures faults { Faults result.outcome (use_of R.remaining reader.old reader.new) (use_of W.contents writer.old writer.new) }
-    ensures taken { TakesInput (use_of R.remaining reader.old reader.new) }
-{
-    run_noted(
-        compiler,
-        alloc,
-        reader,
-        writer,
-        settings,
-        keyboard,
-        limit,
-        outside,
-        &mut Unwatched,
-    )
-    .report
+    /// Compiles a source and runs it, as `run_noted` does, and nobody hears of it.
+    pub fn run_within<K: Compile, R: Read, W: Write, O: Outside>(
+        self,
+        compiler: &K,
+        alloc: Global,
+        reader: &mut Tracked<R>,
+        writer: &mut Tracked<W>,
+        outside: &mut O,
+    ) -> Report
+        ensures answers { AnswersInput (RunsText K.own (settings_of O.gives outside.old self.run.keyboard self.run.limit self.settings.notation) self.settings result.warnings.items)
+            result.outcome (use_of R.remaining reader.old reader.new) (use_of W.contents writer.old writer.new) }
+        ensures output { AnswersInput (RunsSource K.own self.settings self.run.keyboard.text.items self.run.keyboard.answers.items)
+            result.outcome (use_of R.remaining reader.old reader.new) (use_of W.contents writer.old writer.new) }
+        ensures warned { WarnsOfRead result.outcome result.warnings.items }
+        ensures faults { Faults result.outcome (use_of R.remaining reader.old reader.new) (use_of W.contents writer.old writer.new) }
+        ensures taken { TakesInput (use_of R.remaining reader.old reader.new) }
+    {
+        self.run_noted(compiler, alloc, reader, writer, outside, &mut Unwatched)
+            .report
+    }
 }

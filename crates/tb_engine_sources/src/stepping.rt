@@ -7,13 +7,14 @@ ghost use Rattle.tb_engine_sources.specs.Starting.{IsLoadable};
 ghost use Rattle.tb_engine_sources.specs.Stepping.{AnswersBoth, FaultsOfBoth, Steps, StepsPrg, StepsThrough};
 
 use crate::reading::compile_source;
+use crate::runs::SourceRun;
 use crate::starting::start_program;
 use std::alloc::Global;
 use std::io::{Read, Write};
-use tb_compiled::{Compile, CompileSettings, Compiled};
+use tb_compiled::{Compile, Compiled};
 use tb_debug_stepping::answers;
 use tb_engine_streams::{Tracked, read_input};
-use tb_engines::{End, NoText, Outcome, Report, Text, deliver, start_file};
+use tb_engines::{End, NoText, Outcome, Report, RunSettings, Text, deliver, start_file};
 use tb_kernal::{Keyboard, Quiet};
 use tb_stepper::Stepper;
 
@@ -58,48 +59,50 @@ fn step_file(
     })
 }
 
-/// Reads a source and then commands, compiles the source, and writes the answers to the commands, each a line, up to `q` or
-/// the end. The machine is the one that `run_within` starts with, and the outside is `Quiet`. A walk to a line takes at most
-/// `limit` steps.
-pub fn step_within<K: Compile, R: Read, C: Read, W: Write>(
-    compiler: &K,
-    alloc: Global,
-    source: &mut Tracked<R>,
-    commands: &mut Tracked<C>,
-    writer: &mut Tracked<W>,
-    settings: CompileSettings,
-    keyboard: Keyboard,
-    limit: u64,
-) -> Report
-    ensures answers { AnswersBoth
-        (StepsThrough K.own (quietly keyboard.text.items keyboard.answers.items limit) settings result.warnings.items) result.outcome
-        (use_of R.remaining source.old source.new) (use_of C.remaining commands.old commands.new)
-        (use_of W.contents writer.old writer.new) }
-    ensures warned { WarnsOfRead result.outcome result.warnings.items }
-    ensures faults { FaultsOfBoth result.outcome
-        (use_of R.remaining source.old source.new) (use_of C.remaining commands.old commands.new)
-        (use_of W.contents writer.old writer.new) }
-    ensures source_taken { TakesInput (use_of R.remaining source.old source.new) }
-    ensures commands_taken { TakesInput (use_of C.remaining commands.old commands.new) }
-{
-    let text = match read_input(alloc, source) {
-        Ok(text) => text,
-        Err(error) => return Report::new(alloc, Outcome::from(error)),
-    };
-    let commands = match read_input(alloc, commands) {
-        Ok(commands) => commands,
-        Err(error) => return Report::new(alloc, Outcome::from(error)),
-    };
-    let source = match compile_source(compiler, alloc, text, settings) {
-        Ok(source) => source,
-        Err(stop) => return Report::new(alloc, Outcome::of(Err(stop))),
-    };
-    Report {
-        outcome: deliver(
-            writer,
-            step_program(alloc, &source.program, keyboard, commands.as_slice(), limit),
-        ),
-        warnings: source.program.into_warnings(),
+impl SourceRun {
+    /// Reads a source and then commands, compiles the source, and writes the answers to the commands, each a line, up to
+    /// `q` or the end. The machine is the one that `run_within` starts with, and the outside is `Quiet`. A walk to a line
+    /// takes at most so many steps as the limit says.
+    pub fn step_within<K: Compile, R: Read, C: Read, W: Write>(
+        self,
+        compiler: &K,
+        alloc: Global,
+        source: &mut Tracked<R>,
+        commands: &mut Tracked<C>,
+        writer: &mut Tracked<W>,
+    ) -> Report
+        ensures answers { AnswersBoth
+            (StepsThrough K.own (quietly self.run.keyboard.text.items self.run.keyboard.answers.items self.run.limit) self.settings result.warnings.items) result.outcome
+            (use_of R.remaining source.old source.new) (use_of C.remaining commands.old commands.new)
+            (use_of W.contents writer.old writer.new) }
+        ensures warned { WarnsOfRead result.outcome result.warnings.items }
+        ensures faults { FaultsOfBoth result.outcome
+            (use_of R.remaining source.old source.new) (use_of C.remaining commands.old commands.new)
+            (use_of W.contents writer.old writer.new) }
+        ensures source_taken { TakesInput (use_of R.remaining source.old source.new) }
+        ensures commands_taken { TakesInput (use_of C.remaining commands.old commands.new) }
+    {
+        let SourceRun { settings, run } = self;
+        let RunSettings { keyboard, limit } = run;
+        let text = match read_input(alloc, source) {
+            Ok(text) => text,
+            Err(error) => return Report::new(alloc, Outcome::from(error)),
+        };
+        let commands = match read_input(alloc, commands) {
+            Ok(commands) => commands,
+            Err(error) => return Report::new(alloc, Outcome::from(error)),
+        };
+        let source = match compile_source(compiler, alloc, text, settings) {
+            Ok(source) => source,
+            Err(stop) => return Report::new(alloc, Outcome::of(Err(stop))),
+        };
+        Report {
+            outcome: deliver(
+                writer,
+                step_program(alloc, &source.program, keyboard, commands.as_slice(), limit),
+            ),
+            warnings: source.program.into_warnings(),
+        }
     }
 }
 

@@ -27,7 +27,7 @@ pub use delivery::{NoText, Text, deliver};
 pub use limits::{MOST_EVENTS, USUAL_EVENTS, constants_are_numbers};
 pub use loading::{start_file, start_machine, start_regs};
 pub use outcome::{End, Failure, Outcome, Refusal};
-pub use programs::{PrgRun, end_of, run_machine, run_prg, run_prg_watched};
+pub use programs::{PrgRun, RunSettings, end_of, run_machine, run_prg, run_prg_watched};
 pub use report::{Report, Warnings};
 pub use texts::{TOO_DEEP, TooLarge, source_text};
 pub use writing::{WrittenRun, run_stretch, run_writing};

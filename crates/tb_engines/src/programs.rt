@@ -17,6 +17,13 @@ use tb_basic_text::Notation;
 use tb_engine_streams::{Tracked, read_input};
 use tb_kernal::{Keyboard, Machine, Outside, Status, Unwatched, Watch};
 
+/// What a program is run with: its keyboard, and the most events that it may take.
+#[derive(Drop)]
+pub struct RunSettings {
+    pub keyboard: Keyboard,
+    pub limit: u64,
+}
+
 /// A run of a PRG file: how it ended, and where the program counter was then, unless the program returned.
 #[derive(Debug, Drop)]
 pub struct PrgRun {
@@ -73,7 +80,7 @@ fn place_after(outcome: Outcome, machine: &Machine) -> Option<u16>
     }
 }
 
-/// Runs a PRG file for at most `limit` events of an outside, and writes the host form of what it sends as it comes. The
+/// Runs a PRG file beside an outside, within the limit, and writes the host form of what it sends as it comes. The
 /// machine starts with all bytes 0 but the program's and its return address, registers and flags 0, S `$F0`, and
 /// PC at the load address, or at `$080D` where that is `$0801`. The answer tells where PC was at the end, unless the
 /// program returned. A watch hears meanwhile how many events were taken, which changes nothing.
@@ -81,14 +88,13 @@ pub fn run_prg_watched<R: Read, W: Write, O: Outside, V: Watch>(
     alloc: Global,
     reader: &mut Tracked<R>,
     writer: &mut Tracked<W>,
-    keyboard: Keyboard,
-    limit: u64,
+    run: RunSettings,
     outside: &mut O,
     watch: &mut V,
 ) -> PrgRun
-    ensures answers { AnswersInput (RunsPrg (plain_settings_of O.gives outside.old keyboard limit)) result.outcome
+    ensures answers { AnswersInput (RunsPrg (plain_settings_of O.gives outside.old run.keyboard run.limit)) result.outcome
         (use_of R.remaining reader.old reader.new) (use_of W.contents writer.old writer.new) }
-    ensures place { ByOutcome (TellsFile (plain_settings_of O.gives outside.old keyboard limit) (hearing_of V.hears watch.old watch.new) (use_of R.remaining reader.old reader.new))
+    ensures place { ByOutcome (TellsFile (plain_settings_of O.gives outside.old run.keyboard run.limit) (hearing_of V.hears watch.old watch.new) (use_of R.remaining reader.old reader.new))
         result.outcome result.place }
     ensures faults { Faults result.outcome (use_of R.remaining reader.old reader.new) (use_of W.contents writer.old writer.new) }
     ensures taken { TakesInput (use_of R.remaining reader.old reader.new) }
@@ -100,14 +106,21 @@ pub fn run_prg_watched<R: Read, W: Write, O: Outside, V: Watch>(
             place: None,
         },
     };
-    let mut machine = match start_file(alloc, file.as_slice(), keyboard) {
+    let mut machine = match start_file(alloc, file.as_slice(), run.keyboard) {
         Ok(machine) => machine,
         Err(stop) => return PrgRun {
             outcome: Outcome::from(stop),
             place: None,
         },
     };
-    let outcome = run_machine(&mut machine, limit, outside, writer, watch, Notation::Plain);
+    let outcome = run_machine(
+        &mut machine,
+        run.limit,
+        outside,
+        writer,
+        watch,
+        Notation::Plain,
+    );
     PrgRun {
         outcome,
         place: place_after(outcome, &machine),
@@ -128,14 +141,6 @@ pub fn run_prg<R: Read, W: Write, O: Outside>(
     ensures faults { Faults result (use_of R.remaining reader.old reader.new) (use_of W.contents writer.old writer.new) }
     ensures taken { TakesInput (use_of R.remaining reader.old reader.new) }
 {
-    run_prg_watched(
-        alloc,
-        reader,
-        writer,
-        keyboard,
-        limit,
-        outside,
-        &mut Unwatched,
-    )
-    .outcome
+    let run = RunSettings { keyboard, limit };
+    run_prg_watched(alloc, reader, writer, run, outside, &mut Unwatched).outcome
 }

@@ -24,47 +24,53 @@ fn is_so(is: bool, wanted: bool) -> bool
     if wanted { is } else { !is }
 }
 
-// Whether one of these variables is that of a letter, and gets a value or not.
-fn has_variable(variables: &[Variable], name: u8, gets: bool) -> bool
-    ensures { result ≡ spec.has_variable name gets variables.now }
+// The variable of a letter, where it gets a value, or where it is read.
+#[derive(Clone, Copy, Drop)]
+struct Use {
+    name: u8,
+    gets: bool,
+}
+
+// Whether one of these variables is used so.
+fn has_variable(variables: &[Variable], so: Use) -> bool
+    ensures { result ≡ spec.has_variable so.name so.gets variables.now }
 {
     for variable in variables {
-        if variable.name == name && is_so(variable.gets, gets) {
+        if variable.name == so.name && is_so(variable.gets, so.gets) {
             return true;
         }
     }
     false
 }
 
-// Appends the number of a line that stands, where it sets a variable or reads it.
+// Appends the number of a line that stands, where it uses a variable so.
 fn push_using(
     alloc: Global,
     source: &Source<'_>,
     place: usize,
     line: &Line<'_>,
-    name: u8,
-    gets: bool,
+    so: Use,
     found: &mut Vec<u16>,
 ) -> Result<(), AllocError>
-    ensures { OnOk result (found.new.items ≡ found.old.items ++ spec.using_at source.now.lines.items name gets place line.now) }
+    ensures { OnOk result (found.new.items ≡ found.old.items ++ spec.using_at source.now.lines.items so.name so.gets place line.now) }
 {
     let Some(number) = standing_number(source, place, line) else {
         return Ok(());
     };
     let variables = variables_of(alloc, &line.tokens)?;
-    if has_variable(&variables, name, gets) {
+    if has_variable(&variables, so) {
         found.push(number)?;
     }
     Ok(())
 }
 
-// The lines that stand and set a variable, or read it, by place.
-fn using(alloc: Global, source: &Source<'_>, name: u8, gets: bool) -> Result<Vec<u16>, AllocError>
-    ensures { IfOk result (λ found. found.items ≡ spec.using name gets source.now.lines.items) }
+// The lines that stand and use a variable so, by place.
+fn using(alloc: Global, source: &Source<'_>, so: Use) -> Result<Vec<u16>, AllocError>
+    ensures { IfOk result (λ found. found.items ≡ spec.using so.name so.gets source.now.lines.items) }
 {
     let mut found = Vec::new(alloc);
     for (i, line) in source.lines.iter().enumerate() {
-        push_using(alloc, source, i, line, name, gets, &mut found)?;
+        push_using(alloc, source, i, line, so, &mut found)?;
     }
     Ok(found)
 }
@@ -108,8 +114,8 @@ fn target_text(alloc: Global, source: &Source<'_>, target: u16) -> Result<String
 fn variable(alloc: Global, source: &Source<'_>, name: u8) -> Result<String, AllocError>
     ensures { IfOk result (λ text. string_bytes text ≡ spec.variable source.now.lines.items name) }
 {
-    let set = using(alloc, source, name, true)?;
-    let read = using(alloc, source, name, false)?;
+    let set = using(alloc, source, Use { name, gets: true })?;
+    let read = using(alloc, source, Use { name, gets: false })?;
     variable_text(alloc, name, &set, &read)
 }
 
@@ -156,19 +162,26 @@ fn shown_value(alloc: Global, span: Option<Span>, text: &str) -> Result<Value, A
     })
 }
 
-// What is shown at a token of the line at a place.
+// A token of a line, by the line's place and its own.
+#[derive(Clone, Copy, Drop)]
+struct Touched<'a> {
+    place: usize,
+    line: &'a Line<'a>,
+    index: usize,
+}
+
+// What is shown at a token.
 fn at_token<K: Compile>(
     compiler: &K,
     alloc: Global,
     text: &[u8],
     source: &Source<'_>,
-    place: usize,
-    line: &Line<'_>,
-    index: usize,
+    token: Touched<'_>,
 ) -> Result<Value, AllocError>
-    requires { place + 1 < 18446744073709551616 }
-    ensures { IfOk result (λ v. spec.ShowsToken K.own source.now.notation text.now source.now.lines.items place line.now index (about (does line.now.edit) line.now.tokens.items index) (view v)) }
+    requires { token.place + 1 < 18446744073709551616 }
+    ensures { IfOk result (λ v. spec.ShowsToken K.own source.now.notation text.now source.now.lines.items token.entry.place token.entry.line.now token.entry.index (about (does token.entry.line.now.edit) token.entry.line.now.tokens.items token.entry.index) (view v)) }
 {
+    let Touched { place, line, index } = token;
     match about_token(line, index) {
         Some(about) => {
             let shown = text_of(compiler, alloc, text, source, place, about)?;
@@ -193,8 +206,15 @@ pub fn hover<K: Compile>(
     let Some(index) = touched_at(source, line, character) else {
         return Ok(Value::Null);
     };
-    match source.lines.get(line) {
-        Some(found) => at_token(compiler, alloc, text, source, line, found, index),
+    let place = line;
+    match source.lines.get(place) {
+        Some(line) => at_token(
+            compiler,
+            alloc,
+            text,
+            source,
+            Touched { place, line, index },
+        ),
         None => Ok(Value::Null),
     }
 }

@@ -4,8 +4,9 @@ use std::test::Fail;
 use tb_codegen::TinyBasic;
 use tb_compiled::{CompileSettings, Notation, SizeLimit};
 use tb_driver::{Tracked, run_prg};
+use tb_engines::RunSettings;
 use tb_kernal::Quiet;
-use tb_engine_sources::{read_source, run_within};
+use tb_engine_sources::{SourceRun, read_source};
 use tb_test_support::keyboard_of;
 
 /// How many events a run takes at most.
@@ -227,16 +228,14 @@ pub fn shows(alloc: Global, source: &str, keys: &[u8], shown: &str) -> Result<bo
 fn shows_by_names(alloc: Global, source: &str, shown: &str) -> Result<bool, Fail> {
     let mut reader = Tracked::new(source.as_bytes());
     let mut writer = Tracked::new(Vec::new(alloc));
-    let report = run_within(
-        &TinyBasic,
-        alloc,
-        &mut reader,
-        &mut writer,
-        with_signs(),
-        keyboard_of(alloc, b"", b"")?,
-        LIMIT,
-        &mut Quiet,
-    );
+    let job = SourceRun {
+        settings: with_signs(),
+        run: RunSettings {
+            keyboard: keyboard_of(alloc, b"", b"")?,
+            limit: LIMIT,
+        },
+    };
+    let report = job.run_within(&TinyBasic, alloc, &mut reader, &mut writer, &mut Quiet);
     Ok(writer.stream.as_slice() == shown.as_bytes() && report.outcome.status() == 0)
 }
 

@@ -5,6 +5,7 @@ use crate::debug::streams::{debugs, debugs_at_terminal, source_of};
 use std::alloc::{AllocError, Global};
 use std::cell::Cell;
 use std::test::Fail;
+use tb_debug_engine::Streams;
 use tb_engines::Outcome;
 use tb_engine_streams::Tracked;
 
@@ -609,10 +610,13 @@ static DIALOGUES: [(&[u8], &str); 16] = [
 // What is written in answer to these commands; nothing if the dialogue ends in a fault.
 fn answers(alloc: Global, source: &[u8], commands: &[u8]) -> Result<Vec<u8>, Fail> {
     let compiled = source_of(alloc, source)?;
-    let mut writer = Tracked::new(Vec::new(alloc));
-    let outcome = debugs(alloc, &compiled, &mut Tracked::new(commands), &mut writer);
+    let mut streams = Streams {
+        commands: Tracked::new(commands),
+        writer: Tracked::new(Vec::new(alloc)),
+    };
+    let outcome = debugs(alloc, &compiled, &mut streams);
     Ok(match outcome {
-        Outcome::Ended(_) => writer.stream,
+        Outcome::Ended(_) => streams.writer.stream,
         _ => Vec::new(alloc),
     })
 }
@@ -633,18 +637,19 @@ fn wanted(alloc: Global, dialogue: &[u8]) -> Result<Vec<u8>, AllocError> {
 fn awaited(alloc: Global, source: &[u8], dialogue: &[u8]) -> Result<(u8, Vec<u8>), Fail> {
     let compiled = source_of(alloc, source)?;
     let handed_on = Cell::new(0);
-    let mut reader = Tracked::new(AwaitingReader {
+    let commands = Tracked::new(AwaitingReader {
         command: &[],
         dialogue,
         answered: 0,
         handed_on: &handed_on,
     });
-    let mut writer = Tracked::new(WatchedWriter {
+    let writer = Tracked::new(WatchedWriter {
         taken: Vec::new(alloc),
         handed_on: &handed_on,
     });
-    let status = debugs(alloc, &compiled, &mut reader, &mut writer).status();
-    Ok((status, writer.stream.taken))
+    let mut streams = Streams { commands, writer };
+    let status = debugs(alloc, &compiled, &mut streams).status();
+    Ok((status, streams.writer.stream.taken))
 }
 
 #[test]
@@ -688,16 +693,14 @@ fn the_limit(rt: HostRuntime) -> Result<(), Fail> {
 #[test]
 fn a_terminal(rt: HostRuntime) -> Result<(), Fail> {
     let compiled = source_of(rt.alloc(), LOOP)?;
-    let mut writer = Tracked::new(Vec::new(rt.alloc()));
-    let outcome = debugs_at_terminal(
-        rt.alloc(),
-        &compiled,
-        &mut Tracked::new(b"z\ne 1+\nn\n\nq\n".as_slice()),
-        &mut writer,
-    );
+    let mut streams = Streams {
+        commands: Tracked::new(b"z\ne 1+\nn\n\nq\n".as_slice()),
+        writer: Tracked::new(Vec::new(rt.alloc())),
+    };
+    let outcome = debugs_at_terminal(rt.alloc(), &compiled, &mut streams);
     assert_eq!(rt; outcome.status(), 0);
     assert_eq!(rt;
-        writer.stream.as_slice(),
+        streams.writer.stream.as_slice(),
         b"10 LET A=3\n> what? (h lists the commands)\n> what? (h lists the commands)\n> 20 PRINT A\n\
 > | 3\n30 LET A=A-1\n> "
             .as_slice()

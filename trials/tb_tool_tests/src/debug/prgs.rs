@@ -2,7 +2,7 @@
 use std::alloc::{AllocError, Global};
 use std::io::{Read, Write};
 use std::test::Fail;
-use tb_debug_engine::{Rom, Setting, debug_prg};
+use tb_debug_engine::{NamedPrg, Rom, Setting, Streams, debug_prg};
 use tb_engines::{End, Outcome};
 use tb_engine_streams::Tracked;
 use tb_test_support::{FailingReader, FailingWriter, no_keys};
@@ -104,22 +104,20 @@ static REFUSED: [&[u8]; 4] = [b"", b"\x01", b"\xff\xff\x60\x60", b"\x00\xd0\x60"
 fn debugged<R: Read, W: Write>(
     alloc: Global,
     file: &[u8],
-    reader: &mut Tracked<R>,
-    writer: &mut Tracked<W>,
+    streams: &mut Streams<R, W>,
 ) -> Outcome {
     let setting = Setting {
         rom: Rom::Quiet,
         limit: LIMIT,
         prompts: false,
     };
+    let prg = NamedPrg { file, labels: &[] };
     debug_prg(
         alloc,
-        file,
-        &[],
+        prg,
         no_keys(alloc),
         setting,
-        reader,
-        writer,
+        streams,
         &mut Unwatched,
     )
 }
@@ -149,15 +147,13 @@ fn answers(alloc: Global) -> Result<Vec<u8>, AllocError> {
 #[test]
 fn a_dialogue_without_a_source(rt: HostRuntime) -> Result<(), Fail> {
     let commands = commands(rt.alloc())?;
-    let mut writer = Tracked::new(Vec::new(rt.alloc()));
-    let outcome = debugged(
-        rt.alloc(),
-        ROUTINE,
-        &mut Tracked::new(commands.as_slice()),
-        &mut writer,
-    );
+    let mut streams = Streams {
+        commands: Tracked::new(commands.as_slice()),
+        writer: Tracked::new(Vec::new(rt.alloc())),
+    };
+    let outcome = debugged(rt.alloc(), ROUTINE, &mut streams);
     assert_eq!(rt; outcome, Outcome::Ended(End::Done));
-    assert_eq!(rt; writer.stream, answers(rt.alloc())?);
+    assert_eq!(rt; streams.writer.stream, answers(rt.alloc())?);
     Ok(())
 }
 
@@ -165,12 +161,14 @@ fn a_dialogue_without_a_source(rt: HostRuntime) -> Result<(), Fail> {
 #[test]
 fn files_that_are_not_debugged(rt: HostRuntime) -> Result<(), Fail> {
     for file in &REFUSED {
-        let mut reader = Tracked::new(b"n\n".as_slice());
-        let mut writer = Tracked::new(Vec::new(rt.alloc()));
-        let outcome = debugged(rt.alloc(), file, &mut reader, &mut writer);
+        let mut streams = Streams {
+            commands: Tracked::new(b"n\n".as_slice()),
+            writer: Tracked::new(Vec::new(rt.alloc())),
+        };
+        let outcome = debugged(rt.alloc(), file, &mut streams);
         assert_eq!(rt; outcome.status(), 1);
-        assert!(rt; writer.stream.is_empty());
-        assert_eq!(rt; reader.stream, b"n\n".as_slice());
+        assert!(rt; streams.writer.stream.is_empty());
+        assert_eq!(rt; streams.commands.stream, b"n\n".as_slice());
     }
     Ok(())
 }
@@ -180,11 +178,13 @@ fn files_that_are_not_debugged(rt: HostRuntime) -> Result<(), Fail> {
 fn commands_that_cannot_be_read(rt: HostRuntime) -> Result<(), Fail> {
     let commands = commands(rt.alloc())?;
     for until_fault in 0..commands.len().saturating_sub(2) {
-        let mut reader = Tracked::new(FailingReader::new(commands.as_slice(), until_fault, 3));
-        let mut writer = Tracked::new(Vec::new(rt.alloc()));
-        let outcome = debugged(rt.alloc(), ROUTINE, &mut reader, &mut writer);
+        let mut streams = Streams {
+            commands: Tracked::new(FailingReader::new(commands.as_slice(), until_fault, 3)),
+            writer: Tracked::new(Vec::new(rt.alloc())),
+        };
+        let outcome = debugged(rt.alloc(), ROUTINE, &mut streams);
         assert_eq!(rt; outcome, Outcome::ReadFault);
-        assert!(rt; answers(rt.alloc())?.starts_with(writer.stream.as_slice()));
+        assert!(rt; answers(rt.alloc())?.starts_with(streams.writer.stream.as_slice()));
     }
     Ok(())
 }
@@ -195,11 +195,13 @@ fn answers_that_cannot_be_written(rt: HostRuntime) -> Result<(), Fail> {
     let commands = commands(rt.alloc())?;
     let answers = answers(rt.alloc())?;
     for until_fault in 0..answers.len() {
-        let mut writer = Tracked::new(FailingWriter::new(rt.alloc(), until_fault, 100));
-        let mut reader = Tracked::new(commands.as_slice());
-        let outcome = debugged(rt.alloc(), ROUTINE, &mut reader, &mut writer);
+        let mut streams = Streams {
+            commands: Tracked::new(commands.as_slice()),
+            writer: Tracked::new(FailingWriter::new(rt.alloc(), until_fault, 100)),
+        };
+        let outcome = debugged(rt.alloc(), ROUTINE, &mut streams);
         assert_eq!(rt; outcome, Outcome::WriteFault);
-        assert_eq!(rt; writer.stream.taken.as_slice(), &answers[..until_fault]);
+        assert_eq!(rt; streams.writer.stream.taken.as_slice(), &answers[..until_fault]);
     }
     Ok(())
 }

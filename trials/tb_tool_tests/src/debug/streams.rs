@@ -5,7 +5,7 @@ use std::io::{Read, Write};
 use std::test::Fail;
 use tb_codegen::TinyBasic;
 use tb_compiled::CompileSettings;
-use tb_debug_engine::{Rom, Setting, debug};
+use tb_debug_engine::{Rom, Setting, Streams, debug};
 use tb_engines::{Failure, Outcome};
 use tb_engine_sources::{CompiledSource, read_source};
 use tb_engine_streams::Tracked;
@@ -22,8 +22,7 @@ fn debugs_so<R: Read, W: Write>(
     alloc: Global,
     source: &CompiledSource,
     prompts: bool,
-    reader: &mut Tracked<R>,
-    writer: &mut Tracked<W>,
+    streams: &mut Streams<R, W>,
 ) -> Outcome {
     let setting = Setting {
         rom: Rom::Quiet,
@@ -35,8 +34,7 @@ fn debugs_so<R: Read, W: Write>(
         source,
         no_keys(alloc),
         setting,
-        reader,
-        writer,
+        streams,
         &mut Unwatched,
     )
 }
@@ -45,20 +43,18 @@ fn debugs_so<R: Read, W: Write>(
 pub fn debugs_at_terminal<R: Read, W: Write>(
     alloc: Global,
     source: &CompiledSource,
-    reader: &mut Tracked<R>,
-    writer: &mut Tracked<W>,
+    streams: &mut Streams<R, W>,
 ) -> Outcome {
-    debugs_so(alloc, source, true, reader, writer)
+    debugs_so(alloc, source, true, streams)
 }
 
 /// Debugs as in a pipe, with no keys and with a quiet ROM.
 pub fn debugs<R: Read, W: Write>(
     alloc: Global,
     source: &CompiledSource,
-    reader: &mut Tracked<R>,
-    writer: &mut Tracked<W>,
+    streams: &mut Streams<R, W>,
 ) -> Outcome {
-    debugs_so(alloc, source, false, reader, writer)
+    debugs_so(alloc, source, false, streams)
 }
 
 pub fn source_of(alloc: Global, source: &[u8]) -> Result<CompiledSource, Fail> {
@@ -76,9 +72,12 @@ pub fn source_of(alloc: Global, source: &[u8]) -> Result<CompiledSource, Fail> {
 
 // All that is written in answer to these commands.
 fn written(alloc: Global, source: &CompiledSource, commands: &[u8]) -> Vec<u8> {
-    let mut writer = Tracked::new(Vec::new(alloc));
-    debugs(alloc, source, &mut Tracked::new(commands), &mut writer);
-    writer.stream
+    let mut streams = Streams {
+        commands: Tracked::new(commands),
+        writer: Tracked::new(Vec::new(alloc)),
+    };
+    debugs(alloc, source, &mut streams);
+    streams.writer.stream
 }
 
 // The commands up to the line in which they are cut.
@@ -126,10 +125,12 @@ fn each_cut_of_the_commands(rt: HostRuntime) -> Result<(), Fail> {
 
 // Whether a reader that fails ends in a fault, and a prefix of all is written.
 fn reader_fails(alloc: Global, source: &CompiledSource, all: &[u8], until_fault: usize) -> bool {
-    let mut reader = Tracked::new(FailingReader::new(COMMANDS, until_fault, 3));
-    let mut writer = Tracked::new(Vec::new(alloc));
-    let status = debugs(alloc, source, &mut reader, &mut writer).status();
-    status == 3 && all.starts_with(&writer.stream)
+    let mut streams = Streams {
+        commands: Tracked::new(FailingReader::new(COMMANDS, until_fault, 3)),
+        writer: Tracked::new(Vec::new(alloc)),
+    };
+    let status = debugs(alloc, source, &mut streams).status();
+    status == 3 && all.starts_with(&streams.writer.stream)
 }
 
 #[test]
@@ -158,9 +159,12 @@ fn a_reader_that_fails(rt: HostRuntime) -> Result<(), Fail> {
 
 // Whether a writer that fails after `until_fault` bytes ends in a fault, and has taken these.
 fn writer_fails(alloc: Global, source: &CompiledSource, all: &[u8], until_fault: usize) -> bool {
-    let mut writer = Tracked::new(FailingWriter::new(alloc, until_fault, 5));
-    let status = debugs(alloc, source, &mut Tracked::new(COMMANDS), &mut writer).status();
-    status == 3 && Some(writer.stream.taken.as_slice()) == all.get(..until_fault)
+    let mut streams = Streams {
+        commands: Tracked::new(COMMANDS),
+        writer: Tracked::new(FailingWriter::new(alloc, until_fault, 5)),
+    };
+    let status = debugs(alloc, source, &mut streams).status();
+    status == 3 && Some(streams.writer.stream.taken.as_slice()) == all.get(..until_fault)
 }
 
 #[test]
@@ -179,10 +183,12 @@ fn a_writer_that_fails(rt: HostRuntime) -> Result<(), Fail> {
 #[test]
 fn a_flush_that_fails(rt: HostRuntime) -> Result<(), Fail> {
     let source = source_of(rt.alloc(), LOOP)?;
-    let mut writer = Tracked::new(HoldingWriter::new(rt.alloc(), true));
-    let mut reader = Tracked::new(COMMANDS);
-    let status = debugs(rt.alloc(), &source, &mut reader, &mut writer).status();
-    let taken = writer.stream.taken.as_slice();
+    let mut streams = Streams {
+        commands: Tracked::new(COMMANDS),
+        writer: Tracked::new(HoldingWriter::new(rt.alloc(), true)),
+    };
+    let status = debugs(rt.alloc(), &source, &mut streams).status();
+    let taken = streams.writer.stream.taken.as_slice();
     assert_eq!(rt; (status, taken), (3, b"10 LET A=3\n".as_slice()));
     Ok(())
 }
@@ -190,11 +196,13 @@ fn a_flush_that_fails(rt: HostRuntime) -> Result<(), Fail> {
 #[test]
 fn each_answer_is_flushed_once(rt: HostRuntime) -> Result<(), Fail> {
     let source = source_of(rt.alloc(), LOOP)?;
-    let mut writer = Tracked::new(CountingWriter::new(rt.alloc()));
-    let mut reader = Tracked::new(b"n\nv\nn\nq\n".as_slice());
-    debugs(rt.alloc(), &source, &mut reader, &mut writer);
+    let mut streams = Streams {
+        commands: Tracked::new(b"n\nv\nn\nq\n".as_slice()),
+        writer: Tracked::new(CountingWriter::new(rt.alloc())),
+    };
+    debugs(rt.alloc(), &source, &mut streams);
     assert_eq!(rt;
-        writer.stream.flushed_at.as_slice(),
+        streams.writer.stream.flushed_at.as_slice(),
         [11, 22, 26, 43].as_slice()
     );
     Ok(())

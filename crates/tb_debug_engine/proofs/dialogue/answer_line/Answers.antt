@@ -44,10 +44,10 @@ returns-in-Ok-Some-respond g c =
     let spelled = c.read_spelled-command.ensures ∙ ap (λ b. spelled_by b (repeated d) c.as_slice-2.result.now) c.has_no_source.ensures
     ∙ ap (spelled_by (has_no_source d.debugger.debuggee) (repeated d)) line in
     let done = c.in-Ok-Some-respond.ensures in
-    let old = streams_of g.R.Read.remaining c.args.commands.now g.W.Write.contents c.args.writer.now in
-    let new = streams_of g.R.Read.remaining c.ask.new.commands g.W.Write.contents c.say.new.writer in
+    let old = streams_of g.R.Read.remaining c.args.streams.now.commands g.W.Write.contents c.args.streams.now.writer in
+    let new = streams_of g.R.Read.remaining c.ask.new.streams.commands g.W.Write.contents c.say.new.writer in
     said_wrong c.args.source.now c.args.setting d e c.in-Err-say.outcome c.in-Ok-Some.line.items
-    c.in-Ok-Some-respond.answer old new (stream_of g.W.Write.contents c.ask.new.writer) took
+    c.in-Ok-Some-respond.answer old new (stream_of g.W.Write.contents c.ask.new.streams.writer) took
     (answered c.args.source.now c.args.setting.limit d e command c.in-Ok-Some.line.items _ spelled
     done.run (rw c.in-Ok-Some-respond.field-0-is at done.tells) done.shown done.leaves c.last_move-dialogue.ensures)
     prompted c.in-Err-say.ensures

@@ -8,4 +8,4 @@ abbrev pub invariant-loop-asked : goal.invariant-loop-asked
 invariant-loop-asked g l =
     (lines : List (List ℕ)) × (length lines ≡ l.asked)
     × HasAnswered l.source l.setting l.fn.dialogue lines l.dialogue
-    (streams_of g.R.Read.remaining l.fn.commands g.W.Write.contents l.fn.writer) (streams_of g.R.Read.remaining l.commands g.W.Write.contents l.writer)
+    (streams_of g.R.Read.remaining l.fn.streams.commands g.W.Write.contents l.fn.streams.writer) (streams_of g.R.Read.remaining l.streams.commands g.W.Write.contents l.streams.writer)

@@ -12,7 +12,7 @@ use Rattle.tb_engines.proofs.programs.run_prg_watched.Goals as goal
 
 pub returns-in-Err-start_file-clause-answers : goal.returns-in-Err-start_file-clause-answers
 returns-in-Err-start_file-clause-answers g c =
-    let s = plain_settings_of g.O.Outside.gives c.args.outside.now c.args.keyboard c.args.limit in
+    let s = plain_settings_of g.O.Outside.gives c.args.outside.now c.args.run.keyboard c.args.run.limit in
     let file = c.in-Ok.file.items in
     let had = g.R.Read.remaining c.args.reader.now.stream in
     let none : StartsPrg s.text s.answers file (Err c.in-Err-start_file.stop) = rw c.as_slice.ensures.value at c.in-Err-start_file.ensures in
@@ -22,7 +22,7 @@ returns-in-Err-start_file-clause-answers g c =
 
 pub returns-clause-answers : goal.returns-clause-answers
 returns-clause-answers g c =
-    let s = plain_settings_of g.O.Outside.gives c.args.outside.now c.args.keyboard c.args.limit in
+    let s = plain_settings_of g.O.Outside.gives c.args.outside.now c.args.run.keyboard c.args.run.limit in
     let file = c.in-Ok.file.items in
     let had = g.R.Read.remaining c.args.reader.now.stream in
     let start = c.in-Ok-start_file.machine in
@@ -33,7 +33,7 @@ returns-clause-answers g c =
 
 pub returns-clause-place : goal.returns-clause-place
 returns-clause-place g c =
-    let s = plain_settings_of g.O.Outside.gives c.args.outside.now c.args.keyboard c.args.limit in
+    let s = plain_settings_of g.O.Outside.gives c.args.outside.now c.args.run.keyboard c.args.run.limit in
     let file = c.in-Ok.file.items in
     let start = c.in-Ok-start_file.machine in
     let started : StartsPrg s.text s.answers file (Ok start) = rw c.as_slice.ensures.value at c.in-Ok-start_file.ensures in

@@ -5,5 +5,5 @@ use Rattle.tb_lsp_hover.proofs.shown.using.Given as goal
 
 abbrev pub invariant-loop-i : goal.invariant-loop-i
 invariant-loop-i l =
-    l.found.items ++ using_from l.source.lines.items l.name l.gets l.i (drop l.i l.source.lines.items)
-    ≡ using_from l.source.lines.items l.name l.gets 0 l.source.lines.items
+    l.found.items ++ using_from l.source.lines.items l.so.name l.so.gets l.i (drop l.i l.source.lines.items)
+    ≡ using_from l.source.lines.items l.so.name l.so.gets 0 l.source.lines.items
