@@ -23,7 +23,7 @@ MATCH = re.compile(r"(?m)^ {4}match job \{\n")
 PERFORM = "pub fn perform<"  # the function with the match of jobs
 OTHER = "Err(Failure::NoMemory)"  # what all other commands do there
 AT_A_TERMINAL = {"hinting", "noting"}  # modules of what is said to a person
-PARTS = ("tb_program_runs", "tb_program_texts", "tb_program_files")  # the crates of the program's commands, from above
+PARTS = ("tb_program_commands", "tb_program_endings", "tb_program_files")  # the crates of the program's commands, from above
 # What takes the place of the function that makes a job of words, where they are `run FILE`.
 RUN_FILE = """fn job_of_words<R: Env + AllocGlobal>(rt: &R) -> Result<Asked, Failure> {
     let mut words = words(rt)?;
@@ -97,9 +97,10 @@ def names(text):
     return set(re.findall(r"\w+", re.sub(r"(?m)//.*$", "", text)))
 
 
-def without_dead_variants(files):
-    """Leaves out each variant of an enum that is made nowhere but only matched, with the arms that match it."""
-    text = "".join(item for items in files.values() for _, item in items)
+def without_dead_variants(files, above=""):
+    """Leaves out each variant of an enum that is made nowhere, here or in the text above, but only matched, with the arms
+    that match it."""
+    text = above + "".join(item for items in files.values() for _, item in items)
     for items in files.values():
         for _, item in list(items):
             enum = re.match(r"(?:pub )?enum (\w+)", item)
@@ -109,7 +110,7 @@ def without_dead_variants(files):
                 name = re.escape(f"{enum[1]}::{variant}(")
                 if re.search(rf"(?m)^(?!.*{name}.* => ).*{name}| => .*{name}", text):
                     continue
-                dead = rf"(?m)^(?: +///.*\n)* +{variant}\(.*\),\n", rf"(?m)^ +{name}.* => .*,\n| \| {name}.*?\)(?= \|| =>)"
+                dead = rf"(?m)^(?: +///.*\n)* +{variant}\(.*\),\n", rf"(?m)^( +){name}.* => (?:.*,|\{{\n(?:\1 .*\n)*\1\}})\n| \| {name}.*?\)(?= \|| =>)"
                 for those in files.values():
                     those[:] = [(above, re.sub(dead[0] if it.startswith(enum[0]) else dead[1], "", it)) for above, it in those]
 
@@ -149,10 +150,10 @@ def imports(item, used):
     return f"{found[1] or ''}use {found[2]}::{{{', '.join(kept)}}};\n" if kept else ""
 
 
-def narrowed(files, roots=frozenset(["main"])):
-    """Leaves out what is dead, and imports and modules of it. The roots are what others name."""
+def narrowed(files, roots=frozenset(["main"]), above=""):
+    """Leaves out what is dead, and imports and modules of it. The roots are what others name, in the text above."""
     live(files, roots)
-    without_dead_variants(files)
+    without_dead_variants(files, above)
     live(files, roots)
     for items in files.values():
         used = set().union(TRAITS, roots, *(names(it) for _, it in items if not USE.match(it)))
@@ -198,7 +199,7 @@ def all_names(files):
 def brought(files, crate):
     """The names that the files bring in from a crate."""
     text = "".join(it for items in files.values() for _, it in items)
-    return names("".join(re.findall(rf"(?m)^use {crate}::([^;]*);", text)))
+    return names(" ".join(re.findall(rf"(?m)^use {crate}::([^;]*);", text)))
 
 
 def is_plain(words):
@@ -231,8 +232,9 @@ def main(folder, program, *command):
         for part in PARTS:
             above = [it for it in reached(table, program) if part in table[it]]
             if above:
-                wanted = set().union(*(brought(kept.get(it) or files_of(it), part) for it in above))
-                kept[part] = narrowed(files_of(part), wanted)
+                users = [kept.get(it) or files_of(it) for it in above]
+                text = "".join(item for files in users for items in files.values() for _, item in items)
+                kept[part] = narrowed(files_of(part), set().union(*(brought(it, part) for it in users)), text)
                 table[part] = [it for it in table[part] if it in all_names(kept[part])]
     needed = reached(table, program)
     for name in needed:

@@ -1,13 +1,13 @@
 -- Images of the compiler with some bytes changed, written by tools/refutations.py.
 use Rattle.std.specs.Prelude.{ℕ, ◌+◌, ◌-◌, List, [], ◌∷◌, ◌++◌, take, drop, length}
 use Rattle.tb_memmap.specs.Regions.{BASIC_START}
-use Rattle.tb_gate_refutations.specs.Compiled.{goto_itself_image, ends_image, prints_variable_image, prints_two_image, prints_and_faults_image}
-use Rattle.tb_gate_refutations.specs.Compiled.{prints_quotient_image, prints_negative_quotient_image, compares_far_image}
-use Rattle.tb_gate_refutations.specs.Compiled.{prints_quotient_by_256_image, prints_if_256_image, prints_if_positive_image}
-use Rattle.tb_gate_refutations.specs.Compiled.{prints_if_below_256_image, prints_rest_image, prints_rest_by_three_image}
-use Rattle.tb_gate_refutations.specs.Compiled.{prints_rest_of_bytes_image, prints_in_zones_image, goes_nowhere_image, inputs_two_image}
-use Rattle.tb_gate_refutations.specs.Compiled.{calls_itself_image, calls_and_returns_image, goes_to_sum_image, prints_forever_image}
-use Rattle.tb_gate_refutations.specs.Compiled.{prints_if_zero_image}
+use Rattle.tb_gate_refutations.specs.Compiled.{goto_itself_image, ends_image, prints_variable_image, prints_two_image}
+use Rattle.tb_gate_refutations.specs.Compiled.{prints_and_faults_image, prints_quotient_image, prints_negative_quotient_image}
+use Rattle.tb_gate_refutations.specs.Compiled.{compares_far_image, prints_quotient_by_256_image, prints_if_256_image}
+use Rattle.tb_gate_refutations.specs.Compiled.{prints_if_positive_image, prints_if_below_256_image, prints_rest_image}
+use Rattle.tb_gate_refutations.specs.Compiled.{prints_rest_by_three_image, prints_rest_of_bytes_image, prints_in_zones_image}
+use Rattle.tb_gate_refutations.specs.Compiled.{goes_nowhere_image, inputs_two_image, calls_itself_image, calls_and_returns_image}
+use Rattle.tb_gate_refutations.specs.Compiled.{goes_to_sum_image, prints_forever_image, prints_if_zero_image}
 
 -- other bytes from an address on
 abbrev pub changed : List ℕ → ℕ → List ℕ → List ℕ

@@ -11,6 +11,8 @@ use std::rt::Files;
 use std::time::Clock;
 use std::{fs, io};
 use tb_engine_files::{Folder, Look, MOST_LOOK, Node, Place, STANDARD};
+use tb_program_jobs::clock_seed;
+use tb_program_reasons::Told;
 
 /// The most links that lead one to the next.
 pub const MOST_LINKS: u32 = 40;
@@ -115,11 +117,29 @@ fn beginning_of<R: Files>(rt: &R, alloc: Global, path: &str) -> Result<Vec<u8>, 
     Ok(beginning)
 }
 
-/// How many milliseconds have passed since 1970, if the clock can be read.
-pub fn milliseconds<R: Clock>(rt: &R) -> Option<u128> {
+/// The clock's seed, if the clock can be read.
+pub fn drawn_seed<R: Clock>(rt: &R) -> Option<u16> {
     match rt.since_1970() {
-        Ok(time) => Some(time.as_millis()),
+        Ok(time) => Some(clock_seed(time.as_millis())),
         Err(_) => None,
+    }
+}
+
+/// What the system tells of a file. Only a regular file is opened, since another one may have to be waited for.
+pub fn told_of<R: Files>(rt: &R, path: &str) -> Told {
+    let found = match fs::metadata(rt, path) {
+        Ok(found) => found,
+        Err(error) => return Told::failed(error.kind()),
+    };
+    if found.is_file() {
+        if let Err(error) = fs::open(rt, path) {
+            return Told::failed(error.kind());
+        }
+    }
+    Told {
+        error: None,
+        is_folder: found.is_dir(),
+        length: found.len(),
     }
 }
 

@@ -1,7 +1,10 @@
+pub mod Failures
 pub mod Files
 pub mod Limits
 pub mod Numbers
 pub mod Seeds
+pub mod Settings
+pub mod Sources
 pub mod Statuses
 pub mod Strictness
 pub mod Terminals

@@ -3,14 +3,6 @@ use Rattle.std.specs.Prelude.{ℕ}
 use Rattle.tb_engine_streams.specs.Numbers.{BAD_WORDS, FAULT, NO_MEMORY, REFUSED}
 use Rattle.tb_program_jobs.specs.declared.failure.Failure.{Failure}
 use Rattle.tb_program_jobs.specs.declared.failure.Failure.TheVariants.{Words, NotUtf8, BadKeys, BadAddress, SameFile, IsSource, Unlike, BadLabels, NoTerminal, SmallTerminal, ReadFault, NoClock, NoMemory}
-use Rattle.tb_program_jobs.specs.declared.jobs.JobError.{JobError}
-use Rattle.tb_program_jobs.specs.declared.jobs.JobError.TheVariants.{Words as JobWords, NoClock as NoJobClock, NoMemory as NoJobMemory}
-
--- why there is no job: the words are none, no clock can be read, or memory is short
-abbrev pub failure_of : JobError → Failure
-failure_of (JobWords text) = Words text
-failure_of NoJobClock = NoClock
-failure_of NoJobMemory = NoMemory
 
 -- the exit status by why no engine is called
 abbrev pub status_of : Failure → ℕ

@@ -1,8 +1,14 @@
 -- The names of transcripts, by the names of their sources.
-use Rattle.std.specs.Prelude.{◌≡◌, ◌≢◌, ◌⊎◌, ◌&&◌, ◌==◌, ℕ, Bool, true, false, not, List, ◌∷◌, ◌++◌, length, codes, if◌then◌else◌}
+use Rattle.std.specs.Prelude.{◌≡◌, ◌≢◌, ◌⊎◌, ◌&&◌, ◌==◌, ℕ, Bool, true, false, not, eqb, List, ◌∷◌, ◌++◌, length, Option, Some, None, codes, if◌then◌else◌}
 use Rattle.std.specs.Char.{is_ascii_digit}
 use Rattle.std.specs.Fmt.{decimal}
 use Rattle.std.specs.List.{list_all}
+use Rattle.tb_basic_text.specs.declared.notation.Notation.{Notation}
+use Rattle.tb_basic_text.specs.declared.notation.Notation.TheVariants.{Plain, Signs}
+use Rattle.tb_engine_transcripts.specs.declared.transcript.RunOptions.{RunOptions}
+use Rattle.tb_engines.specs.Numbers.{MOST_EVENTS}
+use Rattle.tb_program_jobs.specs.declared.jobs.PlayJob.{PlayJob}
+use Rattle.tb_program_jobs.specs.declared.jobs.SourceOptions.{SourceOptions}
 
 -- the ending of a transcript
 abbrev pub transcript_ending : List ℕ
@@ -45,3 +51,22 @@ ending_of number = if number == 0 then transcript_ending else 46 ∷ decimal num
 abbrev pub IsTranscriptOf : (source : List ℕ) → ℕ → (transcript : List ℕ) → Type 0
 IsTranscriptOf source number transcript =
     (stem : List ℕ) × IsStem source_ending source stem × (transcript ≡ stem ++ ending_of number)
+
+-- whether texts are read with signs
+abbrev pub has_signs : Notation → Bool
+has_signs Plain = false
+has_signs Signs = true
+
+-- what the transcript of a play asks for: the most events that there may be are no limit
+abbrev pub run_options : PlayJob → RunOptions
+run_options j = record {
+  seed = j.options.seed;
+  fits = j.options.fit;
+  signs = has_signs j.options.notation;
+  limit = if eqb j.limit.events MOST_EVENTS then None else Some j.limit.events;
+  rude = None;
+}
+
+-- how a source is compiled by the options of a transcript
+abbrev pub source_options : RunOptions → SourceOptions
+source_options o = record { seed = o.seed; fit = o.fits; notation = if o.signs then Signs else Plain }

@@ -1,12 +1,15 @@
 //! Why the words of the command line lead to no call of an engine.
 ghost use Rattle.std.specs.Prelude.{◌≡◌};
+ghost use Rattle.tb_program_jobs.specs.Failures as failures;
 ghost use Rattle.tb_program_jobs.specs.Statuses.{status_of};
 
 use crate::jobs::JobError;
 use std::alloc::AllocError;
 use std::fmt;
+use tb_assembly_labels::LabelsError;
 use tb_engine_files::Kind;
-use tb_engine_streams::status;
+use tb_engine_streams::{InputError, KeyError, KeyFileError, status};
+use tb_engines::Outcome;
 
 /// What is wrong with the words, or that memory is wanting.
 #[derive(Debug, Drop)]
@@ -115,15 +118,70 @@ impl From<AllocError> for Failure {
 }
 
 impl From<JobError> for Failure {
-    ghost use Rattle.tb_program_jobs.specs.Statuses.{failure_of};
-
-    ghost from_gives = { λ error failure. failure ≡ failure_of error };
+    ghost from_gives = { λ error failure. failure ≡ failures.failure_of error };
 
     fn from(error: JobError) -> Failure {
         match error {
             JobError::Words(text) => Failure::Words(text),
             JobError::NoClock => Failure::NoClock,
             JobError::NoMemory => Failure::NoMemory,
+        }
+    }
+}
+
+impl From<KeyError> for Failure {
+    ghost from_gives = { λ error failure. failure ≡ failures.of_keys error };
+
+    fn from(error: KeyError) -> Failure {
+        match error {
+            KeyError::BadKeys => Failure::BadKeys,
+            KeyError::NoMemory => Failure::NoMemory,
+        }
+    }
+}
+
+impl From<KeyFileError> for Failure {
+    ghost from_gives = { λ error failure. failure ≡ failures.of_key_file error };
+
+    fn from(error: KeyFileError) -> Failure {
+        match error {
+            KeyFileError::BadKeys => Failure::BadKeys,
+            KeyFileError::Fault => Failure::ReadFault,
+            KeyFileError::NoMemory => Failure::NoMemory,
+        }
+    }
+}
+
+impl From<InputError> for Failure {
+    ghost from_gives = { λ error failure. failure ≡ failures.of_input error };
+
+    fn from(error: InputError) -> Failure {
+        match error {
+            InputError::Fault => Failure::ReadFault,
+            InputError::NoMemory => Failure::NoMemory,
+        }
+    }
+}
+
+impl From<LabelsError> for Failure {
+    ghost from_gives = { λ error failure. failure ≡ failures.of_labels error };
+
+    fn from(error: LabelsError) -> Failure {
+        match error {
+            LabelsError::Line(line) => Failure::BadLabels(line),
+            LabelsError::NoMemory => Failure::NoMemory,
+        }
+    }
+}
+
+impl Failure {
+    /// Why a key file or a label file was not opened.
+    pub fn of_unopened(outcome: Outcome) -> Failure
+        ensures { result ≡ failures.of_unopened outcome }
+    {
+        match outcome {
+            Outcome::NoMemory => Failure::NoMemory,
+            _ => Failure::ReadFault,
         }
     }
 }

@@ -1,10 +1,15 @@
-//! The names of transcripts: each is beside its source, and has its name.
+//! The names of transcripts: each is beside its source, and has its name. And their options, by those of jobs.
 ghost use Rattle.std.specs.Char.{is_ascii_digit};
 ghost use Rattle.std.specs.List.{list_all};
 ghost use Rattle.std.specs.Prelude.{◌≡◌, ◌++◌, IfOk, codes, string_bytes};
+ghost use Rattle.tb_program_jobs.specs.Transcripts as transcripts;
 ghost use Rattle.tb_program_jobs.specs.Transcripts.{EndsAs, IsSourceOf, IsStem, IsTranscriptOf, IsUnnumbered, ending_of, is_number};
 
+use crate::jobs::{PlayJob, SourceOptions};
 use std::alloc::{AllocError, Global};
+use tb_basic_text::Notation;
+use tb_engine_transcripts::RunOptions;
+use tb_engines::MOST_EVENTS;
 
 // What the name of a transcript ends in.
 const ENDING: &str = ".transcript";
@@ -77,5 +82,40 @@ fn numbered(alloc: Global, stem: &str, number: u16) -> Result<String, AllocError
         format!(in alloc; "{stem}.transcript")
     } else {
         format!(in alloc; "{stem}.{number}.transcript")
+    }
+}
+
+/// What the transcript of a play asks for beside what its source does, so that the program is played once more.
+pub fn run_options(job: &PlayJob) -> RunOptions
+    ensures { result ≡ transcripts.run_options job.now }
+{
+    RunOptions {
+        seed: job.options.seed,
+        fits: job.options.fit,
+        signs: match job.options.notation {
+            Notation::Signs => true,
+            Notation::Plain => false,
+        },
+        limit: if job.limit.events == MOST_EVENTS {
+            None
+        } else {
+            Some(job.limit.events)
+        },
+        rude: None,
+    }
+}
+
+/// How a source is compiled by the options of a transcript, as if they stood on the command line.
+pub fn source_options(options: RunOptions) -> SourceOptions
+    ensures { result ≡ transcripts.source_options options }
+{
+    SourceOptions {
+        seed: options.seed,
+        fit: options.fits,
+        notation: if options.signs {
+            Notation::Signs
+        } else {
+            Notation::Plain
+        },
     }
 }

@@ -1,5 +1,5 @@
 -- Why a file is not read or written.
-use Rattle.std.specs.Prelude.{ℕ, nat_lt, Option, Some, None, if◌then◌else◌}
+use Rattle.std.specs.Prelude.{ℕ, nat_lt, false, Option, Some, None, if◌then◌else◌}
 use Rattle.std.specs.declared.io.ErrorKind.{ErrorKind}
 use Rattle.std.specs.declared.io.ErrorKind.TheVariants as error
 use Rattle.tb_engine_streams.specs.Streams.{most_input}
@@ -9,6 +9,10 @@ use Rattle.tb_program_reasons.specs.declared.files.Purpose.TheVariants.{Input, K
 use Rattle.tb_program_reasons.specs.declared.files.Told.{Told}
 use Rattle.tb_program_reasons.specs.declared.reasons.FileReason.{FileReason}
 use Rattle.tb_program_reasons.specs.declared.reasons.FileReason.TheVariants.{NoSuchFile, NoSuchFolder, IsFolder, NoPermission, DiskFull, TooLong, KeysTooLong}
+
+-- what is told of a file that was not opened or written
+abbrev pub failed : ErrorKind → Told
+failed e = record { error = Some e; is_folder = false; length = 0 }
 
 -- a file that isn't there can't be read; to be written it is made, if its folder is there
 abbrev pub reason_if_missing : Purpose → FileReason

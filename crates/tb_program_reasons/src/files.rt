@@ -1,6 +1,6 @@
 //! Why a file can't be read or written, as far as its system tells.
 ghost use Rattle.std.specs.Prelude.{◌≡◌};
-ghost use Rattle.tb_program_reasons.specs.Files.{reason_by_error, reason_by_length, reason_if_missing, reason_of};
+ghost use Rattle.tb_program_reasons.specs.Files.{failed, reason_by_error, reason_by_length, reason_if_missing, reason_of};
 
 use crate::reasons::FileReason;
 use std::io::ErrorKind;
@@ -29,6 +29,19 @@ pub struct Told {
     pub error: Option<ErrorKind>,
     pub is_folder: bool,
     pub length: u64,
+}
+
+impl Told {
+    /// What it tells of one that it did not open or write.
+    pub fn failed(error: ErrorKind) -> Told
+        ensures { result ≡ failed error }
+    {
+        Told {
+            error: Some(error),
+            is_folder: false,
+            length: 0,
+        }
+    }
 }
 
 /// Why a file was not read or written, as far as its system tells.

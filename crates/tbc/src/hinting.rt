@@ -3,6 +3,8 @@ use crate::words;
 use std::rt::Env;
 use tb_engine_files::is_source_name;
 use tb_program_command_line::Failure;
+use tb_program_commands::say;
+use tb_program_endings::Note;
 
 /// Says how a source is run, if the first word is one in place of a command.
 pub fn hint<R: Env + Eprint + AllocGlobal>(rt: &R, failure: &Failure) {
@@ -10,7 +12,6 @@ pub fn hint<R: Env + Eprint + AllocGlobal>(rt: &R, failure: &Failure) {
         return;
     };
     if let Some(word) = words.first().filter(|word| is_source_name(word.as_str())) {
-        // Nobody can be told that standard error fails.
-        let _ = eprintln!(rt; "tbc: note: to run a source: tbc run {word}");
+        say(rt, Note::Source(word.as_str()));
     }
 }

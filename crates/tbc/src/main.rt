@@ -1,24 +1,23 @@
 //! The program `tbc`: its words become a job, and an engine does it over files and standard streams.
 //!
 //! All is safe and total. Which command is called for a job, and the texts on standard error, only tests show
-//! (`tools/try/command_line.sh`). The statuses of outcomes are promised; that the program ends with that of its job's
-//! outcome is one match (`Ending::status`).
+//! (`tools/try/command_line.sh`). The status of each ending is promised (`Ending::status` of tb_program_endings).
 #![tactic(auto)]
 
-mod ending;
 mod hinting;
 mod noting;
 mod tasks;
 
-use ending::Ending;
 use hinting::hint;
-use noting::{note, note_after, note_before};
+use noting::{note_after, note_before};
 use std::io::IsTerminal;
 use std::process::ExitCode;
 use std::rt::{Env, Files};
 use std::time::Clock;
 use std::{env, io};
 use tb_program_command_line::{Asked, Failure, job};
+use tb_program_commands::say_help;
+use tb_program_endings::Ending;
 use tb_program_host::{Host, drawn_seed};
 
 // The words after the program's own name.
@@ -61,7 +60,7 @@ fn start<R: Files + Env + Clock + Print + Eprint + Input + AllocGlobal + Clone +
     let done = tasks::perform(&mut host, job, terminals.input && terminals.output);
     let status = told(rt, &done, job.is_strict());
     if notes {
-        note(&mut host, job, &done);
+        say_help(&mut host, job, &done);
         note_after(rt, &asked);
     }
     status

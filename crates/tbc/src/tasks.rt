@@ -1,5 +1,4 @@
 //! The commands. Key lists, key files and addresses are looked at before any other file is opened.
-use crate::ending::Ending;
 use std::io;
 use std::rt::{Env, Files};
 use std::time::Clock;
@@ -8,13 +7,13 @@ use tb_engine_files::{Barred, Output, may_write};
 use tb_engine_streams::{Tracked, write_output};
 use tb_engines::{End, Outcome, Report};
 use tb_program_command_line::{DisJob, DiskJob, Failure, Job, VERSION};
+use tb_program_commands::{
+    assemble, assemble_at, build, check_files, debug, format_file, page, play, profile,
+    renumber_file, run, serve_debugger, serve_editor, step, test,
+};
+use tb_program_endings::Ending;
 use tb_program_files::{disk_file, list_file};
 use tb_program_host::Host;
-use tb_program_runs::{debug, play, profile, run, step, test};
-use tb_program_texts::{
-    assemble, assemble_at, build, check_files, format_file, page, renumber_file, serve_debugger,
-    serve_editor,
-};
 
 /// Does what the words ask for, if the files that are to be written may be. A prompt is shown before a debugger's command
 /// where that is wanted.
