@@ -16,7 +16,7 @@ is made in place, and then the check is of the whole copy.
     tools/wrong.py --pairs
 
 --landing tries a sixth of the crates: which one, the number in .ci/landing says, so that each has its turn at least every
-sixth landing. It also tries those of which more than comments and imports changed since the last landing, and those
+sixth landing. It also tries those of which more than comments, imports and names changed since the last landing, and those
 of the group Gate above a crate whose code or definitions changed. What it leaves out it names. --pairs tries nothing: it compares each wrong body with its
 control, as each run does first. The control changes the same place, and brings as many calls, branches and loops.
 
@@ -295,24 +295,46 @@ def every_crate():
     return sorted({it.parent.name for kind in ("wrong", "must-fail", "controls") for it in ROOT.glob(f"crates/*/{kind}")})
 
 
-def code_of(text):
-    """A text without comments on lines of their own, and without the imports of one line, which a moved name changes."""
-    without = ("//", "-- ", "use ", "pub use ", "ghost use ")
-    return [it for line in text.splitlines() if (it := line.strip()) and not it.startswith(without)]
+def code_of(text, named):
+    """A text by its names and signs, without comments on lines of their own and without imports, which a moved name changes;
+    of an earlier text, crates have the names that they have now."""
+    text = re.sub(r"(?m)^ *(?:pub |ghost )?use [^;{]*(?:\{[^}]*\})?;?\n", "", text)
+    lines = [it for line in text.splitlines() if (it := line.strip()) and not it.startswith(("//", "-- "))]
+    text = re.sub(r"\btb_\w+", lambda it: named.get(it[0], it[0]), "".join(lines))
+    return re.sub(r",(?=[)}\]])", "", re.sub(r"\s", "", text))
 
 
-def is_changed(path, commit):
-    """Whether more than comments and imports changed in a file since then."""
-    file = ROOT / path
-    before = subprocess.run(["git", "show", f"{commit}:{path}"], cwd=ROOT, capture_output=True, text=True)
-    return before.returncode or not file.exists() or code_of(before.stdout) != code_of(file.read_text())
+def named_since(commit):
+    """The crates that are gone since then, each with the crate that has most of its files now."""
+    before = [it.split("/", 2)[1:] for it in git("ls-tree", "-r", "--name-only", commit, "crates").splitlines()]
+    now = {}
+    for name, path in (it.split("/", 2)[1:] for it in git("ls-files", "crates").splitlines()):
+        now.setdefault(path, []).append(name)
+    gone = {name for name, _ in before if not (ROOT / "crates" / name).exists()}
+    common = {name: Counter() for name in gone}
+    for name, path in before:
+        if name in gone and not path.endswith(("/lib.rt", "/Lib.antt")):
+            common[name].update(now.get(path, []))
+    return {name: most.most_common(1)[0][0] for name, most in common.items() if most}
+
+
+def is_changed(path, commit, named):
+    """Whether more than comments, imports and names of crates changed in a file since then."""
+    file, (_, crate, inside) = ROOT / path, path.split("/", 2)
+    for name in (crate, *(old for old, new in named.items() if new == crate)):
+        before = subprocess.run(["git", "show", f"{commit}:crates/{name}/{inside}"], cwd=ROOT, capture_output=True, text=True)
+        if not before.returncode:
+            return not file.exists() or code_of(before.stdout, named) != code_of(file.read_text(), {})
+    return True
 
 
 def changed_since(commit):
-    """The crates of which more than comments and imports changed since then in what is read here, and those of the group
-    Gate that name a crate whose code or definitions changed."""
+    """The crates of which more than that changed since then in what is read here, and those of the group Gate that name a
+    crate whose code or definitions changed."""
+    named = named_since(commit)
     names = git("diff", "--name-only", "--no-renames", commit, "--", "crates").splitlines()
-    paths = [it.split("/") for it in names if it.split("/")[2] in READ and is_changed(it, commit)]
+    here = [it for it in names if it.split("/")[1] not in named and it.split("/")[2] in READ]
+    paths = [it.split("/") for it in here if is_changed(it, commit, named)]
     changed = {it[1] for it in paths}
     contracts = {it[1] for it in paths if it[2] in ("src", "specs")}
     for crate in every_crate():
