@@ -18,7 +18,7 @@ abbrev pub bytes_behind : List ℕ → List ℕ → List ℕ
 bytes_behind before [] = []
 bytes_behind before (b ∷ bs) = (before ++ two_digits b []) ++ bytes_behind (codes ",$") bs
 
--- the same with their directive
+-- the text of bytes: their directive, and the bytes with commas between them
 abbrev pub bytes_text : Dialect → List ℕ → List ℕ
 bytes_text d bs = bytes_behind (byte_directive d) bs ++ codes " "
 

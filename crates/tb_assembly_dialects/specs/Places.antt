@@ -47,7 +47,7 @@ pub record View : Type 0 where
 abbrev pub view_of : Places → View
 view_of p = record { starts = p.starts.items; targets = p.targets.items }
 
--- that of lines whose addresses lie below `end`
+-- where lines begin and where they jump to, among the addresses below `end`
 abbrev pub view_below : ℕ → List (ℕ × Entry) → View
 view_below end lines = record { starts = starts_of end lines; targets = targets_of end lines }
 

@@ -31,7 +31,7 @@ pub record Read : Type 0 where
   pub bad : List BadLine
   pub lines : ℕ
 
--- the same of the code
+-- a `Reading` of the code as what was read
 abbrev pub read_of : Reading → Read
 read_of r = record { scope = r.scope.items; said = map said_of r.statements.items; places = r.places.items; bad = r.bad.items; lines = r.lines }
 

@@ -83,7 +83,7 @@ abbrev pub labels_from : ℕ → List (ℕ × List ℕ) → List (List ℕ) → 
 labels_from n labels [] = Ok labels
 labels_from n labels (line ∷ lines) = or_bad n (λ more. labels_from (n + 1) more lines) (after_line labels line)
 
--- those of a file
+-- the labels of a file, or the number of its first bad line
 abbrev pub labels_of : List ℕ → Result (List (ℕ × List ℕ)) ℕ
 labels_of text = labels_from 1 [] (lines_of_file text)
 

@@ -15,7 +15,7 @@ abbrev pub nearer_of : ℕ × List ℕ → Option (ℕ × List ℕ) → Option (
 nearer_of l (Some best) = if nat_le l.0 best.0 then Some best else Some l
 nearer_of l None = Some l
 
--- the same of one that may not reach the address
+-- the nearer of the best label so far and another one, which counts only if it reaches the address
 abbrev pub nearer : ℕ → Option (ℕ × List ℕ) → ℕ × List ℕ → Option (ℕ × List ℕ)
 nearer address best l = if reaches address l then nearer_of l best else best
 
@@ -52,6 +52,6 @@ abbrev pub first_named : List ℕ → List (ℕ × List ℕ) → Option ℕ
 first_named name [] = None
 first_named name (l ∷ labels) = if str_eq_ignore_ascii_case name l.1 then Some l.0 else first_named name labels
 
--- the same of a name that may have a dot before it
+-- the address of the first label with a name, which may have a dot before it
 abbrev pub address_of : List (ℕ × List ℕ) → List ℕ → Option ℕ
 address_of labels name = first_named (without_dot name) labels

@@ -41,7 +41,7 @@ abbrev pub IsKnownAt : List (Name × ℕ) → Stated → Type 0
 IsKnownAt above (instructed c m g) = IsKnown above g
 IsKnownAt above s = IsStated s
 
--- the same of all that lie from an address on
+-- each statement from an address on has numbers that are bytes or words, and known where it matters
 abbrev pub AreKnown : List (Name × ℕ) → ℕ → List Stated → Type 0
 AreKnown above a [] = Unit {0}
 AreKnown above a (s ∷ ss) = IsKnownAt above s × AreKnown (above ++ label_at a (entry s)) (a + size_of (entry s)) ss

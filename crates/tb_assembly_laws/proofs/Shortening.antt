@@ -22,7 +22,7 @@ abbrev short_given : List (Name × ℕ) → Given → Given
 short_given above (place c a i) = low_place c a (number_in above (address_in a)) i
 short_given above g = g
 
--- the same of a statement, or the statement as it is
+-- a statement with its address as one byte, or the statement as it is
 abbrev short_stated : Bool → List (Name × ℕ) → Stated → Stated
 short_stated true above (instructed c m g) = instructed c m (short_given above g)
 short_stated b above s = s

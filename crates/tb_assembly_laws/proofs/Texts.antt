@@ -20,7 +20,7 @@ use Rattle.tb_assembly_laws.proofs.Making.{means}
 use Rattle.tb_assembly_laws.proofs.Shortening.{shorten, all_short, unshortened}
 
 -- ── both cut a text into the same lines ──
--- the same lines, or one empty line more at the end
+-- lines are equal to others, or they have one empty line more at the end
 abbrev Ends : List (List ℕ) → List (List ℕ) → Type 0
 Ends xs ys = (xs ≡ ys) ⊎ (xs ≡ ys ++ [] ∷ [])
 

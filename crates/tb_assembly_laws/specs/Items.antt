@@ -86,7 +86,7 @@ made_of labels (label n) = []
 made_of labels (bytes bs) = bytes bs ∷ []
 made_of labels (word o) = bytes (word_bytes (number_in labels o)) ∷ []
 
--- the same of all items
+-- items as `assemble` makes them: with numbers for names, and bytes for words; labels are no items
 abbrev pub all_made_of : List (Name × ℕ) → List Entry → List Entry
 all_made_of labels [] = []
 all_made_of labels (e ∷ es) = made_of labels e ++ all_made_of labels es

@@ -71,7 +71,7 @@ module _ {X C : Type 0} (view : X → C) (each : C → Result (List ℕ) Meaning
   pub bytes_fail : (f : MeaningFault) → each (view x) ≡ Err f → whole ≡ Err f
   bytes_fail f e = sym here ∙ ap (λ a. and_then (before a (all (drop (i + 1) (map view xs)))) (λ bs. Ok (old ++ bs))) e
 
-  -- the same, where memory may be wanting
+  -- bytes that are refused are the fault of all, unless memory was wanting
   pub bytes_fails : (U A : Type 0) (shown : A → List ℕ) (e : MeaningError) (new : List ℕ) → Lays {U = U} (each (view x)) old (Err e) new → AnswersBy {A = A} shown whole (Err e)
   bytes_fails U A shown (Bad f) new p = bytes_fail f p
   bytes_fails U A shown NoMemory new p = tt

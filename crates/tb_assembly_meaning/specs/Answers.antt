@@ -10,7 +10,7 @@ Answers wanted (Ok v) = wanted ≡ Ok v
 Answers wanted (Err (Bad f)) = wanted ≡ Err f
 Answers wanted (Err NoMemory) = Unit {0}
 
--- the same of something that is seen by what it has
+-- what is wanted, by what a view shows of the answer, or its fault, or memory ran out
 abbrev pub AnswersBy : {A B : Type 0} → (A → B) → Result B MeaningFault → Result A MeaningError → Type 0
 AnswersBy view wanted (Ok v) = wanted ≡ Ok (view v)
 AnswersBy view wanted (Err (Bad f)) = wanted ≡ Err f

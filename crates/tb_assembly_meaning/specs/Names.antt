@@ -12,6 +12,6 @@ Env = List ℕ → Option (Option ℤ)
 abbrev pub named : List (Name × Option ℤ) → Env
 named entries w = lookup (λ n. same_text w n.letters.items) entries
 
--- the same, where one more name stands for something
+-- what names stand for, where one more name stands for something
 abbrev pub with_name : Env → List ℕ → Option ℤ → Env
 with_name env n v = λ w. if same_text w n then Some v else env w

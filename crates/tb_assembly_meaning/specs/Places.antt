@@ -26,7 +26,7 @@ pub record Reached : Type 0 where
   pub at : ℕ
   pub fresh : Bool
 
--- the same of the code
+-- a `Layout` of the code as what is known where a statement is read
 abbrev pub layout_of : Layout → Reached
 layout_of l = record { env = named l.symbols.entries; base = l.base; at = l.at; fresh = l.fresh }
 
@@ -146,7 +146,7 @@ named_by env at s = env
 abbrev pub after : Reached → Spot → Said → Reached
 after r p s = record { env = named_by r.env p.at s; base = if r.fresh then p.at else r.base; at = p.at + p.size; fresh = r.fresh && eqb p.size 0 }
 
--- the same of one that may lie nowhere: then nothing changes
+-- what is reached behind a statement that may lie nowhere: then nothing changes
 abbrev pub after_spot : Reached → Result Spot MeaningFault → Said → Reached
 after_spot r (Ok p) s = after r p s
 after_spot r (Err f) s = r
@@ -155,7 +155,7 @@ after_spot r (Err f) s = r
 abbrev pub Lying : Type 0
 Lying = Said × Result Spot MeaningFault
 
--- the same of the code
+-- a statement of the code, with where it lies or why it lies nowhere
 abbrev pub laid_of : Laid → Lying
 laid_of l = (said_of l.statement.now, l.spot)
 

@@ -24,7 +24,7 @@ abbrev pub may_lengthen : Said → Bool
 may_lengthen (c, instructs m (direct_by w e Without)) = not (is_long w)
 may_lengthen s = false
 
--- the same statement as a long branch
+-- an instruction with an address as a long branch; any other statement as it is
 abbrev pub lengthened : Said → Said
 lengthened (c, instructs m (direct_by w e Without)) = (c, instructs m (direct_by Long e Without))
 lengthened s = s

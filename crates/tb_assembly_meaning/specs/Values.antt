@@ -62,7 +62,7 @@ bits_value Or m n = checked (pos (bit_or m n))
 bits_value Xor m n = checked (pos (bit_xor m n))
 bits_value b m n = shifted b m n
 
--- the same, of numbers that may have no single bits
+-- what an operator makes of the single bits of two numbers, or what is wrong with one that may have none
 abbrev pub bits_of : Binary → Result ℕ Wrong → Result ℕ Wrong → Result ℤ Wrong
 bits_of b (Err w) n = Err w
 bits_of b (Ok m) (Err w) = Err w

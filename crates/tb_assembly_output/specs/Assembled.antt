@@ -84,7 +84,7 @@ IsReadAs true at r s = (ss : List Said) × Settles at r.said ss × (s ≡ record
 abbrev pub IsAnswered : Manner → List Source → Read → Result Assembled AssemblyError → Type 0
 IsAnswered m lib r answer = (s : Read) × IsReadAs m.long m.at r s × AnswersRead m.at lib s answer
 
--- the same, or memory ran out
+-- what is answered of what was read, by the manner, or memory ran out
 abbrev pub AnswersBy : Manner → List Source → Read → Result Assembled AssemblyError → Type 0
 AnswersBy m lib r (Ok a) = IsAnswered m lib r (Ok a)
 AnswersBy m lib r (Err (Item e)) = IsAnswered m lib r (Err (Item e))

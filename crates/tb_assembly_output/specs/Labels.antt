@@ -14,7 +14,7 @@ label_byte b = if is_name_byte b then to_ascii_lowercase b else 95
 abbrev pub label_text : List ℕ → ℕ → List ℕ
 label_text name at = codes "al C:" ++ encode_lower (at / 256 ∷ at % 256 ∷ []) ++ codes " ." ++ map label_byte name ++ 10 ∷ []
 
--- that of a name whose address is one
+-- the line of a name and its address, if that is below 65,536; else nothing
 abbrev pub label_line : List ℕ → ℕ → List ℕ
 label_line name at = if nat_lt at 65536 then label_text name at else []
 

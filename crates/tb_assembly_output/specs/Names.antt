@@ -21,7 +21,7 @@ abbrev pub listed : Option (List ℕ) → List (List ℕ)
 listed None = []
 listed (Some n) = n ∷ []
 
--- the same of a statement with its column
+-- the name that a statement with its column gives to something, as a list of one or none
 abbrev pub named_in : Said → List (List ℕ)
 named_in s = listed (name_in s.1)
 

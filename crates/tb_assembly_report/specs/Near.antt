@@ -22,6 +22,6 @@ abbrev pub nearest : List ℕ → List (List ℕ) → Option (List ℕ)
 nearest word names =
     or_else (find (is_near 1 word) names) (if nat_le LONG (length word) then find (is_near 2 word) names else None)
 
--- the same of a word in either case, of ordinary length
+-- the first name one or two edits away from a word, whose letters may be in either case; none if the word is too long
 abbrev pub near_name : List ℕ → List (List ℕ) → Option (List ℕ)
 near_name word names = if nat_le (length word) LONGEST then nearest (map fold_byte word) names else None

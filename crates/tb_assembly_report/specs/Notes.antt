@@ -38,7 +38,7 @@ instructions =
 abbrev pub near_instruction : List ℕ → Option (List ℕ)
 near_instruction word = option_map meant (near_name word instructions)
 
--- the same of a word that has as many letters
+-- an instruction that is near a word with as many letters as an instruction has
 abbrev pub instruction_note : List ℕ → Option (List ℕ)
 instruction_note word = if length word == LETTERS then near_instruction word else None
 

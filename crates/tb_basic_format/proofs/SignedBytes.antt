@@ -63,7 +63,7 @@ character_within b line c e = elim (true_or_false (b == 123)) [
 ]
 
 -- ── a sign ──
--- the same one begins in what is kept
+-- the sign that begins at a byte of a line begins there in what is kept
 sign_kept : (m : Mode) (b : ℕ) (line : List ℕ) → sign_at (parsed m) (b ∷ line) ≡ sign_at (parsed m) (written m b ∷ kept_from (after m b) line)
 sign_kept Code b line = refl
 sign_kept CodeR b line = refl

@@ -37,6 +37,6 @@ unfoldable pub kept_from : Mode → List ℕ → List ℕ
 kept_from m [] = []
 kept_from m (b ∷ line) = if is_dropped m b then kept_from (after m b) line else written m b ∷ kept_from (after m b) line
 
--- those of a whole line
+-- the bytes that are kept of a whole line
 abbrev pub kept : List ℕ → List ℕ
 kept line = kept_from Code line

@@ -46,7 +46,7 @@ squeezed_bytes notation line = bytes (squeezed_in notation line)
 abbrev pub said_from : Notation → (behind_13 : Bool) → List ℕ → List (List ℕ)
 said_from notation behind_13 text = map (squeezed_bytes notation) (lines_from behind_13 text)
 
--- those of a whole file
+-- the lines of a whole file, each squeezed
 abbrev pub said : Notation → List ℕ → List (List ℕ)
 said notation text = said_from notation false text
 

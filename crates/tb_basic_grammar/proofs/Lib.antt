@@ -17,7 +17,7 @@ pub mod ExpressionLaws
 -- ── statements ──
 -- relations: what is read is in the grammar, and what is in the grammar is read
 pub mod Relations
--- the same for the lists of PRINT and INPUT
+-- the lists of PRINT and INPUT: what is read is in the grammar, and what is in the grammar is read
 pub mod Lists
 -- the loops that read a text, the items of PRINT and the variables of INPUT
 pub mod ListLoops

@@ -66,7 +66,7 @@ rest_same line other lines others same r s is m = go (nat_lt line.number m) refl
 same_line : (line other : Numbered Statement) → line.number ≡ other.number → line.content ≡ other.content → line ≡ other
 same_line line other a b = λ i. record { number = a i; content = b i }
 
--- the same at each number
+-- programs whose line numbers rise are equal if they have equal statements at each number
 extensional : (low : ℕ) (p q : Program) → Rise low p → Rise low q → Same p q → p ≡ q
 extensional low [] [] r s is = refl
 extensional low [] (other ∷ others) r s is = absurd (let bad : None ≡ Some other.content = is other.number ∙ first_at other others in cc)

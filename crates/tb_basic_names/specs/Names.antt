@@ -34,7 +34,7 @@ abbrev pub variable_by : TokenKind → List ℕ → Option Name
 variable_by kind.Variable text = spelled text
 variable_by _ text = None
 
--- the same of a token
+-- the variable that a token is, by its kind and its text
 abbrev pub variable_name : Token → Option Name
 variable_name t = variable_by t.kind t.text.now
 

@@ -32,7 +32,7 @@ held n i found Nothing = found
 held n i found (Sets m c) = if m == n then Some i else found
 held n i found (Deletes m) = if m == n then None else found
 
--- the same after these lines, of which the first is line i
+-- where the line stands that gives a number its statement, after these lines, of which the first is line i
 abbrev pub standing_from : ℕ → ℕ → Option ℕ → List Edit → Option ℕ
 standing_from n i found [] = found
 standing_from n i found (e ∷ es) = standing_from n (i + 1) (held n i found e) es

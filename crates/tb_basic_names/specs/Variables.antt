@@ -46,7 +46,7 @@ abbrev pub variable_by : Mode → TokenKind → ℕ → List ℕ → Option Vari
 variable_by m kind.Variable column text = spelled m column text
 variable_by m _ column text = None
 
--- the same of a token
+-- the variable that a token is, by its kind, its column and its text
 abbrev pub variable_at : Mode → Token → Option Variable
 variable_at m t = variable_by m t.kind t.column t.text.now
 
@@ -60,6 +60,6 @@ abbrev pub variables_from : Mode → List Token → List Variable
 variables_from m [] = []
 variables_from m (t ∷ ts) = with_one (variable_at m t) (variables_from (after m t.kind) ts)
 
--- those of a line, behind whose number LET may leave out its word
+-- the variables of a line, behind whose number LET may leave out its word
 abbrev pub variables_of : List Token → List Variable
 variables_of ts = variables_from Sets ts

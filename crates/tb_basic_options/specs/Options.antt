@@ -41,6 +41,6 @@ options_of source = with_lines none 1 (take FIRST_LINES (lines_of_file source))
 abbrev pub notation_by : Notation → OwnOptions → Notation
 notation_by asked own = if own.petscii then Signs else asked
 
--- the same by the source
+-- how a source's texts are read: with signs, if that is asked for or the source's options ask for it
 abbrev pub notation_for : Notation → List ℕ → Notation
 notation_for asked source = notation_by asked (options_of source)

@@ -76,7 +76,7 @@ RenumbersLines notation first step source lines program (Err Other) =
     × ¬ (IsProgramIn notation (new_text (new_number first step (numbers program)) lines source) (renumbered first step program))
 RenumbersLines notation first step source lines program (Err NoMemory) = Unit {0}
 
--- the same, by lines that the source has
+-- the answer for a program, by lines that its source has: the program renumbered, or why there is none
 abbrev pub RenumbersProgram : Notation → (first step : ℕ) → List ℕ → Program → Result (Vec ℕ Global) Refusal → Type 0
 RenumbersProgram notation first step source program result =
     (lines : List SourceLine) × AreLinesOf notation source lines × RenumbersLines notation first step source lines program result

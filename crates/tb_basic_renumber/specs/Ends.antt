@@ -20,7 +20,7 @@ ends_from behind_13 (b ∷ bytes) =
     else if b == 13 then (13 ∷ feed bytes) ∷ ends_from true bytes
     else lengthened (ends_from false bytes)
 
--- those of a whole text
+-- the ends of the lines of a whole text
 abbrev pub ends_of : List ℕ → List (List ℕ)
 ends_of text = ends_from false text
 

@@ -24,7 +24,7 @@ abbrev pub moved : List ℕ → Token → Option (Token × Token) → ℕ → Li
 moved line number None target = drop (end_of number) line
 moved line number (Some e) target = drop (end_of number) (take (start_of e.0) line) ++ (decimal target ++ drop (end_of e.1) line)
 
--- the same, if the line has another target
+-- what stands behind the number of a line, with its new target, if it has one, in place of its jump's expression
 abbrev pub rest_of : List ℕ → List Token → Token → Option ℕ → List ℕ
 rest_of line ts number None = drop (end_of number) line
 rest_of line ts number (Some target) = moved line number (expression ts) target

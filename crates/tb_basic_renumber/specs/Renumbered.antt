@@ -18,7 +18,7 @@ abbrev pub target_by : (ℕ → ℕ) → Expression → Option ℕ → Expressio
 target_by f e (Some target) = Number (f target)
 target_by f e None = e
 
--- the same, by its expression
+-- a jump's target by its expression: the new number of the line that it goes to, if the expression is constant
 abbrev pub moved_target : (ℕ → ℕ) → Expression → Expression
 moved_target f e = target_by f e (constant e)
 

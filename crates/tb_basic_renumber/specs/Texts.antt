@@ -52,7 +52,7 @@ gap text (b ∷ line) ending = []
 abbrev pub with_line : List ℕ → List ℕ → List ℕ → List ℕ
 with_line text line ending = text ++ (gap text line ending ++ (line ++ ending))
 
--- the same, if the line is kept
+-- a text with one more line and its end, if the line is kept
 abbrev pub with_kept : List ℕ → Option (List ℕ) → List ℕ → List ℕ
 with_kept text None ending = text
 with_kept text (Some line) ending = with_line text line ending
@@ -78,7 +78,7 @@ too_long_by f all place l Nothing = None
 too_long_by f all place l (Sets n c) = if stands place n all then long_by (moved_line f n l) n else None
 too_long_by f all place l (Deletes n) = None
 
--- the same of the line at a place
+-- the number of the line at a place, if it stands and becomes too long
 abbrev pub too_long : (ℕ → ℕ) → List Edit → ℕ → SourceLine → Option ℕ
 too_long f all place l = too_long_by f all place l (does l.edit)
 

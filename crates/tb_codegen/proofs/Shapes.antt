@@ -13,7 +13,7 @@ abbrev pub shape : Entry → Entry
 shape (instr n m (Byte b)) = instr n m (Byte 0)
 shape e = e
 
--- the same of a form
+-- a form with 0 in place of the byte of the operand, if it keeps an item
 abbrev form_shape : Form → Form
 form_shape (kept e) = kept (shape e)
 form_shape (long n l) = long n l
@@ -37,7 +37,7 @@ same_form_size : (f : Form) → form_size (form_shape f) ≡ form_size f
 same_form_size (kept e) = same_size e
 same_form_size (long n l) = refl
 
--- the same labels stand at the same addresses
+-- the labels of forms stand at the addresses where those of their shapes do
 labels_shape : (b a : ℕ) (fs : List Form) → labels_from b (items_from a (map form_shape fs)) ≡ labels_from b (items_from a fs)
 labels_shape b a [] = refl
 labels_shape b a (kept e ∷ fs) =
@@ -53,7 +53,7 @@ sizes_shape a (kept e ∷ fs) =
 sizes_shape a (long n l ∷ fs) = ap (λ n. 2 + (3 + n)) (sizes_shape (a + 5) fs)
 
 module _ (labels : List (Name × ℕ)) where
-  -- the same branches don't reach
+  -- the branch of a form is too far if and only if that of its shape is
   far_shape : (a : ℕ) (f : Form) → form_far labels a (form_shape f) ≡ form_far labels a f
   far_shape a (kept e) = ap (far_to labels a) (same_branch e)
   far_shape a (long n l) = refl

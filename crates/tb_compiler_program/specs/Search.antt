@@ -60,7 +60,7 @@ compared n =
     const Cmp (n % 256) ∷ bytes (0xD0 ∷ 15 ∷ []) ∷ const Cpx (n / 256) ∷ bytes (0xD0 ∷ 11 ∷ [])
     ∷ low_part (Line n) ∷ at Sta RESULT ∷ high_part (Line n) ∷ at Sta (RESULT + 1) ∷ alone Rts ∷ []
 
--- the same for each of these lines
+-- if the number in A and X is that of one of these lines, that line's address goes to the result
 abbrev pub all_compared : List ℕ → List Entry
 all_compared [] = []
 all_compared (n ∷ ns) = compared n ++ all_compared ns

@@ -26,17 +26,17 @@ room (CallTo target) = 59
 room Return = 49
 room End = 1
 
--- the same for a list
+-- what the instructions of a list add at most to the code of their groups
 abbrev pub list_room : List Instr → ℕ
 list_room [] = 0
 list_room (i ∷ is) = room i + list_room is
 
--- the same for a program's lines with their entries in the line table, 4 bytes each, and the STOP key's code, 9 each
+-- what a program's lines take at most, each with 4 bytes in the line table and 9 for the STOP key's code
 abbrev pub lines_room : SlotCode → ℕ
 lines_room [] = 0
 lines_room (line ∷ lines) = 13 + list_room line.content + lines_room lines
 
--- the same for fault 7 and the search
+-- what fault 7 and the search take at most
 abbrev pub rest_room : ℕ
 rest_room = 32
 
@@ -59,12 +59,12 @@ price (CallTo target) = 96
 price Return = 48
 price _ = 0
 
--- the same for a list
+-- what the program's cost has for the instructions of a list at least
 abbrev pub list_price : List Instr → ℕ
 list_price [] = 0
 list_price (i ∷ is) = price i + list_price is
 
--- the same for a program's lines, 36 for each
+-- what the program's cost has for its lines at least: 36 for each, and what it has for its instructions
 abbrev pub lines_price : SlotCode → ℕ
 lines_price [] = 0
 lines_price (line ∷ lines) = 36 + list_price line.content + lines_price lines

@@ -37,7 +37,7 @@ at_slot : (t : Bool) (g : Group) (is : List Instr) → (t ≡ true → expand g 
 at_slot true g is h = h refl
 at_slot false g is h = tt
 
--- the same for the operands of a calculation that goes on by a constant
+-- a calculation that goes on by a constant is these instructions, if it has operands
 at_operands : (is : List Instr) (op by : Operator) (w x : ℕ) (t : Bool) (a b : Operand) → (t ≡ true → expand (Stepped op a b by w x) ≡ is)
     → IsThis is (option_map (λ (words : Operand × Operand). Stepped op words.0 words.1 by w x) (if t then Some (a, b) else None))
 at_operands is op by w x true a b h = h refl
@@ -62,7 +62,7 @@ go_this rel to is None h = tt
 go_this rel to is (Some words) h = h
 
 module _ (k : ℕ) (i : Instr) (l : Operand) (h : Fetches k i l) where
-  -- the same before further instructions
+  -- what fetches the word is one instruction, before further instructions as well
   more : (j : ℕ) (is : List Instr) → nat_eq k j ≡ true → fetch j l ++ is ≡ i ∷ is
   more j is e = ap (λ j. fetch j l ++ is) (sym (eqb-true k j e)) ∙ ap (λ f. f ++ is) (fetched k i l h)
 

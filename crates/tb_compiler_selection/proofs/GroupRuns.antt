@@ -49,7 +49,7 @@ module _ (code : SlotCode) where
     pub none_begins : beginnings code more (advance (slot_step code) (GoesOn c out)) ≡ 0
     pub within : (m : ℕ) → m < more → IsInside (advance_by (slot_step code) m (advance (slot_step code) (GoesOn c out)))
 
-  -- the same after the first step
+  -- some steps of slot instructions lead from where x leads to where y leads, passing no beginning of a list
   record Behind (out : List ℕ) (x y : Step SlotState) : Type 0 where
     more : ℕ
     leads : advance_by (slot_step code) more (joined out x) ≡ joined out y

@@ -20,7 +20,7 @@ twice k n = let p : 2 ^ suc n ≡ 2 * 2 ^ n = omega arith in turn k (2 ^ n) ∙ 
     turn : (k p : ℕ) → 2 * k * p ≡ k * (2 * p)
     turn k p = grind arith
 
--- the same with the power that is known
+-- twice a number times 2 to the power n - 1 is the number times 2 to the power n, if n isn't 0
 pub again : (n k : ℕ) → n ≢ 0 → 2 * k * 2 ^ (n - 1) ≡ k * 2 ^ n
 again zero k h = absurd (h refl)
 again (suc n) k h = let e : suc n - 1 ≡ n = omega arith in ap (λ j. 2 * k * 2 ^ j) e ∙ twice k n

@@ -19,7 +19,7 @@ abbrev pub in_line : Bool → ℕ → List Entry
 in_line true n = []
 in_line false n = faulted n 0 ++ here (Polled n) ∷ []
 
--- the same if the line ends away: the branch goes to it, behind the line's groups
+-- what is done for the STOP key in line n if the line ends away: the branch goes to it, behind the line's groups
 abbrev pub behind : Bool → ℕ → List Entry
 behind true n = here (Polled n) ∷ faulted n 0
 behind false n = []

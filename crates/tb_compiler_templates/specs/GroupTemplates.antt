@@ -113,7 +113,7 @@ used n next AsSubroutine a = searched n a ++ (return_address next ++ jump_throug
 abbrev pub unless_none : ℕ → List Entry
 unless_none b = if nat_eq b 0 then [] else const Cmp b ∷ []
 
--- the same against the low byte of a word, and against its high byte
+-- A against the low byte of a word, and against its high byte, for Z alone
 abbrev pub low_against : Source → List Entry
 low_against (FixedWord w) = unless_none (w % 256)
 low_against (AtAddress p) = at Cmp p ∷ []
@@ -157,7 +157,7 @@ gone n rel a b skip next false to = tested rel a b skip next ++ faulted n 1
 abbrev pub told : List Entry
 told = call DIVIDE_AT ∷ at Lda RESULT ∷ at Ora (RESULT + 1) ∷ []
 
--- the same for a word divided by another one
+-- the size of the remainder of a word divided by another one, with Z set if it is 0
 abbrev pub remainder : Source → Source → List Entry
 remainder a b = brought a LEFT ++ (brought b RIGHT ++ told)
 

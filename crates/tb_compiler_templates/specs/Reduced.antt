@@ -35,7 +35,7 @@ over mnemonic n = word (Word (unwrap_or (encoded mnemonic Relative) 0 + 256 * n)
 abbrev pub byte_round : ℕ → List Entry
 byte_round k = const Cmp k ∷ over Bcc 2 ∷ const Sbc k ∷ []
 
--- the same of a word in A and X
+-- a multiple is taken away from a word in A and X that is not below it
 abbrev pub word_round : ℕ → List Entry
 word_round k =
     const Cpx (k / 256) ∷ over Bcc 14 ∷ over Bne 4 ∷ const Cmp (k % 256) ∷ over Bcc 8 ∷ const Sbc (k % 256) ∷ alone Tay ∷ alone Txa ∷ const Sbc (k / 256)

@@ -36,7 +36,7 @@ abbrev pub IsWhole : Source → Type 0
 IsWhole (FixedWord w) = Unit {0}
 IsWhole (AtAddress p) = p + 1 < 65536
 
--- the same for two words
+-- each of two words is a constant, or its high byte is at an address too
 abbrev pub AreWhole : Words → Type 0
 AreWhole words = IsWhole words.left × IsWhole words.right
 

@@ -177,7 +177,7 @@ abbrev pub called : ℕ → ℕ → (next skip over : Target) → List Entry
 called n to next skip over =
     held next skip over ++ (jump (target.Line to) ∷ here over ∷ (constant n LINE ++ (return_address next ++ (jump (target.Line to) ∷ []))))
 
--- the same in group i, to a constant line; fault 1 if the program has no such line
+-- puts the return on the list and goes from line n, in group i, to a constant line; fault 1 if there is no such line
 abbrev pub call_to : List ℕ → ℕ → ℕ → ℕ → Target → List Entry
 call_to numbers n i to next =
     if has_line numbers to then called n to next (target.Inside inner.Skip n i) (target.Inside inner.Behind n i) else faulted n 1

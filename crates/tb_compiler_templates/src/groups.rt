@@ -534,8 +534,7 @@ pub fn put_group(
 {
     match group {
         Group::Calculate(operator, left, right, destination) => {
-            let slot = slot_of(destination);
-            let words = words_of(slot, left, right);
+            let words = words_of(slot_of(destination), left, right);
             let to = destination_at(destination);
             put_computed(items, spot.line, spot.skip(), operator, words, to)
         }

@@ -128,7 +128,7 @@ warning_of w =
 abbrev pub seed_said : ℕ → Saying
 seed_said seed = output_of (codes "console") (codes "the seed is " ++ (decimal seed ++ 10 ∷ []))
 
--- the same, if it was asked
+-- that the clock gave a seed, if it was asked for one
 abbrev pub seed_told : Option ℕ → List Saying
 seed_told None = []
 seed_told (Some seed) = seed_said seed ∷ []
@@ -156,7 +156,7 @@ status_of s = status (state_of s.debugger.present.machine)
 abbrev pub sent_output : List ℕ → Saying
 sent_output bytes = output_of (codes "stdout") (shown (host_form_of bytes))
 
--- the same of any; nothing of none
+-- bytes that were sent, as output; nothing if there are none
 abbrev pub output_by : List ℕ → List Saying
 output_by bytes = if length bytes == 0 then [] else sent_output bytes ∷ []
 
@@ -370,7 +370,7 @@ TakesKeys false keys s told t = (u : Session) × Types keys s u × Resumes (wait
 abbrev pub TakesLine : List ℕ → Session → List Saying → Session → Type 0
 TakesLine line s told t = TakesKeys (nat_lt (most_typed - s.typed) (length (keys_of_text line))) (keys_of_text line) s told t
 
--- the same at a stage
+-- a line is typed, if the stage has no refusal for it and it isn't too much
 abbrev pub TypesLine : Option Refusal → List ℕ → Session → List Saying → Session → Type 0
 TypesLine (Some why) line s told t = Stays s (refused (text_of why) false) told t
 TypesLine None line s told t = TakesLine line s told t
@@ -399,7 +399,7 @@ pub record PlacesLines (lines : List Wanted) (s : Session) (told : List Saying) 
   pub said : told ≡ done (Some (placed_body s.file lines)) ∷ []
   pub set : Breaks s.plan.is_plain (lines_of s.file lines) s t
 
--- the same, by whether they are asked for in the program's file
+-- breakpoints are set, and answered, if they are asked for in the program's file; else they are only answered
 abbrev pub PlacesIn : Bool → Asked → Session → List Saying → Session → Type 0
 PlacesIn true a s told t = PlacesLines a.lines s told t
 PlacesIn false a s told t = Stays s (done (Some (elsewhere_body (length a.lines)))) told t

@@ -14,7 +14,7 @@ abbrev pub Says : (asked : ℕ) → List ℕ → List Saying → Option (Vec ℕ
 Says asked command said (Some frames) next next' = AreFrames next asked command said frames.items × (next' ≡ next + length said)
 Says asked command said None next next' = ⊥
 
--- the same is a turn, with which the dialogue ends or goes on
+-- the frames of a turn say this to a request, and the dialogue ends with the turn or goes on
 abbrev pub SaysAndEnds : {E : Type 0} → (asked : ℕ) → List ℕ → List Saying → Option E → Turn E → (next next_after : ℕ) → Type 0
 SaysAndEnds asked command said end turn next next' = Says asked command said turn.frames next next' × (turn.end ≡ end)
 

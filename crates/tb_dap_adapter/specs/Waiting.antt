@@ -96,7 +96,7 @@ abbrev pub Leads : {S : Type 0} → Own → (S → List ℕ → Result (List ℕ
 Leads own reads usual first a outcome t next b =
     (initialized : Bool) × Converses (GreetsHeard own reads usual) (λ s end. EndsUnlaunched end) (moment first a) outcome (moment (early initialized t next) b)
 
--- the same of an adapter that was not initialized and has said nothing
+-- a dialogue up to a launch or the end, of an adapter that was not initialized and has said nothing
 abbrev pub Waits : {S : Type 0} → Own → (S → List ℕ → Result (List ℕ) InputError → S → Type 0) → Usual → S → Streams → Outcome Waited BadFrame → S → ℕ → Streams → Type 0
 Waits own reads usual s a outcome t next b = Leads own reads usual (early false s 1) a outcome t next b
 

@@ -30,7 +30,7 @@ abbrev pub commanded : Data → ℕ → Option (List ℕ) → Asked
 commanded d seq (Some command) = request seq command (get (codes "arguments") d)
 commanded d seq None = no_message
 
--- the same
+-- a message with this number, by the command that it names
 abbrev pub numbered : Data → ℕ → Asked
 numbered d seq = commanded d seq (text_in d (codes "command"))
 

@@ -43,7 +43,7 @@ module _ {S : Type 0} (own : Own) (reads : S → List ℕ → Result (List ℕ) 
   is_report names t old new named unwritten told =
       turns_said told.turns t new (told.named ∙ named) told.looks (told.wrote ∙ ap (λ xs. xs ++ flat_map said told.turns) unwritten)
 
-  -- the same of a check that neither a writer nor want of memory ended
+  -- the text that a writer has which had none, if neither the writer nor want of memory ended the check, is the report
   pub is_report_of : (how : CheckOutcome) (names : List (List ℕ)) (t : S) (old new : List ℕ)
       → ((end : Checked) × (how ≡ outcome.Ended end)) ⊎ ((e : NoRefusal) × (how ≡ outcome.Refused e)) ⊎ (how ≡ outcome.ReadFault) → names ≡ path ∷ [] → old ≡ []
       → Checks own reads settings s names (Some old) how t (Some new) → IsReport own settings path text new

@@ -55,7 +55,7 @@ has_signs Signs = true
 abbrev pub manner_by : Option ℕ → Bool → Bool → Manner
 manner_by seed fit petscii = record { seed = seed; size = size_by fit; notation = notation_by petscii }
 
--- the same as arguments ask for it: in the usual notation, if nothing else is asked for
+-- how arguments ask for the program to be compiled: in the usual notation, if nothing else is asked for
 abbrev pub manner_in : Usual → Data → Option Manner
 manner_in usual d =
     option_and_then (λ seed. option_and_then (λ fit. option_map (λ petscii. manner_by seed fit petscii)
@@ -115,7 +115,7 @@ pub record Asked : Type 0 where
   pub answers : List ℕ
   pub plan : Plan
 
--- the same by each
+-- what is launched, by each of its parts
 abbrev pub asked : (path : List ℕ) → Manner → Rom → (keys answers : List ℕ) → Plan → Asked
 asked path manner rom keys answers plan =
     record { path = path; manner = manner; rom = rom; keys = keys; answers = answers; plan = plan }

@@ -78,7 +78,7 @@ settings_by m o = record {
   notation = notation_by m.notation o;
 }
 
--- the same by the source
+-- how a source is compiled, by what is asked for and by the options that the source has
 abbrev pub compile_settings : Manner → List ℕ → CompileSettings
 compile_settings m source = settings_by m (options_of source)
 

@@ -17,7 +17,7 @@ pub data Saying : Type 0 where
   refused : List ℕ → Bool → Saying
   event : List ℕ → Option Data → Saying
 
--- the same of what the code says
+-- a `Said` of the code as what is said
 abbrev pub seen : Said → Saying
 seen (said.Done body) = done (option_map view body)
 seen (said.Refused refusal) = refused (text_of refusal) false

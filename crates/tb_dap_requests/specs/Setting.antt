@@ -65,7 +65,7 @@ asked path lines = record { path = path; lines = lines }
 abbrev pub asked_of : Breakpoints → Asked
 asked_of b = asked b.path.now b.lines.items
 
--- the same, by a path and a list
+-- a file and the breakpoints that are asked for in it, by its path and a list, if there are both
 abbrev pub asked_by : Option (List ℕ) → Option Items → Option Asked
 asked_by (Some path) (Some values) = option_map (λ lines. asked path lines) (all_wanted (values_in values))
 asked_by _ _ = None
@@ -122,7 +122,7 @@ elsewhere_body n = breakpoints_body (items_of (replicate n (unverified_value ANO
 abbrev pub capital_by : ℕ → Option ℕ
 capital_by b = if nat_le 65 b && nat_le b 90 then Some (b - 65) else None
 
--- the same of a text
+-- the index of the letter that a text is, as one capital
 abbrev pub capital_in : List ℕ → Option ℕ
 capital_in (b ∷ []) = capital_by b
 capital_in _ = None
@@ -144,7 +144,7 @@ is_plain d = is_of_writes (optional_text d (codes "accessType")) && not (has d (
 abbrev pub watch_in : Data → Option ℕ
 watch_in d = if is_plain d then capital (text_in d (codes "dataId")) else None
 
--- those of the watches that are asked for
+-- the variables of the watches that are asked for, by their indices in the alphabet
 abbrev pub watches_in : Data → Option (List (Option ℕ))
 watches_in d = option_map (λ values. map watch_in (values_in values)) (list_in d (codes "breakpoints"))
 
@@ -152,7 +152,7 @@ watches_in d = option_map (λ values. map watch_in (values_in values)) (list_in 
 abbrev pub index_of : Option Letter → Option ℕ
 index_of w = option_map letter_index w
 
--- those of some variables
+-- the index of each of these variables in the alphabet, if it is one
 abbrev pub indices_of : Vec (Option Letter) Global → List (Option ℕ)
 indices_of ws = map index_of ws.items
 

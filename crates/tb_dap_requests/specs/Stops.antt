@@ -58,7 +58,7 @@ back_by begun = if begun == 0 then stop.Entry else stop.Change
 abbrev pub stepped_back : Bool → Stop
 stepped_back moved = if moved then stop.Step else stop.Entry
 
--- the same of both
+-- why a step back or `reverseContinue` stopped at a line that has no breakpoint
 abbrev pub unbroken : ℕ → (is_step moved : Bool) → Stop
 unbroken begun is_step moved = if is_step then stepped_back moved else back_by begun
 

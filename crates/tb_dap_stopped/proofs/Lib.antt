@@ -2,7 +2,7 @@
 mod Shown
 -- what a frame leads to
 mod Effects
--- the same of each request
+-- what each request leads to
 mod Requests
 -- what was told up to a moment
 mod Told

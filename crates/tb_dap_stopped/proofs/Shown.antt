@@ -58,7 +58,7 @@ form_ascii (b ∷ sent) = ascii_append (host_byte b) (host_form_of sent) (byte_a
 pub shown_form : (sent : List ℕ) → shown (host_form_of sent) ≡ host_form_of sent
 shown_form sent = rw (is_utf8-from_IsUtf8 (host_form_of sent) (IsUtf8-from_ascii (host_form_of sent) (form_ascii sent))) refl
 
--- that of two lists one behind the other
+-- the form of two lists one behind the other is the form of the first one before that of the second one
 pub form_append : (xs ys : List ℕ) → host_form_of (xs ++ ys) ≡ host_form_of xs ++ host_form_of ys
 form_append [] ys = refl
 form_append (x ∷ xs) ys = ap (λ rest. host_byte x ++ rest) (form_append xs ys) ∙ sym (append_assoc (host_byte x) (host_form_of xs) (host_form_of ys))

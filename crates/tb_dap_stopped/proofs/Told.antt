@@ -101,7 +101,7 @@ asked_leads no_message s t turn old new wrote wrote' ((says, end), same) written
   stays s.session t.session (complaint_of NoMessage ∷ []) (complaint_plain NoMessage) same,
 )
 
--- the same of what is heard
+-- what is said to what is heard, and what that leads to
 abbrev HeardLeads : Heard → Debugging → Debugging → (old new : Option (List ℕ)) → (wrote wrote_after : ℕ) → Type 0
 HeardLeads h s t old new wrote wrote' =
     (one : List Saying) × SaysTo h s.session one t.session × IsWritten (number_of h) (name_of h) one s.next t.next old new wrote wrote'

@@ -67,13 +67,13 @@ abbrev pub keys_for : Option Command → Data → Session → List ℕ
 keys_for (Some command.Evaluate) a s = keys_by (question_in a) s
 keys_for c a s = []
 
--- the same of a message
+-- the keys that a message types
 abbrev pub keys_asked : Asked → Session → List ℕ
 keys_asked (request seq c a) s = keys_for (command_of c) (given a) s
 keys_asked passed s = []
 keys_asked no_message s = []
 
--- the same of what a frame holds
+-- the keys that are typed by what a frame holds
 abbrev pub keys_of : Heard → Session → List ℕ
 keys_of (heard.Value v) s = keys_asked (asked_in (view v)) s
 keys_of heard.NoJson s = []

@@ -35,7 +35,7 @@ is_code end a = nat_le CODE_START a && nat_lt a end
 abbrev pub looked_at : (end place : ℕ) → ℕ
 looked_at end a = if is_code end a then min 3 (end - a) else 1
 
--- those of them that can be read
+-- the bytes from a place on that are looked at and can be read
 abbrev pub bytes_at : (ℕ → ℕ) → (end place : ℕ) → List ℕ
 bytes_at m end a = readable (many a (looked_at end a)) m a
 

@@ -29,7 +29,7 @@ caller_at starts None = []
 abbrev pub caller : List (ℕ × ℕ) → Option ℕ → List Frame
 caller starts r = caller_at starts (before starts r)
 
--- the same of each line to which one returns, the newest first
+-- the frames of the GOSUBs themselves, by the lines to which one returns, the newest first
 abbrev pub callers : List (ℕ × ℕ) → List (Option ℕ) → List Frame
 callers starts [] = []
 callers starts (r ∷ returns) = caller starts r ++ callers starts returns

@@ -57,7 +57,7 @@ counted count None = 0
 abbrev pub place_of : SourceFile → ℕ → Option ℕ
 place_of f n = standing n (edits_of f.source.lines.items)
 
--- the same, counted from 1
+-- the line of the file, counted from 1, that gives the program its line of a number; 0 if there is none
 abbrev pub line_of : SourceFile → ℕ → ℕ
 line_of f n = counted (length f.source.lines.items) (place_of f n)
 

@@ -122,7 +122,7 @@ shows_line source seed start rom c d n h here =
     (subst (λ m. BeginsLine source seed (start_of c) start m n (state_of d.present.machine)) count
     (subst (λ t. BeginsLine source seed (start_of c) start (begun (start_of c) ns es start) n t) ran begins))
 
--- the same of the line that `line_here` answers
+-- if `line_here` answers a line, the source goes on at that line
 pub shows_some : (source : Program) (seed : ℕ) (start : State) (rom : Rom) (c : Compiled) (d : Debugger) (o : Option ℕ) → Debugs source seed start rom c d
     → o ≡ line_from d.debuggee d.present.machine.regs.pc → IfSome o (λ line. ShowsLine source seed start c d line)
 shows_some source seed start rom c d None h is = tt

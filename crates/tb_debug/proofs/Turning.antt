@@ -94,7 +94,7 @@ watched_append : (xs ys : List Letter) (n : ℕ) → is_watched (xs ++ ys) n ≡
 watched_append [] ys n = refl
 watched_append (x ∷ xs) ys n = ap (λ b. nat_eq n (letter_index x) || b) (watched_append xs ys n) ∙ grouped (nat_eq n (letter_index x)) (is_watched xs n) (is_watched ys n)
 
--- the same of a watch that is added
+-- a watch that is added is set, and no other changes
 pub watch_set : (xs : List Letter) (w : Letter) → is_watched xs (letter_index w) ≡ false → WatchTurned (letter_index w) xs (xs ++ w ∷ [])
 watch_set xs w none n =
     watched_append xs (w ∷ []) n ∙ moved (is_watched xs n) (nat_eq n (letter_index w)) false ∙ ap (λ b. nat_eq n (letter_index w) || b) (or-false (is_watched xs n))
@@ -113,7 +113,7 @@ watches_kept (x ∷ xs) index n = go (nat_eq (letter_index x) index) refl (watch
     go false e h =
         ap (λ b. nat_eq n (letter_index x) || b) h ∙ kept (nat_eq n (letter_index x)) (nat_eq n index) (is_watched xs n) (λ q. ap (λ k. nat_eq k index) (eqb-true n (letter_index x) q) ∙ e)
 
--- the same of a watch that is left out
+-- a watch that is left out is cleared, and no other changes
 pub watch_cleared : (xs : List Letter) (index : ℕ) → is_watched xs index ≡ true → WatchTurned index xs (filter (λ x. not (nat_eq (letter_index x) index)) xs)
 watch_cleared xs index there n =
     watches_kept xs index n ∙ cleared_where (nat_eq n index) (is_watched xs n) (λ e. ap (is_watched xs) (eqb-true n index e) ∙ there)

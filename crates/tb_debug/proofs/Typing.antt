@@ -44,7 +44,7 @@ typed_moment marks start more m n t h = record {
   ran = λ k below. typed_ran marks start more m.events h.ran k (omega (arith, below, t.events));
 }
 
--- the same of a checkpoint
+-- a checkpoint of the run, typed to, is of the run of the start that is typed to
 pub typed_checkpoint : (marks : List Bool) (start : Point) (more : List ℕ) (n : ℕ) (k l : Checkpoint) → RunsUpTo marks start n → IsTyped more k.moment l.moment
     → l.sent ≡ k.sent → IsCheckpoint marks start k × (k.moment.events ≤ n) → IsCheckpoint marks (typed more start) l × (l.moment.events ≤ n)
 typed_checkpoint marks start more n k l ran t sent (h, few) =
@@ -57,7 +57,7 @@ typed_checkpoint marks start more n k l ran t sent (h, few) =
       omega (arith, few, t.events),
     )
 
--- the same of all checkpoints
+-- all checkpoints of the run, typed to, are of the run of the start that is typed to
 pub typed_all : (marks : List Bool) (start : Point) (more : List ℕ) (n : ℕ) (ks ls : List Checkpoint) → RunsUpTo marks start n → AreTyped more ks ls
     → AreCheckpoints marks start n ks → AreCheckpoints marks (typed more start) n ls
 typed_all marks start more n ks ls ran t all i d inside =

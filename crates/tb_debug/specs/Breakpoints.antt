@@ -38,7 +38,7 @@ abbrev pub Turned : ℕ → List ℕ → List ℕ → Type 0
 Turned line before after =
     (n : ℕ) → is_among after n ≡ (if n == line then not (is_among before n) else is_among before n)
 
--- the same of watched variables
+-- variables of which one is watched if it was not, and not watched if it was; the others are as they were
 abbrev pub WatchTurned : ℕ → List Letter → List Letter → Type 0
 WatchTurned index before after =
     (k : ℕ) → is_watched after k ≡ (if k == index then not (is_watched before k) else is_watched before k)
@@ -71,6 +71,6 @@ first_changed (w ∷ ws) before after = if int_eq (value_in before w) (value_in 
 
 -- ---- as a whole
 
--- the same lines have a breakpoint as are among others
+-- exactly these lines have a breakpoint
 abbrev pub AreSet : List ℕ → List ℕ → Type 0
 AreSet lines set = (n : ℕ) → is_among set n ≡ is_among lines n

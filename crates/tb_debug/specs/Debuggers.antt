@@ -35,7 +35,7 @@ OnRun start d = StandsOn d.debuggee start d.starts d.history d.present
 abbrev pub KeepsRun : Debugger → Debugger → Type 0
 KeepsRun d e = (e.debuggee ≡ d.debuggee) × (e.starts ≡ d.starts) × ((start : Point) → OnRun start d → OnRun start e)
 
--- the same with more at the end of the keyboard's text, there and at the start
+-- a debugger of the same debuggee that is on each run of another one, but with more at the end of the keyboard's text
 abbrev pub KeepsRunTyped : List ℕ → Debugger → Debugger → Type 0
 KeepsRunTyped more d e = (e.debuggee ≡ d.debuggee) × (e.starts ≡ d.starts) × ((start : Point) → OnRun start d → OnRun (typed more start) e)
 

@@ -37,7 +37,7 @@ abbrev pub GoesOn : Destination → ℕ → Debugger → Reached → Moment → 
 GoesOn to limit d reached m =
     (way : Reached) × (last : Moment) × GoesAlong to limit d way last × StopsBack (stops_here d way last) d way last reached m
 
--- the same to the next stop
+-- a way on to the next stop, or, if faults stop it and the program ends by one, to the start of the line that faults
 abbrev pub Continues : ℕ → Debugger → Reached → Moment → Type 0
 Continues limit d reached m = GoesOn Stop limit d reached m
 
@@ -45,11 +45,11 @@ Continues limit d reached m = GoesOn Stop limit d reached m
 abbrev pub depth_here : Debugger → ℕ
 depth_here d = depth_from d.debuggee (state_of d.present.machine).mem
 
--- the same to the next stop, or the next line at which no more lines are to be returned to than here: over a GOSUB
+-- a way on to the next stop, or the next line at which no more lines are to be returned to than here: over a GOSUB
 abbrev pub GoesOver : ℕ → Debugger → Reached → Moment → Type 0
 GoesOver limit d reached m = GoesOn (Above (depth_here d + 1)) limit d reached m
 
--- the same to the next stop, or the next line at which fewer are: out of a subroutine
+-- a way on to the next stop, or the next line at which fewer lines are to be returned to than here: out of a subroutine
 abbrev pub GoesOut : ℕ → Debugger → Reached → Moment → Type 0
 GoesOut limit d reached m = GoesOn (Above (depth_here d)) limit d reached m
 

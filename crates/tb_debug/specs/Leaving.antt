@@ -74,7 +74,7 @@ LeavesAnswered command.Faults d e = TurnsFaults d e
 LeavesAnswered (command.Type text) d e = LeavesPoint d e
 LeavesAnswered _ d e = e ≡ d
 
--- the same of each command: what only a source answers leaves all if there is none
+-- what each command leaves: what only a source answers leaves all if there is none
 abbrev pub LeavesBy : Bool → Command → Debugger → Debugger → Type 0
 LeavesBy true c d e = e ≡ d
 LeavesBy false c d e = LeavesAnswered c d e

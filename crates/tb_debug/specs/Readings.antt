@@ -37,7 +37,7 @@ abbrev pub bytes_from : (ℕ → ℕ) → ℕ → ℕ → List (Option ℕ)
 bytes_from m a zero = []
 bytes_from m a (suc n) = bytes_from m a n ++ as_read (peek m (a + n)) ∷ []
 
--- the same, up to the last address
+-- as many bytes from an address on, but none behind the last address; none for a closed address
 abbrev pub bytes_of : (ℕ → ℕ) → ℕ → ℕ → List (Option ℕ)
 bytes_of m a count = bytes_from m a (min count (65536 - a))
 

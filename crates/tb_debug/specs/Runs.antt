@@ -141,12 +141,12 @@ pub record KeepsOneMore (old new : List Checkpoint) : Type 0 where
 abbrev pub typed : List ℕ → Point → Point
 typed more p = record p { state = with_more more p.state }
 
--- the same moment with more at the end of the keyboard's text
+-- a moment is another one with more at the end of the keyboard's text
 pub record IsTyped (more : List ℕ) (m n : Moment) : Type 0 where
   pub point : shown n ≡ typed more (shown m)
   pub events : n.events ≡ m.events
 
--- the same checkpoints, each with more at the end of the keyboard's text
+-- checkpoints are as many others, each with more at the end of the keyboard's text
 pub record AreTyped (more : List ℕ) (ks ls : List Checkpoint) : Type 0 where
   pub many : length ls ≡ length ks
   pub each : (i : ℕ) (d : Checkpoint) → i < length ks → IsTyped more (slice_index_or ks i d).moment (slice_index_or ls i d).moment

@@ -80,7 +80,7 @@ begins_after begun begins m = nat_lt begun (if begins then m.begun - 1 else m.be
 abbrev pub stops_by_fault : StopPoints → ℕ → Bool → Reached → Moment → Bool
 stops_by_fault stops begun begins way m = stops_at_faults stops && (has_faulted way m && begins_after begun begins m)
 
--- the same of a way from where a debugger is
+-- a way from where a debugger is ended by a fault that stops it: in a line that was begun on the way
 abbrev pub stops_here : Debugger → Reached → Moment → Bool
 stops_here d way m = stops_by_fault d.stops d.present.begun (is_marked d.starts d.present.machine.regs.pc) way m
 
@@ -94,7 +94,7 @@ leads_back debuggee stops now p =
     else if changes stops p then p.begun - 1
     else 0
 
--- the same of the point after k events
+-- the time to which the point after k events leads back
 abbrev pub leads_from : Debugger → Point → ℕ → ℕ
 leads_from d start k = leads_back d.debuggee d.stops d.present.begun (point_at d.starts start k)
 

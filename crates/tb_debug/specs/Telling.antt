@@ -103,7 +103,7 @@ TellsWay limit c d e (Some told) =
     × TellsStop d.shown (is_limit reached) e told
 TellsWay limit c d e None = ⊥
 
--- the same of one that leads to a line; or that the program has no such line
+-- a command that leads to a line tells its way and the stop, or that the program has no such line
 abbrev pub TellsLine : ℕ → Option ℕ → Command → Debugger → Debugger → Option Answer → Type 0
 TellsLine limit (Some address) c d e told = TellsWay limit c d e told
 TellsLine limit None c d e told = told ≡ Some answer.NoSuchLine

@@ -122,7 +122,7 @@ counting c n =
     else if c == 108 then ListAt (word_of n)
     else Unknown
 
--- the same of a text that may spell no number
+-- a letter before a text that may spell a number: n, p, t, s, b, g or l; unknown if it spells none
 abbrev pub with_number : ℕ → Option ℕ → Asked
 with_number c (Some n) = counting c n
 with_number c None = Unknown
@@ -230,6 +230,6 @@ at_address (c ∷ space ∷ dollar ∷ p ∷ q ∷ r ∷ s ∷ []) =
     if space == 32 && dollar == 36 then option_and_then (place_at c) (address_of p q r s) else None
 at_address line = None
 
--- the same as after a move, but that a place may be an address
+-- what a line asks for without a source, after the last move: a place may be an address
 abbrev pub asked_without_source : Option Asked → List ℕ → Asked
 asked_without_source last line = unwrap_or (at_address line) (asked_after last line)

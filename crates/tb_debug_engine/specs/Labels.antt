@@ -41,7 +41,7 @@ named_line labels (c ∷ space ∷ text) =
     if takes_address c && space == 32 then c ∷ 32 ∷ renamed labels c text else c ∷ space ∷ text
 named_line labels line = line
 
--- the same; without labels it is the line itself
+-- a command's line with the address of a label in place of its name; without labels it is the line itself
 abbrev pub translated : List (ℕ × List ℕ) → List ℕ → List ℕ
 translated [] line = line
 translated (l ∷ labels) line = named_line (l ∷ labels) line

@@ -17,7 +17,7 @@ abbrev pub index_from : ℕ → List ℕ → ℕ → ℕ
 index_from k [] n = 0
 index_from k (m ∷ numbers) n = if m == n then k else index_from (suc k) numbers n
 
--- the same of a line that may be none
+-- the index of a line that may be none among those of a program; 0 if it isn't one of them
 abbrev pub index_of : List ℕ → Option ℕ → ℕ
 index_of numbers (Some n) = index_from 0 numbers n
 index_of numbers None = 0

@@ -16,7 +16,7 @@ pub record Streams : Type 0 where
   pub commands : Stream
   pub answers : Stream
 
--- that of a reader or a writer whose bytes are these
+-- a reader or a writer as a stream whose bytes are these
 abbrev pub stream_of : {T : Type 0} → (T → Option (List ℕ)) → Tracked T → Stream
 stream_of bytes t = record { bytes = bytes t.stream; failures = failures_of t }
 
@@ -38,7 +38,7 @@ TakesNone old new = lines.TakesNothing old.bytes new.bytes × (new.failures ≡ 
 abbrev pub TakesSome : Stream → Stream → Type 0
 TakesSome old new = (line : List ℕ) × lines.TakesPart old.bytes line new.bytes × (new.failures ≡ old.failures)
 
--- the same of a reader that failed, or whose line was too long
+-- some of a line was taken, or all of it, and nothing after it, as the reader failed or the line was too long
 abbrev pub FailsToTake : Stream → Stream → Type 0
 FailsToTake old new =
     (line : List ℕ) × lines.TakesPart old.bytes line new.bytes × ((new.failures ≢ old.failures) ⊎ (most_input < length line))

@@ -70,7 +70,7 @@ stand_text lines stand =
 unfoldable pub variable_text : ℕ → ℤ → List ℕ
 variable_text index value = (65 + min index 25) ∷ 61 ∷ line (value_text (Ok value))
 
--- the same of one that isn't 0
+-- a variable by its index in the alphabet, and its value, if that isn't 0; else nothing
 abbrev pub unless_zero : ℕ → ℤ → List ℕ
 unless_zero index value = if int_eq value (pos 0) then [] else variable_text index value
 

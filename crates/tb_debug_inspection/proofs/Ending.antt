@@ -46,7 +46,7 @@ ends_alike earlier sent text short =
     let at : length (earlier ++ sent) - length text ≡ length earlier + (length sent - length text) = omega (arith, long, short) in
     ap (pointwise nat_eq text) (ap (λ n. drop n (earlier ++ sent)) at ∙ drop-append-add earlier sent (length sent - length text))
 
--- the same fault is told by the end of what was sent
+-- the end of what was sent tells the fault that all of it tells
 pub same_end : (earlier sent : List ℕ) (m : ℕ → ℕ) → line_in m < 65536 → KnowsLast longest_fault earlier sent → fault_in (earlier ++ sent) m ≡ fault_in sent m
 same_end earlier sent m low (inl none) = ap (λ e. fault_in (e ++ sent) m) none
 same_end earlier sent m low (inr many) =

@@ -15,7 +15,7 @@ first_line (b ∷ text) (suc i) lt e inside =
     let rest = first_line text i (omega arith) e (λ k below. inside (suc k) (omega arith)) in
     rw (ne_eqb b 10 h, rest) refl
 
--- the same, with what is left as the code has it
+-- the first line ends at the first byte 10, and what is left is as the code has it
 pub first_line_and_rest : (text : List ℕ) (i : ℕ) → i < length text → get_or text i 0 ≡ 10 → ((k : ℕ) → k < i → get_or text k 0 ≢ 10)
     → lines_of text ≡ take i text ∷ lines_of (take (length text - (i + 1)) (drop (i + 1) text))
 first_line_and_rest text i lt e inside =
@@ -32,7 +32,7 @@ last_line (b ∷ c ∷ text) ne inside =
     let rest = last_line (c ∷ text) (λ e. cc) (λ k below. inside (suc k) (omega arith)) in
     rw (ne_eqb b 10 h, rest) refl
 
--- the same, with the text as the code has it
+-- a text without a byte 10 is one line, by what the code knows of it: its length isn't 0, and i isn't below that
 pub only_line : (text : List ℕ) (i : ℕ) → (length text == 0) ≡ false → length text ≤ i → ((k : ℕ) → k < i → get_or text k 0 ≢ 10)
     → (lines_of text ≡ text ∷ lines_of []) × (0 < length text)
 unfolding lines_of

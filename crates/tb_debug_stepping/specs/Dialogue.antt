@@ -96,7 +96,7 @@ Performs gives limit h asked.Unknown result k = Reads (λ answer. answer ≡ Wha
 abbrev pub lacks_source : {O : Type 0} → Holds O → Asked → Bool
 lacks_source h asked = needs_source asked && not (is_some h.program)
 
--- the same, by whether a source is wanting: then nothing changes
+-- what is answered to a command, by whether a source is wanting: then nothing changes
 abbrev pub RespondsBy : {O : Type 0} → Bool → (O → Content → Event → O → Type 0) → ℕ → Holds O → Asked → Result (Option Answer) AllocError → Holds O → Type 0
 RespondsBy true gives limit h asked result k = (result ≡ Ok (Some NoSource)) × (k ≡ h)
 RespondsBy false gives limit h asked result k = Performs gives limit h asked result k

@@ -15,7 +15,7 @@ abbrev pub fold_value : List ℕ → ℕ → ℕ → Data
 fold_value kind first last =
     object (member (codes "endLine") (number (unsigned last)) (member (codes "kind") (string kind) (member (codes "startLine") (number (unsigned first)) no_members)))
 
--- the same, alone
+-- lines that fold, from 0, as a list of one
 abbrev pub fold : List ℕ → ℕ → ℕ → List Data
 fold kind first last = fold_value kind first last ∷ []
 
@@ -29,7 +29,7 @@ comes_back _ = false
 abbrev pub is_return : Edit → Bool
 is_return e = comes_back (statement_in e)
 
--- the same of a line that stands, by its number
+-- whether a line stands, by its number, and its statement is RETURN
 abbrev pub returns_by : Option ℕ → Edit → Bool
 returns_by None e = false
 returns_by (Some n) e = is_return e
@@ -43,7 +43,7 @@ abbrev pub returns_from : List Edit → ℕ → List SourceLine → List ℕ
 returns_from all i [] = []
 returns_from all i (l ∷ ls) = if returns all i (does l.edit) then i ∷ returns_from all (i + 1) ls else returns_from all (i + 1) ls
 
--- those of a source
+-- the places of the lines of a source that stand and are RETURN
 abbrev pub returns_of : List SourceLine → List ℕ
 returns_of lines = returns_from (edits_of lines) 0 lines
 

@@ -21,7 +21,7 @@ abbrev pub defined_by : List SourceLine → Name → Option Span
 defined_by lines (name.Line n) = standing_span n lines
 defined_by lines (name.Variable n) = None
 
--- the same at a place
+-- the number of the line that is named at a place, where that stands
 abbrev pub defined : ℕ → ℕ → List SourceLine → Option Span
 defined line character lines = option_and_then (defined_by lines) (name_at line character lines)
 

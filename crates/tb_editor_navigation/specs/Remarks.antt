@@ -42,7 +42,7 @@ abbrev pub remark_in : List Token → List ℕ
 remark_in [] = []
 remark_in (t ∷ ts) = if is_text t.kind then trimmed t.text.now else remark_in ts
 
--- that of a line whose statement is REM
+-- the text of the remark of a line whose statement is REM, without spaces at its ends; else nothing
 abbrev pub remark_of : SourceLine → List ℕ
 remark_of l = if is_remark (does l.edit) then remark_in l.tokens.items else []
 

@@ -74,7 +74,7 @@ symbol_on is_called n file_line l =
     if is_hidden is_called (shown (remark_of l)) then []
     else placed is_called n (shown (remark_of l)) (line_span file_line l.text.now) (number_span file_line l)
 
--- the same by the number of the line, if it stands
+-- the symbol of a line by its number, if it stands, and a GOSUB goes there or it has a remark
 abbrev pub symbol_by : List SourceLine → ℕ → SourceLine → Option ℕ → List Data
 symbol_by all file_line l None = []
 symbol_by all file_line l (Some n) = symbol_on (is_called n all) n file_line l
@@ -83,7 +83,7 @@ symbol_by all file_line l (Some n) = symbol_on (is_called n all) n file_line l
 abbrev pub symbol_at : List SourceLine → ℕ → ℕ → SourceLine → List Data
 symbol_at all place file_line l = symbol_by all file_line l (standing_number (edits_of all) place (does l.edit))
 
--- those of these lines, of which the first is at place i
+-- the symbols of these lines, of which the first is at place i
 abbrev pub symbols_from : List SourceLine → ℕ → List SourceLine → List Data
 symbols_from all i [] = []
 symbols_from all i (l ∷ ls) = symbol_at all i (i + 1) l ++ symbols_from all (i + 1) ls

@@ -75,16 +75,16 @@ abbrev pub marks_from : ℕ → List ℕ → ℕ → List Token → List Mark
 marks_from file_line text i [] = []
 marks_from file_line text i (t ∷ ts) = with_one (mark_of file_line text i t) (marks_from file_line text (i + 1) ts)
 
--- those of a line that is not too long
+-- the tokens of a line that are shown, if the line is not too long
 abbrev pub marks_on : ℕ → SourceLine → List Mark
 marks_on file_line l = if nat_lt 255 (length l.text.now) then [] else marks_from file_line l.text.now 0 l.tokens.items
 
--- those of lines, of which the first is line n of the file
+-- the tokens of lines that are shown, of which the first line is line n of the file
 abbrev pub marks_in : ℕ → List SourceLine → List Mark
 marks_in n [] = []
 marks_in n (l ∷ ls) = marks_on n l ++ marks_in (n + 1) ls
 
--- those of a source
+-- the tokens of a source that are shown
 abbrev pub marks_of : List SourceLine → List Mark
 marks_of lines = marks_in 1 lines
 
@@ -106,7 +106,7 @@ abbrev pub numbers_of : Span → Mark → List Data
 numbers_of before m =
     told (m.span.line - before.line) ∷ told (distance before m.span) ∷ told (m.span.end - m.span.start) ∷ told (place_of m.kind) ∷ told (modifiers m.declares) ∷ []
 
--- those of tokens
+-- the five numbers of each of these tokens, one token after the other
 abbrev pub numbers_from : Span → List Mark → List Data
 numbers_from before [] = []
 numbers_from before (m ∷ ms) = numbers_of before m ++ numbers_from m.span ms

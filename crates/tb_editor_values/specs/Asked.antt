@@ -22,6 +22,6 @@ lines_between d =
     option_and_then (λ s. option_and_then (λ start. option_and_then (λ e. option_map (λ end. (start.line, end.line)) (place_of e)) (get (codes "end") d)) (place_of s))
     (get (codes "start") d)
 
--- those of the range that params name
+-- the first and the last line of the range that params name
 abbrev pub lines_of_range : Data → Option (ℕ × ℕ)
 lines_of_range d = option_and_then lines_between (get (codes "range") d)

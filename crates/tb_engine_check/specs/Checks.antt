@@ -58,7 +58,7 @@ abbrev pub said_of : List ℕ → Look → List ℕ
 said_of name (Saw source found fits) = told_of name source found fits
 said_of name Missed = []
 
--- the same of a source whose turn has come
+-- what is said of a source whose turn has come
 abbrev pub said : Turn → List ℕ
 said turn = said_of turn.name turn.look
 
@@ -161,7 +161,7 @@ Tells own settings name source (Err WriteFault) old new =
 Tells own settings name source (Err NoMemory) old new = new ≡ old
 Tells own settings name source (Err e) old new = ⊥
 
--- the same of a source that was read by its name
+-- a source was looked at by its name, if it could be read, and told of as far as its writer took it
 abbrev pub ChecksNext : {S : Type 0} → Own → (S → List ℕ → Result (List ℕ) InputError → S → Type 0) → CheckSettings → S → List ℕ → Option (List ℕ) → Result Seen CheckOutcome → S → Option (List ℕ) → Type 0
 ChecksNext own reads settings s name old (Ok answer) t new =
     (look : Look) × IsLook own reads settings s name look t × Appends old new (said_of name look) × (answer ≡ seen_of look)

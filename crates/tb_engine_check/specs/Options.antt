@@ -9,6 +9,6 @@ use Rattle.tb_basic_options.specs.declared.options.OwnOptions.{OwnOptions}
 abbrev pub settings_by : CheckSettings → OwnOptions → CheckSettings
 settings_by settings o = record { size = if o.fit then Memory else settings.size; notation = notation_by settings.notation o }
 
--- the same by the source
+-- how a source is checked, by what is asked for and by the options in the source
 abbrev pub settings_for : CheckSettings → List ℕ → CheckSettings
 settings_for settings source = settings_by settings (options_of source)

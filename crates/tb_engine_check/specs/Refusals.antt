@@ -55,7 +55,7 @@ refusal_rows name lines numbered (compile.Lower lower.NoMemory) found = []
 refusal_rows name lines numbered (compile.TooLarge n) found = []
 refusal_rows name lines numbered compile.NoMemory found = []
 
--- the same of a source, by what there is to say of it
+-- a text is what is said of the line for which a source is refused, by what is found in the source
 pub record TellsRefusal (own : Own) (notation : Notation) (name source : List ℕ) (e : CompileError) (text : List ℕ) : Type 0 where
   pub found : Findings
   pub are : AreFindings own (by_cost notation) source found

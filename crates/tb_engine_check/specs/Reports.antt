@@ -90,7 +90,7 @@ bad_word_rows name lines (Some bad) =
     name ++ (codes ":" ++ (decimal bad.line ++ (codes ":" ++ (decimal bad.column ++ (codes ": error: " ++ (NO_OPTION.now ++ codes "\n"))))))
     ++ line_row (decimal bad.line) (line_at lines bad.line) ++ caret_row (decimal bad.line) bad.column
 
--- the same of what is found, after its word that is no option, and whether the memory holds it
+-- what is said of a source's lines: of a word that is no option, of what is found, and whether the memory holds it
 abbrev pub told_in : List ℕ → List (List ℕ) → Option BadWord → Findings → Bool → List ℕ
 told_in name lines bad found fits = bad_word_rows name lines bad ++ report name lines found ++ fits_row name fits
 

@@ -22,7 +22,7 @@ module _ (end : String Global) where
   pub hard_link : clashes (file (codes "a") 1 7 ∷ []) (file (codes "./b") 1 7 ∷ []) ≡ true
   hard_link = refl
 
-  -- the same number on another device
+  -- files with one number on two devices do not clash
   pub other_device : clashes (file (codes "a") 1 7 ∷ []) (file (codes "b") 2 7 ∷ []) ≡ false
   other_device = refl
 

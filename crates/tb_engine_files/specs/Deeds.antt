@@ -23,7 +23,7 @@ abbrev pub ending : {A : Type 0} → Result A Trouble → Result Unit Trouble
 ending (Ok a) = Ok tt
 ending (Err why) = Err why
 
--- the same deed, but that it failed for this reason; a closing never fails
+-- a deed, but that it failed for this reason; a closing never fails
 abbrev pub failed : Trouble → Deed → Deed
 failed why (Opens path end) = Opens path (Err why)
 failed why (Closes path n) = Closes path n

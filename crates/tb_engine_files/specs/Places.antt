@@ -7,7 +7,7 @@ use Rattle.tb_engine_files.specs.declared.places.Place.{Place}
 use Rattle.tb_engine_files.specs.declared.places.Place.TheVariants.{File, Missing}
 use Rattle.tb_engine_files.specs.declared.places.Named.{Named}
 
--- the same device, and the same number on it
+-- whether two nodes have one device, and one number on it
 abbrev pub same_node : Node → Node → Bool
 same_node a b = (a.device == b.device) && (a.number == b.number)
 

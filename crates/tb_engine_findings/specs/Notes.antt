@@ -191,7 +191,7 @@ abbrev pub digit_last : List ℕ → Bool
 digit_last [] = false
 digit_last (b ∷ bs) = is_ascii_digit b
 
--- the same with the number 0
+-- whether a text, the first byte last, ends with the number 0
 abbrev pub zero_last : List ℕ → Bool
 zero_last [] = false
 zero_last (b ∷ bs) = (b == 48) && not (digit_last bs)

@@ -27,7 +27,7 @@ abbrev pub last_with : ℕ → List NumberedLine → Option NumberedLine
 last_with n [] = None
 last_with n (l ∷ ls) = option_or (last_with n ls) (if l.number == n then Some l else None)
 
--- the same, if it is another line than this
+-- a line that was found, if it is another line than this
 abbrev pub another : NumberedLine → Option NumberedLine → Option NumberedLine
 another l None = None
 another l (Some by) = if by.line == l.line then None else Some by
@@ -56,12 +56,12 @@ abbrev pub high_target : Expression → List Warning
 high_target (Number n) = if nat_lt HIGHEST_NUMBER n then HighTarget n ∷ [] else []
 high_target _ = []
 
--- the same of a jump, if there is one
+-- the target of a jump, if there is one and it is written as a number above all line numbers
 abbrev pub high_by : Option (Expression × Bool) → List Warning
 high_by (Some jump) = high_target jump.0
 high_by None = []
 
--- the same of a statement
+-- the target of a statement's jump, if it is written as a number above all line numbers
 abbrev pub high_targets : Statement → List Warning
 high_targets c = high_by (jump_of c)
 

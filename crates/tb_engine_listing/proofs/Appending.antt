@@ -11,7 +11,7 @@ more F f each xs i d now new whole l e a =
     let x = get_or xs i d in let rest = drop (i + 1) xs in
     ap (λ t. t ++ F rest) a ∙ append_assoc now (f x) (F rest) ∙ ap (λ t. now ++ t) (sym (each x rest)) ∙ ap (λ t. now ++ F t) (sym (drop_more xs i d l)) ∙ e
 
--- the same for a range
+-- one more of the numbers of a range that are still to come
 pub range_more : (F : List ℕ → List ℕ) (f : ℕ → List ℕ) → ((x : ℕ) (xs : List ℕ) → F (x ∷ xs) ≡ f x ++ F xs) → (i end : ℕ) (now new whole : List ℕ) → i < end
     → now ++ F (range_with_len i (end - i)) ≡ whole → new ≡ now ++ f i → new ++ F (range_with_len (i + 1) (end - (i + 1))) ≡ whole
 range_more F f each i end now new whole l e a =

@@ -41,7 +41,7 @@ abbrev pub headings_in : List (List ℕ) → List (List ℕ × List ℕ)
 headings_in [] = []
 headings_in (line ∷ lines) = if is_comment line then (line, first_line lines) ∷ headings_in lines else headings_in lines
 
--- those of a text
+-- the comments of a text, each with the line after it
 abbrev pub headings : List ℕ → List (List ℕ × List ℕ)
 headings text = headings_in (split_lines text)
 

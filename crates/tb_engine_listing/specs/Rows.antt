@@ -43,7 +43,7 @@ abbrev pub name_if_begun : Plan → List Mark → Option ℕ → Option (List �
 name_if_begun p marks None = None
 name_if_begun p marks (Some a) = if is_some (mark_at marks a).begins then Some (name_of p marks a) else None
 
--- that of a row
+-- the name of the address of the image that a row names, if a piece begins there
 abbrev pub named_place : Plan → List Mark → Row → Option (List ℕ)
 named_place p marks r = name_if_begun p marks (address_named r.named)
 
@@ -108,7 +108,7 @@ abbrev pub byte_text : List ℕ → List ℕ
 byte_text (opcode ∷ b ∷ []) = codes " \"" ++ b ∷ codes "\""
 byte_text bs = []
 
--- the same of a row of code whose byte is sent
+-- the byte that a row of code loads, as a text, if that byte is sent
 abbrev pub sent_by : Kind → Plan → Row → List ℕ
 sent_by Code p r = if sends_byte p r.at then byte_text r.bytes else []
 sent_by k p r = []

@@ -56,7 +56,7 @@ own = codes "(@ram:$CFFF == $01) && (@ram:$CFFE == $00)"
 abbrev pub inside : List ℕ
 inside = codes "(@ram:$CFFF == $01) && (@ram:$CFFE != $00)"
 
--- The same, and the instruction that wrote was the ROM's. The monitor looks when the next one is to come: what was written
+-- A program runs, and the ROM's code wrote. The monitor looks when the next instruction is to come: what was written
 -- on the way to a service or to an interrupt is the program's, or the processor's.
 abbrev pub by_rom : List ℕ
 by_rom = codes "(@ram:$CFFF == $01) && (@ram:$CFFE != $00) && (PC != $FFD2) && (PC != $FFCF) && (PC != $FFE4) && (PC != $FF48) && (PC != $FE43)"

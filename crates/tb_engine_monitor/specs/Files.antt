@@ -8,7 +8,7 @@ use Rattle.tb_engine_monitor.specs.declared.checkpoints.Checkpoint.TheVariants.{
 use Rattle.tb_engine_monitor.specs.Checkpoints.{command_text, look_text}
 
 -- The ROM is entered at an address. Its callers keep up to 13 bytes on the stack, from `least` on, and `pushed` more are
--- those of the way there.
+-- pushed on the way there.
 abbrev pub entries : ℕ → ℕ → ℕ → List Checkpoint
 entries at pushed least = map (λ depth. Enters at (depth + pushed) (depth + 1)) (range_with_len least (14 - least))
 

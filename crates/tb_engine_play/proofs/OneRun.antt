@@ -34,7 +34,7 @@ with_later m more = record m { all_text = text_left m ++ more; text_taken = 0 }
 runs_not_waits : (t : Status) → t ≡ Running → t ≢ Waits
 runs_not_waits t r w = let no : Running ≡ Waits = sym r ∙ w in absurd (cc)
 
--- the same events are given if more text comes after
+-- events that are given are given also if more text comes after
 gave_with_later : (es : List Event) (m n : Content) (more : List ℕ) → GaveQuiet m es n → GaveQuiet (with_later m more) es (with_later n more)
 gave_with_later [] m n more (p, same) = (p, ap (with_more more) same)
 gave_with_later (e ∷ es) m n more (runs, (o, ready, after, same, given, done, rest)) =

@@ -52,7 +52,8 @@ written_more limit m n t a b c ran before since =
     let whole = ap host_form_of (stretch_sends limit m n t ran) ∙ flat_map_append host_byte m.sent (sent_since m n) in
     subst (Appends a c) (sym whole) (Appends-trans a b c _ _ before since)
 
--- the same if only a prefix of the stretch's part was written
+-- what was written after a stretch is a prefix of the host form of all that was sent, if only a prefix of the stretch's
+-- part was written
 pub written_part : (limit : ℕ) (m n : Content) (t : Status) (a b c : Option (List ℕ)) → Stretch limit m t n
     → Appends a b (host_form_of m.sent) → AppendsPrefix b c (host_form_of (sent_since m n)) → AppendsPrefix a c (host_form_of n.sent)
 written_part limit m n t a b c ran before (k, since) =

@@ -90,7 +90,7 @@ Leaves limit m ReadFault typed n = Unit {0}
 Leaves limit m WriteFault typed n = Unit {0}
 Leaves limit m NoMemory typed n = Unit {0}
 
--- the same of a machine that may have forgotten the beginning of what it sent
+-- the machine that playing leaves, where it may have forgotten the beginning of what it sent
 abbrev pub LeavesRest : ℕ → Content → Outcome → List ℕ → Content → Type 0
 LeavesRest limit m outcome typed n = (earlier : List ℕ) × KnowsLast kept_sent earlier n.sent × Leaves limit m outcome typed (with_earlier earlier n)
 
@@ -117,7 +117,8 @@ GoesOn limit m (Err (Ended end)) n writer = ⊥
 GoesOn limit m (Err (Refused e)) n writer = ⊥
 GoesOn limit m (Err ReadFault) n writer = ⊥
 
--- the same of a machine that may forget the beginning of what it sent, once that is written
+-- what running a stretch and writing what it sent answers, with the machine after it, which may forget the beginning
+-- of what it sent, once that is written
 abbrev pub Goes : ℕ → Content → Result Status Outcome → Content → Use → Type 0
 Goes limit m result n writer = (earlier : List ℕ) × KnowsLast kept_sent earlier n.sent × GoesOn limit m result (with_earlier earlier n) writer
 

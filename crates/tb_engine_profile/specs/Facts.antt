@@ -38,10 +38,10 @@ facts_of named settings keys answers limit end =
       end = ended_text end;
     }
 
--- the same by what an engine is called with
+-- how a program was named and compiled, what the run was given, and how it ended, by what an engine is called with
 abbrev pub facts_on : {O : Type 0} → Named → CompileSettings → Settings O → End → Facts
 facts_on named settings s end = facts_of named settings s.text s.answers s.limit end
 
--- the same is typed and answered
+-- a keyboard types and answers what another one does
 abbrev pub IsCopy : Keyboard → Keyboard → Type 0
 IsCopy old new = (new.text.items ≡ old.text.items) × (new.answers.items ≡ old.answers.items)

@@ -20,7 +20,7 @@ pub record RunsFrom {O : Type 0} (gives : O → Content → Event → O → Type
   pub tabled : Tabled gives o m (starts_of program) limit ran.table outside machine
   pub end : ran.end ≡ end_of ran.table.status machine.regs.pc
 
--- the same from a program's start machine
+-- a run from a program's start machine, the table of the program's lines, and how the run ended
 abbrev pub IsProfile : {O : Type 0} → Settings O → Compiled → Ran → Type 0
 IsProfile s program ran = RunsFrom s.gives s.outside s.limit program (start BASIC_START (loaded_of program) s.text s.answers) ran
 

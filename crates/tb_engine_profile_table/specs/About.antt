@@ -16,7 +16,7 @@ pub record Facts : Type 0 where
   pub rude : Option ℕ
   pub end : List ℕ
 
--- the same by the code's own record
+-- what a run was given, and how it ended, by the code's own record
 abbrev pub facts_in : About → Facts
 facts_in a =
     record {

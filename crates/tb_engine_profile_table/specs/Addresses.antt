@@ -73,7 +73,7 @@ address_figures all r = taken_text (four_digits r.line []) r.instructions r.cycl
 unfoldable pub address_text : (ℕ → ℕ) → ℕ → Row → List ℕ
 address_text m all r = address_figures all r ++ codes "  " ++ code_text m r.line ++ codes "\n"
 
--- the same where something was done; none of an address where nothing was
+-- the row of an address where something was done; none of an address where nothing was
 unfoldable pub address_row : (ℕ → ℕ) → ℕ → Row → List ℕ
 address_row m all r = if r.instructions == 0 then [] else address_text m all r
 

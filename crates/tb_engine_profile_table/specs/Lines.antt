@@ -8,7 +8,7 @@ use Rattle.tb_engine_profile_table.specs.declared.lines.Line.{Line}
 abbrev pub stated_in : List (ℕ × List ℕ) → List Row → List (Row × List ℕ)
 stated_in lines rows = map (λ r. (r, behind_number (last_of [] r.line lines))) rows
 
--- the same for the lines of a source
+-- the rows of a source's lines, each with the text after its number in the last line of the source that has it
 abbrev pub stated : List ℕ → List Row → List (Row × List ℕ)
 stated source rows = stated_in (numbered source) rows
 

@@ -95,7 +95,7 @@ not_made own settings makes refusal NoMemory reader bytes same = kept bytes
 not_made own settings makes refusal (Ended never) reader bytes none = absurd none
 not_made own settings makes refusal WriteFault reader bytes none = absurd none
 
--- the same for the report, which has no warnings
+-- for a report without warnings: nothing was written, and a refusal is the compiler's
 pub nothing_made : (own : Own) (settings : CompileSettings) (stop : Failure) (report : Report) (reader : Use) (bytes : Option (List ℕ)) → ReadsSource own settings (Err stop) reader
     → report.outcome ≡ ended_by (Err stop) → report.warnings.items ≡ [] → (makes : List ℕ → Compiled → Product → Type 0)
     → Answers (MadeFrom reader.old (λ source. FromSource own settings (makes source) report.warnings.items source)) report.outcome bytes bytes

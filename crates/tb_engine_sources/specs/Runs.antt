@@ -43,7 +43,7 @@ abbrev pub TellsEnd : {O W : Type 0} → Settings O → Hearing W → Compiled �
 TellsEnd s watch program end note =
     (n : Content) × EndsAs s watch (prg_of program) end n × (note ≡ end_note program (status (state_of n)) n)
 
--- the same of the program of a source that is read
+-- what is told of the run of a source that is read is what its program's machine tells
 abbrev pub TellsSource : {O W : Type 0} → Own → Settings O → Hearing W → CompileSettings → Use → End → Option EndNote → Type 0
 TellsSource own s watch settings reader end note =
     (source : List ℕ) × Reads reader.old source × ((program : Compiled) × Compiles own settings source (Ok program) × TellsEnd s watch program end note)

@@ -29,7 +29,7 @@ shown_more notation a b c sent rest now n m at next before since =
     let shown = ap (shown_as notation) both ∙ flat_map-append (shown_byte notation) (take n sent) now in
     subst (Appends a c) (sym shown) (Appends-trans a b c _ _ before since)
 
--- the same if only a prefix of it was written
+-- a write of only a prefix of the next sent bytes as they are shown
 pub shown_part : (notation : Notation) (a b c : Option (List ℕ)) (sent rest now : List ℕ) (n m : ℕ) → rest ≡ drop n sent → now ≡ take m rest
     → Appends a b (shown_as notation (take n sent)) → AppendsPrefix b c (shown_as notation now) → AppendsPrefix a c (shown_as notation sent)
 shown_part notation a b c sent rest now n m at next before (k, since) =

@@ -59,7 +59,7 @@ LineAt gives o program lines manner alike line =
     (q : _) × (m : Content) × (p : _) × (n : Content) × TypedTo gives o (start_of program) manner lines q m
     × GoesPast gives q m manner alike p n × (line ≡ line_told (end_note program (status (state_of n)) n))
 
--- the same beside a quiet ROM, or beside a rude one with a seed
+-- the line where a program sends what is shown behind `alike` bytes, beside a quiet ROM, or a rude one with a seed
 abbrev pub LineBeside : Option ℕ → Compiled → List (List ℕ) → Manner → ℕ → Option ℕ → Type 0
 LineBeside None program lines manner alike line = LineAt gives_quiet (record {}) program lines manner alike line
 LineBeside (Some seed) program lines manner alike line = LineAt gives_rude seed program lines manner alike line

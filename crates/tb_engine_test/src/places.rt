@@ -94,7 +94,7 @@ fn line_at<O: Outside>(
     Ok(line_told(end_note(&machine, program)))
 }
 
-// The same beside the ROM that a transcript asks for.
+// The line where a program sends what is shown behind `alike` bytes, beside the ROM that a transcript asks for.
 fn line_beside(
     alloc: Global,
     program: &Compiled,

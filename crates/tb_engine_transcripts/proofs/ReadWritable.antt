@@ -160,17 +160,17 @@ fault_or_good (Some text) =
     fault_good (number 255 (take (space_at text) text)) (line_of (drop (space_at text) text))
     (number_within 255 (take (space_at text) text)) (line_within (behind word.AT.now (drop (space_at text) text)))
 
--- the same behind `rude `
+-- what a text with `rude ` or `fault ` asks for is good
 rude_or_good : (digits : Option (List ℕ)) (text : List ℕ) → if_ok is_good (rude_or digits text) ≡ true
 rude_or_good None text = fault_or_good (behind word.FAULT.now text)
 rude_or_good (Some digits) text = rude_good (number 65535 digits) (number_within 65535 digits)
 
--- the same behind `limit `
+-- what a text with `limit `, `rude ` or `fault ` asks for is good
 limit_or_good : (digits : Option (List ℕ)) (text : List ℕ) → if_ok is_good (limit_or digits text) ≡ true
 limit_or_good None text = rude_or_good (behind word.RUDE.now text) text
 limit_or_good (Some digits) text = limit_good (number 1000000000 digits) (number_within 1000000000 digits)
 
--- the same behind `seed `
+-- what a text with `seed `, `limit `, `rude ` or `fault ` asks for is good
 seed_or_good : (digits : Option (List ℕ)) (text : List ℕ) → if_ok is_good (seed_or digits text) ≡ true
 seed_or_good None text = limit_or_good (behind word.LIMIT.now text) text
 seed_or_good (Some digits) text = seed_good (number 65535 digits) (number_within 65535 digits)

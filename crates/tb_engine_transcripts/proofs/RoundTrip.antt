@@ -19,6 +19,6 @@ round_trip c ok =
     ∙ ap from_header (head.1 ∙ output_first head.0 h c.turns c.last)
     ∙ ap (whole h) (turns.1 ∙ last_read turns.0 c.turns c.last)
 
--- the same of a text that is that of the definition
+-- a text that is the text of a writable transcript reads as that transcript
 pub text_read : (c : Content) (text : List ℕ) → text ≡ text_of c → IsWritable c → read text ≡ Ok c
 text_read c text is ok = ap read is ∙ round_trip c ok

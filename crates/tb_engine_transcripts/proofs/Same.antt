@@ -91,7 +91,7 @@ same_from one other e =
       equal_ends one.end other.end ends.1,
     )
 
--- the same the other way round
+-- two transcripts with equal turns, an equal text behind them and an equal end are the same
 pub same_to : (one other : Content) → IsSame one other → is_same one other ≡ true
 same_to one other same =
     let many : length one.turns ≡ length other.turns = ap length same.0 in

@@ -5,7 +5,7 @@ use Rattle.tb_engine_transcripts.specs.Contents.{Content}
 use Rattle.tb_engine_transcripts.specs.declared.transcript.RunEnd.{RunEnd}
 use Rattle.tb_engine_transcripts.specs.declared.transcript.RunEnd.TheVariants.{Fault, Returned, Runs, Waits}
 
--- the same was sent and typed in two turns
+-- in two turns, what was sent and typed is equal
 abbrev pub is_same_turn : List ℕ × List ℕ → List ℕ × List ℕ → Bool
 is_same_turn t u = bytes_eq t.0 u.0 && bytes_eq t.1 u.1
 
@@ -23,7 +23,7 @@ is_same_end Runs Runs = true
 is_same_end (Fault code line) (Fault other_code other_line) = code == other_code && line == other_line
 is_same_end one other = false
 
--- the same was sent and typed
+-- in two transcripts, what was sent and typed is equal
 abbrev pub is_same_output : Content → Content → Bool
 is_same_output one other =
     length one.turns == length other.turns && same_turns one.turns other.turns == length one.turns && bytes_eq one.last other.last

@@ -56,6 +56,6 @@ is_writable_turn t = is_sent t.0 && is_typed t.1
 abbrev pub is_writable : Content → Bool
 is_writable c = are_writable c.options && is_writable_end c.end && list_all is_writable_turn c.turns && is_sent c.last
 
--- the same as a fact
+-- a transcript can come of a run, as a fact
 abbrev pub IsWritable : Content → Type 0
 IsWritable c = IsTrue (is_writable c)

@@ -28,7 +28,7 @@ sent_in [] last k = last
 sent_in (t ∷ turns) last zero = t.0
 sent_in (t ∷ turns) last (suc k) = sent_in turns last k
 
--- the same of a transcript
+-- what was sent in a turn of a transcript, or after its last one
 abbrev pub sent_at : Content → ℕ → List ℕ
 sent_at c k = sent_in c.turns c.last k
 
@@ -61,7 +61,7 @@ abbrev pub hunk_at : ℕ × ℕ → List (List ℕ) → List (List ℕ) → ℕ 
 hunk_at above wanted ran alike =
     hunk (above.0 + (alike - 3), above.1 + (alike - 3)) (drop (alike - 3) (take alike wanted)) (take 4 (drop alike wanted)) (take 4 (drop alike ran))
 
--- the same by how many are alike at the front
+-- the hunk where lines first differ, by how many are alike at the front
 abbrev pub lines_hunk : ℕ × ℕ → List (List ℕ) → List (List ℕ) → List ℕ
 lines_hunk above wanted ran = hunk_at above wanted ran (alike_lines wanted ran)
 
@@ -78,7 +78,7 @@ abbrev pub end_hunk : Content → Content → List ℕ
 end_hunk wanted ran =
     hunk (length (option_lines wanted.options), length (option_lines ran.options)) [] (end_line wanted.end ∷ []) (end_line ran.end ∷ [])
 
--- that of what was sent and typed if it differs, else that of both ends
+-- the hunk of what was sent and typed if it differs, else the hunk of both ends
 abbrev pub hunk_of : Content → Content → List ℕ
 hunk_of wanted ran = if is_same_output wanted ran then end_hunk wanted ran else output_hunk wanted ran
 

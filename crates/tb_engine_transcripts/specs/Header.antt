@@ -31,7 +31,7 @@ with_asked h (Limit n) = if is_some h.options.limit then None else Some (with_op
 with_asked h (Rude n) = if is_some h.options.rude then None else Some (with_options h (record (h.options) { rude = Some n }))
 with_asked h (End e) = if is_some h.end then None else Some (record (h) { end = Some e })
 
--- the same of what was read
+-- a header with the option or the end that was read, or why that is refused
 abbrev pub with_read : Header → Result Asked Reason → Result Header Reason
 with_read h (Ok asked) = ok_or (with_asked h asked) Twice
 with_read h (Err why) = Err why

@@ -26,7 +26,7 @@ abbrev pub seed_by : Option ℕ → Result Asked Reason
 seed_by None = Err NoSeed
 seed_by (Some n) = Ok (Seed n)
 
--- the same of its digits
+-- a seed of RND by its digits
 abbrev pub seed : List ℕ → Result Asked Reason
 seed digits = seed_by (number MOST_WORD digits)
 
@@ -35,7 +35,7 @@ abbrev pub limit_by : Option ℕ → Result Asked Reason
 limit_by None = Err NoLimit
 limit_by (Some n) = if n == 0 then Err NoLimit else Ok (Limit n)
 
--- the same of its digits
+-- a limit by its digits, which is not 0
 abbrev pub limit : List ℕ → Result Asked Reason
 limit digits = limit_by (number MOST_LIMIT digits)
 
@@ -44,7 +44,7 @@ abbrev pub rude_by : Option ℕ → Result Asked Reason
 rude_by None = Err NoRude
 rude_by (Some n) = Ok (Rude n)
 
--- the same of its digits
+-- a seed of the ROM by its digits
 abbrev pub rude : List ℕ → Result Asked Reason
 rude digits = rude_by (number MOST_WORD digits)
 
@@ -63,7 +63,7 @@ fault_by (Some code) (Some line) = Ok (End (Fault code line))
 fault_by (Some code) None = Err NoFault
 fault_by None line = Err NoFault
 
--- the same of what stands behind `fault `: a code, ` at ` and a line
+-- a fault by what stands behind `fault `: a code, ` at ` and a line
 abbrev pub fault : List ℕ → Result Asked Reason
 fault text = fault_by (number MOST_CODE (take (space_at text) text)) (line_of (drop (space_at text) text))
 
@@ -77,12 +77,12 @@ abbrev pub rude_or : Option (List ℕ) → List ℕ → Result Asked Reason
 rude_or None text = fault_or (behind word.FAULT.now text)
 rude_or (Some digits) text = rude digits
 
--- the same behind `limit `
+-- what a text behind `limit ` asks for, or else the whole text
 abbrev pub limit_or : Option (List ℕ) → List ℕ → Result Asked Reason
 limit_or None text = rude_or (behind word.RUDE.now text) text
 limit_or (Some digits) text = limit digits
 
--- the same behind `seed `
+-- what a text behind `seed ` asks for, or else the whole text
 abbrev pub seed_or : Option (List ℕ) → List ℕ → Result Asked Reason
 seed_or None text = limit_or (behind word.LIMIT.now text) text
 seed_or (Some digits) text = seed digits

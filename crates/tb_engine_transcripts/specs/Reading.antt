@@ -18,7 +18,7 @@ use Rattle.tb_engine_transcripts.specs.declared.transcript.RunEnd.TheVariants.{R
 abbrev pub State : Type 0
 State = List (List ℕ × List ℕ) × List ℕ
 
--- the same of what was read
+-- the turns that were read, and what was sent since the last of them
 abbrev pub state_of : Reading → State
 state_of r = (map turn_of r.turns.items, r.sent.items)
 

@@ -55,7 +55,7 @@ fn push_number(
     }
 }
 
-// The same of a number of 16 bits.
+// Appends the line of an option that has a number of 16 bits, if it is asked for.
 fn push_word(
     alloc: Global,
     text: &mut Vec<u8>,

@@ -22,7 +22,7 @@ pub record RunsTo {O W : Type 0} (gives : O → Content → Event → O → Type
   pub ran : RanWatched gives watch.hears o start watch.before limit (Ok answer) left n watch.after
   pub how : end ≡ end_of answer n.regs.pc
 
--- the same of a PRG file, from its start machine
+-- how a run of a PRG file from its start machine ends
 abbrev pub EndsAs : {O W : Type 0} → Settings O → Hearing W → List ℕ → End → Content → Type 0
 EndsAs s watch file end n = (start : Content) × StartsPrg s.text s.answers file (Ok start) × RunsTo s.gives s.outside s.limit watch start end n
 
@@ -67,6 +67,6 @@ end_place _ pc = Some pc
 abbrev pub TellsPlace : {O W : Type 0} → Settings O → Hearing W → List ℕ → End → Option ℕ → Type 0
 TellsPlace s watch file end place = (n : Content) × EndsAs s watch file end n × (place ≡ end_place (status (state_of n)) n.regs.pc)
 
--- the same of a PRG file that is read
+-- the place that is told of a run of a PRG file that is read is its machine's
 abbrev pub TellsFile : {O W : Type 0} → Settings O → Hearing W → Use → End → Option ℕ → Type 0
 TellsFile s watch reader end place = (file : List ℕ) × Reads reader.old file × TellsPlace s watch file end place

@@ -88,7 +88,7 @@ abbrev pub settings_of : {O : Type 0} → (O → Content → Event → O → Typ
 settings_of gives outside keyboard limit notation =
     record { gives = gives; outside = outside; text = keyboard.text.items; answers = keyboard.answers.items; limit = limit; notation = notation }
 
--- the same for an engine that shows the host form
+-- the settings that an engine which shows the host form is called with
 abbrev pub plain_settings_of : {O : Type 0} → (O → Content → Event → O → Type 0) → O → Keyboard → ℕ → Settings O
 plain_settings_of gives outside keyboard limit = settings_of gives outside keyboard limit Plain
 

@@ -26,19 +26,19 @@ pub record Setting : Type 0 where
 abbrev pub plain : Setting
 plain = record { fill = 0; d = false; text = []; answers = [] }
 
--- the same with a keyboard's text
+-- memory filled with 0, D clear, and a keyboard's text
 abbrev pub typed : List ℕ → Setting
 typed text = record { fill = 0; d = false; text = text; answers = [] }
 
--- the same with answers
+-- memory filled with 0, D clear, and a keyboard's answers
 abbrev pub answering : List ℕ → Setting
 answering answers = record { fill = 0; d = false; text = []; answers = answers }
 
--- the same with D set
+-- memory filled with 0, D set, no keyboard
 abbrev pub decimal : Setting
 decimal = record { fill = 0; d = true; text = []; answers = [] }
 
--- the same with memory filled with 1
+-- memory filled with 1, D clear, no keyboard
 abbrev pub filled : Setting
 filled = record { fill = 1; d = false; text = []; answers = [] }
 
@@ -116,6 +116,6 @@ starts bytes k h =
 abbrev pub clearing : Clobber
 clearing = record { a = 0; x = 0; y = 0; n = false; v = false; i = false; z = false; c = false; writes = record { items = [] } }
 
--- the same, but for X
+-- what a service leaves that sets X, clears A, Y and the flags, and writes nothing
 abbrev pub leaving_x : ℕ → Clobber
 leaving_x x = record { a = 0; x = x; y = 0; n = false; v = false; i = false; z = false; c = false; writes = record { items = [] } }

@@ -154,12 +154,12 @@ module _ (bytes : List ℕ) (program : Program) (seed : ℕ) (k : Setting) (h : 
       false≢true (sym (fail sound.lines) ∙ ap (is_over_with out) over_so ∙ same_both out))
       sound.stopped
 
-  -- the same of a source that is over after n lines, having sent something else
+  -- it returns, but the source, which is over after n lines, has sent something else
   pub returns_wrong : (out : List ℕ) → status (run es s) ≡ Returned → (run es s).sent ≡ out → (n : ℕ) → never (is_over_with out) n ≡ true
       → Keeps BASIC_START bytes program seed → ⊥
   returns_wrong out b e n fail = returns_never out b e (λ m. fails_ever (is_over_with out) (line program) n m _ fail)
 
--- ---- the same after n Go events
+-- ---- the refutations after n Go events
 module _ (bytes : List ℕ) (program : Program) (seed : ℕ) (k : Setting) (h : fit bytes k ≡ true) (n : ℕ) where
   abbrev ran : State
   ran = run (gos n) (started bytes k)

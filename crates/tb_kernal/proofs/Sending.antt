@@ -112,7 +112,7 @@ sending_keeps_runs (e ∷ es) s earlier =
 
 module _ {O : Type 0} (gives : O → Content → Event → O → Type 0)
     (blind : (o : O) (m : Content) (e : Event) (p : O) (sent : List ℕ) → gives o m e p → gives o (record m { sent = sent }) e p) where
-  -- the same events are given whatever was sent before them
+  -- events are given alike whatever was sent before them
   pub gave_alike : (es : List Event) (o : O) (m : Content) (p : O) (n : Content) (earlier : List ℕ)
       → Gave gives o m es p n → Gave gives o (with_earlier earlier m) es p (with_earlier earlier n)
   gave_alike [] o m p n earlier h = (h.0, ap (sent_before earlier) h.1)

@@ -30,7 +30,7 @@ same_status false None (Some Getin) text more h = refl
 same_status false None (Some Chrin) [] more h = absurd (h refl)
 same_status false None (Some Chrin) (b ∷ text) more h = refl
 
--- the same for a machine's state
+-- with more text after, the state of a machine that does not wait has the same status
 pub status_kept : (s : State) (more : List ℕ) → status s ≢ Waits → status (with_more more s) ≡ status s
 status_kept s more h = same_status (is_home s) s.wrong (service_at s.regs.pc) s.text more h
 

@@ -54,7 +54,7 @@ AnswersFrom own notation request.Folds uri text lines r = Answered (λ v. v ≡ 
 AnswersFrom own notation request.Tokens uri text lines r = Answered (λ v. v ≡ semantic_tokens lines) r
 AnswersFrom own notation request.Unfit uri text lines r = r ≡ Err BadParams
 
--- the same by the lines of the text
+-- what is answered to a request on a text that is read in a notation, by the lines of the text
 abbrev pub AnswersIn : Own → Notation → Request → List ℕ → List ℕ → Result Value Refusal → Type 0
 AnswersIn own notation asked uri text r = (lines : List SourceLine) × AreLinesOf notation text lines × AnswersFrom own notation asked uri text lines r
 

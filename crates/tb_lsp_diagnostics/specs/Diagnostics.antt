@@ -68,7 +68,7 @@ on_whole code message = plain code message whole_span 1
 abbrev pub on_size : ℕ → Data
 on_size size = on_whole (codes "program-too-large") (too_large_text size)
 
--- the same where that is told
+-- the diagnostic of a program that is too large, where that is told
 abbrev pub on_sizes : Option ℕ → List Data
 on_sizes None = []
 on_sizes (Some size) = on_size size ∷ []
@@ -100,7 +100,7 @@ no_option = NO_OPTION.now
 abbrev pub on_bad_word : List (List ℕ) → BadWord → Data
 on_bad_word lines bad = plain (codes "no-option") no_option (place_span bad.line (line_at lines bad.line) bad.column) 1
 
--- the same where there is one
+-- the diagnostic of a word that is no option, where there is one
 abbrev pub on_bad_words : List (List ℕ) → Option BadWord → List Data
 on_bad_words lines None = []
 on_bad_words lines (Some bad) = on_bad_word lines bad ∷ []

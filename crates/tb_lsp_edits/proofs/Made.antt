@@ -47,7 +47,7 @@ made f p (e ∷ es) = ap (λ q. made_of q (map (renamed_edit f) es)) (edits f e 
 pub renamed_made : (f : ℕ → ℕ) (es : List Edit) → program_of (map (renamed_edit f) es) ≡ renamed_program f (program_of es)
 renamed_made f es = made f [] es
 
--- the same of what the lines of a text make, from a line on
+-- from a line on, the lines of the renamed text make what the renamed edits make
 lines_make : (notation : Notation) (letters : Letters) (n : ℕ) (p : Program) (ls : List SourceLine) → AreRenamed notation letters ls
     → LinesIn notation n p (map (text_after letters) ls) (at_end (made_of p (map (renamed_edit (renamed_letter letters)) (edits_of ls))))
 lines_make notation letters n p [] are = end n p

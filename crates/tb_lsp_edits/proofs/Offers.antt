@@ -14,7 +14,7 @@ one_more notation t c cs all old new rest (true, is, e) before h =
 one_more notation t c cs all old new rest (false, is, e) before h =
     subst (λ f. Offers notation t all f) (ap (λ o. o ++ rest) (sym (e ∙ append-nil old))) (before rest (left_out c cs rest is h))
 
--- the same at a place of the list
+-- one more candidate at a place of the list was looked at
 pub more : (notation : Notation) (t : Typed) (cs : List Candidate) (i : ℕ) (d : Candidate) (old new : List Candidate) → i < length cs → AppendsOffered notation t (get_or cs i d) old new
     → ((found : List Candidate) → Offers notation t (drop i cs) found → Offers notation t cs (old ++ found))
     → (found : List Candidate) → Offers notation t (drop (i + 1) cs) found → Offers notation t cs (new ++ found)

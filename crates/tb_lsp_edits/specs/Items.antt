@@ -36,7 +36,7 @@ abbrev pub item_value : Span → Candidate → Data
 item_value span (candidate.Word w) = word_value span w
 item_value span (candidate.Number n) = number_value span n
 
--- those of candidates
+-- candidates in place of a span
 abbrev pub items_in : Span → List Candidate → List Data
 items_in span found = map (item_value span) found
 
@@ -58,7 +58,7 @@ abbrev pub AreOffered : Notation → List SourceLine → ℕ → List ℕ → Li
 AreOffered notation lines line before items =
     (t : Typed) × IsTyped before t × ((found : List Candidate) × Offers notation t (candidates lines) found × (items ≡ items_in (span_of line before t) found))
 
--- the same, by whether the place is beyond the longest line
+-- what is offered behind the beginning of a line, by whether the place is beyond the longest line
 abbrev pub AreItemsBy : Bool → Notation → List SourceLine → ℕ → List ℕ → List Data → Type 0
 AreItemsBy true notation lines line before items = items ≡ []
 AreItemsBy false notation lines line before items = AreOffered notation lines line before items

@@ -52,7 +52,7 @@ abbrev pub placed : Option Named → Data
 placed None = null
 placed (Some v) = object (member (codes "placeholder") (string (spelled (v.letter ∷ []))) (member (codes "range") (range_of v.span) no_members))
 
--- those of the variable at a place
+-- the place and the letter of the variable at a place
 abbrev pub prepared : ℕ → ℕ → List SourceLine → Data
 prepared line character lines = placed (variable_at line character lines)
 
@@ -99,7 +99,7 @@ edits_of letters lines =
 abbrev pub IsRenamed : Notation → Letters → SourceLine → Type 0
 IsRenamed notation letters l = LineIn notation (text_after letters l) (Ok (renamed_edit (renamed_letter letters) (does l.edit)))
 
--- the same of each line
+-- what becomes of each line reads as what that line does, renamed, in a notation
 abbrev pub AreRenamed : Notation → Letters → List SourceLine → Type 0
 AreRenamed notation letters [] = Unit {0}
 AreRenamed notation letters (l ∷ ls) = IsRenamed notation letters l × AreRenamed notation letters ls
@@ -116,7 +116,7 @@ abbrev pub Changes : Notation → List ℕ → Letters → List SourceLine → R
 Changes notation uri letters lines (Ok v) = IsRenaming notation uri letters lines (view v)
 Changes notation uri letters lines (Err refusal) = (refusal ≡ ReadsOtherwise) × ¬ (AreRenamed notation letters lines)
 
--- the same by why a text is not renamed
+-- a renaming, or, if there is a reason against it, that reason
 abbrev pub ChangesBy : Option Refusal → Notation → List ℕ → Letters → List SourceLine → Result Value Refusal → Type 0
 ChangesBy None notation uri letters lines r = Changes notation uri letters lines r
 ChangesBy (Some refusal) notation uri letters lines r = r ≡ Err refusal
@@ -125,7 +125,7 @@ ChangesBy (Some refusal) notation uri letters lines r = r ≡ Err refusal
 abbrev pub RenamesLetters : Notation → List ℕ → Letters → List SourceLine → Result Value Refusal → Type 0
 RenamesLetters notation uri letters lines r = ChangesBy (refusal_of letters lines) notation uri letters lines r
 
--- the same, or why there are none
+-- the answer by the letters, or why there are none
 abbrev pub RenamesBy : Result Letters Refusal → Notation → List ℕ → List SourceLine → Result Value Refusal → Type 0
 RenamesBy (Ok letters) notation uri lines r = RenamesLetters notation uri letters lines r
 RenamesBy (Err refusal) notation uri lines r = r ≡ Err refusal

@@ -73,7 +73,7 @@ RenamedLinesMakeTheRenamedProgram = (f : ℕ → ℕ) (edits : List Edit) → pr
 abbrev pub lettered : Letters → List ℕ → Place → List ℕ
 lettered letters text v = if (v.name == letters.old) && nat_lt v.place (length text) then slice_set text v.place letters.new else text
 
--- the same at these places
+-- a text with the new letter at these places, where the variable there is the one that is renamed
 abbrev pub lettered_at : Letters → List ℕ → List Place → List ℕ
 lettered_at letters text [] = text
 lettered_at letters text (v ∷ vs) = lettered_at letters (lettered letters text v) vs

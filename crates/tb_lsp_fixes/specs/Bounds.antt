@@ -20,7 +20,7 @@ abbrev pub bounds_by : Option Statement → List (Option ℕ)
 bounds_by None = []
 bounds_by (Some c) = statement_bounds c
 
--- those of a line
+-- the bounds of RND in what a line does
 abbrev pub bounds_in : Edit → List (Option ℕ)
 bounds_in e = bounds_by (statement_in e)
 
@@ -74,7 +74,8 @@ edits_from file_line text bounds bound count better (t ∷ ts) =
     edit_at (is_sought bounds count bound t.kind) file_line text t ts better
     ++ edits_from file_line text bounds bound (count_after count t.kind) better ts
 
--- the same on a line: the words RND and the bounds of its statement have the same order
+-- a text in place of each RND of a line whose bound is the one that is sought: the words RND and the bounds of the
+-- line's statement have the same order
 abbrev pub edits_of : ℕ → SourceLine → ℕ → List ℕ → List Data
 edits_of file_line l bound better = edits_from file_line l.text.now (bounds_in (does l.edit)) bound 0 better l.tokens.items
 

@@ -61,7 +61,7 @@ abbrev pub end_edit : ℕ → List ℕ → Bool → ℕ → Data
 end_edit count last true n = lines_edit count count (decimal n ++ (codes " END" ++ 10 ∷ []))
 end_edit count last false n = edit_value (piece count last (length last) 0) (10 ∷ (decimal n ++ codes " END"))
 
--- the same, where a number is left above the highest one
+-- a line with END behind a text, where a number is left above the highest one
 abbrev pub ends : ℕ → List ℕ → Bool → ℕ → Option Mends
 ends count last is_ended highest =
     if nat_lt highest 32767 then fix_by ADD_A_LINE_WITH_END.now (end_edit count last is_ended (min (highest + 10) 32767)) else None

@@ -18,7 +18,7 @@ mended_before written name b =
     else if b == 34 then Some (closed name)
     else None
 
--- the same; nothing is behind it at the end of the line
+-- what is written in place of a sign's name, by the byte behind it, or by none at the end of the line
 abbrev pub mended : List ℕ → List ℕ → Option ℕ → Option (List ℕ)
 mended written name None = Some (closed name)
 mended written name (Some b) = mended_before written name b

@@ -19,11 +19,11 @@ abbrev pub numbers_of : List Part → Option LineNumbers
 numbers_of [] = None
 numbers_of (p ∷ parts) = Some (record { at = p.at; bytes = p.bytes; cost = p.price })
 
--- those of the first of these lines, as the map has them, with its cost
+-- the numbers of the first of these lines, as the map has them, with its cost
 abbrev pub first_numbers : List (ℕ × ℕ) → ℕ → ℕ → Option LineNumbers
 first_numbers starts table cost = numbers_of (first_part starts table 0 cost)
 
--- those of line n, as the parts of the map are made
+-- the numbers of line n, as the parts of the map are made
 abbrev pub part_of : ℕ → List (ℕ × ℕ) → ℕ → Program → Option LineNumbers
 part_of n starts table [] = None
 part_of n starts table (line ∷ lines) =

@@ -62,11 +62,11 @@ abbrev pub using_by : ℕ → Bool → List SourceVariable → Option ℕ → Li
 using_by name gets vs None = []
 using_by name gets vs (Some n) = if has_variable name gets vs then n ∷ [] else []
 
--- the same of the line at a place
+-- the number of the line at a place, if it stands and has that variable
 abbrev pub using_at : List SourceLine → ℕ → Bool → ℕ → SourceLine → List ℕ
 using_at all name gets place l = using_by name gets (variables_of l.tokens.items) (standing_number (edits_of all) place (does l.edit))
 
--- the same of these lines, of which the first is at place i
+-- the numbers of the lines that stand and have that variable, of these lines, of which the first is at place i
 abbrev pub using_from : List SourceLine → ℕ → Bool → ℕ → List SourceLine → List ℕ
 using_from all name gets i [] = []
 using_from all name gets i (l ∷ ls) = using_at all name gets i l ++ using_from all name gets (i + 1) ls
@@ -107,12 +107,12 @@ ShowsToken own notation text lines place l index None v = v ≡ null
 ShowsToken own notation text lines place l index (Some a) v =
     (value : List ℕ) × Shows own notation text lines place a value × (v ≡ shown_value (token_span (place + 1) l index) value)
 
--- the same, if there is that line
+-- what is shown at a token of the line at a place, if there is that line
 abbrev pub ShowsLine : Own → Notation → List ℕ → List SourceLine → ℕ → ℕ → Option SourceLine → Data → Type 0
 ShowsLine own notation text lines place index None v = v ≡ null
 ShowsLine own notation text lines place index (Some l) v = ShowsToken own notation text lines place l index (about (does l.edit) l.tokens.items index) v
 
--- the same, if a token is touched
+-- what is shown at the token that is touched in the line at a place, if one is
 abbrev pub ShowsTouched : Own → Notation → List ℕ → List SourceLine → ℕ → Option ℕ → Data → Type 0
 ShowsTouched own notation text lines place None v = v ≡ null
 ShowsTouched own notation text lines place (Some index) v = ShowsLine own notation text lines place index (slice_get lines place) v

@@ -126,7 +126,7 @@ abbrev pub AnswersOnText : Own → Notation → Request → (id : Data) → (uri
 AnswersOnText own notation asked id uri (Some text) content = (r : Result Value Refusal) × Answers own notation asked uri text r × Says content (said id r)
 AnswersOnText own notation asked id uri None content = Says content (failure_of id NotOpen)
 
--- the same by the name of the text, if it is given
+-- what a request on a text is answered, by the name of the text, if it is given
 abbrev pub AnswersText : Own → Notation → Request → (id : Data) → Option (List ℕ) → List OpenText → (content : List ℕ) → Type 0
 AnswersText own notation asked id (Some uri) texts content = AnswersOnText own notation asked id uri (text_of uri texts) content
 AnswersText own notation asked id None texts content = Says content (failure_of id BadParams)
@@ -173,7 +173,7 @@ TakesNotice own (open_text uri text version) old reply new = TakesText own uri t
 TakesNotice own (change_text uri text version) old reply new = TakesChange own (has uri old.texts.all.items) uri text version old reply new
 TakesNotice own (close_text uri) old reply new = TakesClose (has uri old.texts.all.items) uri old reply new
 
--- the same, if something is told
+-- what is told of a text is done, if something is told
 abbrev pub TakesTold : Own → Option Told → Server → Reply → Server → Type 0
 TakesTold own None old reply new = Ignores old reply new
 TakesTold own (Some t) old reply new = TakesNotice own t old reply new

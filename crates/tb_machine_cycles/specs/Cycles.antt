@@ -173,7 +173,7 @@ extra_by (Some (mnemonic, mode)) r read = extra_of mnemonic mode r read
 abbrev pub cycles_of : Option (Mnemonic × Mode) → Regs → Reader → ℕ
 cycles_of byte r read = base_by byte + extra_by byte r read
 
--- the same, 0 if the opcode cannot be read
+-- an opcode's base, and what comes on top; 0 if the opcode cannot be read
 abbrev pub cycles_by : Result ℕ Wrong → Regs → Reader → ℕ
 cycles_by (Ok opcode) r read = cycles_of (decoded opcode) r read
 cycles_by (Err w) r read = 0

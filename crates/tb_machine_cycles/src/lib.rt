@@ -2,7 +2,7 @@
 //!
 //! The definition is `specs/Cycles.antt`. There is a base by kind and mode, and one more for a page that a reading
 //! instruction's index crosses. A branch that is taken costs one more, or two if it leads into another page. `base` is
-//! that of each opcode. `cycles` is the value for the instruction at PC. The code has tables of its own, in the order
+//! the base by opcode. `cycles` is the value for the instruction at PC. The code has tables of its own, in the order
 //! of the opcodes, and the proof compares them with it. No call takes memory. That sim65 counts the same cycles is
 //! tried (`tools/try/cycles.sh`).
 #![tactic(auto)]

@@ -12,7 +12,7 @@ abbrev pub stacked_on : List ℕ → View → View
 stacked_on own v = record v { stack = v.stack ++ own }
 
 module _ (f : Setup) (own : List ℕ) where
-  -- the same stack, divided differently into the view's part and the rest
+  -- a stack divided differently into the view's part and the rest
   parted : (a b xs ys : List ℕ) (v : View) (s : State) → xs ++ a ≡ ys ++ b → At (record f { rest = a }) (record v { stack = xs }) s → At (record f { rest = b }) (record v { stack = ys }) s
   parted a b xs ys v s e at =
       let st = at.stays in

@@ -51,7 +51,7 @@ module _ (f : Setup) where
   pub chained : (v : View) (p q : View → Type 0) (t u : List ℕ) (n m : ℕ) → Comes f v p t n → ((w : View) → p w → Comes f w q u m) → Comes f v q (t ++ u) (n + m)
   chained v p q t u n m a b = record { reaches = chain (UnderWay f) (At f v) (Among f p) (Among f q) t u n m a.reaches (record { leads = λ s h es l. (b h.0 h.2).reaches.leads s h.1 es l }) }
 
-  -- the same through one view
+  -- one law after another, through one view
   pub chained_at : (v w : View) (q : View → Type 0) (t u : List ℕ) (n m : ℕ) → Comes f v (Just w) t n → Comes f w q u m → Comes f v q (t ++ u) (n + m)
   chained_at v w q t u n m a b = chained v (Just w) q t u n m a (λ x e. subst (λ x. Comes f x q u m) (sym e) b)
 
@@ -102,7 +102,7 @@ module _ (f : Setup) where
     pub through : (n : ℕ) (v w : View) (q : View → Type 0) (t : List ℕ) (m : ℕ) → run_view part room (suc n) v ≡ Some w → Comes f w q t m → Comes f v q t (suc n + m)
     through n v w q t m h c = chained_at v w q [] t (suc n) m (several_from (Just w) n v w h refl) c
 
-    -- the same with a view that is computed
+    -- n + 1 instructions that lead to a view that is computed, and then a law
     pub after : (n : ℕ) (v : View) (q : View → Type 0) (t : List ℕ) (m : ℕ) → is_there (run_view part room (suc n) v) ≡ true
         → Comes f (the v (run_view part room (suc n) v)) q t m → Comes f v q t (suc n + m)
     after n v q t m h c = through n v (the v (run_view part room (suc n) v)) q t m (there_is v (run_view part room (suc n) v) h) c

@@ -32,7 +32,7 @@ data_leaves a (w ∷ ws) m h l =
     let l' = and_parts _ _ l in
     data_leaves a ws (with_byte m w.0 w.1) h l'.1 ∙ put_other m w.0 w.1 a (λ e. false≢true (sym h ∙ ap is_data e ∙ l'.0))
 
--- the same writes to memories that agree at an address
+-- memories that agree at an address still agree there after equal writes
 pub written_same : (a : ℕ) (ws : Writes) (m k : ℕ → ℕ) → m a ≡ k a → written m ws a ≡ written k ws a
 written_same a [] m k h = h
 written_same a (w ∷ ws) m k h = written_same a ws (with_byte m w.0 w.1) (with_byte k w.0 w.1) (ap (λ x. if eqb a w.0 then w.1 else x) h)

@@ -79,7 +79,7 @@ module _ (r k : Reader) (ext : (a b : ℕ) → r a ≡ Ok b → k a ≡ Ok b) wh
   more_operand t Indirect q o h = then_more (word_at r _ _) (word_at k _ _) _ _ o o (more_word _ _) (λ p. more_word _ _ o) h
 
 -- ---- instructions
--- the same at every S, in the accumulator
+-- an instruction in the accumulator does the same at every S
 pub on_a_moved : (t : ℕ) (m : Mnemonic) (q : Regs) → executed_on_a m (with_s t q) ≡ moved_ok t (executed_on_a m q)
 on_a_moved t Asl q = refl
 on_a_moved t _ q = refl

@@ -59,7 +59,7 @@ row_put_below s =
       joined = opened (s.row + 1) 1 true s.joined;
     }
 
--- the same, where the screen scrolls first if the cursor is at the bottom
+-- a blank row comes below the cursor and goes on its line; the screen scrolls first if the cursor is at the bottom
 unfoldable pub row_opened : Content → Content
 row_opened s =
     if eqb s.row (ROWS - 1) then row_put_below (in_row (ROWS - 1 - top_rows s) (line_scrolled s)) else row_put_below s

@@ -8,6 +8,8 @@
 
 ghost use Rattle.std.specs.Prelude.{◌≡◌, ◌<◌, ◌≢◌, ℕ, Some, None, MatchOption, IsTrue, ◌↔◌};
 ghost use Rattle.tb_opcodes.specs.Opcodes.{decoded, encoded, length_of};
+ghost use Rattle.tb_opcodes.specs.declared.Mode.TheVariants.{Implied, Accumulator, Immediate, ZeroPage, ZeroPageX, ZeroPageY};
+ghost use Rattle.tb_opcodes.specs.declared.Mode.TheVariants.{IndirectX, IndirectY, Relative, Absolute, AbsoluteX, AbsoluteY, Indirect};
 ghost use Rattle.tb_opcodes.specs.Table.{IsTable};
 
 /// The 56 mnemonics of the MCS6500 Programming Manual.
@@ -335,330 +337,316 @@ pub fn length(mode: Mode) -> u8
 }
 
 /// The opcode of a mnemonic in a mode; `None` if the mnemonic does not have that mode.
-#[tactic(auto, unfolding(crate::specs::Opcodes::encoded))]
 pub fn encode(mnemonic: Mnemonic, mode: Mode) -> Option<u8>
     ensures { result ≡ encoded mnemonic mode }
 {
+    match mode {
+        Mode::Implied => encode_implied(mnemonic),
+        Mode::Accumulator => encode_accumulator(mnemonic),
+        Mode::Immediate => encode_immediate(mnemonic),
+        Mode::ZeroPage => encode_zero_page(mnemonic),
+        Mode::ZeroPageX => encode_zero_page_x(mnemonic),
+        Mode::ZeroPageY => encode_zero_page_y(mnemonic),
+        Mode::IndirectX => encode_indirect_x(mnemonic),
+        Mode::IndirectY => encode_indirect_y(mnemonic),
+        Mode::Relative => encode_relative(mnemonic),
+        Mode::Absolute => encode_absolute(mnemonic),
+        Mode::AbsoluteX => encode_absolute_x(mnemonic),
+        Mode::AbsoluteY => encode_absolute_y(mnemonic),
+        Mode::Indirect => encode_indirect(mnemonic),
+    }
+}
+
+// Its opcode without an operand.
+#[tactic(auto, unfolding(crate::specs::Opcodes::encoded))]
+fn encode_implied(mnemonic: Mnemonic) -> Option<u8>
+    ensures { result ≡ encoded mnemonic Implied }
+{
+    let opcode = match mnemonic {
+        Mnemonic::Brk => 0x00,
+        Mnemonic::Clc => 0x18,
+        Mnemonic::Cld => 0xd8,
+        Mnemonic::Cli => 0x58,
+        Mnemonic::Clv => 0xb8,
+        Mnemonic::Dex => 0xca,
+        Mnemonic::Dey => 0x88,
+        Mnemonic::Inx => 0xe8,
+        Mnemonic::Iny => 0xc8,
+        Mnemonic::Nop => 0xea,
+        Mnemonic::Pha => 0x48,
+        Mnemonic::Php => 0x08,
+        Mnemonic::Pla => 0x68,
+        Mnemonic::Plp => 0x28,
+        Mnemonic::Rti => 0x40,
+        Mnemonic::Rts => 0x60,
+        Mnemonic::Sec => 0x38,
+        Mnemonic::Sed => 0xf8,
+        Mnemonic::Sei => 0x78,
+        Mnemonic::Tax => 0xaa,
+        Mnemonic::Tay => 0xa8,
+        Mnemonic::Tsx => 0xba,
+        Mnemonic::Txa => 0x8a,
+        Mnemonic::Txs => 0x9a,
+        Mnemonic::Tya => 0x98,
+        _ => return None,
+    };
+    Some(opcode)
+}
+
+// Its opcode on A itself.
+#[tactic(auto, unfolding(crate::specs::Opcodes::encoded))]
+fn encode_accumulator(mnemonic: Mnemonic) -> Option<u8>
+    ensures { result ≡ encoded mnemonic Accumulator }
+{
+    let opcode = match mnemonic {
+        Mnemonic::Asl => 0x0a,
+        Mnemonic::Lsr => 0x4a,
+        Mnemonic::Rol => 0x2a,
+        Mnemonic::Ror => 0x6a,
+        _ => return None,
+    };
+    Some(opcode)
+}
+
+// Its opcode with a byte of its own.
+#[tactic(auto, unfolding(crate::specs::Opcodes::encoded))]
+fn encode_immediate(mnemonic: Mnemonic) -> Option<u8>
+    ensures { result ≡ encoded mnemonic Immediate }
+{
+    let opcode = match mnemonic {
+        Mnemonic::Adc => 0x69,
+        Mnemonic::And => 0x29,
+        Mnemonic::Cmp => 0xc9,
+        Mnemonic::Cpx => 0xe0,
+        Mnemonic::Cpy => 0xc0,
+        Mnemonic::Eor => 0x49,
+        Mnemonic::Lda => 0xa9,
+        Mnemonic::Ldx => 0xa2,
+        Mnemonic::Ldy => 0xa0,
+        Mnemonic::Ora => 0x09,
+        Mnemonic::Sbc => 0xe9,
+        _ => return None,
+    };
+    Some(opcode)
+}
+
+// Its opcode on page zero.
+#[tactic(auto, unfolding(crate::specs::Opcodes::encoded))]
+fn encode_zero_page(mnemonic: Mnemonic) -> Option<u8>
+    ensures { result ≡ encoded mnemonic ZeroPage }
+{
+    let opcode = match mnemonic {
+        Mnemonic::Adc => 0x65,
+        Mnemonic::And => 0x25,
+        Mnemonic::Asl => 0x06,
+        Mnemonic::Bit => 0x24,
+        Mnemonic::Cmp => 0xc5,
+        Mnemonic::Cpx => 0xe4,
+        Mnemonic::Cpy => 0xc4,
+        Mnemonic::Dec => 0xc6,
+        Mnemonic::Eor => 0x45,
+        Mnemonic::Inc => 0xe6,
+        Mnemonic::Lda => 0xa5,
+        Mnemonic::Ldx => 0xa6,
+        Mnemonic::Ldy => 0xa4,
+        Mnemonic::Lsr => 0x46,
+        Mnemonic::Ora => 0x05,
+        Mnemonic::Rol => 0x26,
+        Mnemonic::Ror => 0x66,
+        Mnemonic::Sbc => 0xe5,
+        Mnemonic::Sta => 0x85,
+        Mnemonic::Stx => 0x86,
+        Mnemonic::Sty => 0x84,
+        _ => return None,
+    };
+    Some(opcode)
+}
+
+// Its opcode on page zero, X added.
+#[tactic(auto, unfolding(crate::specs::Opcodes::encoded))]
+fn encode_zero_page_x(mnemonic: Mnemonic) -> Option<u8>
+    ensures { result ≡ encoded mnemonic ZeroPageX }
+{
+    let opcode = match mnemonic {
+        Mnemonic::Adc => 0x75,
+        Mnemonic::And => 0x35,
+        Mnemonic::Asl => 0x16,
+        Mnemonic::Cmp => 0xd5,
+        Mnemonic::Dec => 0xd6,
+        Mnemonic::Eor => 0x55,
+        Mnemonic::Inc => 0xf6,
+        Mnemonic::Lda => 0xb5,
+        Mnemonic::Ldy => 0xb4,
+        Mnemonic::Lsr => 0x56,
+        Mnemonic::Ora => 0x15,
+        Mnemonic::Rol => 0x36,
+        Mnemonic::Ror => 0x76,
+        Mnemonic::Sbc => 0xf5,
+        Mnemonic::Sta => 0x95,
+        Mnemonic::Sty => 0x94,
+        _ => return None,
+    };
+    Some(opcode)
+}
+
+// Its opcode on page zero, Y added.
+#[tactic(auto, unfolding(crate::specs::Opcodes::encoded))]
+fn encode_zero_page_y(mnemonic: Mnemonic) -> Option<u8>
+    ensures { result ≡ encoded mnemonic ZeroPageY }
+{
+    let opcode = match mnemonic {
+        Mnemonic::Ldx => 0xb6,
+        Mnemonic::Stx => 0x96,
+        _ => return None,
+    };
+    Some(opcode)
+}
+
+// Its opcode through a pointer of page zero, X added before.
+#[tactic(auto, unfolding(crate::specs::Opcodes::encoded))]
+fn encode_indirect_x(mnemonic: Mnemonic) -> Option<u8>
+    ensures { result ≡ encoded mnemonic IndirectX }
+{
+    let opcode = match mnemonic {
+        Mnemonic::Adc => 0x61,
+        Mnemonic::And => 0x21,
+        Mnemonic::Cmp => 0xc1,
+        Mnemonic::Eor => 0x41,
+        Mnemonic::Lda => 0xa1,
+        Mnemonic::Ora => 0x01,
+        Mnemonic::Sbc => 0xe1,
+        Mnemonic::Sta => 0x81,
+        _ => return None,
+    };
+    Some(opcode)
+}
+
+// Its opcode through a pointer of page zero, Y added after.
+#[tactic(auto, unfolding(crate::specs::Opcodes::encoded))]
+fn encode_indirect_y(mnemonic: Mnemonic) -> Option<u8>
+    ensures { result ≡ encoded mnemonic IndirectY }
+{
+    let opcode = match mnemonic {
+        Mnemonic::Adc => 0x71,
+        Mnemonic::And => 0x31,
+        Mnemonic::Cmp => 0xd1,
+        Mnemonic::Eor => 0x51,
+        Mnemonic::Lda => 0xb1,
+        Mnemonic::Ora => 0x11,
+        Mnemonic::Sbc => 0xf1,
+        Mnemonic::Sta => 0x91,
+        _ => return None,
+    };
+    Some(opcode)
+}
+
+// Its opcode with a distance.
+#[tactic(auto, unfolding(crate::specs::Opcodes::encoded))]
+fn encode_relative(mnemonic: Mnemonic) -> Option<u8>
+    ensures { result ≡ encoded mnemonic Relative }
+{
+    let opcode = match mnemonic {
+        Mnemonic::Bcc => 0x90,
+        Mnemonic::Bcs => 0xb0,
+        Mnemonic::Beq => 0xf0,
+        Mnemonic::Bmi => 0x30,
+        Mnemonic::Bne => 0xd0,
+        Mnemonic::Bpl => 0x10,
+        Mnemonic::Bvc => 0x50,
+        Mnemonic::Bvs => 0x70,
+        _ => return None,
+    };
+    Some(opcode)
+}
+
+// Its opcode with an address.
+#[tactic(auto, unfolding(crate::specs::Opcodes::encoded))]
+fn encode_absolute(mnemonic: Mnemonic) -> Option<u8>
+    ensures { result ≡ encoded mnemonic Absolute }
+{
+    let opcode = match mnemonic {
+        Mnemonic::Adc => 0x6d,
+        Mnemonic::And => 0x2d,
+        Mnemonic::Asl => 0x0e,
+        Mnemonic::Bit => 0x2c,
+        Mnemonic::Cmp => 0xcd,
+        Mnemonic::Cpx => 0xec,
+        Mnemonic::Cpy => 0xcc,
+        Mnemonic::Dec => 0xce,
+        Mnemonic::Eor => 0x4d,
+        Mnemonic::Inc => 0xee,
+        Mnemonic::Jmp => 0x4c,
+        Mnemonic::Jsr => 0x20,
+        Mnemonic::Lda => 0xad,
+        Mnemonic::Ldx => 0xae,
+        Mnemonic::Ldy => 0xac,
+        Mnemonic::Lsr => 0x4e,
+        Mnemonic::Ora => 0x0d,
+        Mnemonic::Rol => 0x2e,
+        Mnemonic::Ror => 0x6e,
+        Mnemonic::Sbc => 0xed,
+        Mnemonic::Sta => 0x8d,
+        Mnemonic::Stx => 0x8e,
+        Mnemonic::Sty => 0x8c,
+        _ => return None,
+    };
+    Some(opcode)
+}
+
+// Its opcode with an address, X added.
+#[tactic(auto, unfolding(crate::specs::Opcodes::encoded))]
+fn encode_absolute_x(mnemonic: Mnemonic) -> Option<u8>
+    ensures { result ≡ encoded mnemonic AbsoluteX }
+{
+    let opcode = match mnemonic {
+        Mnemonic::Adc => 0x7d,
+        Mnemonic::And => 0x3d,
+        Mnemonic::Asl => 0x1e,
+        Mnemonic::Cmp => 0xdd,
+        Mnemonic::Dec => 0xde,
+        Mnemonic::Eor => 0x5d,
+        Mnemonic::Inc => 0xfe,
+        Mnemonic::Lda => 0xbd,
+        Mnemonic::Ldy => 0xbc,
+        Mnemonic::Lsr => 0x5e,
+        Mnemonic::Ora => 0x1d,
+        Mnemonic::Rol => 0x3e,
+        Mnemonic::Ror => 0x7e,
+        Mnemonic::Sbc => 0xfd,
+        Mnemonic::Sta => 0x9d,
+        _ => return None,
+    };
+    Some(opcode)
+}
+
+// Its opcode with an address, Y added.
+#[tactic(auto, unfolding(crate::specs::Opcodes::encoded))]
+fn encode_absolute_y(mnemonic: Mnemonic) -> Option<u8>
+    ensures { result ≡ encoded mnemonic AbsoluteY }
+{
+    let opcode = match mnemonic {
+        Mnemonic::Adc => 0x79,
+        Mnemonic::And => 0x39,
+        Mnemonic::Cmp => 0xd9,
+        Mnemonic::Eor => 0x59,
+        Mnemonic::Lda => 0xb9,
+        Mnemonic::Ldx => 0xbe,
+        Mnemonic::Ora => 0x19,
+        Mnemonic::Sbc => 0xf9,
+        Mnemonic::Sta => 0x99,
+        _ => return None,
+    };
+    Some(opcode)
+}
+
+// Its opcode through a pointer anywhere.
+#[tactic(auto, unfolding(crate::specs::Opcodes::encoded))]
+fn encode_indirect(mnemonic: Mnemonic) -> Option<u8>
+    ensures { result ≡ encoded mnemonic Indirect }
+{
     match mnemonic {
-        Mnemonic::Adc => match mode {
-            Mode::Immediate => Some(0x69),
-            Mode::ZeroPage => Some(0x65),
-            Mode::ZeroPageX => Some(0x75),
-            Mode::IndirectX => Some(0x61),
-            Mode::IndirectY => Some(0x71),
-            Mode::Absolute => Some(0x6d),
-            Mode::AbsoluteX => Some(0x7d),
-            Mode::AbsoluteY => Some(0x79),
-            _ => None,
-        },
-        Mnemonic::And => match mode {
-            Mode::Immediate => Some(0x29),
-            Mode::ZeroPage => Some(0x25),
-            Mode::ZeroPageX => Some(0x35),
-            Mode::IndirectX => Some(0x21),
-            Mode::IndirectY => Some(0x31),
-            Mode::Absolute => Some(0x2d),
-            Mode::AbsoluteX => Some(0x3d),
-            Mode::AbsoluteY => Some(0x39),
-            _ => None,
-        },
-        Mnemonic::Asl => match mode {
-            Mode::Accumulator => Some(0x0a),
-            Mode::ZeroPage => Some(0x06),
-            Mode::ZeroPageX => Some(0x16),
-            Mode::Absolute => Some(0x0e),
-            Mode::AbsoluteX => Some(0x1e),
-            _ => None,
-        },
-        Mnemonic::Bcc => match mode {
-            Mode::Relative => Some(0x90),
-            _ => None,
-        },
-        Mnemonic::Bcs => match mode {
-            Mode::Relative => Some(0xb0),
-            _ => None,
-        },
-        Mnemonic::Beq => match mode {
-            Mode::Relative => Some(0xf0),
-            _ => None,
-        },
-        Mnemonic::Bit => match mode {
-            Mode::ZeroPage => Some(0x24),
-            Mode::Absolute => Some(0x2c),
-            _ => None,
-        },
-        Mnemonic::Bmi => match mode {
-            Mode::Relative => Some(0x30),
-            _ => None,
-        },
-        Mnemonic::Bne => match mode {
-            Mode::Relative => Some(0xd0),
-            _ => None,
-        },
-        Mnemonic::Bpl => match mode {
-            Mode::Relative => Some(0x10),
-            _ => None,
-        },
-        Mnemonic::Brk => match mode {
-            Mode::Implied => Some(0x00),
-            _ => None,
-        },
-        Mnemonic::Bvc => match mode {
-            Mode::Relative => Some(0x50),
-            _ => None,
-        },
-        Mnemonic::Bvs => match mode {
-            Mode::Relative => Some(0x70),
-            _ => None,
-        },
-        Mnemonic::Clc => match mode {
-            Mode::Implied => Some(0x18),
-            _ => None,
-        },
-        Mnemonic::Cld => match mode {
-            Mode::Implied => Some(0xd8),
-            _ => None,
-        },
-        Mnemonic::Cli => match mode {
-            Mode::Implied => Some(0x58),
-            _ => None,
-        },
-        Mnemonic::Clv => match mode {
-            Mode::Implied => Some(0xb8),
-            _ => None,
-        },
-        Mnemonic::Cmp => match mode {
-            Mode::Immediate => Some(0xc9),
-            Mode::ZeroPage => Some(0xc5),
-            Mode::ZeroPageX => Some(0xd5),
-            Mode::IndirectX => Some(0xc1),
-            Mode::IndirectY => Some(0xd1),
-            Mode::Absolute => Some(0xcd),
-            Mode::AbsoluteX => Some(0xdd),
-            Mode::AbsoluteY => Some(0xd9),
-            _ => None,
-        },
-        Mnemonic::Cpx => match mode {
-            Mode::Immediate => Some(0xe0),
-            Mode::ZeroPage => Some(0xe4),
-            Mode::Absolute => Some(0xec),
-            _ => None,
-        },
-        Mnemonic::Cpy => match mode {
-            Mode::Immediate => Some(0xc0),
-            Mode::ZeroPage => Some(0xc4),
-            Mode::Absolute => Some(0xcc),
-            _ => None,
-        },
-        Mnemonic::Dec => match mode {
-            Mode::ZeroPage => Some(0xc6),
-            Mode::ZeroPageX => Some(0xd6),
-            Mode::Absolute => Some(0xce),
-            Mode::AbsoluteX => Some(0xde),
-            _ => None,
-        },
-        Mnemonic::Dex => match mode {
-            Mode::Implied => Some(0xca),
-            _ => None,
-        },
-        Mnemonic::Dey => match mode {
-            Mode::Implied => Some(0x88),
-            _ => None,
-        },
-        Mnemonic::Eor => match mode {
-            Mode::Immediate => Some(0x49),
-            Mode::ZeroPage => Some(0x45),
-            Mode::ZeroPageX => Some(0x55),
-            Mode::IndirectX => Some(0x41),
-            Mode::IndirectY => Some(0x51),
-            Mode::Absolute => Some(0x4d),
-            Mode::AbsoluteX => Some(0x5d),
-            Mode::AbsoluteY => Some(0x59),
-            _ => None,
-        },
-        Mnemonic::Inc => match mode {
-            Mode::ZeroPage => Some(0xe6),
-            Mode::ZeroPageX => Some(0xf6),
-            Mode::Absolute => Some(0xee),
-            Mode::AbsoluteX => Some(0xfe),
-            _ => None,
-        },
-        Mnemonic::Inx => match mode {
-            Mode::Implied => Some(0xe8),
-            _ => None,
-        },
-        Mnemonic::Iny => match mode {
-            Mode::Implied => Some(0xc8),
-            _ => None,
-        },
-        Mnemonic::Jmp => match mode {
-            Mode::Absolute => Some(0x4c),
-            Mode::Indirect => Some(0x6c),
-            _ => None,
-        },
-        Mnemonic::Jsr => match mode {
-            Mode::Absolute => Some(0x20),
-            _ => None,
-        },
-        Mnemonic::Lda => match mode {
-            Mode::Immediate => Some(0xa9),
-            Mode::ZeroPage => Some(0xa5),
-            Mode::ZeroPageX => Some(0xb5),
-            Mode::IndirectX => Some(0xa1),
-            Mode::IndirectY => Some(0xb1),
-            Mode::Absolute => Some(0xad),
-            Mode::AbsoluteX => Some(0xbd),
-            Mode::AbsoluteY => Some(0xb9),
-            _ => None,
-        },
-        Mnemonic::Ldx => match mode {
-            Mode::Immediate => Some(0xa2),
-            Mode::ZeroPage => Some(0xa6),
-            Mode::ZeroPageY => Some(0xb6),
-            Mode::Absolute => Some(0xae),
-            Mode::AbsoluteY => Some(0xbe),
-            _ => None,
-        },
-        Mnemonic::Ldy => match mode {
-            Mode::Immediate => Some(0xa0),
-            Mode::ZeroPage => Some(0xa4),
-            Mode::ZeroPageX => Some(0xb4),
-            Mode::Absolute => Some(0xac),
-            Mode::AbsoluteX => Some(0xbc),
-            _ => None,
-        },
-        Mnemonic::Lsr => match mode {
-            Mode::Accumulator => Some(0x4a),
-            Mode::ZeroPage => Some(0x46),
-            Mode::ZeroPageX => Some(0x56),
-            Mode::Absolute => Some(0x4e),
-            Mode::AbsoluteX => Some(0x5e),
-            _ => None,
-        },
-        Mnemonic::Nop => match mode {
-            Mode::Implied => Some(0xea),
-            _ => None,
-        },
-        Mnemonic::Ora => match mode {
-            Mode::Immediate => Some(0x09),
-            Mode::ZeroPage => Some(0x05),
-            Mode::ZeroPageX => Some(0x15),
-            Mode::IndirectX => Some(0x01),
-            Mode::IndirectY => Some(0x11),
-            Mode::Absolute => Some(0x0d),
-            Mode::AbsoluteX => Some(0x1d),
-            Mode::AbsoluteY => Some(0x19),
-            _ => None,
-        },
-        Mnemonic::Pha => match mode {
-            Mode::Implied => Some(0x48),
-            _ => None,
-        },
-        Mnemonic::Php => match mode {
-            Mode::Implied => Some(0x08),
-            _ => None,
-        },
-        Mnemonic::Pla => match mode {
-            Mode::Implied => Some(0x68),
-            _ => None,
-        },
-        Mnemonic::Plp => match mode {
-            Mode::Implied => Some(0x28),
-            _ => None,
-        },
-        Mnemonic::Rol => match mode {
-            Mode::Accumulator => Some(0x2a),
-            Mode::ZeroPage => Some(0x26),
-            Mode::ZeroPageX => Some(0x36),
-            Mode::Absolute => Some(0x2e),
-            Mode::AbsoluteX => Some(0x3e),
-            _ => None,
-        },
-        Mnemonic::Ror => match mode {
-            Mode::Accumulator => Some(0x6a),
-            Mode::ZeroPage => Some(0x66),
-            Mode::ZeroPageX => Some(0x76),
-            Mode::Absolute => Some(0x6e),
-            Mode::AbsoluteX => Some(0x7e),
-            _ => None,
-        },
-        Mnemonic::Rti => match mode {
-            Mode::Implied => Some(0x40),
-            _ => None,
-        },
-        Mnemonic::Rts => match mode {
-            Mode::Implied => Some(0x60),
-            _ => None,
-        },
-        Mnemonic::Sbc => match mode {
-            Mode::Immediate => Some(0xe9),
-            Mode::ZeroPage => Some(0xe5),
-            Mode::ZeroPageX => Some(0xf5),
-            Mode::IndirectX => Some(0xe1),
-            Mode::IndirectY => Some(0xf1),
-            Mode::Absolute => Some(0xed),
-            Mode::AbsoluteX => Some(0xfd),
-            Mode::AbsoluteY => Some(0xf9),
-            _ => None,
-        },
-        Mnemonic::Sec => match mode {
-            Mode::Implied => Some(0x38),
-            _ => None,
-        },
-        Mnemonic::Sed => match mode {
-            Mode::Implied => Some(0xf8),
-            _ => None,
-        },
-        Mnemonic::Sei => match mode {
-            Mode::Implied => Some(0x78),
-            _ => None,
-        },
-        Mnemonic::Sta => match mode {
-            Mode::ZeroPage => Some(0x85),
-            Mode::ZeroPageX => Some(0x95),
-            Mode::IndirectX => Some(0x81),
-            Mode::IndirectY => Some(0x91),
-            Mode::Absolute => Some(0x8d),
-            Mode::AbsoluteX => Some(0x9d),
-            Mode::AbsoluteY => Some(0x99),
-            _ => None,
-        },
-        Mnemonic::Stx => match mode {
-            Mode::ZeroPage => Some(0x86),
-            Mode::ZeroPageY => Some(0x96),
-            Mode::Absolute => Some(0x8e),
-            _ => None,
-        },
-        Mnemonic::Sty => match mode {
-            Mode::ZeroPage => Some(0x84),
-            Mode::ZeroPageX => Some(0x94),
-            Mode::Absolute => Some(0x8c),
-            _ => None,
-        },
-        Mnemonic::Tax => match mode {
-            Mode::Implied => Some(0xaa),
-            _ => None,
-        },
-        Mnemonic::Tay => match mode {
-            Mode::Implied => Some(0xa8),
-            _ => None,
-        },
-        Mnemonic::Tsx => match mode {
-            Mode::Implied => Some(0xba),
-            _ => None,
-        },
-        Mnemonic::Txa => match mode {
-            Mode::Implied => Some(0x8a),
-            _ => None,
-        },
-        Mnemonic::Txs => match mode {
-            Mode::Implied => Some(0x9a),
-            _ => None,
-        },
-        Mnemonic::Tya => match mode {
-            Mode::Implied => Some(0x98),
-            _ => None,
-        },
+        Mnemonic::Jmp => Some(0x6c),
+        _ => None,
     }
 }
 

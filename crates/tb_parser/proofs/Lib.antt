@@ -1,7 +1,7 @@
 -- ── a line ──
 -- the walks over a line, byte by byte
 pub mod Steps
--- the same of a line with signs
+-- the walks over a line with signs, byte by byte
 pub mod SignSteps
 -- bytes that come next, and words of them
 pub mod Written

@@ -19,7 +19,7 @@ use Rattle.tb_parser.specs.Tokens.{start_of, end_of, IsSlice, BeginsWritten, Com
 use Rattle.tb_parser.proofs.Longest.{spelled_some}
 use Rattle.tb_parser.proofs.Written.{written_one, none_written, first_from, word_one, word_letters, word_heads, head}
 
--- the same kind, and the same end
+-- two kinds are equal, and so are two ends
 Same : TokenKind → ℕ → TokenKind → ℕ → Type 0
 Same k e l f = (k ≡ l) × (e ≡ f)
 
@@ -201,7 +201,7 @@ module _ (line : List ℕ) (start : ℕ) where
   token_one : start ≤ length line → (a : Awaits) (k : TokenKind) (e : ℕ) (l : TokenKind) (f : ℕ) → TokenAt a line start k e → TokenAt a line start l f → Same k e l f
   token_one le a k e l f h g = class_one le a (class (slice_index line start)) k e l f (by_class a k e h) (by_class a l f g)
 
--- the same kind, beginning and end
+-- two tokens have one kind, one beginning and one end
 SameToken : Token → Token → Type 0
 SameToken t u = (t.kind ≡ u.kind) × (start_of t ≡ start_of u) × (end_of t ≡ end_of u)
 

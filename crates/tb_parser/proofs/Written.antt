@@ -117,7 +117,7 @@ word_moves line from b word end (place, w, is, more) =
     let again = word_within line (place + 1) word end (omega (arith, w.within)) more in
     omega (arith, w.in_order, again.0)
 
--- the same of any word that has letters
+-- any word that has letters ends later than it begins
 pub word_moves_by : (line : List ℕ) (from : ℕ) (word : List ℕ) (end : ℕ) → 0 < length word → IsWord line from word end → from < end
 word_moves_by line from [] end some h = absurd (omega arith)
 word_moves_by line from (b ∷ word) end some h = word_moves line from b word end h

@@ -9,7 +9,7 @@ use Rattle.tb_parser.specs.declared.errors.SourceErrorKind.TheVariants.{NoMemory
 abbrev pub out_of_memory : SourceError
 out_of_memory = record { kind = NoMemory; line = 0; column = 0 }
 
--- the same as a fault of a line
+-- out of memory, as a fault of a line
 abbrev pub fault_of_memory : LineFault
 fault_of_memory = record { kind = NoMemory; column = 0 }
 
@@ -18,6 +18,6 @@ abbrev pub error_at : SourceErrorKind → ℕ → ℕ → SourceError
 error_at NoMemory line column = out_of_memory
 error_at kind line column = record { kind = kind; line = line; column = column }
 
--- the same, from a fault as the crate keeps it
+-- a fault of a line of a file, from a fault as the crate keeps it
 abbrev pub at_line : ℕ → LineFault → SourceError
 at_line line fault = error_at fault.kind line fault.column

@@ -32,7 +32,7 @@ IsStem ending path stem = (path ≡ stem ++ ending) ⊎ (((other : List ℕ) →
 abbrev pub IsOut : Option (List ℕ) → List ℕ → List ℕ → Type 0
 IsOut named path out = MatchOption named (IsUsualOut path out) (λ text. out ≡ text)
 
--- that of an assembler text: the one that is named, and else the usual one of its path without `.asm`
+-- the PRG file of an assembler text: the one that is named, and else the usual one of its path without `.asm`
 abbrev pub IsAssemblyOut : Option (List ℕ) → List ℕ → List ℕ → Type 0
 IsAssemblyOut named path out =
     MatchOption named ((stem : List ℕ) × IsStem (codes ".asm") path stem × IsUsualOut stem out) (λ text. out ≡ text)

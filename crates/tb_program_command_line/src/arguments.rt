@@ -112,7 +112,7 @@ pub const TIME: &str = "time";
 // The form in which it is told which transcripts passed, if the words don't say.
 const TEXT_FORM: &str = "text";
 
-/// That of other programs.
+/// The form in which other programs are told which transcripts passed.
 pub const TAP_FORM: &str = "tap";
 
 /// The assemblers that listings are made for.

@@ -86,13 +86,8 @@ fn clap_argument<'a>(alloc: Global, argument: &Argument) -> Result<Arg<'a>, Allo
                 .allow_hyphen_values(true)
                 .conflicts_with_all(excluded)
         }
-        Form::Flag => Ok(plain.long(argument.name).action(ArgAction::SetTrue)),
-        Form::FlagInPlaceOf(excluded) => {
-            plain
-                .long(argument.name)
-                .action(ArgAction::SetTrue)
-                .conflicts_with_all(excluded)
-        }
+        Form::Flag => Ok(flag(plain, argument)),
+        Form::FlagInPlaceOf(excluded) => flag(plain, argument).conflicts_with_all(excluded),
         Form::FileIfNamed => Ok(plain),
         Form::FilesUnless(option) => plain.num_args(1..).required_unless_present(option),
         Form::Output => Ok(output_option(plain)),
@@ -106,10 +101,7 @@ fn clap_argument<'a>(alloc: Global, argument: &Argument) -> Result<Arg<'a>, Allo
         }
         Form::FileOption => Ok(option(plain, argument, "FILE")),
         Form::FileWith(other, excluded) => {
-            without(
-                option(plain, argument, "FILE").requires_arg(other),
-                excluded,
-            )
+            along_without(option(plain, argument, "FILE"), other, excluded)
         }
         Form::FileAlong(other) => option(plain, argument, "FILE").requires_arg(other),
         Form::Digits => Ok(digits_option(plain, argument)),
@@ -124,13 +116,18 @@ fn clap_argument<'a>(alloc: Global, argument: &Argument) -> Result<Arg<'a>, Allo
     }
 }
 
-// An argument that excludes another one. The library doesn't ask for what an option takes along if that excludes an
-// argument that is there; so the option must exclude that one too.
-fn without<'a>(
-    argument: Result<Arg<'a>, AllocError>,
+// An option that takes another one along, and excludes a third. The library doesn't ask for what an option takes along if
+// that excludes an argument that is there; so the option must exclude that one too.
+fn along_without<'a>(
+    option: Arg<'a>,
+    along: &'static str,
     excluded: &'static str,
 ) -> Result<Arg<'a>, AllocError> {
-    argument?.conflicts_with(excluded)
+    option.requires_arg(along)?.conflicts_with(excluded)
+}
+
+fn flag<'a>(plain: Arg<'a>, argument: &Argument) -> Arg<'a> {
+    plain.long(argument.name).action(ArgAction::SetTrue)
 }
 
 // An option with a value of this name.

@@ -58,7 +58,7 @@ fn push_beside<R: Files + AllocGlobal>(
     Ok(())
 }
 
-// Those of a folder and of those in it.
+// The transcripts of a folder and of the folders in it.
 fn push_folder<R: Files + AllocGlobal + Clone + Drop>(
     rt: &R,
     cases: &mut Vec<Case>,

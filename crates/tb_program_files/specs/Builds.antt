@@ -52,7 +52,7 @@ ends_by refusal outcome.ReadFault = outcome.ReadFault
 ends_by refusal outcome.WriteFault = outcome.WriteFault
 ends_by refusal outcome.NoMemory = outcome.NoMemory
 
--- the same settings, but that the memory limits the size
+-- settings for compiling, but with the size limited by the memory
 abbrev pub sized_by_memory : CompileSettings → CompileSettings
 sized_by_memory settings = record settings { size = Memory }
 

@@ -151,7 +151,7 @@ AreWanted names prg made texts =
     × (texts ≡ prg ∷ wanted_text (labels_of names) made.labels.items ++ listings ++ wanted_text (map_of names) made.map.items
     ++ wanted_text (watch_of names) (watch_text (length prg)))
 
--- the same, by the source and its program
+-- a program's PRG file and the wanted texts that tell of it, by the source and its program
 abbrev pub TellsAll : BuildNames → Notation → List ℕ → Compiled → List (List ℕ) → Type 0
 TellsAll names notation source program texts = (made : Made) × IsMade notation source program made × AreWanted names (prg_of program) made texts
 

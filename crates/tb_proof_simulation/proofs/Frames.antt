@@ -63,7 +63,7 @@ returns_are_kept m m' (n ∷ ns) few s h = (
   returns_are_kept m m' ns (omega (arith, few)) s h.1,
 )
 
--- the same for the addresses of places
+-- the returns to places stay in a memory that is the same where they are kept
 pub returns_kept : (ly : Layout) (m m' : ℕ → ℕ) (ps : List Place) → length ps ≤ 500 → Same m m' 0xC100 0xC4F3 → AreReturns m (return_addresses ly ps)
     → AreReturns m' (return_addresses ly ps)
 returns_kept ly m m' ps few s h = returns_are_kept m m' (return_addresses ly ps) (omega (arith, few, length-map ps (place_address ly))) s h

@@ -66,7 +66,7 @@ module _ (f : Setup) (room : ℕ) (fits : Fits f room) where
       placed_last f room fits (ins k p) v (record v { regs = with_s v.regs.s r }) q small b
       (takes_at f.code room (ins k p) v mn Absolute p d s e refl refl (v.mem p) r (reads_data f.code v.mem p dp) e') x
 
-  -- the same in page zero
+  -- the last read of a piece, by LDA from page zero
   pub loads_short_last : (p : ℕ) (v : View) (r : Regs) (q : View → Type 0) → leb (length v.stack) room ≡ true
       → Bytes f.code v.regs.pc (instr_bytes (ins 0xA5 p)) → is_data p ≡ true → executed Lda (advanced v.regs ZeroPage) (λ a. Ok (v.mem p)) p
       ≡ Ok (r, []) → q (record v { regs = with_s v.regs.s r }) → Comes f v q [] 1
@@ -134,7 +134,7 @@ module _ (f : Setup) (room : ℕ) (fits : Fits f room) where
       known f w at bs text answers q t k e.pc e.stack e.binary e.text e.answers
       (subst (λ m. Comes f (view w.regs.a w.regs.x w.regs.y w.regs.flags.n w.regs.flags.v w.regs.flags.i w.regs.flags.z w.regs.flags.c at bs m text answers) q t k) (sym e.mem) (h _ _ _ _ _ _ _ _))
 
-  -- the same with a known C
+  -- whatever the registers and flags, but with a known C
   pub whatever_with : (at : ℕ) (bs : List ℕ) (m : ℕ → ℕ) (text answers : List ℕ) (c : Bool) (q : View → Type 0) (t : List ℕ) (k : ℕ)
       → ((a x y : ℕ) (n v i z : Bool) → Comes f (view a x y n v i z c at bs m text answers) q t k) → Moves f (Carrying at bs m text answers c) q t k
   whatever_with at bs m text answers c q t k h w e =
@@ -142,7 +142,7 @@ module _ (f : Setup) (room : ℕ) (fits : Fits f room) where
       (subst (λ m. Comes f (view w.regs.a w.regs.x w.regs.y w.regs.flags.n w.regs.flags.v w.regs.flags.i w.regs.flags.z w.regs.flags.c at bs m text answers) q t k) (sym e.here.mem)
       (subst (λ c. Comes f (view w.regs.a w.regs.x w.regs.y w.regs.flags.n w.regs.flags.v w.regs.flags.i w.regs.flags.z c at bs m text answers) q t k) (sym e.carry) (h _ _ _ _ _ _ _)))
 
-  -- the same with a known A
+  -- whatever the registers and flags, but with a known A
   pub whatever_a : (at k : ℕ) (bs : List ℕ) (m : ℕ → ℕ) (text answers : List ℕ) (q : View → Type 0) (t : List ℕ) (l : ℕ)
       → ((x y : ℕ) (n v i z c : Bool) → Comes f (view k x y n v i z c at bs m text answers) q t l) → Moves f (WithA at k bs m text answers) q t l
   whatever_a at k bs m text answers q t l h w e =
@@ -161,7 +161,7 @@ module _ (f : Setup) (room : ℕ) (fits : Fits f room) where
         (ends (to + 1) (at + 10) (view _ x y _ v i _ c ((((((at + 2) % 65536) + 3) % 65536) + 2) % 65536) bs _ text answers) _ bs text answers small
         st.1.1.1.0 dt.1 (omega arith) refl refl refl refl refl))))
 
-    -- the same in page zero
+    -- a constant word is stored in page zero
     pub points : (k to : ℕ) → at + 8 ≤ highest_code → InData to → Stands f.code at (pointed k to) → Moves f (Here at bs m text answers)
         (Here (at + 8) bs (put_word m to (k % 256) (k / 256)) text answers) [] 4
     points k to r dt st = whatever at bs m text answers _ [] 4 (λ a x y n v i z c.

@@ -26,7 +26,7 @@ module _ (ns : List ℕ) where
     pub here : HasLine s.place
     pub returns : AllHave s.returns
 
-  -- the same for where a step leads
+  -- the state to which a step leads, if it goes on, is placed
   abbrev Leads : Step State → Type 0
   Leads (Goes s t) = IsPlaced s
   Leads (Stops why t) = Unit {0}

@@ -40,7 +40,7 @@ copied from to = lda_at from ∷ ins 0x8D to ∷ lda_at (from + 1) ∷ ins 0x8D 
 abbrev pub constant : ℕ → ℕ → List Instr
 constant k to = ins 0xA9 (k % 256) ∷ ins 0x8D to ∷ ins 0xA9 (k / 256) ∷ ins 0x8D (to + 1) ∷ []
 
--- the same in page zero
+-- stores a constant word in page zero
 abbrev pub pointed : ℕ → ℕ → List Instr
 pointed k to = ins 0xA9 (k % 256) ∷ ins 0x85 to ∷ ins 0xA9 (k / 256) ∷ ins 0x85 (to + 1) ∷ []
 

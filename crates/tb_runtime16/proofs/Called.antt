@@ -22,7 +22,7 @@ pub calls : (f : Setup) (own : List ℕ) (a x y : ℕ) (n v i z c : Bool) (at lo
     → Comes f (view a x y n v i z c (back_at lo hi) own w text answers) r u l) → Comes f (view a x y n v i z c at (lo ∷ hi ∷ own) m text answers) r (t ++ u) (k + l)
 calls f own a x y n v i z c at lo hi m text answers q r t u k l call next = above f own (lo ∷ hi ∷ []) [] a x y n v i z c at (back_at lo hi) m text answers q r t u k l call next
 
--- the same, with less said about the memory
+-- a routine's law with a larger bound, and less said about the memory
 pub back_looser : (f : Setup) (v : View) (lo hi : ℕ) (text answers : List ℕ) (p q : (ℕ → ℕ) → Type 0) (t : List ℕ) (n m : ℕ) → n ≤ m
     → Comes f v (Back lo hi text answers p) t n → ((w : ℕ → ℕ) → p w → q w) → Comes f v (Back lo hi text answers q) t m
 back_looser f v lo hi text answers p q t n m le c g = looser f v (Back lo hi text answers p) (Back lo hi text answers q) t n m le

@@ -67,7 +67,7 @@ turned m k = record {
   others = left_frame m m (λ a e. refl);
 }
 
--- the same after a division
+-- negating LEFT in place after a division negates the quotient
 divided_negated : (m w : ℕ → ℕ) (q r : ℕ) → Parts is_argument m q r w → Parts is_argument m (negated q) r (negated_left w)
 divided_negated m w q r h =
     let b = bytes_of w LEFT q h.left in

@@ -66,7 +66,7 @@ end_byte false = 13
 digit_low : (t t' d w n : ℕ) → t < 256 → t' < 256 → d + t < 256 → t + 256 * t' ≡ 10 * w % 65536 → w ≡ n % 65536 → (d + t + 0) % 256 + 256 * t' ≡ (n * 10 + d) % 65536
 digit_low t t' d w n p q few e h = omega arith
 
--- the same with one
+-- ten times a word and a digit, with a carry from the low byte
 digit_carried : (t t' d w n : ℕ) → t < 256 → t' < 256 → d < 10 → 256 ≤ d + t → t + 256 * t' ≡ 10 * w % 65536 → w ≡ n % 65536
     → (d + t + 0) % 256 + 256 * ((t' + 1) % 256) ≡ (n * 10 + d) % 65536
 digit_carried t t' d w n p q small many e h = omega arith

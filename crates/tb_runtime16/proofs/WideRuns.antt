@@ -42,7 +42,7 @@ pub sum_less : (l r q d p n c l' r' : ℕ) → l < 256 → l' ≡ 2 * l % 256 + 
     → r' * 512 + (2 * l' + 0) + (q + q) * d * 512 ≡ (p + p) * n + (q + q)
 sum_less l r q d p n c l' r' small e e' h = omega (arith, double q d, double p n)
 
--- the same of a round in which it does
+-- rest, byte with the bit that comes in, and quotient of a round in which the divisor goes in
 pub sum_more : (l r q d p n c l' r' b : ℕ) → l < 256 → l' ≡ 2 * l % 256 + c → b ≡ 1 → r' + d ≡ 2 * r + l / 128 → r * 512 + (2 * l + c) + q * d * 512 ≡ p * n + q
     → r' * 512 + (2 * l' + b) + (q + q + 1) * d * 512 ≡ (p + p) * n + (q + q + 1)
 sum_more l r q d p n c l' r' b small e one e' h = omega (arith, double_one q d, double p n)

@@ -49,12 +49,12 @@ pub record Here (at : ℕ) (bs : List ℕ) (m : ℕ → ℕ) (typed polled : Lis
   pub text : w.text ≡ typed
   pub answers : w.answers ≡ polled
 
--- the same with a known A
+-- at an address with a known A, whatever the other registers, and the flags other than D
 pub record WithA (at k : ℕ) (bs : List ℕ) (m : ℕ → ℕ) (text answers : List ℕ) (w : View) : Type 0 where
   pub here : Here at bs m text answers w
   pub number : w.regs.a ≡ k
 
--- the same with a known A, and a line's number in X and Y
+-- at an address with a known A, and a line's number in X and Y
 pub record WithLine (at k n : ℕ) (bs : List ℕ) (m : ℕ → ℕ) (text answers : List ℕ) (w : View) : Type 0 where
   pub with_a : WithA at k bs m text answers w
   pub low : w.regs.x ≡ n % 256

@@ -31,7 +31,7 @@ Moved gives h result k =
     (λ t. Added gives h k × (t ≡ status (state_of k.machine)))
     (λ _. (h.machine.room ≡ 0) × (k ≡ h))
 
--- the same, by whether the machine is stopped: a stopped one stays as it is, and nobody is asked
+-- a step by whether the machine is stopped: a stopped one stays as it is, and nobody is asked
 abbrev pub SteppedBy : {O : Type 0} → Bool → (O → Content → Event → O → Type 0) → Holds O → Result Status AllocError → Holds O → Type 0
 SteppedBy true gives h result k = (result ≡ Ok (status (state_of h.machine))) × (k ≡ h)
 SteppedBy false gives h result k = Moved gives h result k
@@ -70,7 +70,7 @@ pub record Reaches {O : Type 0} (gives : O → Content → Event → O → Type 
       (λ answer. Answers (end_at address (nat_lt 0 steps) (state_of k.machine)) steps limit answer)
       (λ _. (end_at address (nat_lt 0 steps) (state_of k.machine) ≡ None) × (steps < limit) × (k.machine.room ≡ 0))
 
--- the same, with want of memory as a walk to a line answers it
+-- a walk to an address, with want of memory as a walk to a line answers it
 abbrev pub ReachesStart : {O : Type 0} → (O → Content → Event → O → Type 0) → ℕ → ℕ → Holds O → Result Reached StepError → Holds O → Type 0
 ReachesStart gives address limit h (Ok answer) k = Reaches gives address limit h (Ok answer) k
 ReachesStart gives address limit h (Err NoRoom) k = (e : AllocError) × Reaches gives address limit h (Err e) k

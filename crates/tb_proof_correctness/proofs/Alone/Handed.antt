@@ -113,7 +113,7 @@ module _ {around : Surroundings} (fits : Fits around.f 16) {n : ℕ} {g : Group}
     pub comes_back : back_at ((call_at + 2) % 256) ((call_at + 2) / 256) ≡ call_at + 3
     comes_back = behind_call call_at lies.2.2.0
 
-  -- the same with its result copied to where it goes
+  -- its two words, its call, and its result copied to where it goes
   module _ (entry from at : ℕ) (a b : Source) (d : Destination) (m : ℕ → ℕ) (c : Kept around (live js) s r m)
       (lies : Lies f.code at (routine entry from a b (destination_at d))) (x y : ℕ) (ga : Grounded a LEFT) (gb : Grounded b RIGHT)
       (ha : SourceHolds m a x) (hb : (m' : ℕ → ℕ) → Kept around (live js) s r m' → SourceHolds m' b y) where

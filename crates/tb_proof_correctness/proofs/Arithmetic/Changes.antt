@@ -32,7 +32,7 @@ pub record Computes (c : Change) (w : ℕ) (of : ℕ → Option ℕ) : Type 0 wh
   pub few : IsByte c
   pub is : w < 65536 → (x : ℕ) → of x ≡ Some (changed c x)
 
--- the same for a change, if there is one
+-- a change, if there is one, does to a word what a function with the constant w does
 abbrev IfAny : Option Change → ℕ → (ℕ → Option ℕ) → Type 0
 IfAny (Some c) w of = Computes c w of
 IfAny None w of = Unit {0}

@@ -62,7 +62,7 @@ high_by bits r q less more =
     (λ le. ap (λ t. (0 + 256 - (0 + bit (not t))) % 256) (le-leb bits (again bits r) le) ∙ sym (more le))
     (cases_lt (again bits r) bits)
 
--- the same of a word below 0: its remainder is negated
+-- the lowest bits of a word below 0 give its remainder, which is negated
 abbrev Below : (k x : ℕ) → Type 0
 Below k x = (below_low (2 ^ (k + 1) - 1) (bit_and (x % 256) (2 ^ (k + 1) - 1)) ≡ turned_size true ((65536 - x) % 2 ^ (k + 1)) % 256)
     × (below_high (2 ^ (k + 1) - 1) (bit_and (x % 256) (2 ^ (k + 1) - 1)) ≡ turned_size true ((65536 - x) % 2 ^ (k + 1)) / 256)

@@ -62,7 +62,7 @@ pub record TestEmitted (labels : List (Name × ℕ)) (r : Rel) (at : ℕ) (a b :
   pub emits : Emits labels at fs (test_code r first second at a b to)
   pub reach : TestReaches r first second at a b to
 
--- the same for a test by a divisor of line n
+-- forms that emit a test by a divisor of line n, whose branch goes to an address, by its way, which reaches
 pub record DividedEmitted (labels : List (Name × ℕ)) (n at : ℕ) (how : Divisibility) (a b : Source) (to : ℕ) (fs : List Form) : Type 0 where
   pub first : Way
   pub emits : Emits labels at fs (coded.divided_code n at first how a b to)

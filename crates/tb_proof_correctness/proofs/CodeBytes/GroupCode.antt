@@ -315,14 +315,14 @@ abbrev pub WeighingReaches : (first second : Way) (at : ℕ) → Source → Sour
 WeighingReaches first second at a b next =
     BranchReaches first (at + size (difference a b)) (turned_at first at a b) × BranchReaches second (turned_at first at a b) next
 
--- the same for a and 0: N after the high byte tells whether a is below
+-- a test of a against 0: N after the high byte tells whether a is below
 abbrev pub sign_code : Bool → (first : Way) (at : ℕ) → Source → ℕ → List Piece
 sign_code below first at a next = Code (lda (high a) ∷ []) ∷ Code (branch_code first (branch_on Negative below) (at + size (lda (high a) ∷ [])) next) ∷ []
 
 abbrev pub SignReaches : (first : Way) (at : ℕ) → Source → ℕ → Type 0
 SignReaches first at a next = BranchReaches first (at + size (lda (high a) ∷ [])) next
 
--- the same for a and 1: N tells whether a is below 0, and then Z whether it is 0
+-- where a test of a against 1 asks by Z whether a is 0, after N has told whether it is below 0
 abbrev pub zero_asked_at : Way → (at : ℕ) → Source → ℕ
 zero_asked_at first at a = at + size (lda (high a) ∷ []) + way_size first + size (ora (low a) ∷ [])
 

@@ -80,7 +80,7 @@ dest_in_data (IntoSlot k) fit = word_in_data (slot_at k) (omega arith) (omega (a
 dest_in_data (IntoHome (IntoVariable x)) fit = word_in_data (var_at x) (omega arith) (omega (arith, fit))
 dest_in_data (IntoHome IntoHeld) fit = (refl, refl)
 
--- the same for an address below all variables and slots
+-- no operand's high byte is at an address below all variables and slots
 pub operand_apart : (k : ℕ) (a : Operand) (to : ℕ) → to ≤ 0xC000 → k < 16 → OperandFits a → Grounded (source_of k a) to
 operand_apart k (Constant w) to e lt fit = tt
 operand_apart k (Variable x) to e lt fit = (word_in_data (var_at x) (omega arith) (omega (arith, fit)), λ q. omega (arith, q, e))

@@ -16,7 +16,7 @@ abbrev pub IsAlone : Group → Type 0
 IsAlone (Single i) = alone i ≡ Single i
 IsAlone _ = Unit {0}
 
--- the same for a group, if it is one, and for the first group
+-- a group, if there is one, or the first group of a list: if it is a single instruction, it is single also when alone
 abbrev IfAny : Option Group → Type 0
 IfAny None = Unit {0}
 IfAny (Some g) = IsAlone g
@@ -104,12 +104,12 @@ attach_so : (i : Instr) (gs : List Group) → FirstIsAlone (attach i gs)
 attach_so i [] = alone_so i
 attach_so i (g ∷ gs) = tried_so (merged i g) i g gs (merged_so i g)
 
--- the same for the first group of a list
+-- if the first group that is selected is a single instruction, it is single also when alone
 pub first_so : (is : List Instr) → FirstIsAlone (select is)
 first_so [] = tt
 first_so (i ∷ is) = attach_so i (select is)
 
--- the same for all groups of a list
+-- the single instructions among all groups of a list are single also when alone
 abbrev pub AreAlone : List Group → Type 0
 AreAlone [] = Unit {0}
 AreAlone (g ∷ gs) = IsAlone g × AreAlone gs

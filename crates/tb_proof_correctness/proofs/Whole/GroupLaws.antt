@@ -81,7 +81,7 @@ module _ (around : Surroundings) (fits : Fits around.f 16) (limit : ℕ) (code :
       opened around code n g gs js s r w (34 + (limit + limit)) e
       (looser f w _ _ (sent_in (steps code (expand g) (line code n js s r))) k (34 + (limit + limit)) le (λ u x. x) (at_first g k law n gs js s r w e h))
 
-  -- the same of the list with its parts bracketed in another way
+  -- what the slot steps of a group do, from a list with its parts bracketed in another way
   bracketed : (g : Group) (k : ℕ) (spread : List Instr → List Instr) → ((is : List Instr) → expand g ++ is ≡ spread is)
       → ((is : List Instr) → StepsLaw g (spread is) is k) → (is : List Instr) → StepsLaw g (expand g ++ is) is k
   bracketed g k spread same law is = subst (λ l. StepsLaw g l is k) (sym (same is)) (law is)
