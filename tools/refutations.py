@@ -1,6 +1,7 @@
 #!/usr/bin/env python3
-"""Writes the images of tb_gate_refutations: specs/Compiled, which are what tbc makes of a few sources, and specs/Changed, which
-are these with some bytes changed. What the sources mean as programs stands in specs/Programs, by hand.
+"""Writes the images of tb_gate_refutations: specs/Compiled, which are what tbc makes of a few sources, and
+specs/Changed, which are these with some bytes changed. What the sources mean as programs stands in specs/Programs, by
+hand.
 
     tools/refutations.py                    writes both files
     tools/refutations.py --check            compares them with what it would write; ends with status 1 if they differ
@@ -16,8 +17,7 @@ A change is a text that the image holds once, and the text of the same length th
     ~send      the distance of a branch to it
     @          the address where this text begins
     line10:    as the first word of the old text: it begins at that label
-A name before the old text makes the address where
-it begins a label for the changes after it.
+A name before the old text makes the address where it begins a label for the changes after it.
 """
 import os
 import pathlib

@@ -1,7 +1,7 @@
 #!/usr/bin/env python3
-"""A model of the Commodore 64's screen that knows nothing of tb_machine_screen: it keeps the variables that the KERNAL's editor
-keeps, as the commented listings of its ROM name them, and moves as its routines do. Frames are made from it by a table
-of its own.
+"""A model of the Commodore 64's screen that knows nothing of tb_machine_screen: it keeps the variables that the
+KERNAL's editor keeps, as the commented listings of its ROM name them, and moves as its routines do. Frames are made
+from it by a table of its own.
 
     tools/screen_model.py --write    writes the bytes and the wanted answers of trials/tb_screen_golden
     tools/screen_model.py --check    compares these with the stored ones"""

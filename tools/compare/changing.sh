@@ -1,11 +1,11 @@
 #!/usr/bin/env bash
 # Compares docs/CHANGING.md with the code.
-#  - Each file or folder that the page names between backticks is there: from crates/ or trials/ on, as `tb_basic_meaning/src/needs.rt` or
-#    (without `.antt`) `tb_basic_meaning/specs/Need`, or else from the top.
+#  - Each file or folder that the page names between backticks is there: from crates/ or trials/ on, as
+#    `tb_basic_meaning/src/needs.rt` or (without `.antt`) `tb_basic_meaning/specs/Need`, or else from the top.
 #  - After a colon come names that the file defines, as in `tb_lower/src/lowering.rt:lower,lower_line`.
 #  - Each name alone between backticks is a word of the code, of the definitions or of the proofs.
-#  - A section on a kind of change names each file that names an example of it, as `Return` for a statement; or the folder
-#    that has the file.
+#  - A section on a kind of change names each file that names an example of it, as `Return` for a statement; or the
+#    folder that has the file.
 # Says what differs, and then ends with status 1.
 . "$(dirname "${BASH_SOURCE[0]}")/../setup.sh"
 page=$root/docs/CHANGING.md

@@ -1,7 +1,7 @@
 #!/usr/bin/env bash
-# Counts what the crates' tables have, a line `NUMBER WHAT` for each, and compares the rows of docs/RELIABILITY.md that are
-# marked "count". It reads the repository alone and runs nothing; the other numbers of that page are what the scripts of
-# tools/ print last. Says which row should have which number, and then ends with status 1.
+# Counts what the crates' tables have, a line `NUMBER WHAT` for each, and compares the rows of docs/RELIABILITY.md that
+# are marked "count". It reads the repository alone and runs nothing; the other numbers of that page are what the
+# scripts of tools/ print last. Says which row should have which number, and then ends with status 1.
 set -euo pipefail
 cd "$(dirname "${BASH_SOURCE[0]}")/../.."
 bad=0

@@ -1,7 +1,8 @@
 #!/usr/bin/env python3
 """Sees in crates.txt that no tool stands on the compiler. A crate of the groups Engines and Editors needs none that is
 behind the door, itself or by way of another crate, but for those of JOINS. It says how many crates stand above
-tb_compiler_templates: at most MOST_ABOVE, and none of the group Editors. Prints what is otherwise, and then ends with status 1."""
+tb_compiler_templates: at most MOST_ABOVE, and none of the group Editors. Prints what is otherwise, and then ends with
+status 1."""
 import functools
 import sys
 from pathlib import Path

@@ -1,6 +1,7 @@
 #!/usr/bin/env bash
 # Compares crates.txt, and trials/list.txt after it, with themselves and with docs/MAP.md.
-#  - crates.txt and trials/list.txt: a crate is listed below all that it needs, in a group whose heading is a line `# NAME`.
+#  - crates.txt and trials/list.txt: a crate is listed below all that it needs, in a group whose heading is a line
+#    `# NAME`.
 #  - The diagram of MAP.md, its first block, has the same groups with the same crates in the same order. Each line names
 #    the crates that its own crate needs directly, which are those that it doesn't need by way of another one as well.
 #  - The list of MAP.md, its tables of crates, has the same groups as headings `### NAME`, and a row for each crate. The

@@ -1,6 +1,7 @@
 #!/usr/bin/env bash
-# Asks for the wrong bodies that a user would miss first. Each name of the list is that of an edit in a folder must-fail/, or
-# of a refutation, a function of tb_gate_refutations. Says which one is gone, and then ends with status 1.
+# Asks for the wrong bodies that a user would miss first. Each name of the list is that of an edit in a folder
+# must-fail/, or of a refutation, a function of tb_gate_refutations. Says which one is gone, and then ends with status
+# 1.
 set -euo pipefail
 cd "$(dirname "${BASH_SOURCE[0]}")/../.."
 

@@ -1,5 +1,6 @@
 #!/usr/bin/env python3
-"""Draws the pictures of docs/pictures from what the program and the documents say, except speed.svg (tools/measure/speed_bars.py):
+"""Draws the pictures of docs/pictures from what the program and the documents say. (tools/measure/speed_bars.py draws
+speed.svg.)
 
   screen.svg     a listing, and what its program leaves on the machine's screen
   debugger.svg   a session of `tbc debug` at a terminal, which goes on and back

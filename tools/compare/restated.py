@@ -1,8 +1,7 @@
 #!/usr/bin/env python3
 """Compares what tb_gate restates with the calls' own contracts. A function there whose comment says `Calls` and a name
-between backticks hands its arguments on to that call, and has each of its clauses: with the arguments
-in place of the parameters, and by whatever names definitions are brought in. Says which clause is missing, and then ends
-with status 1."""
+between backticks hands its arguments on to that call, and has each of its clauses: with the arguments in place of the
+parameters, and by whatever names definitions are brought in. Says which clause is missing, and then ends with status 1."""
 import re
 import sys
 from pathlib import Path

@@ -1,7 +1,7 @@
 #!/usr/bin/env bash
 # Measures compiled programs: those of tools/measure/bench, each in BASIC, in C by `cl65 -t sim6502 -Oirs`, and most of
 # them by hand. A program by hand is a floor: it keeps the same rules, a poll a line, and the variables and the number
-# of notes in memory at each line's beginning.
+# of returns in memory at each line's beginning.
 #
 #   tools/measure/generated.sh [NAME ..]    a name is as primes, second/niven or held/quiz; without names all programs
 #                                           and all spellings; cc65 and 64tass are installed if they are not there

@@ -1,6 +1,6 @@
 #!/usr/bin/env bash
-# Measures what `tbc lsp` takes to answer a change of a text of 20 KB: the instructions of a dialogue with 200 changes, less
-# those of one with none. Ends with status 1 if it is more than it should be.
+# Measures what `tbc lsp` takes to answer a change of a text of 20 KB: the instructions of a dialogue with 200 changes,
+# less those of one with none. Ends with status 1 if it is more than it should be.
 #
 #   tools/measure/server.sh             needs the built program and valgrind
 . "$(dirname "${BASH_SOURCE[0]}")/../setup.sh"

@@ -1,9 +1,9 @@
 #!/usr/bin/env bash
-# Tries the packages that tools/pack/package.sh made in a folder. Lintian and man have nothing to say; each command runs in an
-# empty root that the package was installed in, and each example of the man page among the examples; no link of the
-# documents is dead; neovim knows a source; bash and fish complete words, and zsh takes the completions; the archive has
-# the same files. What can't be installed here is left out, and that is said. Prints what is not so, and then ends with
-# status 1.
+# Tries the packages that tools/pack/package.sh made in a folder. Lintian and man have nothing to say; each command runs
+# in an empty root that the package was installed in, and each example of the man page among the examples; no link of
+# the documents is dead; neovim knows a source; bash and fish complete words, and zsh takes the completions; the archive
+# has the same files. What can't be installed here is left out, and that is said. Prints what is not so, and then ends
+# with status 1.
 #
 #     tools/pack/package_test.sh DIR
 [ $# = 1 ] || { echo "tools/pack/package_test.sh takes the folder of the packages" >&2; exit 2; }

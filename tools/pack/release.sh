@@ -1,8 +1,8 @@
 #!/usr/bin/env bash
-# Makes all that a release has in a folder, and tries it: the packages of tools/pack/package.sh, the text of the release, which is
-# its part of CHANGELOG.md, and SHA256SUMS of them. All that spells the version has the same one, the newest part of
-# CHANGELOG.md is a release, and the same commit and program give the same bytes twice. Says what is not so, and then ends
-# with status 1.
+# Makes all that a release has in a folder, and tries it: the packages of tools/pack/package.sh, the text of the
+# release, which is its part of CHANGELOG.md, and SHA256SUMS of them. All that spells the version has the same one, the
+# newest part of CHANGELOG.md is a release, and the same commit and program give the same bytes twice. Says what is not
+# so, and then ends with status 1.
 #
 #     tools/pack/release.sh DIR
 [ $# = 1 ] || { echo "tools/pack/release.sh takes a folder" >&2; exit 2; }

@@ -1,8 +1,8 @@
 #!/usr/bin/env bash
-# Prints the version, which has one home: crates/tb_program_command_line/src/parser.rt:VERSION. The program and its servers answer
-# it, and the man page and the packages take it from there. Files that spell it once more are compared, since none of them
-# can read it: the help that ./tbc shows before a build, the manifest of VS Code's extension, and the newest release of
-# CHANGELOG.md. Says which differs, and then ends with status 1.
+# Prints the version, which has one home: crates/tb_program_command_line/src/parser.rt:VERSION. The program and its
+# servers answer it, and the man page and the packages take it from there. Files that spell it once more are compared,
+# since none of them can read it: the help that ./tbc shows before a build, the manifest of VS Code's extension, and the
+# newest release of CHANGELOG.md. Says which differs, and then ends with status 1.
 set -euo pipefail
 cd "$(dirname "${BASH_SOURCE[0]}")/../.."
 

@@ -1,7 +1,7 @@
 #!/usr/bin/env bash
-# Tries `tbc assemble` of the built program as a user does: files that are included, what may be written, what is shown, and
-# the example programs, which are run. What each text becomes is a row of trials/tb_assembly_golden.
-# Prints what differs, and then ends with status 1.
+# Tries `tbc assemble` of the built program as a user does: files that are included, what may be written, what is shown,
+# and the example programs, which are run. What each text becomes is a row of trials/tb_assembly_golden. Prints what
+# differs, and then ends with status 1.
 . "$(dirname "${BASH_SOURCE[0]}")/../setup.sh"
 needs_program
 needs cmp python3

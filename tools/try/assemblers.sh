@@ -1,13 +1,13 @@
 #!/usr/bin/env bash
 # Compares with other assemblers, those of Debian: 64tass, ca65 with ld65, ACME and xa.
 #
-#   Listings with --for: of each example, by `build --list` and by `dis`, of a program that cc65 compiles, and of 41 files of
-#     random bytes, one of them of more than 26,624 bytes. The assembler that a listing is for, as its head says, makes the
-#     same PRG file of it, and says nothing. ACME may warn of a pointer at $ff.
+#   Listings with --for: of each example, by `build --list` and by `dis`, of a program that cc65 compiles, and of 41
+#     files of random bytes, one of them of more than 26,624 bytes. The assembler that a listing is for, as its head
+#     says, makes the same PRG file of it, and says nothing. ACME may warn of a pointer at $ff.
 #   150 texts in what 64tass, ca65 and ACME have in common (assemblers/common_texts.py), in the spelling of each: `tbc
 #     assemble` makes the file of it that the assembler makes.
-#   Their own idioms (assemblers/idioms.txt): the assembler takes each, and `tbc assemble` takes or refuses it, as docs/ASSEMBLY.md
-#     says.
+#   Their own idioms (assemblers/idioms.txt): the assembler takes each, and `tbc assemble` takes or refuses it, as
+#     docs/ASSEMBLY.md says.
 #
 # Each comparison has a negative case: a wrong byte must be found.
 . "$(dirname "${BASH_SOURCE[0]}")/../setup.sh"

@@ -1,6 +1,7 @@
 #!/usr/bin/env bash
-# Tries what editors do with the built program: in Emacs, flymake shows what `tbc check` says of a buffer while it is typed,
-# and vim's `:make` fills its list of errors. The settings that docs/EDITORS.md shows for others are at least well formed.
+# Tries what editors do with the built program: in Emacs, flymake shows what `tbc check` says of a buffer while it is
+# typed, and vim's `:make` fills its list of errors. The settings that docs/EDITORS.md shows for others are at least
+# well formed.
 . "$(dirname "${BASH_SOURCE[0]}")/../setup.sh"
 needs_program
 needs python3

@@ -2,12 +2,13 @@
 # Runs compiled programs, and random ones, on machines that are not this project's:
 #
 #   every example, with keys, and every program of the first half in tools/measure/bench, in sim65 (of cc65): each sends
-#     byte for byte what `tbc run` shows, and ends the same way; each service spoils every register and bytes of the ROM's
-#     memory (tools/try/foreign/sim65.asm);
-#   the same programs on the Commodore 64 of VICE, with a ROM of our own (tools/try/foreign/kernal.asm), and again with their watch
-#     files, which never stop. If x64sc is not there, it is unpacked (get_vice.sh); if it can't be had, these runs are left
-#     out, and that is said;
-#   a program with ROMs that break a rule each (tools/try/foreign/breaches.txt): it sends the same, and the watch stops where it should;
+#     byte for byte what `tbc run` shows, and ends the same way; each service spoils every register and bytes of the
+#     ROM's memory (tools/try/foreign/sim65.asm);
+#   the same programs on the Commodore 64 of VICE, with a ROM of our own (tools/try/foreign/kernal.asm), and again with
+#     their watch files, which never stop. If x64sc is not there, it is unpacked (get_vice.sh); if it can't be had, these
+#     runs are left out, and that is said;
+#   a program with ROMs that break a rule each (tools/try/foreign/breaches.txt): it sends the same, and the watch stops
+#     where it should;
 #   random PRGs of 64 bytes here and in sim65: registers and memory are the same (tools/try/foreign/random_programs.py).
 #
 # Each run has a negative case: a wrong wanted byte must be found.

@@ -3,12 +3,12 @@
 
     tools/try/kept_files.py [TBC]      TBC is the built program if it is missing
 
-A way is a command with one path that it writes: OUT of build, asm, assemble and disk, the files of --labels, --list, --map,
---watch, --record, --transcript and --html, and the source that format and renumber write with --in-place. A place is what that path leads
-to: nothing, a file, a link, a pipe, a full disk, what looks like something else, .. Of each row the status is compared, and
-what each file of the folder holds afterwards: the new text whole, or what it held before. Rows that need another file system
-mount one, and others run the program as nobody. Where there are no rights to do so, these rows are left out, and that is
-said."""
+A way is a command with one path that it writes: OUT of build, asm, assemble, disk and page, the files of --labels,
+--list, --map, --watch, --record, --transcript and --html, and the source that format and renumber write with
+--in-place. A place is what that path leads to: nothing, a file, a link, a pipe, a full disk, what looks like something
+else, .. Of each row the status is compared, and what each file of the folder holds afterwards: the new text whole, or
+what it held before. Rows that need another file system mount one, and others run the program as nobody. Where there are
+no rights to do so, these rows are left out, and that is said."""
 import contextlib
 import os
 import resource

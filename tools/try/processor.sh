@@ -1,7 +1,7 @@
 #!/usr/bin/env bash
-# A second opinion on the whole processor: every documented opcode, with operand bytes, registers and memory at the edges, in
-# every mode and with both settings of each flag, here, in sim65 (of cc65) and in VICE (foreign/opcode_programs.py). Without
-# VICE its part is left out, and that is said.
+# A second opinion on the whole processor: every documented opcode, with operand bytes, registers and memory at the
+# edges, in every mode and with both settings of each flag, here, in sim65 (of cc65) and in VICE
+# (foreign/opcode_programs.py). Without VICE its part is left out, and that is said.
 #
 #   tools/try/processor.sh
 . "$(dirname "${BASH_SOURCE[0]}")/../setup.sh"

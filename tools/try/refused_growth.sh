@@ -1,11 +1,14 @@
 #!/usr/bin/env bash
-# Runs each command of the built program with the first, the second, .. growth of its memory refused, until a run
-# meets no refusal; of a large program, with each hundredth or so (tools/try/refuse_each.py). Each run must end with status 4,
-# `tbc: out of memory` and nothing written (of a program that is played, debugged or profiled, its warnings and a prefix
-# of what it shows; of sources that are checked, a prefix of what is said of them; of a server, of its answers; of a build
-# of several files, some of them whole), or answer exactly what the command answers with ample memory; if no growth was refused, it must not run out of memory.
-# The same holds for the calls that no command makes or shows, each a name after `tb_tools_bench call`. The refusing malloc is
-# preloaded, so this needs a C compiler (cc) and glibc.
+# Runs each command of the built program with the first, the second, .. growth of its memory refused, until a run meets
+# no refusal; of a large program, with each hundredth or so (tools/try/refuse_each.py).
+#
+# Each run must end in one of two ways. Either it answers exactly what the command answers with ample memory. Or it ends
+# with status 4, `tbc: out of memory` and nothing written; but a program that is played, tested, debugged or profiled may have
+# shown its warnings and a prefix of its text, a check or a server a prefix of what it says, and a build of several files
+# may have written some of them whole. If no growth was refused, a run must not run out of memory.
+#
+# The same holds for the calls that no command makes or shows, each a name after `tb_tools_bench call`. The refusing
+# malloc is preloaded, so this needs a C compiler (cc) and glibc.
 #
 #   tools/try/refused_growth.sh [PART OF]     (each OF-th command alone, from the PARTth on: parts can run side by side)
 part=${1:-1}

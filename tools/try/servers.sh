@@ -1,8 +1,9 @@
 #!/usr/bin/env bash
-# Tries `tbc lsp` with clients that are not ours, without a screen: neovim's own client, by the lines of docs/EDITORS.md,
-# and Emacs's eglot, as Debian has them. They edit a source, and what they show of it is compared each time with what they should show. And what is
-# published of 300 generated sources, and of texts of 1,048,576 bytes, is compared with what `tbc check` says of them. At
-# last a dialogue is cut after each byte, and a text is changed 2,000 times.
+# Tries `tbc lsp` with clients that are not ours, without a screen: neovim's own client, by the lines of
+# docs/EDITORS.md, and Emacs's eglot, as Debian has them. They edit a source, and what they show of it is compared each
+# time with what they should show. And what is published of 300 generated sources, and of texts of 1,048,576 bytes, is
+# compared with what `tbc check` says of them. At last a dialogue is cut after each byte, and a text is changed 2,000
+# times.
 . "$(dirname "${BASH_SOURCE[0]}")/../setup.sh"
 needs_program
 needs python3

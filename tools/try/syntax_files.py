@@ -1,8 +1,9 @@
 """Compares the groups that editors give to each byte of the examples with what stands there: syntax_files.py ROOT FOLDER
 
-FOLDER has what the editors said of the examples: a row of names for each line after the path of each file (`vim`, `emacs`,
-`gtksourceview`), a page for each file (`NAME.html` of Kate's), and a text with colours for each file (`NAME.ansi` of bat). The
-TextMate grammar of VS Code is read here. In pages and texts each kind has a colour of its own: that of COLOURS."""
+FOLDER has what the editors said of the examples: a row of names for each line after the path of each file (`vim`,
+`emacs`, `gtksourceview`), a page for each file (`NAME.html` of Kate's), and a text with colours for each file
+(`NAME.ansi` of bat). The TextMate grammar of VS Code is read here. In pages and texts each kind has a colour of its
+own: that of COLOURS."""
 import html
 import json
 import re

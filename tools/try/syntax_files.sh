@@ -1,7 +1,7 @@
 #!/usr/bin/env bash
-# Tries the syntax files of editors/ on all examples: vim and Emacs in batch, Kate's highlighter, bat, GtkSourceView, and the
-# patterns of the TextMate grammar each give every word, text, number and remark its group. Prints what doesn't, and then
-# ends with status 1.
+# Tries the syntax files of editors/ on all examples: vim and Emacs in batch, Kate's highlighter, bat, GtkSourceView,
+# and the patterns of the TextMate grammar each give every word, text, number and remark its group. Prints what doesn't,
+# and then ends with status 1.
 . "$(dirname "${BASH_SOURCE[0]}")/../setup.sh"
 installs vim vim
 installs emacs emacs-nox

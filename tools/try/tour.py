@@ -1,8 +1,8 @@
 #!/usr/bin/env python3
-"""Takes the tour of README.md: runs each of its commands, once with `./tbc` of this repository, once with the `tbc` that
-tools/pack/package.sh packs, in the folder of the packed documents. Each must end with status 0, or wait for a key (status 6).
-What shows the machine's screen has a pseudo-terminal.
-The emulator is a stand-in; the packed program has no command of that name, and leaves it out. Prints what differs."""
+"""Takes the tour of README.md: runs each of its commands, once with `./tbc` of this repository, once with the `tbc`
+that tools/pack/package.sh packs, in the folder of the packed documents. Each must end with status 0, or wait for a key
+(status 6). What shows the machine's screen has a pseudo-terminal. The emulator is a stand-in; the packed program has no
+command of that name, and leaves it out. Prints what differs."""
 import re
 import shlex
 import subprocess

@@ -1,8 +1,8 @@
 #!/usr/bin/env bash
-# Tries VS Code's extension as its users get it: the package that tools/pack/vsix.py makes, unpacked, in a stand-in for the editor
-# under Node, with the built program. Its manifest keeps the rules of tools/pack/vsix.py, it has 500 lines at most and nothing
-# that is to be installed, each provider answers on a source that is edited, a server that dies is started again, each
-# command and snippet does what it says, and the debugger's adapter says that it goes back.
+# Tries VS Code's extension as its users get it: the package that tools/pack/vsix.py makes, unpacked, in a stand-in for
+# the editor under Node, with the built program. Its manifest keeps the rules of tools/pack/vsix.py, it has 500 lines at
+# most and nothing that is to be installed, each provider answers on a source that is edited, a server that dies is
+# started again, each command and snippet does what it says, and the debugger's adapter says that it goes back.
 . "$(dirname "${BASH_SOURCE[0]}")/../setup.sh"
 needs_program
 needs python3
