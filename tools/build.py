@@ -4,7 +4,8 @@ build that was broken off goes on there. Crates of which none is above another a
 as many as there are processors and memory for.
 
 A library is proved from nothing and keeps its statements alone, as those of rt ci do: they take half the memory of whole
-libraries to read. One that rt check left work of is proved over that work, and kept whole, as rt lib leaves it.
+libraries to read. One that rt check left work of is proved over that work, and kept whole, as rt lib leaves it. What rt ci
+proved on this machine, of the same files over the same libraries, is taken from there.
 
     tools/build.py
 
@@ -72,14 +73,37 @@ def proves(crate, jobs):
     return crate.build_rlib([*flags, "--statements"], anew=True)
 
 
-def step(crate, given, jobs):
+def is_taken(crate, kept):
+    """Whether rt ci proved the same on this machine; then what it made is taken."""
+    key = kept.key(crate)
+    if crate.has_kept() or not kept.at or not os.path.isdir(kept.place(crate, False, key)):
+        return False
+    shutil.rmtree(f"{crate.folder}/out/rlib", ignore_errors=True)  # a file there may be a second name of one that is kept
+    for it in kept.made(crate, False):
+        os.remove(f"{crate.folder}/out/{it}")
+    if not kept.give(crate, False, key):
+        return False
+    if not crate.is_program:
+        Path(f"{crate.folder}/out/rlib/stamp").write_text(crate.stamp(), encoding="utf-8")
+    return True
+
+
+def says_kept(crate, kept, by):
+    """Says that a crate need not be proved, since this proved it before."""
+    kept.is_built(crate)
+    with PRINTING:
+        print(f"rt: {crate.name} is kept: {by} proved the same", flush=True)
+    return True
+
+
+def step(crate, kept, given, jobs):
     """What is done once all crates below one are. Returns whether it is proved."""
     if not all(given[it.name] for it in crate.below()):
         return False
     if not crate.is_program and crate.is_built():
-        with PRINTING:
-            print(f"rt: {crate.name} is kept: an earlier build proved the same", flush=True)
-        return True
+        return says_kept(crate, kept, "an earlier build")
+    if is_taken(crate, kept):
+        return says_kept(crate, kept, "rt ci")
     with tempfile.TemporaryFile("a+", errors="replace") as crate.out:
         try:
             status = proves(crate, jobs)
@@ -88,6 +112,7 @@ def step(crate, given, jobs):
                 status = proves(crate, 1)
         except SystemExit:
             status = 1
+        kept.is_built(crate)
         crate.out.seek(0)
         with PRINTING:
             print(f"== {crate.name}\n{crate.out.read()}rt: {crate.name} {'NOT PROVED' if status else 'proved'}", flush=True)
@@ -101,7 +126,9 @@ def main():
     program.held = []  # what it gives free before it starts: this run holds its locks to the end
     crates = [*program.below(), program]
     held = rtlib.lock(crates)
-    call = lambda crate: lambda given, jobs: step(crate, given, jobs)
+    rt.Crate.allowed = rt.handles_of(ROOT)
+    kept = rt.Kept(crates)
+    call = lambda crate: lambda given, jobs: step(crate, kept, given, jobs)
     tasks = {it.name: ([below.name for below in it.below()], it.count(rb"\n"), rt.need(it), call(it)) for it in crates}
     given = rt.in_lanes(tasks)
     for it in held:

@@ -2,7 +2,8 @@
 """Tries the crates of trials/, which no landing proves: tests, and programs that answer worked rows.
 
     tools/trials.py [NAME..]            by trial runs, in which nothing is proved; trials/fewer.txt has what is tried
-                                        fewer times there. It says of each crate what passed, and how long it took
+                                        fewer times there. It says of each crate what passed, and how long it took.
+                                        JOBS of them are tried side by side, or as many as there is room for
     tools/trials.py --prove [NAME..]    by the gate (`rt ci`) in a copy: proved, built, and all of it tried. It takes
                                         hours, and is for a campaign
 
@@ -260,8 +261,9 @@ def works(chosen):
 
 
 def try_all(chosen):
-    """Tries crates side by side, as many as there are processors and memory for at the start."""
-    tally, most = Tally(), max(1, min(len(os.sched_getaffinity(0)), memory() // KILOBYTES_A_RUN))
+    """Tries crates side by side: JOBS of them, or as many as there are processors and memory for at the start."""
+    fitting = max(1, min(len(os.sched_getaffinity(0)), memory() // KILOBYTES_A_RUN))
+    tally, most = Tally(), int(os.environ.get("JOBS", fitting))
     with tempfile.TemporaryDirectory(prefix="tbc-trials-") as room, ThreadPoolExecutor(most) as pool:
         done = [pool.submit(work, tally, Path(room) / str(at), what) for at, (work, what) in enumerate(works(chosen))]
         for it in done:

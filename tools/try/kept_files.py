@@ -4,11 +4,11 @@
     tools/try/kept_files.py [TBC]      TBC is the built program if it is missing
 
 A way is a command with one path that it writes: OUT of build, asm, assemble, disk and page, the files of --labels,
---list, --map, --watch, --record, --transcript and --html, and the source that format and renumber write with
---in-place. A place is what that path leads to: nothing, a file, a link, a pipe, a full disk, what looks like something
-else, .. Of each row the status is compared, and what each file of the folder holds afterwards: the new text whole, or
-what it held before. Rows that need another file system mount one, and others run the program as nobody. Where there are
-no rights to do so, these rows are left out, and that is said."""
+--list, --map, --watch, --record, --transcript and --html, the source that format and renumber write with --in-place, and
+the transcript that test writes with --update. A place is what that path leads to: nothing, a file, a link, a pipe, a
+full disk, what looks like something else, .. Of each row the status is compared, and what each file of the folder holds
+afterwards: the new text whole, or what it held before. Rows that need another file system mount one, and others run the
+program as nobody. Where there are no rights to do so, these rows are left out, and that is said."""
 import contextlib
 import os
 import resource
@@ -32,6 +32,7 @@ PRG = b"\x01\x08\x0b\x08\x0a\x00\x9e2061\x00\x00\x00"  # a PRG file of a source 
 CODE = b"\x00\xc0\x60"  # and one of a text at $C000 so
 MOVED = b"\x00\x80\x60"  # and at $8000 so
 UNTIDY = b'20 print"A"\n10 REM B\n'  # a source that format and renumber change
+UNTRUE = b"GOODBYE\n"  # a transcript that the source does not give
 SOURCE = '10 PRINT "HELLO"\n20 END\n'
 ASKS = "10 INPUT A\n20 END\n"
 TEXT = "LDA #$41\nJSR $FFD2\nRTS\n"
@@ -58,16 +59,19 @@ WAYS = [
     ("page --prg", ["page", "--prg", "in.prg", "-o", "OUT"]),
     ("format --in-place", ["format", "--in-place", "OUT"]),
     ("renumber --in-place", ["renumber", "--in-place", "OUT"]),
+    ("test --update", ["test", "--update", "OUT"]),
 ]
 failed = rows = left_out = 0
 
 
 def is_in_place(words):
-    return "--in-place" in words
+    return "--in-place" in words or "--update" in words
 
 
 def name_of(words):
     """The name of what is written, as this command takes it."""
+    if words[0] == "test" and is_in_place(words):
+        return "in_place.transcript"
     return "out.d64" if words[0] == "disk" else "in_place.bas" if is_in_place(words) else "out.file"
 
 
@@ -122,9 +126,10 @@ def holds(path):
 
 
 def seen(folder):
-    """The names in a folder, but for the program's inputs and the other output."""
+    """The names in a folder, but for the program's inputs, the other output and sources beside their transcripts."""
     names = {it.name for it in folder.iterdir()}
-    return sorted(names - {"in.bas", "in.transcript", "in.ask.bas", "in.s", "in.asm", "in.prg", "other.prg"})
+    beside = {it.with_suffix(".bas").name for it in folder.glob("*.transcript")}
+    return sorted(names - beside - {"in.bas", "in.transcript", "in.ask.bas", "in.s", "in.asm", "in.prg", "other.prg"})
 
 
 def expect(way, place, what, is_so):
@@ -146,14 +151,17 @@ def the_new(tbc, words, top):
     folder = filled(top / "new")
     path = folder / name_of(words)
     if is_in_place(words):
-        path.write_bytes(UNTIDY)
+        before(path, words, b"")
     status = run(tbc, words, path.name, folder)
     return status, holds(path)
 
 
 def before(path, words, new):
     """Puts what was there before at a path: it looks like what the command writes, and is another text."""
-    if is_in_place(words):
+    if words[0] == "test" and is_in_place(words):
+        path.with_suffix(".bas").write_text(SOURCE)
+        path.write_bytes(UNTRUE)
+    elif is_in_place(words):
         path.write_bytes(UNTIDY)
     elif "--record" in words:
         path.write_bytes(b"00" + new)
@@ -191,10 +199,11 @@ def try_way(tbc, way, words, top):
     inner = folder / "inner"
     inner.mkdir()
     target = inner / path.name
-    before(target, words, new)
+    before(path, words, new)
+    path.rename(target)
     path.symlink_to(f"inner/{path.name}")
     status = run(tbc, words, path.name, folder)
-    expect(way, "a link", f"status {status}", status == 0 and path.is_symlink() and holds(target) == new and sorted(it.name for it in inner.iterdir()) == [path.name])
+    expect(way, "a link", f"status {status}", status == 0 and path.is_symlink() and holds(target) == new and seen(inner) == [path.name])
 
     # a link that leads nowhere yet
     if not is_in_place(words):
@@ -231,7 +240,7 @@ def try_way(tbc, way, words, top):
             old = before(small / path.name, words, new)
             fill(small / "rest")
             status = run(tbc, words, f"small/{path.name}", folder)
-            names = sorted(it.name for it in small.iterdir())
+            names = seen(small)
             expect(way, "a full disk", f"status {status}, {names}", holds(small / path.name) == old and status == 3 and len(names) == 2)
 
     # a folder in which nobody may write
